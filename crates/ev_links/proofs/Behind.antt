@@ -1,4 +1,4 @@
--- Things that are given one after the other, and none.
+-- Laws of `behind`: appending twice, and appending nothing.
 use Rattle.std.proofs.Common.{◌≡◌, List, [], ◌++◌, Option, Some, None, refl, ap, append_assoc}
 use Rattle.std.proofs.lemmas.List.{append-nil}
 use Rattle.ev_links.specs.Coming.{behind}

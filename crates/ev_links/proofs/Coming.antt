@@ -1,4 +1,4 @@
--- What was done with things that came, one by one.
+-- Things that came to a worker and were handled, one by one.
 use Rattle.std.proofs.Common.{◌≡◌, List, [], ◌∷◌, Option, Some, map, ap, sym, ◌∙◌, reverse}
 use Rattle.std.proofs.lemmas.List.{reverse-append}
 use Rattle.ev_links.specs.Coming.{behind, after_these, DoesAll}
@@ -12,7 +12,7 @@ one_more {A} came came1 came2 before a known e =
     ∙ behind_twice came (reverse (map Some before)) (Some a ∷ [])
     ∙ ap (behind came) (sym (reverse-append (Some a ∷ []) (map Some before)))
 
--- one more came, and it was done with it
+-- one more thing came and was handled
 pub goes_on : {A S : Type 0} (Does : S → A → S → Type 0) (came came1 came2 : Option (List (Option A))) (s s1 s2 : S)
     → DoesAll Does came s came1 s1 → DoesOne Does came1 s1 came2 s2 → DoesAll Does came s came2 s2
 goes_on Does came came1 came2 s s1 s2 d one = record {

@@ -1,4 +1,4 @@
--- A line that one frame more is put on, or that the first one is taken from.
+-- A line after one more frame is put on it, or after its first frame is taken.
 use Rattle.std.proofs.Common.{◌≡◌, ℕ, ◌+◌, ◌-◌, ◌^◌, ◌≤◌, min, Bool, true, false, ◌&&◌, nat_lt, nat_le, List, [], ◌∷◌}
 use Rattle.std.proofs.Common.{◌++◌, length, drop, suc, refl, sym, ap, ◌∙◌, arith}
 use Rattle.std.proofs.lemmas.List.{length-append, length-take-le, length-drop, take_all, take-append-le, drop-append-le}
@@ -6,12 +6,12 @@ use Rattle.ev_links.specs.Links.{packet}
 use Rattle.ev_links.specs.declared.line.Head.{Head}
 use Rattle.ev_links.specs.Line.{octets_of, waiting_of, after_frame, cut, sizes, NoneTooLong, IsLine}
 
--- as many frames as heads
+-- there are as many frames as heads
 pub cut_length : (heads : List Head) (xs : List ℕ) → length (cut heads xs) ≡ length heads
 cut_length [] xs = refl
 cut_length (h ∷ heads) xs = ap suc (cut_length heads (drop h.size xs))
 
--- and of as many octets
+-- the frames have as many octets as the heads count
 pub cut_octets : (heads : List Head) (xs : List ℕ) → sizes heads ≡ length xs → octets_of (cut heads xs) ≡ sizes heads
 cut_octets [] xs e = refl
 cut_octets (h ∷ heads) xs e =
@@ -20,7 +20,7 @@ cut_octets (h ∷ heads) xs e =
     let more = cut_octets heads (drop h.size xs) (omega (arith, e, left)) in
     omega (arith, one, more)
 
--- octets behind others are one frame more
+-- octets appended to the others are one more frame
 pub cut_put : (heads : List Head) (h : Head) (xs ys : List ℕ) → sizes heads ≡ length xs → h.size ≡ length ys
     → cut (heads ++ h ∷ []) (xs ++ ys) ≡ cut heads xs ++ packet h.to ys ∷ []
 cut_put [] h [] ys e same = ap (λ (zs : List ℕ). packet h.to zs ∷ []) (take_all h.size ys (omega (arith, same)))
@@ -39,7 +39,7 @@ fit_put : (heads : List Head) (h : Head) → NoneTooLong heads → h.size ≤ 90
 fit_put [] h fit one = (one, tt)
 fit_put (g ∷ heads) h fit one = (fit.0, fit_put heads h fit.1 one)
 
--- one frame more
+-- the invariant holds with one more frame
 pub line_put : (heads : List Head) (octets : List ℕ) (places1 places2 : ℕ) (h : Head) (more : List ℕ)
     → IsLine heads octets places1 places2 → h.size ≡ length more → h.size ≤ 9026
     → IsLine (heads ++ h ∷ []) (octets ++ more) places1 places2
@@ -54,7 +54,7 @@ line_put heads octets p1 p2 h more line size fits =
       for_bpdus = line.for_bpdus;
     }
 
--- without the first one
+-- the invariant holds without the first frame
 pub line_left : (h : Head) (heads : List Head) (octets : List ℕ) (places1 places2 : ℕ)
     → IsLine (h ∷ heads) octets places1 places2 → IsLine heads (drop h.size octets) places1 places2
 line_left h heads octets p1 p2 line =
@@ -67,7 +67,7 @@ line_left h heads octets p1 p2 line =
       for_bpdus = line.for_bpdus;
     }
 
--- what a frame that is put leaves, where there is room for it
+-- the line after a frame is put, if there is room for it
 pub put_view : (bpdus : List (List ℕ)) (heads : List Head) (octets : List ℕ) (dropped : ℕ) (ended : Bool) (to : ℕ)
     (more : List ℕ) (h : Head) (frames waiting : ℕ) → sizes heads ≡ length octets → h.to ≡ to → h.size ≡ length more
     → frames ≡ length heads → waiting ≡ length octets
@@ -79,7 +79,7 @@ put_view bpdus heads octets dropped ended to more h frames waiting all to_is siz
     let octets_are : octets_of (cut heads octets) ≡ waiting = cut_octets heads octets all ∙ all ∙ sym long in
     rw (count, octets_are, room, cut_put heads h octets more all size, to_is) refl
 
--- and where there is none
+-- the line after a frame is put, if there is no room for it
 pub dropped_view : (bpdus : List (List ℕ)) (heads : List Head) (octets : List ℕ) (dropped dropped' : ℕ) (ended : Bool)
     (to : ℕ) (more : List ℕ) (frames waiting : ℕ) → sizes heads ≡ length octets
     → dropped' ≡ min (dropped + 1) (2 ^ 64 - 1) → frames ≡ length heads → waiting ≡ length octets

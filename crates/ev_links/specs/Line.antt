@@ -1,10 +1,11 @@
--- What waits to be sent over a link, and how much found no room there.
+-- The BPDUs and frames that wait to be sent over a link, and the number of those that were dropped for lack of room.
 use Rattle.std.specs.Prelude.{◌≡◌, ℕ, ◌+◌, ◌-◌, ◌^◌, ◌≤◌, min, ◌&&◌, Bool, false, true, nat_lt, nat_le, if◌then◌else◌}
 use Rattle.std.specs.Prelude.{List, [], ◌∷◌, ◌++◌, length, take, drop, Option, Some, None}
 use Rattle.ev_links.specs.Links.{Packet, packet}
 use Rattle.ev_links.specs.declared.line.Head.{Head}
 
--- BPDUs and frames that wait, the first ones first; how many had no room; and whether nothing more comes
+-- the waiting BPDUs and frames, each with the first one first; the number of dropped ones; and whether the line has
+-- ended
 pub record Waiting : Type 0 where
   pub bpdus : List (List ℕ)
   pub frames : List Packet
@@ -19,30 +20,30 @@ waiting_of bpdus frames dropped has_ended = record {
   has_ended = has_ended;
 }
 
--- nothing waits
+-- nothing waits, nothing was dropped, and the line has not ended
 abbrev pub nothing_waits : Waiting
 nothing_waits = waiting_of [] [] 0 false
 
--- the octets of these frames
+-- the number of octets of these frames
 abbrev pub octets_of : List Packet → ℕ
 octets_of [] = 0
 octets_of (p ∷ frames) = length p.octets + octets_of frames
 
--- there is room behind these frames for one of so many octets
+-- there is room for a frame of `size` octets after these frames
 abbrev pub has_room : List Packet → ℕ → Bool
 has_room frames size = nat_le size 9026 && nat_lt (length frames) 1024 && nat_le (octets_of frames + size) 262144
 
--- one more was dropped, as far as 64 bits count
+-- one more was dropped; the count stops at 2^64 - 1
 abbrev pub one_dropped : Waiting → Waiting
 one_dropped w = waiting_of w.bpdus w.frames (min (w.dropped + 1) (2 ^ 64 - 1)) w.has_ended
 
--- a frame goes behind the others where there is room for it, and is dropped where there is none
+-- a frame is appended if there is room for it, and dropped if there is none
 abbrev pub after_frame : Packet → Waiting → Waiting
 after_frame p w =
     if has_room w.frames (length p.octets) then waiting_of w.bpdus (w.frames ++ p ∷ []) w.dropped w.has_ended
     else one_dropped w
 
--- a BPDU goes behind the other BPDUs
+-- a BPDU is appended to the other BPDUs
 abbrev pub with_bpdu : List ℕ → Waiting → Waiting
 with_bpdu bpdu w = waiting_of (w.bpdus ++ bpdu ∷ []) w.frames w.dropped w.has_ended
 
@@ -50,12 +51,12 @@ with_bpdu bpdu w = waiting_of (w.bpdus ++ bpdu ∷ []) w.frames w.dropped w.has_
 abbrev pub without_oldest : Waiting → Waiting
 without_oldest w = waiting_of (drop 1 w.bpdus) w.frames w.dropped w.has_ended
 
--- the oldest of 16 BPDUs is dropped for a new one
+-- a new BPDU is appended; if 16 or more wait, the oldest is dropped for it
 abbrev pub after_bpdu : List ℕ → Waiting → Waiting
 after_bpdu bpdu w = if nat_lt (length w.bpdus) 16 then with_bpdu bpdu w else with_bpdu bpdu
     (one_dropped (without_oldest w))
 
--- the first BPDU goes first, and frames where there is none
+-- the first BPDU goes first; the first frame does if no BPDU waits
 abbrev pub first_in : List (List ℕ) → List Packet → Option Packet
 first_in (bpdu ∷ bpdus) frames = Some (packet 0 bpdu)
 first_in [] (frame ∷ frames) = Some frame
@@ -64,7 +65,7 @@ first_in [] [] = None
 abbrev pub first_of : Waiting → Option Packet
 first_of w = first_in w.bpdus w.frames
 
--- what waits without the one that goes first
+-- the frames that remain after the first BPDU or frame is taken
 abbrev pub frames_left : List (List ℕ) → List Packet → List Packet
 frames_left (bpdu ∷ bpdus) frames = frames
 frames_left [] frames = drop 1 frames
@@ -72,16 +73,16 @@ frames_left [] frames = drop 1 frames
 abbrev pub after_take : Waiting → Waiting
 after_take w = waiting_of (drop 1 w.bpdus) (frames_left w.bpdus w.frames) w.dropped w.has_ended
 
--- what a call handed out: for whom it is, with its octets at the front of the buffer
+-- the packet that a call returned: its destination address, with its octets at the front of the buffer
 abbrev pub handed : Option (ℕ × ℕ) → List ℕ → Option Packet
 handed None buffer = None
 handed (Some got) buffer = Some (packet got.0 (take got.1 buffer))
 
--- nothing more comes
+-- the line has ended: nothing more comes
 abbrev pub after_end : Waiting → Waiting
 after_end w = waiting_of w.bpdus w.frames w.dropped true
 
--- ---- how a line holds its frames
+-- ---- how a line stores its frames
 
 -- these octets, cut into frames of the heads' sizes
 abbrev pub cut : List Head → List ℕ → List Packet
@@ -92,12 +93,12 @@ abbrev pub sizes : List Head → ℕ
 sizes [] = 0
 sizes (h ∷ heads) = h.size + sizes heads
 
--- none of them is longer than any datagram
+-- no frame is longer than the longest datagram
 abbrev pub NoneTooLong : List Head → Type 0
 NoneTooLong [] = Unit
 NoneTooLong (h ∷ heads) = (h.size ≤ 9026) × NoneTooLong heads
 
--- The heads are those of the octets, and none is too long.
+-- The heads' sizes add up to the octets, no frame is too long, and there is place for 1,024 heads and 16 BPDUs.
 pub record IsLine (heads : List Head) (octets : List ℕ) (heads_place bpdus_place : ℕ) : Type 0 where
   pub all : sizes heads ≡ length octets
   pub fit : NoneTooLong heads

@@ -1,8 +1,8 @@
--- What comes over a link, and what goes over one.
+-- Datagrams that come over a link, and datagrams that are sent over one.
 use Rattle.std.specs.Prelude.{ℕ, List, [], ◌∷◌, take, Option, Some, None, Result, Ok, Err}
 use Rattle.ether_wire.specs.declared.ends.Device.{Device}
 
--- a datagram that came: from whom, and what it holds
+-- a received datagram: its sender's address and its octets
 pub record Arrival : Type 0 where
   pub from : ℕ
   pub octets : List ℕ
@@ -10,18 +10,18 @@ pub record Arrival : Type 0 where
 abbrev pub arrival : ℕ → List ℕ → Arrival
 arrival from octets = record { from = from; octets = octets }
 
--- a call of a link before its end: it brings a datagram, or fails
+-- a call of a link before the link's end: the call brings a datagram, or fails
 pub data Call : Type 0 where
   brings : Arrival → Call
   fails : Call
 
--- what a call of a link brought, with the buffer after it: a datagram, the end, or a failure
+-- the entry of a call in the link's history, with the buffer after the call: a datagram, the end, or a failure
 abbrev pub brought : Result (Option (ℕ × ℕ)) Device → List ℕ → List (Option Call)
 brought (Ok (Some got)) buffer = Some (brings (arrival got.0 (take got.1 buffer))) ∷ []
 brought (Ok None) buffer = None ∷ []
 brought (Err failure) buffer = Some fails ∷ []
 
--- a datagram that goes: for whom, and what it holds
+-- a datagram to send: its destination address and its octets
 pub record Packet : Type 0 where
   pub to : ℕ
   pub octets : List ℕ
@@ -29,7 +29,7 @@ pub record Packet : Type 0 where
 abbrev pub packet : ℕ → List ℕ → Packet
 packet to octets = record { to = to; octets = octets }
 
--- what a call of a link sent: nothing where it failed
+-- the datagram that a call of a link sent; none if the call failed
 abbrev pub sent_by : ℕ → List ℕ → Result (Unit {0}) Device → List Packet
 sent_by to octets (Ok done) = packet to octets ∷ []
 sent_by to octets (Err failure) = []

@@ -1,25 +1,26 @@
-//! The octets of the frames that wait on a line, one frame behind the other.
+//! The octets of the frames that wait on a line, one frame after the other.
 ghost use Rattle.std.specs.Prelude.{◌≡◌, ◌+◌, ◌-◌, ◌≤◌, ◌++◌, [], length, take, drop, vec_len, vec_capacity, IfOk};
 
 use std::alloc::{AllocError, Global};
 use std::marker::Model;
 
-/// How many octets may wait: 187 frames of 1,400 octets, which a link of 1 Gbit/s sends in two
-/// milliseconds. What waits longer than a burst lasts is late, and takes memory at each link.
+/// The most octets that may wait: 187 frames of 1,400 octets, which a link of 1 Gbit/s sends in two
+/// milliseconds. Frames that wait longer than a burst lasts are late, and take memory at each link.
 pub(crate) const OCTETS: usize = 262_144;
 
-/// Octets that wait. They are seen as a list, the first one first.
+/// Octets that wait. Their model is a list, the first octet first.
 ///
-/// There is place for twice as many as may wait. So they are moved to the front at most once for as
-/// many octets as may wait, and not at all where nothing waits meanwhile: then what comes begins at
-/// the front again, in memory that was used just before.
+/// There is place for twice the octets that may wait. So the waiting octets are moved to the front
+/// at most once per `OCTETS` octets. They are not moved at all if the backlog becomes empty
+/// meanwhile: the next octets then begin at the front again, in memory that was used just before.
 #[derive(Drop)]
 pub(crate) struct Backlog {
-    /// Octets of present and former frames. They aren't taken away, so that each is written once.
+    /// Octets of present and former frames. Former ones stay until others overwrite them, so that
+    /// each octet is written only once.
     octets: Vec<u8>,
-    /// Where those begin that wait.
+    /// The place of the first waiting octet.
     start: usize,
-    /// Where those end that wait.
+    /// The place after the last waiting octet.
     end: usize,
 }
 
@@ -34,8 +35,8 @@ impl Model for Backlog {
         × ((b.end - b.start ≤ 262144) × (524288 ≤ vec_capacity b.octets)) };
 }
 
-/// Moves the octets from `start` to `end` to the front, which is no shorter than they are, and
-/// answers how many they are.
+/// Moves the octets from `start` to `end` to the front and returns their number. The part before
+/// `start` is at least as long.
 fn moved(octets: &mut Vec<u8>, start: usize, end: usize) -> usize
     requires order { start ≤ end }
     requires within { end ≤ vec_len octets.old }
@@ -51,7 +52,7 @@ fn moved(octets: &mut Vec<u8>, start: usize, end: usize) -> usize
     size
 }
 
-/// Puts octets behind others, for which there is room.
+/// Appends octets. The vector has room for them.
 fn append(octets: &mut Vec<u8>, more: &[u8])
     requires { vec_len octets.old + length more.now ≤ vec_capacity octets.old }
     ensures items { octets.new.items ≡ octets.old.items ++ more.now }
@@ -63,7 +64,7 @@ fn append(octets: &mut Vec<u8>, more: &[u8])
     }
 }
 
-/// Writes octets over others from here on, for which there is room.
+/// Overwrites the octets from `at` on. The vector is long enough.
 fn write(octets: &mut Vec<u8>, at: usize, more: &[u8])
     requires { at + length more.now ≤ vec_len octets.old }
     ensures written { take (at + length more.now) octets.new.items
@@ -74,7 +75,8 @@ fn write(octets: &mut Vec<u8>, at: usize, more: &[u8])
     octets[at..at + more.len()].copy_from_slice(more);
 }
 
-/// Writes octets behind the first ones, over former ones as far as there are any.
+/// Writes octets after the first `at` ones: over former octets if there are enough, else at the end
+/// of the vector, which is cut to `at` octets.
 fn put_at(octets: &mut Vec<u8>, at: usize, more: &[u8])
     requires within { at ≤ vec_len octets.old }
     requires room { at + length more.now ≤ vec_capacity octets.old }
@@ -91,7 +93,7 @@ fn put_at(octets: &mut Vec<u8>, at: usize, more: &[u8])
     append(octets, more);
 }
 
-/// Puts these octets at the front of the buffer, and answers how many they are.
+/// Copies these octets to the front of the buffer and returns their number.
 pub(crate) fn put_front(buffer: &mut [u8], octets: &[u8]) -> usize
     requires { length octets.now ≤ length buffer.old }
     ensures front { take result buffer.new ≡ octets.now }
@@ -104,11 +106,11 @@ pub(crate) fn put_front(buffer: &mut [u8], octets: &[u8]) -> usize
 }
 
 impl Backlog {
-    /// Nothing, and all the memory that it will take.
+    /// Creates an empty backlog with all the memory that it will use.
     ///
     /// # Errors
     ///
-    /// Where memory is refused.
+    /// `AllocError` if memory is refused.
     pub(crate) fn new(alloc: Global) -> Result<Self, AllocError>
         ensures { IfOk result (λ backlog. backlog ≡ []) }
     {
@@ -119,7 +121,7 @@ impl Backlog {
         })
     }
 
-    /// How many octets wait.
+    /// Returns the number of octets that wait.
     pub(crate) fn len(&self) -> usize
         ensures len { result ≡ length self.now }
         ensures few { result ≤ 262144 }
@@ -127,7 +129,7 @@ impl Backlog {
         self.end - self.start
     }
 
-    /// Puts octets behind the others, for which there is room.
+    /// Appends octets. The backlog has room for them.
     pub(crate) fn append(&mut self, more: &[u8])
         requires { length self.old + length more.now ≤ 262144 }
         ensures { self.new ≡ self.old ++ more.now }
@@ -140,7 +142,8 @@ impl Backlog {
         self.end += more.len();
     }
 
-    /// Takes so many of the first octets, and puts them at the front of the buffer.
+    /// Takes the first `size` octets, copies them to the front of the buffer and returns their
+    /// number.
     pub(crate) fn take(&mut self, size: usize, buffer: &mut [u8]) -> usize
         requires within { size ≤ length self.old }
         requires room { size ≤ length buffer.old }

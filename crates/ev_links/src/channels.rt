@@ -10,15 +10,15 @@ use std::sync::Wait;
 /// A datagram over a channel.
 #[derive(Debug, Drop)]
 pub struct Datagram {
-    /// Who sent it.
+    /// The sender's address.
     pub from: Addr,
-    /// For whom it is.
+    /// The destination address.
     pub to: Addr,
-    /// What it holds.
+    /// The octets of the datagram.
     pub octets: Vec<u8>,
 }
 
-/// Datagrams that come over a channel. It ends when nobody can send any more.
+/// A link that receives datagrams from a channel. It ends when the channel has no sender left.
 #[derive(Drop)]
 pub struct ChannelIn<'x, R> {
     rt: &'x R,
@@ -27,7 +27,7 @@ pub struct ChannelIn<'x, R> {
 }
 
 impl<'x, R: Wait> ChannelIn<'x, R> {
-    /// What comes over this channel.
+    /// Creates a link that receives from this channel.
     pub fn new(rt: &'x R, datagrams: Receiver<Datagram>) -> Self
         ensures { result.failures ≡ 0 }
     {
@@ -39,7 +39,8 @@ impl<'x, R: Wait> ChannelIn<'x, R> {
     }
 }
 
-/// Puts octets at the front of the buffer, cut to its length, and answers how many there are.
+/// Copies octets to the front of the buffer, cut to its length, and returns the number of octets
+/// there.
 fn put_front(buffer: &mut [u8], octets: &[u8]) -> usize
     ensures fits { result ≤ length buffer.new }
     ensures size { result ≡ min (length octets.now) (length buffer.old) }
@@ -72,7 +73,7 @@ impl<R: Wait> LinkIn for ChannelIn<'_, R> {
     }
 }
 
-/// A copy of octets.
+/// Returns a copy of octets.
 fn copy(alloc: Global, octets: &[u8]) -> Result<Vec<u8>, AllocError>
     ensures { IfOk result (λ copy. copy.items ≡ octets.now) }
 {
@@ -89,7 +90,8 @@ fn addressed(alloc: Global, from: Addr, to: Addr, octets: &[u8]) -> Result<Datag
     Ok(Datagram { from, to, octets })
 }
 
-/// Sends datagrams over a channel to one other end, whatever address they are for.
+/// A link that sends datagrams over a channel. Its one other end receives them all, whatever their
+/// destination address is.
 #[derive(Drop)]
 pub struct ChannelOut<'x, R> {
     rt: &'x R,
@@ -100,7 +102,7 @@ pub struct ChannelOut<'x, R> {
 }
 
 impl<'x, R: Wait> ChannelOut<'x, R> {
-    /// What is sent from this address goes over this channel.
+    /// Creates a link that sends over this channel, from this address.
     pub fn new(rt: &'x R, alloc: Global, from: Addr, datagrams: Sender<Datagram>) -> Self
         ensures { result.failures ≡ 0 }
     {

@@ -1,12 +1,13 @@
-//! Links of which one call fails, so that it can be seen what becomes of a device's failure.
+//! Links of which one call fails, so that the effects of a device's failure can be observed.
 ghost use Rattle.std.specs.Prelude.{◌≡◌, ◌≢◌, ◌+◌, ◌^◌, ◌<◌, ◌≤◌, true, false, is_err, length, if◌then◌else◌, IfOk, IfSome};
 ghost use Rattle.ev_links.specs.FailAt.{inner_link, calls_of, fails_at, counted};
 
 use crate::links::{LinkIn, LinkOut};
 use ether_wire::{Addr, Device};
 
-/// A link over another one. Its call of one number, counted from 1 on, fails and goes no further;
-/// all other calls are the other link's. With the number 0 none fails so.
+/// A link that wraps another one. Its call of one number, counted from 1, fails and does not reach
+/// the wrapped link; all other calls go to the wrapped link. With the number 0 no call fails in
+/// this way.
 #[derive(Drop)]
 pub struct FailAt<K> {
     inner: K,
@@ -16,7 +17,7 @@ pub struct FailAt<K> {
 }
 
 impl<K> FailAt<K> {
-    /// A link that wasn't called yet, and whose call of this number will fail.
+    /// Creates a link that has not been called, and whose call of this number will fail.
     pub fn new(inner: K, at: u64) -> Self
         ensures inner { inner_link result ≡ inner }
         ensures calls { calls_of result ≡ 0 }
@@ -31,14 +32,14 @@ impl<K> FailAt<K> {
         }
     }
 
-    /// The other link.
+    /// Returns the wrapped link.
     pub fn inner(&self) -> &K
         ensures { result.now ≡ inner_link self.now }
     {
         &self.inner
     }
 
-    /// How many calls there were; those of `failures` don't count.
+    /// Returns the number of calls so far; calls of `failures` don't count.
     pub fn calls(&self) -> u64
         ensures { result ≡ calls_of self.now }
     {
@@ -46,7 +47,7 @@ impl<K> FailAt<K> {
     }
 }
 
-/// Counts a call: whether it is the one with this number.
+/// Counts a call. Returns `true` exactly if it is the one with this number.
 fn is_due(calls: &mut u64, at: u64) -> bool
     ensures yes { calls.old + 1 ≡ at → result ≡ true }
     ensures no { calls.old + 1 ≢ at → result ≡ false }

@@ -1,5 +1,5 @@
-//! Links of an edge: where its datagrams come from and where they go, over sockets or channels, and
-//! the lines on which they wait to be sent.
+//! Links of an edge, which receive and send its datagrams over sockets or channels, and lines: the
+//! queues of frames that wait to be sent over a link.
 #![tactic(auto)]
 
 mod backlog;

@@ -1,4 +1,4 @@
-//! What waits to be sent over a link: BPDUs, and frames behind them, as far as there is room.
+//! The queue of a link: BPDUs, and frames after them, as far as there is room.
 ghost use Rattle.std.specs.Prelude.{◌≡◌, ◌+◌, ◌≤◌, ◌&&◌, nat_lt, nat_le, length, take, IfOk, IfSome};
 ghost use Rattle.ev_links.specs.Links.{packet};
 ghost use Rattle.ev_links.specs.Line.{nothing_waits, after_frame, after_bpdu, first_of, after_take, handed, after_end};
@@ -9,30 +9,31 @@ use std::alloc::{AllocError, Global};
 use std::collections::VecDeque;
 use std::marker::Model;
 
-/// The octets of the longest datagram of a link: a frame of 9,018 octets behind a VXLAN header.
+/// The octets of the longest datagram of a link: a frame of 9,018 octets after a VXLAN header.
 pub const LONGEST: usize = 9026;
 
-/// How many frames may wait, however short they are.
+/// The most frames that may wait, however short they are.
 const FRAMES: usize = 1024;
 
-/// How many BPDUs may wait. A port sends ten at once at most, and then one a second: where so many
-/// wait the link hasn't got on for six seconds, and the newest ones say all of the port's state.
+/// The most BPDUs that may wait. A port sends at most ten at once, and then one a second: if 16
+/// wait, the link has made no progress for six seconds, and the newest BPDUs contain all of the
+/// port's state.
 const BPDUS: usize = 16;
 
-/// For whom a frame is that waits, and how many octets it has.
+/// The destination address of a waiting frame, and its number of octets.
 #[derive(Clone, Copy)]
 struct Head {
     to: Addr,
     size: usize,
 }
 
-/// What waits to be sent over a link. Its memory is taken once, when it is made, so that what comes
-/// is dropped for want of room alone.
+/// The queue of a link: BPDUs and frames that wait to be sent. A line allocates its memory once,
+/// when it is created, so that BPDUs and frames are dropped only for lack of room.
 #[derive(Drop)]
 pub struct Line {
     bpdus: VecDeque<[u8; 60]>,
     heads: VecDeque<Head>,
-    /// The frames, one behind the other.
+    /// The octets of the frames, one frame after the other.
     backlog: Backlog,
     dropped: u64,
     has_ended: bool,
@@ -56,7 +57,8 @@ impl Model for Line {
         (deque_capacity l.bpdus) };
 }
 
-/// Whether there is room for a frame of so many octets behind so many frames, of so many octets.
+/// Returns `true` exactly if there is room for a frame of `size` octets after `frames` frames,
+/// which have `waiting` octets together.
 fn has_room(frames: usize, waiting: usize, size: usize) -> bool
     requires { waiting ≤ 262144 }
     ensures { result ≡ (nat_le size 9026 && nat_lt frames 1024 && nat_le (waiting + size) 262144) }
@@ -64,7 +66,7 @@ fn has_room(frames: usize, waiting: usize, size: usize) -> bool
     size <= LONGEST && frames < FRAMES && waiting + size <= OCTETS
 }
 
-/// Puts a BPDU's frame at the front of the buffer, and answers how many octets it has.
+/// Copies a BPDU's frame to the front of the buffer and returns its number of octets.
 fn put_bpdu_front(buffer: &mut [u8], frame: &[u8; 60]) -> usize
     requires { 60 ≤ length buffer.old }
     ensures front { take result buffer.new ≡ frame.now }
@@ -74,11 +76,11 @@ fn put_bpdu_front(buffer: &mut [u8], frame: &[u8; 60]) -> usize
 }
 
 impl Line {
-    /// A line on which nothing waits.
+    /// Creates a line on which nothing waits.
     ///
     /// # Errors
     ///
-    /// Where memory is refused.
+    /// `AllocError` if memory is refused.
     pub fn new(alloc: Global) -> Result<Self, AllocError>
         ensures { IfOk result (λ line. line ≡ nothing_waits) }
     {
@@ -91,8 +93,8 @@ impl Line {
         })
     }
 
-    /// Puts a frame, or a datagram, behind the others; or drops and counts it, exactly where it is
-    /// longer than any or there is no room for it.
+    /// Appends a frame, or a datagram, to the others. Drops and counts it exactly if it is longer
+    /// than the longest datagram or there is no room for it.
     pub fn put(&mut self, to: Addr, octets: &[u8])
         ensures { self.new ≡ after_frame (packet to octets.now) self.old }
     {
@@ -105,8 +107,8 @@ impl Line {
         self.backlog.append(octets);
     }
 
-    /// Puts a BPDU's frame behind the other BPDUs, before all frames. Where 16 wait, the oldest is
-    /// dropped for it, and counted.
+    /// Appends a BPDU's frame to the other BPDUs, before all frames. If 16 wait, the oldest is
+    /// dropped for it and counted.
     pub fn put_bpdu(&mut self, frame: &[u8; 60])
         ensures { self.new ≡ after_bpdu frame.now self.old }
     {
@@ -117,8 +119,9 @@ impl Line {
         self.bpdus.push_back_reserved(*frame);
     }
 
-    /// Takes the first BPDU, or the first frame where there is none, and puts it at the front of
-    /// the buffer: for whom it is, and how many octets it has.
+    /// Takes the first BPDU, or the first frame if there is no BPDU, and copies it to the front of
+    /// the buffer. Returns its destination address and its number of octets, or `None` if nothing
+    /// waits.
     pub fn take(&mut self, buffer: &mut [u8]) -> Option<(Addr, usize)>
         requires { 9026 ≤ length buffer.old }
         ensures first { handed result buffer.new ≡ first_of self.old }
@@ -132,21 +135,21 @@ impl Line {
         Some((head.to, self.backlog.take(head.size, buffer)))
     }
 
-    /// Tells that nothing more comes.
+    /// Ends the line: nothing more comes.
     pub fn end(&mut self)
         ensures { self.new ≡ after_end self.old }
     {
         self.has_ended = true;
     }
 
-    /// Whether nothing more comes.
+    /// Returns `true` if the line has ended.
     pub fn has_ended(&self) -> bool
         ensures { result ≡ self.now.has_ended }
     {
         self.has_ended
     }
 
-    /// How many frames and BPDUs found no room.
+    /// Returns the number of frames and BPDUs that were dropped.
     pub fn dropped(&self) -> u64
         ensures { result ≡ self.now.dropped }
     {

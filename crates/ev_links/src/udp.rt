@@ -1,4 +1,4 @@
-//! Links over UDP sockets, and a clock of the system's.
+//! Links over UDP sockets, and over a clock of the system.
 ghost use Rattle.std.specs.Prelude.{◌≡◌, ◌≤◌, length, Some, Ok, IfOk, IsErr, MatchResult};
 ghost use Rattle.std.specs.Net.Addr.{IsIpv4OfBits, IsV4And, MatchIp, ipv4_bits};
 ghost use Rattle.std.specs.Net.Socket.{socket_ip, socket_port};
@@ -11,7 +11,7 @@ use std::sync::atomic::{AtomicBool, Ordering};
 use std::time::{Clock, Duration};
 use std::{io, thread};
 
-/// An address and a UDP port, as the system takes them.
+/// Returns an address and a UDP port as a socket address of the system.
 pub fn socket_address(address: Addr, port: u16) -> SocketAddr
     ensures ip { IsV4And (socket_ip result) (λ ip. IsIpv4OfBits ip address) }
     ensures port { socket_port result ≡ port }
@@ -19,7 +19,7 @@ pub fn socket_address(address: Addr, port: u16) -> SocketAddr
     SocketAddr::new(IpAddr::V4(Ipv4Addr::from_bits(address.number())), port)
 }
 
-/// The address of a sender, 0.0.0.0 where it has none of IPv4.
+/// Returns the IPv4 address of a sender, or 0.0.0.0 if it has none.
 fn address_of(from: SocketAddr) -> Addr
     ensures { MatchIp (socket_ip from) (λ ip. result ≡ ipv4_bits ip) (λ ip. result ≡ 0) }
 {
@@ -29,7 +29,7 @@ fn address_of(from: SocketAddr) -> Addr
     }
 }
 
-/// What a wire brings.
+/// The source of a wire's datagrams.
 #[derive(Clone, Copy)]
 enum Spring<'x> {
     /// The datagrams that come to this socket.
@@ -38,20 +38,21 @@ enum Spring<'x> {
     Clock,
 }
 
-/// What comes to a socket, or the seconds of a clock, until a flag says to stop. An empty datagram
-/// wakes it to look at the flag.
+/// A link that receives the datagrams of a socket, or the seconds of a clock, until a flag is set.
+/// An empty datagram wakes a call that waits on the socket, which then reads the flag.
 #[derive(Drop)]
 pub struct Wire<'x, C> {
     spring: Spring<'x>,
     clock: &'x C,
     stop: &'x AtomicBool,
     failures: u64,
-    /// Whether the last call failed.
+    /// `true` if the last call failed.
     is_failing: bool,
 }
 
 impl<'x, C: Clock> Wire<'x, C> {
-    /// What comes to this socket. The clock tells when a second is over.
+    /// Creates a link that receives from this socket. The clock measures the second that a call
+    /// waits after a failure.
     pub fn socket(clock: &'x C, socket: &'x UdpSocket, stop: &'x AtomicBool) -> Self
         ensures { result.failures ≡ 0 }
     {
@@ -64,7 +65,7 @@ impl<'x, C: Clock> Wire<'x, C> {
         }
     }
 
-    /// The seconds of this clock.
+    /// Creates a link that receives the seconds of this clock.
     pub fn clock(clock: &'x C, stop: &'x AtomicBool) -> Self
         ensures { result.failures ≡ 0 }
     {
@@ -82,12 +83,13 @@ impl<'x, C: Clock> Wire<'x, C> {
         thread::sleep(self.clock, Duration::from_secs(1));
     }
 
-    /// Whether the flag says to stop.
+    /// Returns `true` if the flag is set.
     fn has_stopped(&self) -> bool {
         self.stop.load(Ordering::SeqCst)
     }
 
-    /// How long a read of the socket waits, for ever if nothing is said.
+    /// Sets how long a read of the socket waits: for ever if `limit` is `None`. Does nothing for a
+    /// clock.
     fn limit(&self, limit: Option<Duration>) -> io::Result<()> {
         match &self.spring {
             Spring::Socket(socket) => socket.set_read_timeout(limit),
@@ -95,8 +97,8 @@ impl<'x, C: Clock> Wire<'x, C> {
         }
     }
 
-    /// Waits for a datagram or a second. Where none comes for as long as a read waits, that is an
-    /// empty one.
+    /// Waits for a datagram or a second. If no datagram comes for as long as a read waits, returns
+    /// an empty one.
     fn wait(&self, buffer: &mut [u8]) -> io::Result<(usize, Addr)>
         ensures { IfOk result (λ r. r.0 ≤ length buffer.new) }
     {
@@ -113,8 +115,8 @@ impl<'x, C: Clock> Wire<'x, C> {
         }
     }
 
-    /// Looks a second later whether a read still fails. It waits for no datagram: where none comes
-    /// the socket works, too.
+    /// Waits for a second, and then checks whether a read still fails. The read waits for at most a
+    /// millisecond: if no datagram comes in that time, the socket works, too.
     fn wait_again(&self, buffer: &mut [u8]) -> io::Result<(usize, Addr)>
         ensures { IfOk result (λ r. r.0 ≤ length buffer.new) }
     {
@@ -126,7 +128,8 @@ impl<'x, C: Clock> Wire<'x, C> {
     }
 }
 
-/// Returns what a read of a wire brought: an empty datagram, too, is one.
+/// Returns the datagram that a read of a wire brought, even if it is empty, or `Device` if the read
+/// failed.
 fn heard(got: io::Result<(usize, Addr)>) -> Result<Option<(Addr, usize)>, Device>
     ensures { MatchResult got (λ r. result ≡ Ok (Some (r.1, r.0))) (λ e. IsErr result) }
 {
@@ -164,16 +167,16 @@ impl<C: Clock> LinkIn for Wire<'_, C> {
     }
 }
 
-/// Where the datagrams that go out of a socket are sent.
+/// The destination of the datagrams that go out of a socket.
 #[derive(Clone, Copy, Debug, PartialEq, Eq)]
 pub enum Destination {
-    /// All to this address and UDP port.
+    /// All datagrams go to this address and UDP port.
     Fixed(Addr, u16),
-    /// To the address that each is for, at this UDP port.
+    /// Each datagram goes to its destination address, at this UDP port.
     At(u16),
 }
 
-/// Returns where a datagram for this address is sent.
+/// Returns the socket address that a datagram for this address is sent to.
 fn where_to(destination: Destination, to: Addr) -> SocketAddr
     ensures ip { IsV4And (socket_ip result) (λ ip. IsIpv4OfBits ip (address_for destination to)) }
     ensures port { socket_port result ≡ port_for destination }
@@ -184,7 +187,7 @@ fn where_to(destination: Destination, to: Addr) -> SocketAddr
     }
 }
 
-/// The datagrams that go out of a socket.
+/// A link that sends datagrams over a socket.
 #[derive(Drop)]
 pub struct UdpOut<'x> {
     socket: &'x UdpSocket,
@@ -193,7 +196,7 @@ pub struct UdpOut<'x> {
 }
 
 impl<'x> UdpOut<'x> {
-    /// What goes out of this socket.
+    /// Creates a link that sends over this socket.
     pub fn new(socket: &'x UdpSocket, destination: Destination) -> Self
         ensures { result.failures ≡ 0 }
     {

@@ -1,4 +1,4 @@
--- What a worker has announced and passed on, call by call.
+-- The announcements of a worker, and the event that it passes on, call by call.
 use Rattle.std.proofs.Common.{◌≡◌, ℕ, Bool, true, List, [], ◌∷◌, Option, Some, None, Result, refl, ap, sym, subst}
 use Rattle.std.proofs.Common.{◌∙◌}
 use Rattle.route_wire.specs.Fields.{Fields}
@@ -12,7 +12,7 @@ use Rattle.ev_peers.specs.Passing.{Entered, Asked, AskedEach, Word, has_room, re
 use Rattle.ev_peers.specs.Passing.{PassesOn, given_by, signs_of}
 use Rattle.ev_links.proofs.Behind.{behind_none, behind_twice}
 
--- what was asked for and given up to here
+-- the announcements that were requested and sent so far
 pub record SoFar (p : PassState) (old : Option (List Word)) (p' : PassState) (new : Option (List Word)) : Type 0 where
   pub got : List Fields
   pub asked : AskedEach p got p'
@@ -21,7 +21,7 @@ pub record SoFar (p : PassState) (old : Option (List Word)) (p' : PassState) (ne
 pub begins : (p : PassState) (old : Option (List Word)) → SoFar p old p old
 begins p old = record { got = []; asked = refl; given = sym (behind_none old) }
 
--- one more, for which there was room, and which was given to the other edges
+-- one more announcement, for which there was room, and which was sent to the other edges
 pub goes_on : (p : PassState) (old : Option (List Word)) (p1 : PassState) (mid : Option (List Word)) (room : Bool)
     (said : Option (List Word)) (u : Fields) (p2 : PassState) (new : Option (List Word)) → SoFar p old p1 mid
     → said ≡ behind mid (has_room room ∷ []) → room ≡ true → Asked p1 (Some u) p2 → new ≡ behind said (record_of u ∷ [])
@@ -37,7 +37,7 @@ goes_on p old p1 mid room said u p2 new s told there a e =
           ∙ behind_twice old (words_of s.got) (has_room true ∷ record_of u ∷ []);
     }
 
--- and then there was none, or no room
+-- and then there was no announcement, or no room
 pub ends : (p : PassState) (old : Option (List Word)) (p1 : PassState) (mid : Option (List Word)) (room : Bool)
     (p2 : PassState) (new : Option (List Word)) → SoFar p old p1 mid → new ≡ behind mid (has_room room ∷ [])
     → Stops room p1 p2 → Announces p old p2 new
@@ -51,14 +51,14 @@ ends p old p1 mid room p2 new s told stops = record {
       ∙ behind_twice old (words_of s.got) (has_room room ∷ []);
 }
 
--- there was room, and then there was none to be announced
+-- there was room, and then there was no announcement
 pub none_left : (p : PassState) (old : Option (List Word)) (p1 : PassState) (mid : Option (List Word)) (room : Bool)
     (p2 : PassState) (new : Option (List Word)) → SoFar p old p1 mid → new ≡ behind mid (has_room room ∷ [])
     → room ≡ true → Asked p1 None p2 → Announces p old p2 new
 none_left p old p1 mid room p2 new s told there a = ends p old p1 mid true p2 new s (told
     ∙ ap (λ (r : Bool). behind mid (has_room r ∷ [])) there) a
 
--- an event's call, what the operator's board was told, what was given for it, and the announcements behind it
+-- an event's call, the words for the operator's board, the parcels for the links, and then the announcements
 pub passed_on : (bridge vni : ℕ) (frame : List ℕ) (p : PassState) (event : Event) (answer : Result Reply BookRefusal)
     (middle p' : PassState) (given given_signs mid given' : Option (List Parcel))
     (records told mid_records records' : Option (List Word)) → Entered p event answer middle

@@ -1,4 +1,4 @@
--- What is planned for the links of ports, from the last port to the first.
+-- The plan for the links of ports, from the last port to the first.
 use Rattle.std.proofs.Common.{◌≡◌, ℕ, ◌+◌, List, [], ◌∷◌, ◌++◌, length, map, reverse, refl, ap, sym, ◌∙◌, append_assoc}
 use Rattle.std.proofs.lemmas.List.{reverse-append, reverse-reverse, length-reverse, map-append}
 use Rattle.ev_edge.specs.declared.config.PortConfig.{PortConfig}
@@ -7,7 +7,7 @@ use Rattle.ev_peers.specs.declared.plan.Task.{Task}
 use Rattle.ev_peers.specs.declared.plan.Task.TheVariants.{Port}
 use Rattle.ev_peers.specs.Inner.Plan.{vni_at, port_tasks, outputs_back, outputs_of}
 
--- the images, the last first
+-- the images of a reversed list: the last first
 map_reverse : {A B : Type 0} (f : A → B) (xs : List A) → map f (reverse xs) ≡ reverse (map f xs)
 map_reverse f [] = refl
 map_reverse f (x ∷ xs) =
@@ -48,7 +48,7 @@ module _ {I O : Type 0} where
       ∙ (ap (λ l. outputs ++ l)
       (sym (ap outputs_back popped ∙ ap (map (λ l. l.output)) (reverse-append before (link ∷ [])))) ∙ so_far))
 
-  -- what is sent over at ports, port 1 first again
+  -- the outgoing links, with the tunnel's first and then port 1 first again
   pub port_1_first : (tunnel : O) (links : List (Link I O))
       → tunnel ∷ reverse (outputs_back links) ≡ outputs_of tunnel links
   port_1_first tunnel links =

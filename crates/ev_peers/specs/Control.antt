@@ -1,4 +1,4 @@
--- What the operator asks of an edge that runs: what the edge does, and what it answers.
+-- Requests of the operator to a running edge: the effect and the answer of each.
 use Rattle.std.specs.Prelude.{◌≡◌, ◌↔◌, ℕ, List, [], ◌∷◌, length, slice_get, Option, Some, None, Result, Ok}
 use Rattle.std.specs.Prelude.{Err, IsTrue}
 use Rattle.std.specs.Global.{Vec}
@@ -32,7 +32,7 @@ use Rattle.ev_peers.specs.Passing.{Word, answers, PassesOn}
 
 -- ---- a step
 
--- the event that a step is
+-- the event of a step
 abbrev pub event_of : Command → Event
 event_of (commands.Pin s port) = events.Pin s port
 event_of (commands.Unpin s) = events.Unpin s
@@ -41,7 +41,7 @@ event_of (commands.Mcheck port) = events.Mcheck port
 event_of (commands.PortUp port) = events.PortUp port
 event_of (commands.PortDown port) = events.PortDown port
 
--- The step was entered once and passed on, as a worker's event is, and this is what the book answered.
+-- The step was entered once and passed on, as a worker's event is, and `answer` is the book's answer.
 pub record Obeys (bridge : ℕ) (command : Command) (answer : Result Reply BookRefusal) (p : PassState)
     (given : Option (List Parcel)) (records : Option (List Word)) (p' : PassState) (given' : Option (List Parcel))
     (records' : Option (List Word)) : Type 0 where
@@ -50,29 +50,29 @@ pub record Obeys (bridge : ℕ) (command : Command) (answer : Result Reply BookR
 
 -- ---- a reading
 
--- the updates of all registers of the table, in the order of a report; memory may be refused to them
+-- the updates of all registers of the table, in the order of a report; memory may be refused for them
 abbrev pub ShowsTable : Edge → Result (Vec Fields) AllocError → Type 0
 ShowsTable e (Ok updates) = updates.items ≡ all_updates (table_of e)
 ShowsTable e (Err refused) = Unit {0}
 
--- the port's state, and whether frames pass there; none where there is no port of this number
+-- the port's state, and whether frames pass there; `None` only if there is no port of this number
 abbrev pub ShowsPort : Tree → ℕ → Option PortView → Type 0
 ShowsPort tree p (Some view) = IsPort p (length tree.ports) × (slice_get tree.ports (place_of_port p) ≡ Some view.state)
     × (IsTrue view.passes ↔ Passes tree p)
 ShowsPort tree p None = IsPort p (length tree.ports) → ⊥
 
--- the text of the question, with this number before each line; memory may be refused to it
+-- the text that answers the question, with this number before each line; memory may be refused for it
 abbrev pub ShowsView : ℕ → Edge → EdgeQuestion → Result (Vec ℕ) AllocError → Type 0
 ShowsView number e q (Ok text) = text.items ≡ edge_view_text number e q
 ShowsView number e q (Err refused) = Unit {0}
 
--- its address, the network of each port, and the networks that it serves; memory may be refused to them
+-- the edge's address, the VNI of each port, and the VNIs that the edge serves; memory may be refused for them
 abbrev pub ShowsServed : Edge → Result Served AllocError → Type 0
 ShowsServed e (Ok served) = (served.address ≡ address_of e) × (served.ports.items ≡ e.routes.ports)
     × (served.vnis.items ≡ e.routes.vnis)
 ShowsServed e (Err refused) = Unit {0}
 
--- what a reading shows of an edge
+-- the answer of an edge to a reading
 abbrev pub Shows : Edge → Reading → Answer → Type 0
 Shows e (Table alloc) (replies.Table updates) = ShowsTable e updates
 Shows e (Table alloc) answer = ⊥
@@ -83,14 +83,15 @@ Shows e (Serves alloc) answer = ⊥
 Shows e (View alloc number q) (replies.View text) = ShowsView number e q text
 Shows e (View alloc number q) answer = ⊥
 
--- It shows some book as it stood. Which one stood under the lock, no caller knows.
+-- The answer shows the state of some book. No caller knows which book was under the lock.
 pub record Looked (reading : Reading) (answer : Answer) : Type 0 where
   pub book : BookState
   pub shows : Shows book.edge reading answer
 
 -- ---- a request
 
--- a step is entered once and passed on; a reading changes nothing, and gives nothing on
+-- a step is entered once and passed on; a reading changes nothing, and sends nothing to links, other edges or the
+-- operator
 abbrev pub Fulfils : ℕ → Request → Answer → PassState → Option (List Parcel) → Option (List Word) → PassState
     → Option (List Parcel) → Option (List Word) → Type 0
 Fulfils bridge (Enter command) (replies.Entered answer) p given records p' given' records' =
@@ -99,7 +100,7 @@ Fulfils bridge (Enter command) answer p given records p' given' records' = ⊥
 Fulfils bridge (Read reading) answer p given records p' given' records' =
     Looked reading answer × (p' ≡ p) × (given' ≡ given) × (records' ≡ records)
 
--- It is done once, and then what came of it is told to who asked, once.
+-- The request is carried out once, and then its answer is sent to the requester, once.
 pub record Answers (bridge : ℕ) (request : Request) (p : PassState) (given : Option (List Parcel))
     (records : Option (List Word)) (p' : PassState) (given' : Option (List Parcel)) (records' : Option (List Word)) :
     Type 0 where

@@ -1,8 +1,8 @@
--- What an edge is opened with, and room for its threads.
+-- The setup of an edge.
 use Rattle.std.specs.Prelude.{ℕ}
 use Rattle.ev_edge.specs.declared.config.EdgeConfig.{EdgeConfig}
 
--- what an edge is opened with, and how many ports have links
+-- the configuration that an edge is opened with, and the number of ports that have links
 pub record EdgeSetup : Type 0 where
   pub config : EdgeConfig
   pub ports : ℕ

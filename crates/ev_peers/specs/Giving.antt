@@ -1,4 +1,4 @@
--- What an answer of a book gives to the links of its edge.
+-- The parcels of a book's answer for the links of its edge.
 use Rattle.std.specs.Prelude.{ℕ, Bool, false, true, List, [], ◌++◌, map, Option, Some, None}
 use Rattle.ether_wire.specs.BpduFrame.{bpdu_frame_of}
 use Rattle.ether_wire.specs.Ports.{ports_of}
@@ -10,7 +10,7 @@ use Rattle.ev_edge.specs.declared.reply.Reply.{Reply}
 use Rattle.ev_peers.specs.declared.outlet.Target.{Target}
 use Rattle.ev_peers.specs.declared.outlet.Target.TheVariants.{Port, Edge}
 
--- octets, the link that gets them, and whether they go before its frames
+-- octets, the link that they are for, and whether they go before its frames
 pub record Parcel : Type 0 where
   pub to : Target
   pub octets : List ℕ
@@ -26,23 +26,23 @@ first_parcel port octets = record { to = Port port; octets = octets; is_first = 
 
 -- ---- one reply
 
--- a BPDU goes out at its port, before frames, as the frame that carries it
+-- a BPDU goes out at its port, before frames, in the frame that carries it
 abbrev pub bpdu_parcel : ℕ → ℕ × Bpdu → Parcel
 bpdu_parcel bridge sent = first_parcel sent.0 (bpdu_frame_of bridge (octets_of sent.1))
 
--- each of these ports gets the frame as it is
+-- the frame, unchanged, for each of these ports
 abbrev pub to_ports : List ℕ → List ℕ → List Parcel
 to_ports frame ports = map (λ port. parcel (Port port) frame) ports
 
--- each of these edges gets the datagram
+-- the datagram for each of these edges
 abbrev pub to_edges : List ℕ → List ℕ → List Parcel
 to_edges datagram edges = map (λ edge. parcel (Edge edge) datagram) edges
 
--- each port of a decision gets the frame, ascending; then each of its edges gets it in a datagram
+-- the frame for each port of a decision, ascending; then the frame in a datagram for each edge of the decision
 abbrev pub decided : ℕ → List ℕ → Option Decision → List Parcel
 decided vni frame None = []
 decided vni frame (Some d) = to_ports frame (ports_of d.local) ++ to_edges (datagram_of vni frame) d.remote.items
 
--- the BPDUs, then the frame where it was decided to go
+-- the BPDUs, then the frame for the ports and edges of the decision
 abbrev pub parcels_of : ℕ → ℕ → List ℕ → Reply → List Parcel
 parcels_of bridge vni frame reply = map (bpdu_parcel bridge) reply.bpdus.items ++ decided vni frame reply.decision

@@ -1,4 +1,4 @@
--- What a worker does with one event: it enters it into its edge's book, and passes on what the book answers.
+-- How a worker handles one event: it enters the event into its edge's book, and passes on the book's answer.
 use Rattle.std.specs.Prelude.{◌≡◌, ℕ, Bool, false, true, List, [], ◌∷◌, ◌++◌, Option, Some, None, Result, Ok, Err}
 use Rattle.std.specs.Prelude.{if◌then◌else◌}
 use Rattle.route_wire.specs.Fields.{Fields}
@@ -15,7 +15,7 @@ use Rattle.ev_notices.specs.Alarm.{alarm_of, is_second}
 use Rattle.ev_peers.specs.Giving.{Parcel, parcels_of}
 use Rattle.ev_links.specs.Coming.{behind}
 
--- A call of some book. Which one stood under the lock, no caller knows.
+-- A call of some book. No caller knows which book was under the lock.
 pub record Entered (p : PassState) (event : Event) (answer : Result Reply BookRefusal) (p' : PassState) : Type 0 where
   pub before : BookState
   pub after : BookState
@@ -28,18 +28,18 @@ abbrev pub announced_by : Result Reply BookRefusal → Option Fields
 announced_by (Ok reply) = reply.announced
 announced_by (Err refusal) = None
 
--- a call that asked for an announcement, and what it got
+-- a call of the book that requested an announcement, and the announcement that it returned, if any
 pub record Asked (p : PassState) (announced : Option Fields) (p' : PassState) : Type 0 where
   pub answer : Result Reply BookRefusal
   pub entered : Entered p Announce answer p'
   pub got : announced_by answer ≡ announced
 
--- calls that asked one after the other, and got these, the last one first
+-- calls that requested announcements one after the other and returned these; the list has the last one first
 abbrev pub AskedEach : PassState → List Fields → PassState → Type 0
 AskedEach p [] p' = p' ≡ p
 AskedEach p (u ∷ us) p' = (middle : PassState) × AskedEach p us middle × Asked middle (Some u) p'
 
--- what is spoken of the other edges: an answer on their room, or a record that they are given; and with the operator: a
+-- one exchange with the other edges: whether they have room, or a record that is sent to them; or with the operator: a
 -- second that passes, an alert, that receiving over a link failed or works again, or an answer to a request
 pub data Word : Type 0 where
   has_room : Bool → Word
@@ -49,18 +49,19 @@ pub data Word : Type 0 where
   answers : Answer → Word
   hears : Reception → Word
 
--- there was room, and then the update was given, one after the other, the last one first
+-- for each update one after the other: there was room, and then the update was sent; the list has the last one first
 abbrev pub words_of : List Fields → List Word
 words_of [] = []
 words_of (u ∷ us) = words_of us ++ has_room true ∷ record_of u ∷ []
 
--- where there was room once more, it was asked and there was none or the call was refused; else it wasn't asked
+-- if there was room once more, an announcement was requested, and there was none or the call was refused; if there was
+-- no room, none was requested
 abbrev pub Stops : Bool → PassState → PassState → Type 0
 Stops true p p' = Asked p None p'
 Stops false p p' = p' ≡ p
 
--- As long as the other edges had room it asked, until there was none or a call was refused, and gave each to them, in
--- their order. What it didn't ask for stays pending in the edge.
+-- While the other edges had room the worker requested announcements, until there was none or a call was refused. It
+-- sent each to the other edges, in their order. Announcements that it did not request stay pending in the edge.
 pub record Announces (p : PassState) (old : Option (List Word)) (p' : PassState) (new : Option (List Word)) :
     Type 0 where
   pub middle : PassState
@@ -72,22 +73,23 @@ pub record Announces (p : PassState) (old : Option (List Word)) (p' : PassState)
 
 -- ---- one event
 
--- what an answer gives to the links of its edge
+-- the parcels of an answer for the links of its edge
 abbrev pub given_by : ℕ → ℕ → List ℕ → Result Reply BookRefusal → List Parcel
 given_by bridge vni frame (Ok reply) = parcels_of bridge vni frame reply
 given_by bridge vni frame (Err refusal) = []
 
--- what is told of an alert, if there is one
+-- the word for an alert, if there is one
 abbrev pub told_of : Option Alarm → List Word
 told_of None = []
 told_of (Some alarm) = tells alarm ∷ []
 
--- what the operator's board is told of an event of this network and of its answer: a second, and an alert
+-- the words for the operator's board on an event of this VNI and its answer: a second if the event is one, and an alert
+-- if there is one
 abbrev pub signs_of : ℕ → Event → Result Reply BookRefusal → List Word
 signs_of vni event answer = (if is_second event then second_passes ∷ [] else []) ++ told_of (alarm_of vni event answer)
 
--- It entered the event once, gave what the answer gives to the links, told the operator's board what it tells, and then
--- announced.
+-- The worker entered the event once, passed the answer's parcels to the links, passed the words of event and answer to
+-- the operator's board, and then announced.
 pub record PassesOn (bridge vni : ℕ) (frame : List ℕ) (p : PassState) (event : Event) (given : Option (List Parcel))
     (records : Option (List Word)) (p' : PassState) (given' : Option (List Parcel)) (records' : Option (List Word)) :
     Type 0 where

@@ -1,21 +1,22 @@
-//! What an edge's workers receive and send over: the links of its ports, its tunnels and its clock.
+//! The links of an edge, over which its workers receive and send: those of its ports, its tunnels
+//! and its clock.
 
 /// Both directions of a link.
 #[derive(Drop)]
 pub struct Link<I: Drop, O: Drop> {
-    /// What comes.
+    /// The receiving direction.
     pub input: I,
-    /// What goes.
+    /// The sending direction.
     pub output: O,
 }
 
 /// The links of an edge.
 #[derive(Drop)]
 pub struct EdgeLinks<I: Drop, O: Drop> {
-    /// Those of the access ports, port 1 first.
+    /// The links of the access ports, port 1 first.
     pub ports: Vec<Link<I, O>>,
-    /// That of the tunnels.
+    /// The link of the tunnels.
     pub tunnel: Link<I, O>,
-    /// What ticks each second.
+    /// The clock, which ticks each second.
     pub clock: I,
 }

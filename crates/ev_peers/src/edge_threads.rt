@@ -25,15 +25,14 @@ use std::sync::{Mutex, Wait};
 use std::thread;
 use std::thread::{Scope, Threads};
 
-/// The address from which an edge's bridge speaks.
+/// Returns the address that an edge's bridge sends from.
 fn bridge_of(config: &EdgeConfig) -> Mac
     ensures { result ≡ bridge_address config.now.tree.identifier }
 {
     Mac::new(config.tree.identifier.address())
 }
 
-/// What the workers of an edge begin with, ready to run. It is seen as how many
-/// passes the tasks have.
+/// The workers of an edge, ready to run. Their model is the number of passes of the tasks.
 #[derive(Drop)]
 struct ReadyThreads<'x, L: Ledger, I: Drop, O: Drop, G, R> {
     threads: EdgeThreads<L, I, O>,
@@ -61,9 +60,9 @@ impl<'x, L: Ledger, I: Drop, O: Drop, G, R> Model for ReadyThreads<'x, L, I, O, 
         (vec_len l.workplace.now.shared.now.lines) (vec_len l.fresh) };
 }
 
-/// Starts the workers of an edge, each on a thread, waits until they have ended, and gives all
-/// passes back: those of ports, tunnel and clock, then the one of the other edges' records,
-/// then those that send.
+/// Starts the workers of an edge, each on a thread, waits until they have ended, and returns all
+/// passes. It waits for the workers of ports, tunnel and clock first, then for that of the other
+/// edges' records, then for those that send.
 fn run_within<
     's,
     'x: 's,
@@ -109,14 +108,14 @@ fn run_within<
     )
 }
 
-/// What an edge runs over.
+/// The environment that an edge runs in.
 #[derive(Drop)]
 pub struct Host<'x, G, R> {
-    /// What may wait, and starts threads.
+    /// The runtime, which may wait and starts threads.
     pub rt: &'x R,
-    /// What gives memory.
+    /// The allocator.
     pub alloc: Global,
-    /// Is told of each call of the edge's book.
+    /// The gate, which is called at each point of a call of the edge's book.
     pub gate: &'x G,
     /// The edge's number, from 1.
     pub number: usize,
@@ -124,7 +123,8 @@ pub struct Host<'x, G, R> {
     pub peers: Peers<'x>,
 }
 
-/// What the workers of an edge enter into its book, give to, and share.
+/// Returns the workplace of an edge's workers: the book that they enter events into, their outlet,
+/// and the values that they share.
 fn workplace_of<'x, L: Ledger, G, R>(
     host: &Host<'x, G, R>,
     bridge: Mac,
@@ -179,16 +179,16 @@ fn run_workers<
 }
 
 /// Opens an edge's book under a ledger of its own, runs the edge's workers, and closes the book
-/// with the passes that they give back: passes 0, 1 .. are those of the ports, then of the tunnel,
-/// the clock and the other edges' records.
+/// with the passes that they return. Passes 0, 1 .. are those of the ports, then of the tunnel, the
+/// clock and the other edges' records.
 ///
-/// What comes back from a thread is known by its type alone, and so is the book that was under the
-/// lock: no clause says what the workers did meanwhile, nor what they ended with, but that each has
-/// its count.
+/// Clauses know only the type of a thread's result, and only the type of the book that was under
+/// the lock. So no clause states the actions of the workers or how they ended, except that each
+/// worker has its count.
 ///
 /// # Errors
 ///
-/// Where memory is refused before a worker has begun.
+/// `AllocError` if memory is refused before a worker has begun.
 pub fn edge_worker<
     L: Ledger + Send + Sync,
     I: LinkIn + Drop + Send,

@@ -1,5 +1,5 @@
-//! The threads of an edge that enter events into its book: for the ports, the tunnel and the clock,
-//! and for what other edges send.
+//! The threads of an edge that enter events into its book: those of the ports, of the tunnel and of
+//! the clock, and that of the edge's mailbox.
 ghost use Rattle.std.specs.Prelude.{◌≡◌, ◌+◌, ◌≤◌, vec_len, vec_capacity};
 
 use crate::gate::Gate;
@@ -17,18 +17,20 @@ use std::sync::atomic::{AtomicBool, Ordering};
 use std::sync::ledger::Ledger;
 use std::thread::{JoinHandle, Scope, Threads};
 
-/// What the workers of an edge that enter events enter them into, give to, and share.
+/// The workplace of the workers of an edge that enter events: the edge, their outlet, and the
+/// values that they share.
 #[derive(Drop)]
 pub(crate) struct Workplace<'x, L: Ledger, G, R> {
     /// The edge.
     pub(crate) shared_edge: SharedEdge<'x, L, G, R>,
-    /// Where they give what the edge's book answers.
+    /// The outlet for the answers of the edge's book.
     pub(crate) outlet: Senders<'x, R>,
-    /// What all threads of the edge share.
+    /// The values that all threads of the edge share.
     pub(crate) shared: &'x Shared,
 }
 
-/// A worker that enters what its task says, unless there was no thread for it.
+/// Runs the worker of a task until it ends. Returns at once with `Ended::NoMemory` if the task's
+/// thread was refused.
 fn enter_task<L: Ledger, I: LinkIn + Drop, G: Gate, R: Wait>(
     workplace: &Workplace<'_, L, G, R>,
     pass: Pass<L>,
@@ -55,7 +57,7 @@ fn enter_task<L: Ledger, I: LinkIn + Drop, G: Gate, R: Wait>(
     (worker.pass, ended)
 }
 
-/// Starts the thread that enters what a task says, or gives its pass back.
+/// Starts the thread of a task. If the thread is refused, returns the pass with `Ended::NoMemory`.
 fn start_task<
     's,
     'x: 's,
@@ -79,7 +81,7 @@ fn start_task<
     }
 }
 
-/// Starts a thread for each link whose datagrams are entered.
+/// Starts a thread for each link whose datagrams are entered. Keeps the passes of refused threads.
 pub(crate) fn start_entering<
     's,
     'x: 's,
@@ -123,7 +125,7 @@ pub(crate) fn start_entering<
     (Entering { running, passes }, faults)
 }
 
-/// Waits for the threads that enter, and gives all passes back.
+/// Waits for the threads that enter events, and returns all passes.
 pub(crate) fn join_entering<L: Ledger, R: Threads>(
     rt: &R,
     entering: Entering<L>,
@@ -145,7 +147,8 @@ pub(crate) fn join_entering<L: Ledger, R: Threads>(
     (passes, faults)
 }
 
-/// Starts the thread that enters what other edges send, or gives its pass back.
+/// Starts the thread of the edge's mailbox. If the thread is refused, closes the mailbox and
+/// returns the pass with `Ended::NoMemory`.
 pub(crate) fn start_peer<
     's,
     'x: 's,

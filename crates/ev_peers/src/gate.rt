@@ -1,6 +1,6 @@
-//! Points of a call of a book, at which it can be held up.
+//! Points of a call of a book, at which the call can be delayed.
 
-/// Where a call of a book stands.
+/// A point of a call of a book.
 #[derive(Clone, Copy, PartialEq, Eq, Debug)]
 pub enum Point {
     /// Before the edge's lock is taken.
@@ -11,14 +11,15 @@ pub enum Point {
     After,
 }
 
-/// Is told of each call of a book. It may hold one up.
+/// A hook that is called at each point of a call of a book. It may delay the call.
 pub trait Gate {
-    /// A call of this edge's book stands at this point. It gets no edge and answers nothing, so
-    /// that all it can do to the call is to hold it up, and a contract would have nothing to say.
+    /// Is called at this point of a call of this edge's book. It gets only the edge's number and
+    /// returns nothing, so that it can only delay the call, and a contract would have nothing to
+    /// state.
     fn at(&self, edge: usize, point: Point);
 }
 
-/// A gate that holds nothing up.
+/// A gate that delays nothing.
 #[derive(Clone, Copy, Debug, Drop)]
 pub struct OpenGate;
 

@@ -1,4 +1,4 @@
-//! What a reply gives to the links of its edge.
+//! The frames of a reply, which go to the links of its edge.
 ghost use Rattle.std.specs.Prelude.{◌≡◌, ◌≤◌, [], Some, map, length};
 ghost use Rattle.ether_wire.specs.Ports.{ports_of};
 ghost use Rattle.ev_peers.specs.Giving.{bpdu_parcel, to_ports, to_edges, decided, parcels_of};
@@ -10,17 +10,17 @@ use ether_wire::{Addr, Mac, Vni, next_port, write_bpdu_frame};
 use ev_edge::Reply;
 use ev_tunnel::{Decision, wrap};
 
-/// What an event carries: a frame of a network, of at most 9,018 octets, or none.
+/// The frame that an event carries, with its VNI: at most 9,018 octets, or no frame.
 #[derive(Clone, Copy)]
 pub struct Carried<'a> {
-    /// The network.
+    /// The VNI.
     pub vni: Vni,
     /// The frame.
     pub frame: &'a [u8],
 }
 
 impl Carried<'_> {
-    /// No frame, and so no network.
+    /// Returns no frame, with VNI 0.
     pub(crate) fn none() -> Self
         ensures vni { result.vni ≡ 0 }
         ensures frame { result.frame.now ≡ [] }
@@ -32,7 +32,7 @@ impl Carried<'_> {
     }
 }
 
-/// Gives each BPDU to its port, before frames, in a frame from this bridge.
+/// Passes each BPDU to its port, before frames, in a frame from this bridge.
 fn give_bpdus<O: Outlet>(outlet: &mut O, bridge: Mac, bpdus: &[(u8, Bpdu)])
     ensures frames { O.parcels outlet.new
         ≡ behind (O.parcels outlet.old) (map (bpdu_parcel bridge) bpdus.now) }
@@ -46,7 +46,7 @@ fn give_bpdus<O: Outlet>(outlet: &mut O, bridge: Mac, bpdus: &[(u8, Bpdu)])
     }
 }
 
-/// Gives a frame to each port of a set, ascending.
+/// Passes a frame to each port of a set, ascending.
 fn give_ports<O: Outlet>(outlet: &mut O, ports: u64, frame: &[u8])
     ensures frames { O.parcels outlet.new
         ≡ behind (O.parcels outlet.old) (to_ports frame.now (ports_of ports)) }
@@ -59,7 +59,7 @@ fn give_ports<O: Outlet>(outlet: &mut O, ports: u64, frame: &[u8])
     }
 }
 
-/// Gives a datagram to each of these edges.
+/// Passes a datagram to each of these edges.
 fn give_edges<O: Outlet>(outlet: &mut O, edges: &[Addr], datagram: &[u8])
     ensures frames { O.parcels outlet.new
         ≡ behind (O.parcels outlet.old) (to_edges datagram.now edges.now) }
@@ -70,7 +70,8 @@ fn give_edges<O: Outlet>(outlet: &mut O, edges: &[Addr], datagram: &[u8])
     }
 }
 
-/// Gives a frame where it was decided to go: to the ports as it is, to the edges in a datagram.
+/// Passes a frame to the targets of a decision: unchanged to the ports, and in a datagram to the
+/// edges.
 fn give_decided<O: Outlet>(
     outlet: &mut O,
     datagram: &mut [u8; 9026],
@@ -91,9 +92,10 @@ fn give_decided<O: Outlet>(
     give_edges(outlet, edges, &datagram[..size]);
 }
 
-/// Gives what a reply gives out to the links of its edge: each BPDU to its port, in a frame from
-/// this bridge; then the frame that the event carried where it was decided to go, to the ports as
-/// it is and to the edges in a datagram, for which there is `datagram`.
+/// Passes the frames of a reply to the links of its edge. Each BPDU goes to its port, in a frame
+/// from this bridge. Then the frame that the event carried goes to the targets of the decision:
+/// unchanged to the ports, and in a datagram to the edges. `datagram` is the buffer for that
+/// datagram.
 pub fn give_out<O: Outlet>(
     outlet: &mut O,
     datagram: &mut [u8; 9026],

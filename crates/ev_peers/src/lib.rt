@@ -1,5 +1,5 @@
-//! Workers of an edge: each enters what comes over its link or channel into the edge's book, and
-//! passes on what the book answers, frames to links, records to the other edges and alerts to the
+//! Workers of an edge: each enters the events of its link or channel into the edge's book, and
+//! passes on the book's answers: frames to links, records to the other edges and alerts to the
 //! operator.
 #![tactic(auto)]
 

@@ -1,5 +1,5 @@
-//! Where the workers of an edge give what the book answers: frames to the lines of its links,
-//! records to the other edges, alerts and failing links to the operator.
+//! The outlet of an edge's workers, which takes the book's answers: frames for the lines of its
+//! links, records for the other edges, alerts and failing links for the operator.
 ghost use Rattle.std.specs.Prelude.{◌≡◌, ◌∷◌, [], Option, List, slice_get, option_copied};
 ghost use Rattle.ev_peers.specs.Giving.{Parcel, parcel, first_parcel};
 ghost use Rattle.ev_peers.specs.Inner.Giving.{place_of};
@@ -14,7 +14,7 @@ use route_wire::Update;
 use std::alloc::AllocError;
 use std::sync::Wait;
 
-/// Which link of an edge gets a frame.
+/// The link of an edge that a frame is for.
 #[derive(Clone, Copy, Debug, PartialEq, Eq)]
 pub enum Target {
     /// The access port with this number, from 1.
@@ -23,17 +23,18 @@ pub enum Target {
     Edge(Addr),
 }
 
-/// Where the workers of an edge give frames and records.
+/// The outlet of an edge's workers, which takes frames and records.
 pub trait Outlet {
-    /// The frames that were given and the links that got them, in their order, where it tells them.
+    /// The history of the frames that the outlet took, with their links, in order. An outlet may
+    /// have no history.
     ghost parcels: { Self → Option (List Parcel) };
 
-    /// What was spoken of the other edges and with the operator, where it tells it: each answer on
-    /// their room, each record that was given, each second, each alert, each change of a link that
-    /// is received over, and each answer to a request, in their order.
+    /// The history of the exchanges with the other edges and with the operator, in order: each
+    /// answer on their room, each record for them, each second, each alert, each change of a
+    /// receiving link, and each answer to a request. An outlet may have no history.
     ghost records: { Self → Option (List Word) };
 
-    /// Takes a frame for a link, whose line has room for it or drops and counts it.
+    /// Takes a frame for a link. The link's line has room for it, or drops and counts it.
     fn frame(&mut self, to: Target, octets: &[u8])
         ensures given { parcels self.new
             ≡ behind (parcels self.old) (parcel to octets.now ∷ []) }
@@ -45,7 +46,7 @@ pub trait Outlet {
             ≡ behind (parcels self.old) (first_parcel port frame.now ∷ []) }
         ensures records { records self.new ≡ records self.old };
 
-    /// Whether each of the other edges has room for one more record.
+    /// Returns `true` if each of the other edges has room for one more record.
     fn has_room(&mut self) -> bool
         ensures told { records self.new ≡ behind (records self.old) (has_room result ∷ []) }
         ensures parcels { parcels self.new ≡ parcels self.old };
@@ -55,35 +56,35 @@ pub trait Outlet {
         ensures given { records self.new ≡ behind (records self.old) (record_of update ∷ []) }
         ensures parcels { parcels self.new ≡ parcels self.old };
 
-    /// Tells the operator's board that a second passes.
+    /// Reports to the operator's board that a second passes.
     fn second(&mut self)
         ensures told { records self.new ≡ behind (records self.old) (second_passes ∷ []) }
         ensures parcels { parcels self.new ≡ parcels self.old };
 
-    /// Puts an alert on the operator's board, which may hold it back and counts it then.
+    /// Puts an alert on the operator's board. The board may hold it back, and counts it then.
     fn alarm(&mut self, alarm: Alarm)
         ensures told { records self.new ≡ behind (records self.old) (tells alarm ∷ []) }
         ensures parcels { parcels self.new ≡ parcels self.old };
 
-    /// Tells the operator that receiving over a link failed, or works again.
+    /// Reports to the operator that receiving over a link failed, or works again.
     fn reception(&mut self, reception: Reception)
         ensures told { records self.new ≡ behind (records self.old) (hears reception ∷ []) }
         ensures parcels { parcels self.new ≡ parcels self.old };
 
-    /// Gives the operator the answer to a request.
+    /// Sends the operator the answer to a request.
     fn answer(&mut self, answer: Answer)
         ensures told { records self.new ≡ behind (records self.old) (answers answer ∷ []) }
         ensures parcels { parcels self.new ≡ parcels self.old };
 }
 
-/// The lines to an edge's links, the mailboxes of the other edges, and the operator's board. It
-/// refers to them, and is copied for each worker.
+/// The lines of an edge's links, the mailboxes of the other edges, and the operator's board. The
+/// struct holds references, and is copied for each worker.
 pub(crate) struct Senders<'x, R> {
-    /// What may wait for a lock.
+    /// The runtime, which may wait for a lock.
     pub(crate) rt: &'x R,
-    /// To the link of the tunnel, and behind it to those of the access ports, port 1 first.
+    /// The line of the tunnel's link, then those of the access ports, port 1 first.
     pub(crate) lines: &'x [SharedLine],
-    /// To the other edges, and to the operator.
+    /// The mailboxes of the other edges, and the operator's board.
     pub(crate) peers: Peers<'x>,
 }
 

@@ -1,5 +1,6 @@
-//! What the threads of an edge need: what each of them enters or sends over, what they share, and
-//! room for them and for what they give back. All of it is made before the first thread starts.
+//! The plan of an edge's threads: the source that each thread enters or the link that it sends
+//! over, the values that they share, and room for the threads and their results. All of it is
+//! created before the first thread starts.
 ghost use Rattle.std.specs.Prelude.{◌≡◌, ◌+◌, ◌<◌, ◌≤◌, ◌∷◌, ◌++◌, reverse, vec_len, vec_capacity, IfOk};
 ghost use Rattle.ev_peers.specs.Inner.EdgeThreads.{HasRoom};
 ghost use Rattle.ev_peers.specs.Inner.Plan.{vni_at, port_tasks, tasks_of, outputs_back, outputs_of};
@@ -17,62 +18,62 @@ use std::sync::atomic::AtomicBool;
 use std::sync::ledger::Ledger;
 use std::thread::JoinHandle;
 
-/// What a thread that enters events gives back.
+/// The result of a thread that enters events: its pass, and how it ended.
 pub(crate) type Entered<L> = (Pass<L>, Ended);
 
-/// What a worker enters.
+/// The source of the events that a worker enters.
 #[derive(Drop)]
 pub(crate) enum Task<I: Drop> {
-    /// The frames that come over this link at the port with this number, of this network.
+    /// The frames that come over this link at the port with this number, of this VNI.
     Port(u8, Vni, I),
     /// The datagrams that come over this link.
     Tunnel(I),
     /// The ticks of this clock.
     Clock(I),
-    /// What the other edges send.
+    /// The messages in the edge's mailbox.
     Peer,
 }
 
-/// What the threads of an edge share.
+/// The values that the threads of an edge share.
 #[derive(Drop)]
 pub(crate) struct Shared {
-    /// What is sent over the tunnel's link, and behind it what is over those of the ports, port 1
-    /// first.
+    /// The lines of the outgoing links: the tunnel's, then those of the ports, port 1 first.
     pub(crate) lines: Vec<SharedLine>,
-    /// Whether there was no thread, for each task.
+    /// For each task, `true` if its thread was refused.
     pub(crate) no_entering: Vec<AtomicBool>,
-    /// Whether there was no thread, for each that sends.
+    /// For each outgoing link, `true` if its thread was refused.
     pub(crate) no_sending: Vec<AtomicBool>,
-    /// Whether there was no thread for what other edges send.
+    /// `true` if the thread of the edge's mailbox was refused.
     pub(crate) no_peer: AtomicBool,
-    /// Whether a call of the book was refused memory.
+    /// `true` if a call of the book was refused memory.
     pub(crate) out_of_memory: AtomicBool,
 }
 
-/// What there is of the threads that enter events.
+/// The threads that enter events.
 #[derive(Drop)]
 pub(crate) struct Entering<L: Ledger> {
-    /// Those that run.
+    /// The threads that run.
     pub(crate) running: Vec<JoinHandle<Entered<L>>>,
-    /// The passes that came back.
+    /// The passes that were returned.
     pub(crate) passes: Vec<Pass<L>>,
 }
 
-/// What the threads of an edge begin and end with, so that this needs no memory.
+/// The values that the threads of an edge begin and end with. They are created in advance, so that
+/// this needs no memory later.
 #[derive(Drop)]
 pub(crate) struct EdgeThreads<L: Ledger, I: Drop, O: Drop> {
-    /// What is entered from links: of the clock, the tunnel, and the ports from
-    /// the last to the first.
+    /// The tasks of links: the clock's, the tunnel's, and those of the ports from the last to the
+    /// first.
     pub(crate) tasks: Vec<Task<I>>,
-    /// The links that are sent over: that of the tunnel, and those of the ports, port 1 first.
+    /// The outgoing links: the tunnel's, and those of the ports, port 1 first.
     pub(crate) outputs: Vec<O>,
-    /// Room for the threads that enter, and for the passes that come back.
+    /// Room for the threads that enter events, and for the passes that they return.
     pub(crate) entering: Entering<L>,
     /// Room for the threads that send.
     pub(crate) sending: Vec<JoinHandle<Sent>>,
 }
 
-/// So many lines on which nothing waits.
+/// Creates `count` lines on which nothing waits.
 fn empty_lines(alloc: Global, count: usize) -> Result<Vec<SharedLine>, AllocError>
     ensures { IfOk result (λ lines. vec_len lines ≡ count) }
 {
@@ -84,7 +85,7 @@ fn empty_lines(alloc: Global, count: usize) -> Result<Vec<SharedLine>, AllocErro
     Ok(lines)
 }
 
-/// So many words that say no.
+/// Creates `count` flags that aren't set.
 fn no_words(alloc: Global, count: usize) -> Result<Vec<AtomicBool>, AllocError>
     ensures { IfOk result (λ words. vec_len words ≡ count) }
 {
@@ -96,7 +97,7 @@ fn no_words(alloc: Global, count: usize) -> Result<Vec<AtomicBool>, AllocError>
     Ok(words)
 }
 
-/// Returns the network of the port at a place, port 1 being at place 0.
+/// Returns the VNI of the port at a place, or VNI 0 if the port does not exist. Port 1 has place 0.
 fn vni_of(config: &EdgeConfig, place: usize) -> Vni
     ensures { result ≡ vni_at config.now.ports.items place }
 {
@@ -106,7 +107,7 @@ fn vni_of(config: &EdgeConfig, place: usize) -> Vni
     }
 }
 
-/// Returns what is entered over the link of the port at a place.
+/// Returns the task of the port at a place, whose link is `input`.
 fn task_of<I: Drop>(config: &EdgeConfig, place: usize, input: I) -> Task<I>
     requires { place < 253 }
     ensures { result ≡ Port (place + 1) (vni_at config.now.ports.items place) input }
@@ -114,7 +115,7 @@ fn task_of<I: Drop>(config: &EdgeConfig, place: usize, input: I) -> Task<I>
     Task::Port(place as u8 + 1, vni_of(config, place), input)
 }
 
-/// Puts the tasks of these links behind others, and what is sent over them, the last port first.
+/// Appends the tasks of these links and their outgoing links to the vectors, the last port first.
 fn plan_ports<I: Drop, O: Drop>(
     config: &EdgeConfig,
     links: Vec<Link<I, O>>,
@@ -142,7 +143,7 @@ fn plan_ports<I: Drop, O: Drop>(
     (tasks, outputs)
 }
 
-/// Returns what is sent over: the tunnel's link, and behind it the others from the last one on.
+/// Returns all outgoing links: the tunnel's, and then the others, from the last one to the first.
 fn with_tunnel<O: Drop>(outputs: Vec<O>, tunnel: O) -> Vec<O>
     requires { vec_len outputs < vec_capacity outputs }
     ensures items { result.items ≡ tunnel ∷ reverse outputs.items }
@@ -154,7 +155,7 @@ fn with_tunnel<O: Drop>(outputs: Vec<O>, tunnel: O) -> Vec<O>
     outputs
 }
 
-/// What the threads of an edge with these links and ports need.
+/// Creates the plan of an edge's threads for these links and ports.
 #[tactic(auto, using(ev_peers::proofs::Plans::port_1_first))]
 pub(crate) fn planned<L: Ledger, I: Drop, O: Drop>(
     alloc: Global,

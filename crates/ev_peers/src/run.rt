@@ -1,4 +1,4 @@
-//! Edges that run beside each other, each on a thread, with a mailbox for each.
+//! Edges that run beside each other, each on a thread and with a mailbox.
 ghost use Rattle.std.specs.Prelude.{◌≡◌, ◌+◌, ◌≤◌, vec_len, vec_capacity, IfOk};
 ghost use Rattle.ev_edge.specs.Config.{IsConfig};
 ghost use Rattle.ev_peers.specs.EdgeThreads.{setup_of};
@@ -18,8 +18,8 @@ use std::sync::ledger::Blank;
 use std::thread;
 use std::thread::{JoinHandle, Scope, Threads};
 
-/// What an edge is opened with, and its links, of 64 ports at most. It is seen as that and as how
-/// many ports those are.
+/// The configuration of an edge, and its links, of at most 64 ports. Its model is the configuration
+/// and the number of these ports.
 #[derive(Drop)]
 pub struct Setup<I: Drop, O: Drop> {
     config: EdgeConfig,
@@ -43,7 +43,7 @@ impl<I: Drop, O: Drop> Model for Setup<I, O> {
 }
 
 impl<I: Drop, O: Drop> Setup<I, O> {
-    /// An edge with these links.
+    /// Creates the setup of an edge with these links.
     pub fn new(config: EdgeConfig, links: EdgeLinks<I, O>) -> Self
         requires config { IsConfig config }
         requires few { vec_len links.ports ≤ 64 }
@@ -52,16 +52,17 @@ impl<I: Drop, O: Drop> Setup<I, O> {
         Setup { config, links }
     }
 
-    /// How many workers send updates of it: one a port, and three.
+    /// Returns the number of workers that send the edge's updates: one per port, and three.
     fn workers(&self) -> u32 {
         self.links.ports.len() as u32 + 3
     }
 }
 
-/// What a thread of an edge gives back.
+/// The result of an edge's thread.
 type Ran = Result<Outcome, AllocError>;
 
-/// How many workers these edges have, which send each other updates: one a port, and three.
+/// Returns the number of workers of these edges, which send each other updates: one per port, and
+/// three per edge.
 fn workers_of<I: Drop, O: Drop>(setups: &[Setup<I, O>]) -> u32 {
     let mut workers = 0u32;
     for setup in setups {
@@ -70,23 +71,23 @@ fn workers_of<I: Drop, O: Drop>(setups: &[Setup<I, O>]) -> u32 {
     workers
 }
 
-/// What edges run over beside each other.
+/// The environment that edges run in beside each other.
 #[derive(Drop)]
 struct Common<'x, G, R> {
-    /// What may wait, and starts threads.
+    /// The runtime, which may wait and starts threads.
     rt: &'x R,
-    /// What gives memory.
+    /// The allocator.
     alloc: Global,
-    /// Is told of each call of a book.
+    /// The gate, which is called at each point of a call of a book.
     gate: &'x G,
-    /// What waits for each edge.
+    /// The mailboxes of the edges.
     mailboxes: &'x Mailboxes,
-    /// What the operator is told.
+    /// The operator's boards.
     boards: &'x Boards,
 }
 
 impl<'x, G, R> Common<'x, G, R> {
-    /// What the edge with this number runs over.
+    /// Returns the environment of the edge with this number.
     fn host(&self, number: usize) -> Host<'x, G, R>
         ensures number { result.number ≡ number }
         ensures rt { result.rt.now ≡ self.now.rt.now }
@@ -102,7 +103,7 @@ impl<'x, G, R> Common<'x, G, R> {
     }
 }
 
-/// One edge, under a ledger of its own.
+/// Runs one edge, under a ledger of its own.
 fn run_one<
     I: LinkIn + Drop + Send,
     O: LinkOut + Drop + Send,
@@ -171,7 +172,7 @@ fn join_edges<R: Threads>(
     ended
 }
 
-/// Edges that are ready to run. They are seen as how many edges those are.
+/// Edges that are ready to run. Their model is the number of these edges.
 #[derive(Drop)]
 struct Ready<I: Drop, O: Drop> {
     setups: Vec<Setup<I, O>>,
@@ -191,12 +192,13 @@ impl<I: Drop, O: Drop> Model for Ready<I, O> {
         (vec_capacity s.running) (vec_len s.ended) (vec_capacity s.ended) };
 }
 
-/// What edges that are to run beside each other begin with. It is seen as how many edges those are.
+/// Edges that are to run beside each other, with their mailboxes. Their model is the number of
+/// these edges.
 #[derive(Drop)]
 pub struct Start<I: Drop, O: Drop> {
     ready: Ready<I, O>,
     mailboxes: Mailboxes,
-    /// What gives the edges memory.
+    /// The allocator of the edges.
     alloc: Global,
 }
 
@@ -209,11 +211,12 @@ impl<I: Drop, O: Drop> Model for Start<I, O> {
 }
 
 impl<I: Drop, O: Drop> Start<I, O> {
-    /// What these edges begin with. What each of them opens besides takes memory from here, too.
+    /// Prepares these edges. Each edge also uses this allocator for the memory that it needs
+    /// besides.
     ///
     /// # Errors
     ///
-    /// Where memory is refused.
+    /// `AllocError` if memory is refused.
     pub fn new(alloc: Global, setups: Vec<Setup<I, O>>) -> Result<Self, AllocError>
         ensures { IfOk result (λ start. start ≡ vec_len setups) }
     {
@@ -288,10 +291,10 @@ fn run_ready<
 }
 
 /// Runs edges beside each other, each on a thread with its workers, until `until` has returned and
-/// the links have ended; it is `until` that makes them end, and it can ask the edges meanwhile. The
-/// outcomes are in the edges' order, with an error where an edge was refused memory or a thread
-/// before it began. What the operator is to know meanwhile waits on these boards, which get no more
-/// once it returns.
+/// the links have ended. `until` makes the links end, and can send requests to the edges meanwhile.
+/// Returns the outcomes in the order of the edges, with an error for each edge that was refused
+/// memory or a thread before it began, and the result of `until`. The operator's messages wait on
+/// these boards, which get no more once the function returns.
 pub fn run_all<
     I: LinkIn + Drop + Send,
     O: LinkOut + Drop + Send,

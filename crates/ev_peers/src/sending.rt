@@ -1,4 +1,5 @@
-//! The threads of an edge that send over its links, each what waits on a line of its own.
+//! The threads of an edge that send over its links. Each sends the frames that wait on a line of
+//! its own.
 ghost use Rattle.std.specs.Prelude.{◌≡◌, ◌+◌, ◌≤◌, length, vec_len, vec_capacity};
 
 use crate::outcome::{Faults, Sent};
@@ -13,7 +14,8 @@ use std::sync::Wait;
 use std::sync::atomic::{AtomicBool, Ordering};
 use std::thread::{JoinHandle, Scope, Threads};
 
-/// A worker that sends over its link, unless there was no thread for it.
+/// Runs the worker that sends over a link. Returns at once with `Ended::NoMemory` if the worker's
+/// thread was refused.
 fn send_all<O: LinkOut + Drop, R: Wait>(
     rt: &R,
     link: O,
@@ -57,7 +59,7 @@ pub(crate) fn start_sending<'s, 'x: 's, O: LinkOut + Drop + Send + 'x, R: Wait +
     (running, faults)
 }
 
-/// Tells those that send over links to stop.
+/// Ends the lines, so that the threads that send over links stop.
 pub(crate) fn stop_sending<R: Wait>(outlet: &Senders<'_, R>) {
     for line in outlet.lines {
         line.end(outlet.rt);
@@ -74,7 +76,7 @@ pub(crate) fn join_sending<R: Threads>(rt: &R, running: Vec<JoinHandle<Sent>>) -
     faults
 }
 
-/// How many frames found no room, by line.
+/// Returns the number of frames that found no room, by line.
 pub(crate) fn all_dropped<R: Wait>(rt: &R, lines: &[SharedLine], dropped: Vec<u64>) -> Vec<u64>
     requires { (vec_len dropped ≡ 0) × (length lines.now ≤ vec_capacity dropped) }
     ensures { vec_len result ≡ length lines.now }

@@ -1,4 +1,4 @@
-//! An edge as its workers share it: its book under a lock, and what tells of each call of it.
+//! An edge as its workers share it: its book under a lock, and the gate for each call of it.
 ghost use Rattle.std.specs.Prelude.{◌≡◌};
 ghost use Rattle.ev_book.specs.Entering.{answered, CallsBook};
 ghost use Rattle.ev_notices.specs.Alarm.{alert_of};
@@ -30,22 +30,23 @@ pub enum Ended {
 /// An edge as its workers share it.
 #[derive(Drop)]
 pub struct SharedEdge<'x, L: Ledger, G, R> {
-    /// What may wait for the lock.
+    /// The runtime, which may wait for the lock.
     pub rt: &'x R,
     /// The edge's book.
     pub book: &'x Mutex<Book<L>>,
-    /// What is told of each call of the book.
+    /// The gate, which is called at each point of a call of the book.
     pub gate: &'x G,
     /// The edge's number for the gate.
     pub edge: usize,
-    /// The address from which the edge sends BPDUs.
+    /// The address that the edge sends BPDUs from.
     pub bridge: Mac,
     /// Set once a call of the book was refused memory.
     pub out_of_memory: &'x AtomicBool,
 }
 
 impl<L: Ledger, G: Gate, R: Wait> SharedEdge<'_, L, G, R> {
-    /// One call of the book, with all three points. The lock is held for the call alone.
+    /// Calls the book once, and the gate at all three points. The lock is held only for the call
+    /// and for `Point::Inside`.
     pub(crate) fn enter(
         &self,
         pass: &mut Pass<L>,
@@ -67,7 +68,8 @@ impl<L: Ledger, G: Gate, R: Wait> SharedEdge<'_, L, G, R> {
         answer
     }
 
-    /// Asks for the edge's next announcement. There is none where the call is refused, too.
+    /// Requests the edge's next announcement. Returns `None` if there is none or the call is
+    /// refused.
     pub(crate) fn ask(&self, pass: &mut Pass<L>, reply: &mut Reply) -> Option<Update>
         ensures { Asked pass.old result pass.new }
     {
@@ -76,8 +78,8 @@ impl<L: Ledger, G: Gate, R: Wait> SharedEdge<'_, L, G, R> {
     }
 }
 
-/// Whether an answer tells that memory was refused: to the event, or to a station that isn't
-/// learnt.
+/// Returns `true` exactly if an answer reports that memory was refused: for the event, or for a
+/// station that isn't learnt.
 fn lacks_memory(answer: &Result<(), BookRefusal>, reply: &Reply) -> bool
     ensures { result ≡ is_no_memory (alert_of (answered answer.now reply.now)) }
 {
@@ -87,7 +89,7 @@ fn lacks_memory(answer: &Result<(), BookRefusal>, reply: &Reply) -> bool
     }
 }
 
-/// One call of a book.
+/// Calls a book once.
 fn call<L: Ledger>(
     book: &mut Book<L>,
     pass: &mut Pass<L>,
@@ -99,7 +101,7 @@ fn call<L: Ledger>(
     book.enter_into(pass, event, reply)
 }
 
-/// The update that an answer announces.
+/// Returns the update that an answer announces, if there is one.
 fn announced_by(answer: &Result<(), BookRefusal>, reply: &Reply) -> Option<Update>
     ensures { result ≡ announced_by (answered answer.now reply.now) }
 {

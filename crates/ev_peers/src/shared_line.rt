@@ -1,5 +1,5 @@
-//! A line that the workers of an edge share: those that enter events put frames on it, and the one
-//! of its link sends them.
+//! A line that the workers of an edge share: the workers that enter events put frames on it, and
+//! the link's worker sends them.
 ghost use Rattle.std.specs.Prelude.{◌≤◌, length, IfSome};
 
 use ether_wire::Addr;
@@ -7,21 +7,22 @@ use ev_links::Line;
 use std::alloc::{AllocError, Global};
 use std::sync::{Condvar, Mutex, Wait};
 
-/// A line under a lock. What its calls do is what those of `Line` do that they are named for; no
-/// clause can say so, since none names what a lock holds at that moment.
+/// A line under a lock. Its calls have the effects of the calls of `Line` that they are named for.
+/// No clause can state this, since clauses can't name the value that a lock holds at that moment.
 #[derive(Drop)]
 pub(crate) struct SharedLine {
     line: Mutex<Line>,
-    /// Rung behind the lock, when something was put on the line or it has ended.
+    /// Notified after the lock is released, when something was put on the line or the line has
+    /// ended.
     bell: Condvar,
 }
 
 impl SharedLine {
-    /// A line on which nothing waits.
+    /// Creates a line on which nothing waits.
     ///
     /// # Errors
     ///
-    /// Where memory is refused.
+    /// `AllocError` if memory is refused.
     pub(crate) fn new(alloc: Global) -> Result<Self, AllocError> {
         Ok(SharedLine {
             line: Mutex::new(Line::new(alloc)?),
@@ -29,7 +30,7 @@ impl SharedLine {
         })
     }
 
-    /// Puts a frame, or a datagram, behind the others, or drops and counts it.
+    /// Appends a frame, or a datagram, to the others, or drops and counts it.
     pub(crate) fn put<R: Wait>(&self, rt: &R, to: Addr, octets: &[u8]) {
         {
             let mut line = self.line.lock(rt);
@@ -38,7 +39,7 @@ impl SharedLine {
         self.bell.notify_one();
     }
 
-    /// Puts a BPDU's frame behind the other BPDUs.
+    /// Appends a BPDU's frame to the other BPDUs.
     pub(crate) fn put_bpdu<R: Wait>(&self, rt: &R, frame: &[u8; 60]) {
         {
             let mut line = self.line.lock(rt);
@@ -47,7 +48,7 @@ impl SharedLine {
         self.bell.notify_one();
     }
 
-    /// Tells that nothing more comes.
+    /// Ends the line: nothing more comes.
     pub(crate) fn end<R: Wait>(&self, rt: &R) {
         {
             let mut line = self.line.lock(rt);
@@ -56,8 +57,9 @@ impl SharedLine {
         self.bell.notify_one();
     }
 
-    /// Waits for what goes first, and puts it at the front of the buffer: for whom it is, and how
-    /// many octets it has. None once nothing waits and nothing more comes.
+    /// Waits for the first BPDU or frame, and copies it to the front of the buffer. Returns its
+    /// destination address and its number of octets, or `None` once nothing waits and the line has
+    /// ended.
     pub(crate) fn next<R: Wait>(&self, rt: &R, buffer: &mut [u8]) -> Option<(Addr, usize)>
         requires { 9026 ≤ length buffer.old }
         ensures { IfSome result (λ r. r.1 ≤ length buffer.new) }
@@ -73,7 +75,7 @@ impl SharedLine {
         unreachable!()
     }
 
-    /// How many frames and BPDUs found no room.
+    /// Returns the number of frames and BPDUs that were dropped.
     pub(crate) fn dropped<R: Wait>(&self, rt: &R) -> u64 {
         self.line.lock(rt).dropped()
     }

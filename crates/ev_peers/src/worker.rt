@@ -1,4 +1,4 @@
-//! What a worker of an edge works with, and what it does with one event.
+//! A worker of an edge, and how it handles one event.
 ghost use Rattle.std.specs.Prelude.{◌≡◌, ◌≤◌, length};
 ghost use Rattle.ev_book.specs.Entering.{answered};
 ghost use Rattle.ev_links.specs.Coming.{behind};
@@ -15,30 +15,30 @@ use ev_notices::{alarm_of, is_second};
 use std::sync::Wait;
 use std::sync::ledger::Ledger;
 
-/// Where a worker writes what it needs for one event, over that of the event before.
+/// The buffers of a worker for one event. Each event overwrites those of the event before.
 #[derive(Drop)]
 pub(crate) struct Scratch {
-    /// What the book replies.
+    /// The reply of the book.
     pub(crate) reply: Reply,
     /// The datagram that carries the event's frame.
     datagram: [u8; 9026],
 }
 
-/// What a worker of an edge works with.
+/// A worker of an edge: its access to the edge's book, its outlet and its buffers.
 #[derive(Drop)]
 pub struct Worker<'x, L: Ledger, O: Drop, G, R> {
     /// The edge.
     pub shared_edge: &'x SharedEdge<'x, L, G, R>,
-    /// The pass with which it calls the edge's book.
+    /// The pass that it calls the edge's book with.
     pub pass: Pass<L>,
-    /// Where it gives what the book answers.
+    /// The outlet for the book's answers.
     pub outlet: O,
-    /// Where it writes what it needs for one event.
+    /// The buffers for one event.
     pub(crate) scratch: Scratch,
 }
 
 impl<'x, L: Ledger, O: Drop, G, R> Worker<'x, L, O, G, R> {
-    /// A worker of this edge, with this pass, which gives to this outlet.
+    /// Creates a worker of this edge, with this pass and this outlet.
     pub fn new(shared_edge: &'x SharedEdge<'x, L, G, R>, pass: Pass<L>, outlet: O) -> Self
         ensures shared_edge { result.shared_edge.now ≡ shared_edge.now }
         ensures pass { result.pass ≡ pass }
@@ -58,9 +58,9 @@ impl<'x, L: Ledger, O: Drop, G, R> Worker<'x, L, O, G, R> {
 }
 
 impl<L: Ledger, O: Outlet + Drop, G: Gate, R: Wait> Worker<'_, L, O, G, R> {
-    /// Asks for the edge's announcements until there is none or one is refused, and gives
-    /// each to the other edges. Where one of these has no room it asks no further: what isn't
-    /// asked for stays pending in the edge, which needs no memory for it.
+    /// Requests the edge's announcements until there is none or one is refused, and sends each to
+    /// the other edges. If one of these has no room it requests no more: announcements that were
+    /// not requested stay pending in the edge, which needs no memory for them.
     pub(crate) fn announce(&mut self)
         ensures announces { Announces self.old.pass (O.records self.old.outlet) self.new.pass
             (O.records self.new.outlet) }
@@ -80,8 +80,8 @@ impl<L: Ledger, O: Outlet + Drop, G: Gate, R: Wait> Worker<'_, L, O, G, R> {
         unreachable!()
     }
 
-    /// Enters an event with the frame that it carries, and gives what is answered: frames to the
-    /// links, what the operator is to know to the board.
+    /// Enters an event with the frame that it carries, and passes on the answer: frames to the
+    /// links, messages for the operator to the board. Returns the book's answer.
     pub(crate) fn give(
         &mut self,
         event: &Event<'_>,
@@ -111,9 +111,8 @@ impl<L: Ledger, O: Outlet + Drop, G: Gate, R: Wait> Worker<'_, L, O, G, R> {
         answer
     }
 
-    /// Enters an event with the frame that it carries, and passes on what it gives out: frames to
-    /// the links, what the operator is to know to the board, and then what is to be announced to
-    /// the other edges.
+    /// Enters an event with the frame that it carries, and passes on the answer: frames to the
+    /// links, messages for the operator to the board, and then announcements to the other edges.
     pub(crate) fn act(&mut self, event: &Event<'_>, carried: &Carried<'_>)
         requires { length carried.now.frame.now ≤ 9018 }
         ensures passes { PassesOn self.old.shared_edge.now.bridge
@@ -127,7 +126,7 @@ impl<L: Ledger, O: Outlet + Drop, G: Gate, R: Wait> Worker<'_, L, O, G, R> {
     }
 }
 
-/// Gives what an answer gives out to the links of its edge. A refusal gives nothing.
+/// Passes the frames of an answer to the links of its edge. Does nothing for a refusal.
 #[tactic(auto, using(ev_links::proofs::Behind::behind_none))]
 fn give_answer<O: Outlet>(
     outlet: &mut O,
@@ -149,8 +148,8 @@ fn give_answer<O: Outlet>(
     }
 }
 
-/// Tells the operator's board that a second passed, where one did, and what the operator is to know
-/// of an answer.
+/// Reports a second to the operator's board if the event is one, and then the alarm of the answer
+/// if there is one.
 #[tactic(auto, using(ev_links::proofs::Behind::behind_none, ev_links::proofs::Behind::behind_twice))]
 fn give_signs<O: Outlet>(
     outlet: &mut O,

@@ -1,4 +1,4 @@
-//! The workers of an edge: each takes what comes over one link or channel, one thing at a time.
+//! The workers of an edge: each handles the input of one link or channel, one thing at a time.
 ghost use Rattle.std.specs.Prelude.{◌≡◌, ◌+◌, ◌^◌, ◌<◌, ◌≤◌, true, length, take};
 ghost use Rattle.ev_links.specs.Links.{arrival, packet};
 ghost use Rattle.ev_peers.specs.declared.workers.Source.TheVariants.{Port, Tunnel, Clock};
@@ -23,10 +23,10 @@ use ev_tunnel::unwrap_datagram;
 use std::sync::Wait;
 use std::sync::ledger::Ledger;
 
-/// What comes over a link.
+/// The source of the datagrams that come over a link.
 #[derive(Clone, Copy)]
 enum Source {
-    /// Frames of the access port with this number, which belongs to this network.
+    /// Frames of the access port with this number, which belongs to this VNI.
     Port(u8, Vni),
     /// Datagrams of other edges.
     Tunnel,
@@ -34,10 +34,10 @@ enum Source {
     Clock,
 }
 
-/// The octets of the longest frame.
+/// The number of octets of the longest frame.
 const FRAME: usize = 9018;
 
-/// This frame of a network, or none where it is longer than any.
+/// Returns this frame with its VNI, or no frame if it has more than 9,018 octets.
 fn fitting<'a>(vni: Vni, frame: &'a [u8]) -> Carried<'a>
     ensures fits { length result.frame.now ≤ 9018 }
     ensures fitting { (result.vni, result.frame.now) ≡ fitting (vni, frame.now) }
@@ -48,7 +48,8 @@ fn fitting<'a>(vni: Vni, frame: &'a [u8]) -> Carried<'a>
     Carried { vni, frame }
 }
 
-/// The frame that a tunnel's datagram carries, or none where it isn't one.
+/// Returns the frame that a tunnel's datagram carries. Returns no frame if the octets are no VXLAN
+/// datagram, or the frame has more than 9,018 octets.
 fn unwrapped<'a>(octets: &'a [u8]) -> Carried<'a>
     ensures fits { length result.frame.now ≤ 9018 }
     ensures unwrapped { (result.vni, result.frame.now) ≡ unwrapped (instance_of octets.now) }
@@ -59,7 +60,7 @@ fn unwrapped<'a>(octets: &'a [u8]) -> Carried<'a>
     }
 }
 
-/// The frame of a datagram that comes over a link: none of a clock's.
+/// Returns the frame of a datagram that comes over a link. A clock's datagram has none.
 fn carried<'a>(source: &Source, octets: &'a [u8]) -> Carried<'a>
     ensures fits { length result.frame.now ≤ 9018 }
     ensures carried { (result.vni, result.frame.now) ≡ carried source.now octets.now }
@@ -71,7 +72,7 @@ fn carried<'a>(source: &Source, octets: &'a [u8]) -> Carried<'a>
     }
 }
 
-/// The event that a datagram of a link is. An empty one is none, but for a clock.
+/// Returns the event of a link's datagram. An empty datagram has none, except a clock's.
 fn event_of<'a>(source: &Source, from: Addr, octets: &'a [u8]) -> Option<Event<'a>>
     ensures { IsEventOf source.now (arrival from octets.now) result }
 {
@@ -83,7 +84,7 @@ fn event_of<'a>(source: &Source, from: Addr, octets: &'a [u8]) -> Option<Event<'
     }
 }
 
-/// Enters what a datagram of a link is, if it is anything.
+/// Enters the event of a link's datagram, if it has one, and passes on the answer.
 fn enter_datagram<L: Ledger, O: Outlet + Drop, G: Gate, R: Wait>(
     worker: &mut Worker<'_, L, O, G, R>,
     source: &Source,
@@ -122,7 +123,7 @@ fn turn_port<L: Ledger, O: Outlet + Drop, G: Gate, R: Wait>(
     }
 }
 
-/// What is received over a link.
+/// Returns the source as an input in a message to the operator.
 fn input_of(source: &Source) -> Input
     ensures { result ≡ input_of source.now }
 {
@@ -133,9 +134,9 @@ fn input_of(source: &Source) -> Input
     }
 }
 
-/// Tells the operator that a link works again or has failed, and has its access port come up or go
-/// down: a bridge that hears nothing there any more would take itself for the only one, and open a
-/// ring.
+/// Reports to the operator that a link works again or has failed, and brings its access port up or
+/// takes it down. A bridge that receives nothing at a port any more would assume to be the only
+/// bridge there, and create a loop.
 fn change<L: Ledger, O: Outlet + Drop, G: Gate, R: Wait>(
     worker: &mut Worker<'_, L, O, G, R>,
     source: &Source,
@@ -155,7 +156,7 @@ fn change<L: Ledger, O: Outlet + Drop, G: Gate, R: Wait>(
     }
 }
 
-/// Does so where a call of the link went another way than the one before.
+/// Calls `change` if the link started or stopped failing with this call.
 fn note_call<L: Ledger, O: Outlet + Drop, G: Gate, R: Wait>(
     worker: &mut Worker<'_, L, O, G, R>,
     source: &Source,
@@ -174,8 +175,8 @@ fn note_call<L: Ledger, O: Outlet + Drop, G: Gate, R: Wait>(
     }
 }
 
-/// Waits for what comes over a link next and enters it, and answers whether that wasn't the end.
-/// A link that fails is called again.
+/// Waits for the next datagram of a link and enters it. Returns `false` exactly at the link's end.
+/// After a failed call it returns `true`, so that the link is called again.
 fn turn<L: Ledger, I: LinkIn, O: Outlet + Drop, G: Gate, R: Wait>(
     worker: &mut Worker<'_, L, O, G, R>,
     buffer: &mut [u8],
@@ -207,9 +208,9 @@ fn turn<L: Ledger, I: LinkIn, O: Outlet + Drop, G: Gate, R: Wait>(
     }
 }
 
-/// Enters what comes over a link until it ends, and answers whether its last call brought
-/// something. One octet more than the longest datagram has room, so that none is cut to a shorter
-/// one that would be taken for whole.
+/// Enters the datagrams of a link until it ends. Returns `false` if the last call before the end
+/// failed, else `true`. The buffer has one octet more than the longest datagram: a longer datagram
+/// must not be cut to a valid length and taken for whole.
 fn hear_all<L: Ledger, I: LinkIn, O: Outlet + Drop, G: Gate, R: Wait>(
     worker: &mut Worker<'_, L, O, G, R>,
     link: &mut I,
@@ -237,7 +238,8 @@ fn hear_all<L: Ledger, I: LinkIn, O: Outlet + Drop, G: Gate, R: Wait>(
     unreachable!()
 }
 
-/// Enters what comes over a link until it ends, and answers whether a call of it failed meanwhile.
+/// Enters the datagrams of a link until it ends. Returns `Device` exactly if a call of the link
+/// failed meanwhile.
 fn link_worker<L: Ledger, I: LinkIn, O: Outlet + Drop, G: Gate, R: Wait>(
     worker: &mut Worker<'_, L, O, G, R>,
     link: &mut I,
@@ -260,9 +262,9 @@ fn link_worker<L: Ledger, I: LinkIn, O: Outlet + Drop, G: Gate, R: Wait>(
 }
 
 /// Brings an access port up, and enters the frames that come at it. An empty datagram is no frame.
-/// Where its link fails the port is taken down until the link works again.
+/// If the port's link fails, the port is taken down until the link works again.
 ///
-/// It ends with `Device` exactly where a call of the link failed.
+/// Returns `Device` exactly if a call of the link failed.
 pub fn port_worker<L: Ledger, I: LinkIn, O: Outlet + Drop, G: Gate, R: Wait>(
     worker: &mut Worker<'_, L, O, G, R>,
     link: &mut I,
@@ -280,9 +282,9 @@ pub fn port_worker<L: Ledger, I: LinkIn, O: Outlet + Drop, G: Gate, R: Wait>(
     link_worker(worker, link, &Source::Port(port, vni))
 }
 
-/// Enters the datagrams that other edges send. An empty one is none.
+/// Enters the datagrams that other edges send. An empty datagram is not entered.
 ///
-/// It ends with `Device` exactly where a call of the link failed.
+/// Returns `Device` exactly if a call of the link failed.
 pub fn tunnel_worker<L: Ledger, I: LinkIn, O: Outlet + Drop, G: Gate, R: Wait>(
     worker: &mut Worker<'_, L, O, G, R>,
     link: &mut I,
@@ -299,7 +301,7 @@ pub fn tunnel_worker<L: Ledger, I: LinkIn, O: Outlet + Drop, G: Gate, R: Wait>(
 
 /// Enters a second at each tick of a clock.
 ///
-/// It ends with `Device` exactly where a call of the clock failed.
+/// Returns `Device` exactly if a call of the clock failed.
 pub fn clock_worker<L: Ledger, I: LinkIn, O: Outlet + Drop, G: Gate, R: Wait>(
     worker: &mut Worker<'_, L, O, G, R>,
     clock: &mut I,
@@ -314,8 +316,8 @@ pub fn clock_worker<L: Ledger, I: LinkIn, O: Outlet + Drop, G: Gate, R: Wait>(
     link_worker(worker, clock, &Source::Clock)
 }
 
-/// Enters an update of another edge, looks for announcements where one has room for them again, or
-/// answers the operator.
+/// Handles a message: enters an update of another edge, requests announcements if another edge has
+/// room for them again, or answers the operator.
 fn enter_message<L: Ledger, O: Outlet + Drop, G: Gate, R: Wait>(
     worker: &mut Worker<'_, L, O, G, R>,
     message: &Message,
@@ -333,8 +335,8 @@ fn enter_message<L: Ledger, O: Outlet + Drop, G: Gate, R: Wait>(
     }
 }
 
-/// Enters the updates that other edges send, until there are no more, looks for announcements where
-/// one of them has room again, and answers what the operator asks.
+/// Handles messages until there are no more: enters the updates that other edges send, requests
+/// announcements if one of them has room again, and answers the operator's requests.
 pub fn peer_worker<L: Ledger, I: UpdatesIn, O: Outlet + Drop, G: Gate, R: Wait>(
     worker: &mut Worker<'_, L, O, G, R>,
     updates: &mut I,
@@ -355,7 +357,7 @@ pub fn peer_worker<L: Ledger, I: UpdatesIn, O: Outlet + Drop, G: Gate, R: Wait>(
     unreachable!()
 }
 
-/// The first octets of a buffer.
+/// Returns the first `size` octets of a buffer.
 fn front(buffer: &[u8], size: usize) -> &[u8]
     requires { size ≤ length buffer.now }
     ensures { result.now ≡ take size buffer.now }
@@ -363,7 +365,7 @@ fn front(buffer: &[u8], size: usize) -> &[u8]
     &buffer[..size]
 }
 
-/// Sends a datagram, and answers how many were lost in a failed call.
+/// Sends a datagram. Returns 1 if it was lost in a failed call, else 0.
 fn send_one<O: LinkOut>(link: &mut O, to: Addr, octets: &[u8]) -> u64
     requires { O.failed link.old + 1 < 2 ^ 64 }
     ensures sends { Sends (gone (O.sent link.old) (O.failed link.old)) (packet to octets.now)
@@ -376,8 +378,8 @@ fn send_one<O: LinkOut>(link: &mut O, to: Addr, octets: &[u8]) -> u64
     }
 }
 
-/// Sends what waits on the line of a link, until nothing more comes, and answers how much of it was
-/// lost in a failed call.
+/// Sends the datagrams that wait on the line of a link, until nothing more comes. Returns the
+/// number of datagrams that were lost in failed calls.
 pub fn out_worker<I: PacketsIn, O: LinkOut, R: Wait>(rt: &R, link: &mut O, packets: &mut I) -> u64
     ensures lost { O.failed link.new ≡ O.failed link.old + result }
     ensures sends { OutEnds (I.came packets.old) (gone (O.sent link.old) (O.failed link.old))

@@ -1,9 +1,8 @@
--- What an edge is opened with, and room for its threads.
+-- Room for the threads of an edge.
 use Rattle.std.specs.Prelude.{◌≡◌, ℕ, ◌+◌, ◌≤◌}
 
--- Nothing is there yet, and there is room for a thread for each task and each output, and for the passes of all tasks
--- and
--- one more.
+-- There are no threads and no passes yet. There is room for a thread for each task and each output, and for the passes
+-- of all tasks and one more.
 pub record HasRoom (tasks outputs entering entering_room sending sending_room passes passes_room : ℕ) : Type 0 where
   pub no_entering : entering ≡ 0
   pub no_sending : sending ≡ 0
@@ -12,7 +11,8 @@ pub record HasRoom (tasks outputs entering entering_room sending sending_room pa
   pub for_outputs : outputs ≤ sending_room
   pub for_passes : tasks + 1 ≤ passes_room
 
--- There is that room, a word for each thread that there may not be, a line for each output, and a pass for each task.
+-- There is that room, a flag for each thread (set if the thread is refused), a line for each output, and a pass for
+-- each task.
 pub record IsReady (tasks outputs entering entering_room sending sending_room passes passes_room no_entering no_sending
     lines fresh : ℕ) : Type 0 where
   pub room : HasRoom tasks outputs entering entering_room sending sending_room passes passes_room
@@ -21,7 +21,7 @@ pub record IsReady (tasks outputs entering entering_room sending sending_room pa
   pub line_each : outputs ≤ lines
   pub fresh_each : fresh ≡ tasks
 
--- There is room for each edge's thread and for what comes of it.
+-- No edge has a thread or a result yet, and there is room for the thread and the result of each.
 pub record HasEdges (setups running running_room ended ended_room : ℕ) : Type 0 where
   pub no_running : running ≡ 0
   pub no_ended : ended ≡ 0

@@ -3,8 +3,8 @@ use Rattle.std.specs.Prelude.{ℕ}
 use Rattle.ev_peers.specs.declared.outlet.Target.{Target}
 use Rattle.ev_peers.specs.declared.outlet.Target.TheVariants.{Port, Edge}
 
--- the place of a link's line, that of the tunnel first, then those of ports 1, 2 ..; and the address that goes with a
--- frame for it
+-- the place of a link's line (the tunnel's first, then those of ports 1, 2 ..), and the address that goes with a frame
+-- for the link
 abbrev pub place_of : Target → ℕ × ℕ
 place_of (Port port) = (port, 0)
 place_of (Edge address) = (0, address)

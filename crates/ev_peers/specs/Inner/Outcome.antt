@@ -1,4 +1,4 @@
--- What the workers of an edge ended with.
+-- The faults that the workers of an edge ended with.
 use Rattle.std.specs.Prelude.{ℕ, ◌+◌, ◌-◌, ◌^◌, min, ◌||◌, Bool, true, false}
 use Rattle.ev_peers.specs.declared.shared_edge.Ended.{Ended}
 use Rattle.ev_peers.specs.declared.shared_edge.Ended.TheVariants.{End, Device as Failed, NoMemory}
@@ -7,11 +7,11 @@ use Rattle.ev_peers.specs.declared.outcome.Faults.{Faults}
 abbrev pub faults_of : ℕ → Bool → Bool → Faults
 faults_of lost device memory = record { lost = lost; device = device; memory = memory }
 
--- each worker ended as it should
+-- each worker ended without a fault
 abbrev pub no_faults : Faults
 no_faults = faults_of 0 false false
 
--- two counts together, as far as 64 bits count
+-- the sum of two counts, at most 2^64 - 1
 abbrev pub both_lost : ℕ → ℕ → ℕ
 both_lost n m = min (n + m) (2 ^ 64 - 1)
 
@@ -29,15 +29,15 @@ is_memory End = false
 is_memory Failed = false
 is_memory NoMemory = true
 
--- one more worker ended so
+-- the faults, with how one more worker ended
 abbrev pub with_end : Ended → Faults → Faults
 with_end ended f = faults_of f.lost (f.device || is_device ended) (f.memory || is_memory ended)
 
--- whether a call of the book was refused memory
+-- the faults, with whether a call of the book was refused memory
 abbrev pub with_memory : Bool → Faults → Faults
 with_memory refused f = faults_of f.lost f.device (f.memory || refused)
 
--- one more worker that sends lost so many frames, and ended so
+-- the faults, with the number of frames that one more sending worker lost, and how it ended
 abbrev pub with_sent : ℕ × Ended → Faults → Faults
 with_sent sent f =
     faults_of (both_lost f.lost sent.0) (f.device || is_device sent.1) (f.memory || is_memory sent.1)

@@ -1,9 +1,9 @@
--- What an edge notes of the answers of its book.
+-- The answers of the book that an edge notes.
 use Rattle.std.specs.Prelude.{Bool, true, false, Option, Some, None}
 use Rattle.ev_mobility.specs.declared.alert.Alert.{Alert}
 use Rattle.ev_mobility.specs.declared.alert.Alert.TheVariants.{NoMemory}
 
--- the alert is that memory was refused
+-- the alert reports refused memory
 abbrev pub is_no_memory : Option Alert → Bool
 is_no_memory None = false
 is_no_memory (Some NoMemory) = true

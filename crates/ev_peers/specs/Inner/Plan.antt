@@ -1,26 +1,26 @@
--- What the threads of an edge begin with: what each enters, and over which link each sends.
+-- The plan of an edge's threads: the source of each thread's events, and the links that threads send over.
 use Rattle.std.specs.Prelude.{ℕ, ◌+◌, List, [], ◌∷◌, length, map, reverse, slice_get, Option, Some, None}
 use Rattle.ev_edge.specs.declared.config.PortConfig.{PortConfig}
 use Rattle.ev_peers.specs.declared.edge_links.Link.{Link}
 use Rattle.ev_peers.specs.declared.plan.Task.{Task}
 use Rattle.ev_peers.specs.declared.plan.Task.TheVariants.{Port, Tunnel, Clock}
 
--- the network of a port, or network 0 where there is no such port
+-- the VNI of a port, or VNI 0 if the port does not exist
 abbrev pub vni_in : Option PortConfig → ℕ
 vni_in None = 0
 vni_in (Some port) = port.vni
 
--- the network of the port at this place, the one of port 1 being place 0
+-- the VNI of the port at this place; port 1 has place 0
 abbrev pub vni_at : List PortConfig → ℕ → ℕ
 vni_at ports place = vni_in (slice_get ports place)
 
--- the task of each of these links, that of the last port first: the port's number, its network, its link
+-- the task of each of these links, with the last port's first: the port's number, its VNI, its link
 abbrev pub port_tasks : {I O : Type 0} → List PortConfig → List (Link I O) → List (Task I)
 port_tasks ports [] = []
 port_tasks ports (link ∷ before) =
     Port (length before + 1) (vni_at ports (length before)) link.input ∷ port_tasks ports before
 
--- that of the clock, that of the tunnel, and those of the ports, the last port first
+-- the clock's task, the tunnel's, and those of the ports, the last port first
 abbrev pub tasks_of : {I O : Type 0} → List PortConfig → I → I → List (Link I O) → List (Task I)
 tasks_of ports clock tunnel links = Clock clock ∷ Tunnel tunnel ∷ port_tasks ports (reverse links)
 

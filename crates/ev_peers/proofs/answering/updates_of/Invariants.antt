@@ -3,6 +3,6 @@ use Rattle.route_join.specs.Updates.{all_updates}
 use Rattle.ev_edge.specs.Edge.{table_of}
 use Rattle.ev_peers.proofs.answering.updates_of.Given as goal
 
--- what is left stands behind what was copied
+-- the copied updates, followed by those that are left, are all updates
 abbrev pub invariant-loop-update : goal.invariant-loop-update
 invariant-loop-update l = l.updates.items ++ l.update-iterator ≡ all_updates (table_of l.edge)

@@ -4,7 +4,7 @@ use Rattle.ev_peers.specs.Giving.{to_ports}
 use Rattle.ev_links.specs.Coming.{behind}
 use Rattle.ev_peers.proofs.giving.give_ports.Given as goal
 
--- what is given and what is still to be given is what was to be given
+-- the frames passed on so far, followed by those that are left, are all frames to be passed on
 abbrev pub invariant-loop-next : goal.invariant-loop-next
 invariant-loop-next g l = record {
   parcels : behind (g.O.Outlet.parcels l.outlet) (to_ports l.frame (ports_after l.ports l.port))

@@ -7,7 +7,7 @@ use Rattle.ev_peers.specs.declared.workers.Source.{Source}
 use Rattle.ev_links.proofs.Coming.{goes_on}
 use Rattle.ev_peers.proofs.workers.hear_all.Goals as goal
 
--- where it wasn't the end, a call was answered
+-- if it wasn't the end, a call was answered
 answered : (b : Bool) (now bridge : ℕ) (source : Source) (came : Option (List (Option Call))) (h : Hearing)
     (came' : Option (List (Option Call))) (h' : Hearing) → b ≡ true → now ≡ bridge
     → TurnsOnce b now source came h came' h' → DoesOne (Answers bridge source) came h came' h'

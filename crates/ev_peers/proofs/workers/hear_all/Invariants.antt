@@ -3,7 +3,7 @@ use Rattle.ev_peers.specs.Working.{standing, hearing, Answers}
 use Rattle.ev_links.specs.Coming.{DoesAll}
 use Rattle.ev_peers.proofs.workers.hear_all.Given as goal
 
--- all calls up to here were answered
+-- all calls so far were answered
 abbrev pub invariant-loop : goal.invariant-loop
 invariant-loop g l = record {
   answered : DoesAll (Answers l.initial.worker.shared_edge.now.bridge l.source) (g.I.LinkIn.came l.initial.link)

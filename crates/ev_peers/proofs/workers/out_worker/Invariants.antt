@@ -3,7 +3,7 @@ use Rattle.ev_links.specs.Coming.{DoesAll}
 use Rattle.ev_peers.specs.Sending.{gone, Sends}
 use Rattle.ev_peers.proofs.workers.out_worker.Given as goal
 
--- all that came up to here was sent, or lost and counted
+-- all datagrams so far were sent, or lost and counted
 abbrev pub invariant-loop : goal.invariant-loop
 invariant-loop g l = record {
   lost : g.O.LinkOut.failed l.link ≡ g.O.LinkOut.failed l.initial.link + l.lost;

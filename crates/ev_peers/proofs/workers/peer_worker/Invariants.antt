@@ -3,7 +3,7 @@ use Rattle.ev_peers.specs.Working.{standing, Takes}
 use Rattle.ev_links.specs.Coming.{DoesAll}
 use Rattle.ev_peers.proofs.workers.peer_worker.Given as goal
 
--- all that came up to here was taken
+-- all messages so far were taken
 abbrev pub invariant-loop : goal.invariant-loop
 invariant-loop g l = record {
   took : DoesAll (Takes l.initial.worker.shared_edge.now.bridge) (g.I.UpdatesIn.came l.initial.updates)
