@@ -11,7 +11,7 @@ use std::sync::{Condvar, Mutex, Wait};
 struct Bell {
     /// Set by each ring, and cleared when the worker wakes; set for good after the last ring.
     is_rung: bool,
-    /// Nothing more is put up.
+    /// No more news comes.
     has_ended: bool,
 }
 
@@ -89,8 +89,8 @@ impl Boards {
         }
     }
 
-    /// Puts up an alert of the edge with this number, or suppresses it. A suppressed alert touches
-    /// nothing for which another edge waits.
+    /// Puts an alert on the board of the edge with this number, which accepts or suppresses it. A
+    /// suppressed alert touches nothing for which another edge waits.
     pub(crate) fn alarm<R: Wait>(&self, rt: &R, edge: usize, alarm: Alarm) {
         let Some(of_edge) = self.of(edge) else {
             return;
@@ -120,7 +120,7 @@ impl Boards {
         }
     }
 
-    /// Rings the bell for the last time: nothing more is put up.
+    /// Rings the bell for the last time: no more news comes.
     pub fn end<R: Wait>(&self, rt: &R) {
         self.ring(rt, true);
     }
@@ -169,8 +169,8 @@ impl Boards {
         unreachable!()
     }
 
-    /// Waits for the next news, with the number of its edge. Returns `None` once nothing waits,
-    /// nothing more is put up, and the counts of suppressed alerts and changes of each edge were
+    /// Waits for the next news, with the number of its edge. Returns `None` once nothing waits, no
+    /// more news comes, and each edge's numbers of suppressed alerts and unreported changes were
     /// returned.
     pub(crate) fn next<R: Wait>(&self, rt: &R) -> Option<(u64, News)> {
         for _ in rt.forever() {

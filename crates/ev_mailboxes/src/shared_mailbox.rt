@@ -110,7 +110,7 @@ impl SharedMailbox {
         self.bell.notify_one();
     }
 
-    /// Closes the mailbox and its desk: drops the updates, ignores later ones, and rejects later
+    /// Closes the mailbox and its desk: drops the updates, ignores later ones, and answers no more
     /// requests.
     pub(crate) fn close<R: Wait>(&self, rt: &R) {
         {
