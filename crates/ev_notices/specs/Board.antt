@@ -10,7 +10,7 @@ use Rattle.ev_notices.specs.declared.board.Posted.{Posted}
 use Rattle.ev_notices.specs.declared.board.Notice.{Notice}
 
 -- The alerts that were taken and those that wait, each with the first one first; the number of seconds that have
--- passed; and the number of alerts that were suppressed since the last one that was put up.
+-- passed; and the number of alerts that were suppressed since the last accepted one.
 pub record BoardState : Type 0 where
   pub told : List Posted
   pub waiting : List Posted
@@ -85,7 +85,7 @@ left (p ∷ ps) b = board_of (b.told ++ p ∷ []) ps b.clock b.held
 abbrev pub after_take : BoardState → BoardState
 after_take b = left b.waiting b
 
--- at the end: the number of alerts that were suppressed since the last one that was put up
+-- at the end: the number of alerts that were suppressed since the last accepted one
 abbrev pub last_notice : BoardState → Option Notice
 last_notice b = if b.held == 0 then None else Some (record { held = b.held; alarm = None })
 

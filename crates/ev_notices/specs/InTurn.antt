@@ -1,4 +1,4 @@
--- The lines of alerts that come one after the other, if each is taken from the board as soon as it is put up.
+-- The lines of alerts that come one after the other, if each accepted one is taken from the board at once.
 use Rattle.std.specs.Prelude.{ℕ, List, [], ◌++◌, fold, Option, Some, None}
 use Rattle.ev_notices.specs.declared.alarm.Alarm.{Alarm}
 use Rattle.ev_notices.specs.declared.board.Notice.{Notice}
@@ -6,7 +6,7 @@ use Rattle.ev_notices.specs.Board.{BoardState, empty_board, after_second, after_
 use Rattle.ev_notices.specs.Board.{last_notice}
 use Rattle.ev_notices.specs.Telling.{notice_text}
 
--- a second passes; or an alert is put up or suppressed, and the first waiting one is taken
+-- a second passes; or an alert is accepted or suppressed, and the first waiting one is taken
 abbrev pub after_sign : Option Alarm → BoardState → BoardState
 after_sign None b = after_second b
 after_sign (Some a) b = after_take (after_alarm a b)
@@ -35,7 +35,7 @@ with_sign edge t sign = so_told (after_sign sign t.board) (t.text ++ some_text e
 abbrev pub after_signs : ℕ → List (Option Alarm) → SoTold
 after_signs edge signs = fold (with_sign edge) (so_told empty_board []) signs
 
--- the lines of these signs, and at the end the number of alerts that were suppressed since the last one that was put up
+-- the lines of these signs, and at the end the number of alerts that were suppressed since the last accepted one
 abbrev pub told_text : ℕ → List (Option Alarm) → List ℕ
 told_text edge signs =
     let t = after_signs edge signs in

@@ -66,7 +66,7 @@ pub struct Board {
     waiting: ArrayVec<Posted, MOST>,
     /// The number of seconds that have passed.
     clock: u64,
-    /// The number of alerts that were suppressed since the last one that was put up.
+    /// The number of alerts that were suppressed since the last accepted one.
     held: u64,
 }
 
@@ -98,7 +98,7 @@ fn same_station(one: &Option<Station>, other: &Option<Station>) -> bool
     }
 }
 
-/// Returns `true` if an alert that was put up has the same kind and station.
+/// Returns `true` if an accepted alert has the same kind and station.
 fn is_like(alarm: &Alarm, posted: &Posted) -> bool
     ensures { result ≡ is_like alarm.now posted.now }
 {
@@ -170,7 +170,7 @@ impl Board {
         self.clock = self.clock.saturating_add(1);
     }
 
-    /// Returns `true` if an alert is to be put up: no taken or waiting alert of the board has its
+    /// Returns `true` if the board accepts an alert: no taken or waiting alert of the board has its
     /// kind and station, and there is room.
     fn is_put(&self, alarm: &Alarm) -> bool
         ensures { result ≡ is_put alarm.now self.now }
@@ -180,7 +180,7 @@ impl Board {
             && self.told.len() + self.waiting.len() < MOST
     }
 
-    /// Puts an alert up, or suppresses and counts it. Returns `true` if it was put up.
+    /// Accepts an alert, or suppresses and counts it. Returns `true` if the board accepted it.
     pub fn alarm(&mut self, alarm: Alarm) -> bool
         ensures put { result ≡ is_put alarm (forgetting self.old) }
         ensures after { self.new ≡ after_alarm alarm self.old }
@@ -210,8 +210,8 @@ impl Board {
         Some(first)
     }
 
-    /// Takes the notice at the end: the number of alerts that were suppressed since the last one
-    /// that was put up.
+    /// Takes the notice at the end: the number of alerts that were suppressed since the last
+    /// accepted one.
     pub fn take_last(&mut self) -> Option<Notice>
         ensures last { result ≡ last_notice self.old }
         ensures rest { self.new ≡ after_last self.old }

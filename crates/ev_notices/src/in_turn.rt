@@ -1,5 +1,5 @@
-//! The lines of alerts that come one after the other, if each is taken from the board as soon as it
-//! is put up.
+//! The lines of alerts that come one after the other, if each accepted one is taken from the board
+//! at once.
 ghost use Rattle.std.specs.Prelude.{◌≡◌};
 ghost use Rattle.ether_wire.specs.Ends.{IsOpen, Puts};
 ghost use Rattle.ev_notices.specs.InTurn.{after_sign, told_by, some_text, told_text};
