@@ -1,13 +1,13 @@
--- What waits for an edge from the other ones.
+-- The mailbox of an edge: updates from the other edges that wait for it.
 use Rattle.std.specs.Prelude.{ℕ, ◌+◌, ◌-◌, ◌^◌, min, ◌&&◌, ◌||◌, Bool, false, true, nat_lt, nat_le, if◌then◌else◌, List}
 use Rattle.std.specs.Prelude.{[], ◌∷◌, ◌++◌, length, Option, Some, None}
 use Rattle.route_wire.specs.Fields.{Fields}
 use Rattle.ev_mailboxes.specs.declared.mailbox.Message.{Message}
 use Rattle.ev_mailboxes.specs.declared.mailbox.Message.TheVariants.{Record, Room}
 
--- Updates that wait, the first one first, and for how many there are places; whether the edge is behind; whether
--- another
--- one has room again; whether nothing more comes; whether nobody takes any more; and how many updates were lost.
+-- The state of a mailbox: the waiting updates, the first one first; the number of places for updates; whether the edge
+-- is behind; whether another edge has room again; whether nothing more comes; whether the mailbox is closed, because
+-- its edge takes no more updates; and how many updates were lost.
 pub record Mail : Type 0 where
   pub updates : List Fields
   pub places : ℕ
@@ -29,22 +29,22 @@ mail_of updates places is_behind is_called has_ended is_closed lost =
       lost = lost;
     }
 
--- nothing waits; there are places for as many updates as have room, and for one of each of so many workers
+-- an empty mailbox; it has places for 4,096 updates, and for one more of each of `workers` workers
 abbrev pub no_mail : ℕ → Mail
 no_mail workers = mail_of [] (4096 + workers) false false false false 0
 
--- ---- what is put
+-- ---- putting
 
--- an update goes behind the others; where so many wait then, the edge is behind
+-- an update comes after the others; if 4,096 or more wait then, the edge is behind
 abbrev pub with_update : Fields → Mail → Mail
 with_update u m = mail_of (m.updates ++ u ∷ []) m.places (m.is_behind || nat_le 4096 (length m.updates + 1)) m.is_called
     m.has_ended m.is_closed m.lost
 
--- one more was lost, as far as 64 bits count
+-- one more update was lost; the count stops at 2^64 - 1
 abbrev pub one_lost : Mail → Mail
 one_lost m = mail_of m.updates m.places m.is_behind m.is_called m.has_ended m.is_closed (min (m.lost + 1) (2 ^ 64 - 1))
 
--- an update is put where there is a place, and lost where there is none; where nobody takes any more it isn't wanted
+-- an update is put if there is a place, and lost if there is none; a closed mailbox ignores it
 abbrev pub after_update : Fields → Mail → Mail
 after_update u m = if m.is_closed then m else if nat_lt (length m.updates) m.places then with_update u m else one_lost m
 
@@ -56,13 +56,13 @@ after_call m = mail_of m.updates m.places m.is_behind true m.has_ended m.is_clos
 abbrev pub after_end : Mail → Mail
 after_end m = mail_of m.updates m.places m.is_behind m.is_called true m.is_closed m.lost
 
--- nobody takes any more
+-- the mailbox is closed: its updates are dropped, and the edge isn't behind
 abbrev pub after_close : Mail → Mail
 after_close m = mail_of [] m.places false m.is_called m.has_ended true m.lost
 
--- ---- what is taken
+-- ---- taking
 
--- the call goes behind all updates: who takes one of these looks for its own announcements, too
+-- the call comes after all updates: a worker that takes an update checks for its own announcements, too
 abbrev pub call_of : Bool → Option Message
 call_of false = None
 call_of true = Some Room
@@ -74,7 +74,8 @@ first_in (u ∷ updates) is_called = Some (Record u)
 abbrev pub first_of : Mail → Option Message
 first_of m = first_in m.updates m.is_called
 
--- what is left behind the first update: the edge has caught up where at most half of what has room waits
+-- the mailbox without its first update, or without the call if no update waits; the edge has caught up if at most 2,048
+-- updates are left
 abbrev pub left : List Fields → Mail → Mail
 left [] m = mail_of [] m.places m.is_behind false m.has_ended m.is_closed m.lost
 left (u ∷ updates) m = mail_of updates m.places (m.is_behind && nat_lt 2048 (length updates)) m.is_called m.has_ended

@@ -1,9 +1,9 @@
--- What waits to be said to a process that runs edges elsewhere.
+-- The outbox of a connection: updates that wait to be sent to another process that runs edges.
 use Rattle.std.specs.Prelude.{Bool, false, true, List, [], ◌∷◌, ◌++◌, length, drop, nat_lt, if◌then◌else◌}
 use Rattle.std.specs.Prelude.{Option, Some, None}
 use Rattle.route_wire.specs.Fields.{Fields}
 
--- the updates that wait, the first one first, and whether whoever takes them is cut off
+-- the waiting updates, the first one first, and whether the connection is cut off
 pub record Outgoing : Type 0 where
   pub waiting : List Fields
   pub is_cut_off : Bool
@@ -14,11 +14,11 @@ outgoing waiting is_cut_off = record { waiting = waiting; is_cut_off = is_cut_of
 abbrev pub no_announcements : Outgoing
 no_announcements = outgoing [] false
 
--- nothing waits any more, nor will
+-- no update waits any more, and none will
 abbrev pub after_cut : Outgoing → Outgoing
 after_cut o = outgoing [] true
 
--- it waits behind the others, where there are fewer than 65,536
+-- an update comes after the others if fewer than 65,536 wait; otherwise the connection is cut off
 abbrev pub after_announcement : Fields → Outgoing → Outgoing
 after_announcement u o =
     if o.is_cut_off then o

@@ -1,47 +1,48 @@
-//! The boards of all edges, which their workers share with the one that tells the operator.
+//! The boards of all edges. The edges' workers share them with the worker that writes the
+//! operator's lines.
 ghost use Rattle.std.specs.Prelude.{◌≡◌, ◌-◌, slice_get, option_copied};
 
 use ev_notices::{Alarm, Board, News, Reception, Receptions, Refusals};
 use std::alloc::{AllocError, Global};
 use std::sync::{Condvar, Mutex, Wait};
 
-/// What rings the worker that tells the operator.
+/// The state of the bell that wakes the worker that writes the operator's lines.
 #[derive(Clone, Copy)]
 struct Bell {
-    /// Something was put up since it was last rung.
+    /// Set by each ring, and cleared when the worker wakes; set for good after the last ring.
     is_rung: bool,
-    /// Nothing more is put up.
+    /// No more news comes.
     has_ended: bool,
 }
 
-/// What waits of an edge, each under a lock of its own.
+/// The waiting news of one edge, each kind under a lock of its own.
 #[derive(Drop)]
 struct OfEdge {
     /// Its alerts.
     board: Mutex<Board>,
-    /// Which links it receives over failed, or work again.
+    /// Changes of its links: receiving failed, or works again.
     receptions: Mutex<Receptions>,
 }
 
-/// A board for each edge. What their calls do is what those of `Board` and of `Receptions` do; no
-/// clause can say so, since none names what a lock holds at that moment. Nobody who holds a lock
-/// waits for another one.
+/// A board for each edge. The calls act as the calls of `Board` and `Receptions`; no clause can
+/// state that, since a clause can't name the content of a lock at that moment. A thread that holds
+/// a lock never waits for another lock.
 #[derive(Drop)]
 pub struct Boards {
     all: Vec<OfEdge>,
-    /// What of other processes was refused.
+    /// Refused input from other processes.
     refusals: Mutex<Refusals>,
     bell: Mutex<Bell>,
-    /// Rung behind the lock of the bell.
+    /// The condition variable of the bell's lock.
     ringing: Condvar,
 }
 
 impl Boards {
-    /// Boards for so many edges, on which nothing was put.
+    /// Returns empty boards for `edges` edges.
     ///
     /// # Errors
     ///
-    /// Where memory is refused.
+    /// `AllocError` if memory is refused.
     pub fn new(alloc: Global, edges: usize) -> Result<Self, AllocError> {
         let mut all = Vec::with_capacity(alloc, edges)?;
         for place in 0..edges {
@@ -62,14 +63,14 @@ impl Boards {
         })
     }
 
-    /// What waits of the edge with this number, from 1.
+    /// Returns the waiting news of the edge with this number, counted from 1.
     fn of(&self, edge: usize) -> Option<&OfEdge>
         ensures { option_copied result ≡ slice_get self.now.all.items (edge - 1) }
     {
         self.all.get(edge.saturating_sub(1))
     }
 
-    /// Rings the bell, for the last time or not.
+    /// Rings the bell, for the last time if `has_ended`.
     fn ring<R: Wait>(&self, rt: &R, has_ended: bool) {
         {
             let mut bell = self.bell.lock(rt);
@@ -81,15 +82,15 @@ impl Boards {
         self.ringing.notify_one();
     }
 
-    /// A second passes at the edge with this number.
+    /// Counts a second that passes at the edge with this number.
     pub(crate) fn second<R: Wait>(&self, rt: &R, edge: usize) {
         if let Some(of_edge) = self.of(edge) {
             of_edge.board.lock(rt).second();
         }
     }
 
-    /// Puts an alert of the edge with this number up, or holds it back. An alert that is held back
-    /// touches nothing that another edge waits for.
+    /// Puts an alert on the board of the edge with this number, which accepts or suppresses it. A
+    /// suppressed alert touches nothing for which another edge waits.
     pub(crate) fn alarm<R: Wait>(&self, rt: &R, edge: usize, alarm: Alarm) {
         let Some(of_edge) = self.of(edge) else {
             return;
@@ -100,7 +101,7 @@ impl Boards {
         }
     }
 
-    /// Tells that receiving over a link of the edge with this number failed, or works again.
+    /// Reports that receiving over a link of the edge with this number failed, or works again.
     pub(crate) fn reception<R: Wait>(&self, rt: &R, edge: usize, reception: Reception) {
         let Some(of_edge) = self.of(edge) else {
             return;
@@ -111,7 +112,7 @@ impl Boards {
         }
     }
 
-    /// Tells that what came from another process was refused, each number once.
+    /// Reports that input from another process was refused, each number once.
     pub(crate) fn refuse<R: Wait>(&self, rt: &R, number: u8) {
         let is_put = self.refusals.lock(rt).put(number);
         if is_put {
@@ -119,12 +120,12 @@ impl Boards {
         }
     }
 
-    /// Tells that nothing more is put up.
+    /// Rings the bell for the last time: no more news comes.
     pub fn end<R: Wait>(&self, rt: &R) {
         self.ring(rt, true);
     }
 
-    /// What waits first, with the number of its edge, or 0 where it is of none.
+    /// Takes the first waiting news, with the number of its edge, or 0 if it belongs to no edge.
     fn first<R: Wait>(&self, rt: &R) -> Option<(u64, News)> {
         if let Some(number) = self.refusals.lock(rt).take() {
             return Some((0, News::Refused(u64::from(number))));
@@ -141,7 +142,7 @@ impl Boards {
         None
     }
 
-    /// What is told at the end first, with the number of its edge.
+    /// Takes the first count that is written at the end, with the number of its edge.
     fn last<R: Wait>(&self, rt: &R) -> Option<(u64, News)> {
         for (place, of_edge) in self.all.iter().enumerate() {
             let edge = place as u64 + 1;
@@ -155,7 +156,7 @@ impl Boards {
         None
     }
 
-    /// Waits until the bell is rung, and answers whether that was for the last time.
+    /// Waits until the bell rings, and returns `true` if that was the last ring.
     fn wait<R: Wait>(&self, rt: &R) -> bool {
         let mut bell = self.bell.lock(rt);
         for _ in rt.forever() {
@@ -168,8 +169,9 @@ impl Boards {
         unreachable!()
     }
 
-    /// Waits for what is told next, with the number of its edge. None once nothing waits, nothing
-    /// more is put up, and of each edge it was told how much was held back.
+    /// Waits for the next news, with the number of its edge. Returns `None` once nothing waits, no
+    /// more news comes, and each edge's numbers of suppressed alerts and unreported changes were
+    /// returned.
     pub(crate) fn next<R: Wait>(&self, rt: &R) -> Option<(u64, News)> {
         for _ in rt.forever() {
             let first = self.first(rt);

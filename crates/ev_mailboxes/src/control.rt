@@ -1,5 +1,5 @@
-//! The way into edges that run: who waits until they end can ask each of them for a step, or to
-//! show what it holds.
+//! Access to running edges: the caller that waits until they end can send each of them a step, or a
+//! query about its state.
 ghost use Rattle.std.specs.Prelude.{◌≡◌, IfSome};
 
 use crate::boards::Boards;
@@ -15,7 +15,7 @@ use route_wire::Update;
 use std::alloc::{AllocError, Global};
 use std::sync::Wait;
 
-/// Edges that run.
+/// The running edges.
 #[derive(Clone, Copy, Drop)]
 pub struct Running<'x> {
     mailboxes: &'x Mailboxes,
@@ -23,17 +23,17 @@ pub struct Running<'x> {
 }
 
 impl<'x> Running<'x> {
-    /// The edges of these mailboxes and boards.
+    /// Returns the edges of these mailboxes and boards.
     pub fn new(mailboxes: &'x Mailboxes, boards: &'x Boards) -> Self {
         Running { mailboxes, boards }
     }
 
-    /// How many edges there are.
+    /// Returns the number of edges.
     pub fn edges(&self) -> usize {
         self.mailboxes.edges()
     }
 
-    /// The edge with this number, from 1, if there is one.
+    /// Returns the edge with this number, from 1, if there is one.
     pub fn edge(&self, number: usize) -> Option<Control<'x>>
         ensures { IfSome result (λ control. control.mailbox.now.number ≡ number) }
     {
@@ -41,73 +41,74 @@ impl<'x> Running<'x> {
         Some(Control { mailbox })
     }
 
-    /// Takes a place for a connection, which is told what the edges announce from now on. None
-    /// where eight have one.
+    /// Takes a place for a connection, which receives the updates that the edges announce from now
+    /// on. Returns `None` if eight connections have one.
     ///
     /// # Errors
     ///
-    /// Where memory is refused.
+    /// `AllocError` if memory is refused.
     pub fn join<R: Wait>(&self, rt: &R, alloc: Global) -> Result<Option<Joined<'x>>, AllocError> {
         let outbox = Outbox::new(alloc)?;
         Ok(self.mailboxes.outboxes().join(rt, outbox))
     }
 
-    /// Has each edge take an update that came from another process, behind what waits there. It
-    /// waits where an edge is behind.
+    /// Puts an update from another process into the mailbox of each edge, after the waiting ones.
+    /// The call waits while an edge is behind.
     pub fn take<R: Wait>(&self, rt: &R, update: &Update) {
         self.mailboxes.take(rt, update);
     }
 
-    /// Tells the operator that what came from another process was refused: a fault of its stream by
-    /// its number (1 to 4), or a refusal of a record (5 and above). Each is told once.
+    /// Reports to the operator that input from another process was refused: a fault of its stream
+    /// by its number (1 to 4), or a refusal of a record (5 and above). Each number is reported
+    /// once.
     pub fn refuse<R: Wait>(&self, rt: &R, number: u8) {
         self.boards.refuse(rt, number);
     }
 }
 
-/// An edge that runs, as it can be asked. Each call waits for the edge's answer, and a request
-/// that comes meanwhile waits for its turn.
+/// A running edge that takes requests. Each call waits for the edge's answer, and a request that
+/// comes meanwhile waits for its turn.
 #[derive(Clone, Copy, Drop)]
 pub struct Control<'x> {
     mailbox: &'x SharedMailbox,
 }
 
 impl Control<'_> {
-    /// The edge's number, from 1.
+    /// Returns the edge's number, from 1.
     pub fn number(&self) -> usize
         ensures { result ≡ self.now.mailbox.now.number }
     {
         self.mailbox.number
     }
 
-    /// Enters a step: what the edge's book answered. None where the edge has ended.
+    /// Enters a step, and returns the book's answer. Returns `None` if the edge has ended.
     pub fn enter<R: Wait>(&self, rt: &R, command: Command) -> Option<Result<Reply, BookRefusal>> {
         let mut answer = self.mailbox.ask(rt, &Request::Enter(command))?;
         answer.take_entered()
     }
 
-    /// What the edge's table holds.
+    /// Returns the updates of the edge's table.
     pub fn table<R: Wait>(&self, rt: &R, alloc: Global) -> Option<Result<Vec<Update>, AllocError>> {
         self.mailbox
             .ask(rt, &Request::Read(Reading::Table(alloc)))?
             .table()
     }
 
-    /// How the spanning tree has the port.
+    /// Returns the state of the port in the spanning tree.
     pub fn port<R: Wait>(&self, rt: &R, port: u8) -> Option<Option<PortView>> {
         self.mailbox
             .ask(rt, &Request::Read(Reading::Port(port)))?
             .port()
     }
 
-    /// What the edge serves.
+    /// Returns the edge's address and the networks that it serves.
     pub fn served<R: Wait>(&self, rt: &R, alloc: Global) -> Option<Result<Served, AllocError>> {
         self.mailbox
             .ask(rt, &Request::Read(Reading::Served(alloc)))?
             .served()
     }
 
-    /// What is told of a question, with the edge's number before each line.
+    /// Returns the answer to a query, with the edge's number before each line.
     pub fn view<R: Wait>(
         &self,
         rt: &R,

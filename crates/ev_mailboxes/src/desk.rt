@@ -1,4 +1,5 @@
-//! Where the operator's request to an edge waits for its worker, and the answer for the operator.
+//! The desk of an edge: the operator's request waits there for the edge's worker, and the answer
+//! for the operator.
 
 ghost use Rattle.std.specs.Prelude.{◌≡◌, true, false};
 ghost use Rattle.ev_mailboxes.specs.Inner.Desk.{put_on, take_from, collect_from};
@@ -7,16 +8,16 @@ ghost use Rattle.ev_mailboxes.specs.declared.desk.Slip.TheVariants.{Free, Answer
 use crate::request::{Answer, Request};
 use std::mem;
 
-/// What lies on a desk.
+/// The state of a desk.
 #[derive(Drop)]
 enum Slip {
     /// Nothing: the next request has room.
     Free,
-    /// A request, which nobody has taken.
+    /// A request that the worker hasn't taken yet.
     Asked(Request),
-    /// The request is being done.
+    /// The worker has taken the request, and hasn't answered it yet.
     Taken,
-    /// What came of it, which who asked hasn't taken.
+    /// An answer that the caller hasn't collected yet.
     Answered(Answer),
 }
 
@@ -28,7 +29,7 @@ pub(crate) struct Desk {
 }
 
 impl Desk {
-    /// A desk on which nothing lies.
+    /// Returns a free and open desk.
     pub(crate) fn new() -> Self
         ensures free { result.slip ≡ Free }
         ensures open { result.is_closed ≡ false }
@@ -39,7 +40,7 @@ impl Desk {
         }
     }
 
-    /// Puts a request there, if there is room for it.
+    /// Puts a request there if the desk is free. Returns `true` if it did.
     pub(crate) fn put(&mut self, request: &Request) -> bool
         ensures puts { (result, self.new.slip) ≡ put_on request.now self.old.slip }
         ensures stays { self.new.is_closed ≡ self.old.is_closed }
@@ -51,7 +52,7 @@ impl Desk {
         false
     }
 
-    /// Takes the request, if there is one.
+    /// Takes the request, if one waits.
     pub(crate) fn take(&mut self) -> Option<Request>
         ensures takes { (result, self.new.slip) ≡ take_from self.old.slip }
         ensures stays { self.new.is_closed ≡ self.old.is_closed }
@@ -73,7 +74,7 @@ impl Desk {
         self.slip = Slip::Answered(answer);
     }
 
-    /// Takes the answer, if there is one.
+    /// Takes the answer, if there is one. After that, the next request has room.
     pub(crate) fn collect(&mut self) -> Option<Answer>
         ensures collects { (result, self.new.slip) ≡ collect_from self.old.slip }
         ensures stays { self.new.is_closed ≡ self.old.is_closed }
@@ -87,7 +88,7 @@ impl Desk {
         }
     }
 
-    /// Tells that nobody answers any more.
+    /// Closes the desk: the worker answers no more requests.
     pub(crate) fn close(&mut self)
         ensures closed { self.new.is_closed ≡ true }
         ensures stays { self.new.slip ≡ self.old.slip }
@@ -95,7 +96,7 @@ impl Desk {
         self.is_closed = true;
     }
 
-    /// Whether nobody answers any more.
+    /// Returns `true` if the desk is closed: the worker answers no more requests.
     pub(crate) fn is_closed(&self) -> bool
         ensures { result ≡ self.now.is_closed }
     {

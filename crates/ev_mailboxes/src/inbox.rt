@@ -1,5 +1,4 @@
-//! Where what comes to an edge's worker of updates comes from, and what comes to the one that tells
-//! the operator.
+//! The inputs of an edge's worker of updates, and of the worker that writes the operator's lines.
 ghost use Rattle.std.specs.Prelude.{◌≡◌, ◌∷◌, [], Option, List};
 ghost use Rattle.ev_links.specs.Coming.{behind};
 ghost use Rattle.ev_mailboxes.specs.declared.mailbox.Message.{Message};
@@ -10,21 +9,22 @@ use crate::peers::Peers;
 use ev_notices::{News, NoticesIn};
 use std::sync::Wait;
 
-/// Where what other edges send comes from.
+/// A source of the messages that other edges send.
 pub trait UpdatesIn {
-    /// What came, in its order, where it tells it: each message, and none for the end.
+    /// The messages that came, in their order, if the source reports them: `Some` for each message,
+    /// and `None` for the end.
     ghost came: { Self → Option (List (Option Message)) };
 
-    /// Waits for the next message. None at the end.
+    /// Waits for the next message. Returns `None` at the end.
     fn next(&mut self) -> Option<Message>
         ensures { came self.new ≡ behind (came self.old) (result ∷ []) };
 }
 
-/// What comes to an edge's mailbox. Clauses see nothing of what is under a lock, so it doesn't tell
-/// what came.
+/// The messages in an edge's mailbox. Clauses can't see the content of a lock, so this source
+/// doesn't report the messages that came.
 #[derive(Drop)]
 pub struct UpdateBox<'x, R> {
-    /// What may wait.
+    /// The handle that calls need to wait.
     pub rt: &'x R,
     /// The mailboxes, as the edge sees them.
     pub peers: Peers<'x>,
@@ -40,11 +40,11 @@ impl<R: Wait> UpdatesIn for UpdateBox<'_, R> {
     }
 }
 
-/// What waits on the boards of all edges. Clauses see nothing of what is under a lock, so it
-/// doesn't tell what came.
+/// The news on the boards of all edges. Clauses can't see the content of a lock, so this source
+/// doesn't report the news that came.
 #[derive(Drop)]
 pub struct NoticeBox<'x, R> {
-    /// What may wait.
+    /// The handle that calls need to wait.
     pub rt: &'x R,
     /// The boards.
     pub boards: &'x Boards,

@@ -1,5 +1,5 @@
-//! Mailboxes of edges that run: what waits for an edge from the other ones and from its operator,
-//! what it answers him, and the boards of what he is told.
+//! Mailboxes of running edges: updates from the other edges and requests of the operator, the
+//! edges' answers, and the boards with the news for the operator.
 #![tactic(auto)]
 
 mod boards;

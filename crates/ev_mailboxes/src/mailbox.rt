@@ -1,5 +1,5 @@
-//! What waits for an edge from the other ones: their updates, as far as there is room, and a call
-//! where one of them has room again.
+//! The mailbox of an edge: the updates of the other edges, as far as there is room, and a call that
+//! one of them has room again.
 ghost use Rattle.std.specs.Prelude.{◌≡◌, ◌+◌, ◌^◌, ◌<◌, ◌≤◌, IfOk};
 ghost use Rattle.ev_mailboxes.specs.Mailbox.{no_mail, after_update, after_call, after_end, after_close, first_of, after_take};
 
@@ -9,28 +9,29 @@ use std::alloc::{AllocError, Global};
 use std::collections::VecDeque;
 use std::marker::Model;
 
-/// Where so many updates wait, the edge is behind, and the others keep theirs pending.
+/// If this number of updates wait, the edge is behind, and the others keep theirs pending.
 const ROOM: usize = 4096;
 
-/// Once no more wait, an edge that was behind isn't any more.
+/// Once at most this number of updates wait, an edge that was behind isn't any more.
 const CAUGHT_UP: usize = 2048;
 
-/// What an edge is sent by another one, or asked by the operator.
+/// A message to an edge, from another edge or from the operator.
 #[derive(Clone, Copy)]
 pub enum Message {
-    /// An update that it has announced.
+    /// An update that another edge has announced.
     Record(Update),
-    /// It was behind, and has room for updates again.
+    /// Another edge has room for updates again: it was behind and caught up, or it takes no more
+    /// updates.
     Room,
-    /// The operator asks this.
+    /// A request of the operator.
     Ask(Request),
 }
 
-/// What waits for an edge from the other ones. Its memory is taken once, when it is made.
+/// The mailbox of an edge. Its memory is taken once, when it is made.
 ///
-/// An edge asks itself for an announcement only where no other one is behind; what isn't asked for
-/// stays pending there. So behind the updates that make an edge be behind comes at most one from
-/// each worker, which has looked before.
+/// A worker queries its own edge for an announcement only if no other edge is behind; the other
+/// announcements stay pending there. So after the update with which an edge falls behind, at most
+/// one more comes from each worker: that worker checked for room before.
 #[derive(Drop)]
 pub struct Mailbox {
     updates: VecDeque<Update>,
@@ -60,11 +61,11 @@ impl Model for Mailbox {
 }
 
 impl Mailbox {
-    /// A mailbox in which nothing waits, of an edge to which so many workers send.
+    /// Returns an empty mailbox for an edge to which `workers` workers send.
     ///
     /// # Errors
     ///
-    /// Where memory is refused.
+    /// `AllocError` if memory is refused.
     pub fn new(alloc: Global, workers: u32) -> Result<Self, AllocError>
         ensures { IfOk result (λ m. m ≡ no_mail workers) }
     {
@@ -80,8 +81,8 @@ impl Mailbox {
         })
     }
 
-    /// Puts an update behind the others. Where each place is taken it is lost, and counted; where
-    /// nobody takes any more it isn't wanted.
+    /// Puts an update after the others. If each place is taken, the update is lost, and counted; a
+    /// closed mailbox ignores it.
     pub fn put(&mut self, update: Update)
         ensures { self.new ≡ after_update update self.old }
     {
@@ -96,21 +97,22 @@ impl Mailbox {
         self.is_behind = self.is_behind || self.updates.len() >= ROOM;
     }
 
-    /// Calls the edge: another one has room again.
+    /// Calls the edge: another edge has room again.
     pub fn call(&mut self)
         ensures { self.new ≡ after_call self.old }
     {
         self.is_called = true;
     }
 
-    /// Tells that nothing more comes.
+    /// Marks the end: nothing more comes.
     pub fn end(&mut self)
         ensures { self.new ≡ after_end self.old }
     {
         self.has_ended = true;
     }
 
-    /// Tells that nobody takes any more what waits here.
+    /// Closes the mailbox: drops its updates and ignores later ones. The edge isn't behind any
+    /// more.
     pub fn close(&mut self)
         ensures { self.new ≡ after_close self.old }
     {
@@ -119,7 +121,7 @@ impl Mailbox {
         self.is_closed = true;
     }
 
-    /// Takes the first update, or the call where none waits.
+    /// Takes the first update, or the call if no update waits.
     pub fn take(&mut self) -> Option<Message>
         ensures first { result ≡ first_of self.old }
         ensures rest { self.new ≡ after_take self.old }
@@ -135,7 +137,7 @@ impl Mailbox {
         None
     }
 
-    /// Whether the edge is behind: as many updates wait as have room, or did and it hasn't caught
+    /// Returns `true` if the edge is behind: `ROOM` updates wait, or did and the edge hasn't caught
     /// up since.
     pub fn is_behind(&self) -> bool
         ensures { result ≡ self.now.is_behind }
@@ -143,14 +145,14 @@ impl Mailbox {
         self.is_behind
     }
 
-    /// Whether nothing more comes.
+    /// Returns `true` if nothing more comes.
     pub fn has_ended(&self) -> bool
         ensures { result ≡ self.now.has_ended }
     {
         self.has_ended
     }
 
-    /// How many updates were lost.
+    /// Returns the number of lost updates.
     pub fn lost(&self) -> u64
         ensures { result ≡ self.now.lost }
     {

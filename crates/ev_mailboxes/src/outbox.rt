@@ -1,5 +1,5 @@
-//! What waits to be said to a process that runs edges elsewhere: what the edges of this one
-//! announce, as far as there is room.
+//! The outbox of a connection to another process that runs edges: the updates that the edges of
+//! this process announce, as far as there is room.
 ghost use Rattle.std.specs.Prelude.{◌≡◌, ◌==◌, IfOk, length};
 ghost use Rattle.ev_mailboxes.specs.Outbox.{no_announcements, after_announcement, after_cut, first_announcement, after_first};
 
@@ -8,13 +8,14 @@ use std::alloc::{AllocError, Global};
 use std::collections::VecDeque;
 use std::marker::Model;
 
-/// Where so many updates wait and one more comes, whoever takes them is cut off: some 4 MB, and
-/// more than twice what an edge announces that learns as many stations as its table has room for.
+/// If this number of updates wait and one more comes, the connection is cut off. They take some 4
+/// MB, and are more than twice the announcements of an edge that learns as many stations as its
+/// table has room for.
 const ROOM: usize = 65_536;
 
-/// The announcements that wait to be said on one connection. Its memory is taken once, when it is
-/// made. No edge ever waits for it: one that takes too slowly is cut off, and can begin again with
-/// the tables as they are then.
+/// The announcements that wait to be sent on one connection. Its memory is taken once, when it is
+/// made. No edge ever waits for a connection: one that takes too slowly is cut off, and can begin
+/// again with the tables as they are then.
 #[derive(Drop)]
 pub struct Outbox {
     updates: VecDeque<Update>,
@@ -38,11 +39,11 @@ impl Model for Outbox {
 }
 
 impl Outbox {
-    /// An outbox in which nothing waits.
+    /// Returns an empty outbox.
     ///
     /// # Errors
     ///
-    /// Where memory is refused.
+    /// `AllocError` if memory is refused.
     pub fn new(alloc: Global) -> Result<Self, AllocError>
         ensures { IfOk result (λ o. o ≡ no_announcements) }
     {
@@ -52,8 +53,8 @@ impl Outbox {
         })
     }
 
-    /// Puts an update behind the others. Where there is no room for it, whoever takes them is cut
-    /// off, and gets none of them any more.
+    /// Puts an update after the others. If there is no room for it, the connection is cut off, and
+    /// gets none of the updates any more.
     pub fn put(&mut self, update: Update)
         ensures { self.new ≡ after_announcement update self.old }
     {
@@ -67,7 +68,7 @@ impl Outbox {
         self.updates.push_back_reserved(update);
     }
 
-    /// Cuts off whoever takes the updates.
+    /// Cuts off the connection: drops the updates, and ignores later ones.
     pub fn cut_off(&mut self)
         ensures { self.new ≡ after_cut self.old }
     {
@@ -83,14 +84,14 @@ impl Outbox {
         self.updates.pop_front()
     }
 
-    /// Whether no update waits.
+    /// Returns `true` if no update waits.
     pub fn is_empty(&self) -> bool
         ensures { result ≡ length self.now.waiting == 0 }
     {
         self.updates.len() == 0
     }
 
-    /// Whether whoever takes the updates is cut off.
+    /// Returns `true` if the connection is cut off.
     pub fn is_cut_off(&self) -> bool
         ensures { result ≡ self.now.is_cut_off }
     {

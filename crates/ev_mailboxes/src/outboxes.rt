@@ -1,26 +1,27 @@
-//! The outboxes of the connections over which records are exchanged, which the workers of all edges
-//! share with those who say on them what is announced.
+//! The outboxes of the connections that exchange records. The workers of all edges share them with
+//! the threads that send the announcements on these connections.
 
 use crate::outbox::Outbox;
 use route_wire::Update;
 use std::sync::atomic::{AtomicBool, Ordering};
 use std::sync::{Condvar, Mutex, Wait};
 
-/// How many connections exchange records at once.
+/// The number of connections that exchange records at once.
 const CONNECTIONS: usize = 8;
 
-/// The place of one connection: an outbox under a lock of its own, while somebody is joined.
+/// The place of one connection: an outbox under a lock of its own, while a connection is joined.
 #[derive(Drop)]
 pub(crate) struct SharedOutbox {
     held: Mutex<Option<Outbox>>,
-    /// Whether somebody is joined, so that it can be asked without the lock.
+    /// Whether a connection is joined, readable without the lock.
     is_joined: AtomicBool,
-    /// Rung behind the lock, when there is something to take or nothing more comes.
+    /// The condition variable of the lock, notified when there is an update to take or nothing more
+    /// comes.
     bell: Condvar,
 }
 
 impl SharedOutbox {
-    /// A place at which nobody is joined.
+    /// Returns a free place.
     fn new() -> Self {
         SharedOutbox {
             held: Mutex::new(None),
@@ -29,7 +30,7 @@ impl SharedOutbox {
         }
     }
 
-    /// Puts an update behind the others, where somebody is joined.
+    /// Puts an update after the others, if a connection is joined.
     fn put<R: Wait>(&self, rt: &R, update: Update) {
         if !self.is_joined.load(Ordering::SeqCst) {
             return;
@@ -43,7 +44,7 @@ impl SharedOutbox {
         self.bell.notify_all();
     }
 
-    /// Takes the place with an outbox, if nobody has it: whether it did.
+    /// Takes the place with an outbox, if the place is free. Returns `true` if it did.
     fn join<R: Wait>(&self, rt: &R, outbox: &mut Option<Outbox>) -> bool {
         let mut held = self.held.lock(rt);
         if held.is_some() {
@@ -61,7 +62,7 @@ impl SharedOutbox {
         self.is_joined.store(false, Ordering::SeqCst);
     }
 
-    /// Cuts off whoever takes from the outbox.
+    /// Cuts off the connection that takes from the outbox.
     fn cut_off<R: Wait>(&self, rt: &R) {
         {
             let mut held = self.held.lock(rt);
@@ -72,7 +73,8 @@ impl SharedOutbox {
         self.bell.notify_all();
     }
 
-    /// Waits for the first update. None once who takes them is cut off.
+    /// Waits for the first update. Returns `None` once the connection is cut off, or if the place
+    /// is free.
     fn next<R: Wait>(&self, rt: &R) -> Option<Update> {
         let mut held = self.held.lock(rt);
         for _ in rt.forever() {
@@ -88,7 +90,7 @@ impl SharedOutbox {
         unreachable!()
     }
 
-    /// Whether nothing waits to be taken.
+    /// Returns `true` if no update waits to be taken.
     fn is_empty<R: Wait>(&self, rt: &R) -> bool {
         match &*self.held.lock(rt) {
             Some(outbox) => outbox.is_empty(),
@@ -97,14 +99,14 @@ impl SharedOutbox {
     }
 }
 
-/// The places of all connections. Nobody who holds the lock of one waits for another lock.
+/// The places of all connections. A thread that holds the lock of one never waits for another lock.
 #[derive(Drop)]
 pub(crate) struct Outboxes {
     all: [SharedOutbox; CONNECTIONS],
 }
 
 impl Outboxes {
-    /// Places at which nobody is joined.
+    /// Returns free places.
     pub(crate) fn new() -> Self {
         Outboxes {
             all: [
@@ -139,31 +141,31 @@ impl Outboxes {
     }
 }
 
-/// The place of one connection, which says what the edges announce from when it was taken on. Who
-/// takes it frees it at the end (`leave`).
+/// The place of one connection, which sends the updates that the edges announce after it has
+/// joined. Its holder frees it at the end (`leave`).
 #[derive(Clone, Copy, Drop)]
 pub struct Joined<'x> {
     place: &'x SharedOutbox,
 }
 
 impl Joined<'_> {
-    /// Waits for the next update that an edge announces. None once the connection is cut off:
-    /// 65,536 waited and one more came, or `cut_off` was called.
+    /// Waits for the next update that an edge announces. Returns `None` once the connection is cut
+    /// off: 65,536 updates waited and one more came, or `cut_off` was called.
     pub fn next<R: Wait>(&self, rt: &R) -> Option<Update> {
         self.place.next(rt)
     }
 
-    /// Whether the next update is still to come.
+    /// Returns `true` if the next update is still to come.
     pub fn is_idle<R: Wait>(&self, rt: &R) -> bool {
         self.place.is_empty(rt)
     }
 
-    /// Cuts the connection off: who waits for an update gets none.
+    /// Cuts the connection off: a call that waits for an update gets none.
     pub fn cut_off<R: Wait>(&self, rt: &R) {
         self.place.cut_off(rt);
     }
 
-    /// Frees the place for another connection. Nobody may wait for its updates any more.
+    /// Frees the place for another connection. No thread may wait for its updates any more.
     pub fn leave<R: Wait>(&self, rt: &R) {
         self.place.leave(rt);
     }

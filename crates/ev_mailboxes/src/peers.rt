@@ -1,5 +1,5 @@
-//! The edges that run beside each other, as one of them sees them: the others' mailboxes, and its
-//! own board.
+//! The edges that run together, as one of them sees them: the mailboxes of the others, and its own
+//! board.
 
 ghost use Rattle.std.specs.Prelude.{◌≡◌, ◌-◌, IfSome, slice_get, option_copied};
 
@@ -14,7 +14,7 @@ use std::alloc::{AllocError, Global};
 use std::sync::Wait;
 
 /// The mailboxes of all edges, and the outboxes of the connections to other processes. No clause
-/// says what goes over them, since none names what a lock holds.
+/// describes the messages that go over them, since a clause can't name the content of a lock.
 #[derive(Drop)]
 pub struct Mailboxes {
     all: Vec<SharedMailbox>,
@@ -22,11 +22,11 @@ pub struct Mailboxes {
 }
 
 impl Mailboxes {
-    /// A mailbox for each of so many edges, which have so many workers together.
+    /// Returns a mailbox for each of `edges` edges, which have `workers` workers together.
     ///
     /// # Errors
     ///
-    /// Where memory is refused.
+    /// `AllocError` if memory is refused.
     pub fn new(alloc: Global, edges: usize, workers: u32) -> Result<Self, AllocError> {
         let mut all = Vec::with_capacity(alloc, edges)?;
         for place in 0..edges {
@@ -38,25 +38,25 @@ impl Mailboxes {
         })
     }
 
-    /// How many edges there are.
+    /// Returns the number of edges.
     pub(crate) fn edges(&self) -> usize {
         self.all.len()
     }
 
-    /// Puts an update that came from another process into the mailbox of each edge, and waits where
-    /// one is behind.
+    /// Puts an update from another process into the mailbox of each edge, and waits while one is
+    /// behind.
     pub(crate) fn take<R: Wait>(&self, rt: &R, update: &Update) {
         for mailbox in self.all.iter() {
             mailbox.put_waiting(rt, *update);
         }
     }
 
-    /// The outboxes of the connections to other processes.
+    /// Returns the outboxes of the connections to other processes.
     pub(crate) fn outboxes(&self) -> &Outboxes {
         &self.outboxes
     }
 
-    /// The mailbox of the edge with this number, from 1.
+    /// Returns the mailbox of the edge with this number, from 1.
     pub(crate) fn of(&self, number: usize) -> Option<&SharedMailbox>
         ensures { IfSome result (λ mailbox. mailbox.now.number ≡ number) }
     {
@@ -68,7 +68,8 @@ impl Mailboxes {
         None
     }
 
-    /// As the edge with this number sees them, counted from 1, beside the boards of all edges.
+    /// Returns the mailboxes as the edge with this number sees them, counted from 1, with the
+    /// boards of all edges.
     pub fn seen_by<'x>(&'x self, number: usize, boards: &'x Boards) -> Peers<'x>
         ensures number { result.number ≡ number }
         ensures mailboxes { result.mailboxes.now ≡ self.entry.now.all.items }
@@ -83,7 +84,7 @@ impl Mailboxes {
     }
 }
 
-/// The mailboxes and boards of all edges, as one of these sees them.
+/// The mailboxes and boards of all edges, as one of the edges sees them.
 #[derive(Clone, Copy, Drop)]
 pub struct Peers<'x> {
     mailboxes: &'x [SharedMailbox],
@@ -94,14 +95,14 @@ pub struct Peers<'x> {
 }
 
 impl Peers<'_> {
-    /// The edge's own mailbox.
+    /// Returns the edge's own mailbox.
     fn own(&self) -> Option<&SharedMailbox>
         ensures { option_copied result ≡ slice_get self.now.mailboxes.now (self.now.number - 1) }
     {
         self.mailboxes.get(self.number.saturating_sub(1))
     }
 
-    /// Whether no other edge is behind.
+    /// Returns `true` if no other edge is behind.
     pub fn have_room(&self) -> bool {
         for (place, mailbox) in self.mailboxes.iter().enumerate() {
             if place + 1 != self.number && mailbox.is_behind() {
@@ -111,7 +112,7 @@ impl Peers<'_> {
         true
     }
 
-    /// Sends an update to each of the others, and to other processes.
+    /// Sends an update to each of the other edges, and to other processes.
     pub fn send<R: Wait>(&self, rt: &R, update: Update) {
         for (place, mailbox) in self.mailboxes.iter().enumerate() {
             if place + 1 != self.number {
@@ -121,7 +122,7 @@ impl Peers<'_> {
         self.outboxes.put(rt, update);
     }
 
-    /// Tells this edge's board that a second passes.
+    /// Counts a second that passes on this edge's board.
     pub fn second<R: Wait>(&self, rt: &R) {
         self.boards.second(rt, self.number);
     }
@@ -131,12 +132,12 @@ impl Peers<'_> {
         self.boards.alarm(rt, self.number, alarm);
     }
 
-    /// Tells that receiving over a link of this edge failed, or works again.
+    /// Reports that receiving over a link of this edge failed, or works again.
     pub fn reception<R: Wait>(&self, rt: &R, reception: Reception) {
         self.boards.reception(rt, self.number, reception);
     }
 
-    /// Tells each of the others that this edge has room again.
+    /// Calls each of the other edges: this edge has room again.
     fn call<R: Wait>(&self, rt: &R) {
         for (place, mailbox) in self.mailboxes.iter().enumerate() {
             if place + 1 != self.number {
@@ -145,7 +146,8 @@ impl Peers<'_> {
         }
     }
 
-    /// Waits for what the others send. None once nothing waits and nothing more comes.
+    /// Waits for the next message to this edge. Returns `None` once nothing waits and nothing more
+    /// comes.
     pub(crate) fn next<R: Wait>(&self, rt: &R) -> Option<Message> {
         let own = self.own()?;
         let (message, has_room_again) = own.next(rt);
@@ -156,7 +158,7 @@ impl Peers<'_> {
         message
     }
 
-    /// Answers the request that this edge's worker of updates was sent last.
+    /// Answers the request that this edge's worker of updates received last.
     pub fn answer<R: Wait>(&self, rt: &R, answer: Answer) {
         if let Some(mailbox) = self.own() {
             mailbox.answer(rt, answer);
@@ -170,7 +172,8 @@ impl Peers<'_> {
         }
     }
 
-    /// Tells that this edge takes no updates any more: so no other one keeps its own back for it.
+    /// Closes this edge's mailbox: the edge takes no more updates, so no other edge keeps its own
+    /// back for it.
     pub fn leave<R: Wait>(&self, rt: &R) {
         if let Some(mailbox) = self.own() {
             mailbox.close(rt);
@@ -178,7 +181,7 @@ impl Peers<'_> {
         self.call(rt);
     }
 
-    /// Whether an update for this edge was lost, since each place was taken.
+    /// Returns `true` if an update for this edge was lost because each place was taken.
     pub fn has_lost<R: Wait>(&self, rt: &R) -> bool {
         match self.own() {
             Some(mailbox) => mailbox.lost(rt) > 0,

@@ -1,4 +1,4 @@
-//! What the operator asks of an edge that runs, and what the edge answers.
+//! The operator's requests to a running edge, and the edge's answers.
 ghost use Rattle.std.specs.Prelude.{◌≡◌};
 ghost use Rattle.ev_mailboxes.specs.Inner.Request.{entered_in, table_in, port_in, served_in, view_in};
 
@@ -12,47 +12,46 @@ use rstp_state::port::PortState;
 use std::alloc::{AllocError, Global};
 use std::mem;
 
-/// A step that the operator asks an edge for. Ports are numbered from 1.
+/// A step that the operator requests from an edge. Ports are numbered from 1.
 #[derive(Clone, Copy, Debug, PartialEq, Eq)]
 pub enum Command {
-    /// To pin the station on the port.
+    /// Pins the station on the port.
     Pin(Station, u8),
-    /// To pin the station no more.
+    /// Unpins the station.
     Unpin(Station),
-    /// To thaw the station.
+    /// Thaws the station.
     Thaw(Station),
-    /// To find the port's protocol out anew.
+    /// Finds out the port's protocol again.
     Mcheck(u8),
-    /// To bring the port up.
+    /// Brings the port up.
     PortUp(u8),
-    /// To take the port down.
+    /// Takes the port down.
     PortDown(u8),
 }
 
-/// What the operator wants to see of an edge.
+/// A query of the operator about an edge's state.
 #[derive(Clone, Copy)]
 pub enum Reading {
-    /// What its table holds, in memory of this allocator.
+    /// The updates of its table, in memory of this allocator.
     Table(Global),
-    /// How its spanning tree has the port with this number.
+    /// The state of the port with this number in its spanning tree.
     Port(u8),
-    /// What it serves, in memory of this allocator.
+    /// Its address and the networks that it serves, in memory of this allocator.
     Served(Global),
-    /// What is told of the question, with this number before each line, in memory of this
-    /// allocator.
+    /// The answer to the query, with this number before each line, in memory of this allocator.
     View(Global, u64, EdgeQuestion),
 }
 
-/// What the operator asks of an edge.
+/// A request of the operator to an edge.
 #[derive(Clone, Copy)]
 pub enum Request {
-    /// To enter a step.
+    /// Enters a step.
     Enter(Command),
-    /// To show what it holds.
+    /// Reads its state.
     Read(Reading),
 }
 
-/// How a spanning tree has a port.
+/// The state of a port in a spanning tree.
 #[derive(Clone, Copy)]
 pub struct PortView {
     /// The port's state.
@@ -61,35 +60,35 @@ pub struct PortView {
     pub passes: bool,
 }
 
-/// What an edge serves, and where it is found.
+/// An edge's address and the networks that it serves.
 #[derive(Drop)]
 pub struct Served {
-    /// Its address, under which it speaks.
+    /// Its address, the originator of its updates.
     pub address: Addr,
-    /// The network of each port, port 1 first.
+    /// The VNI of each port, port 1 first.
     pub ports: Vec<Vni>,
-    /// The networks that it serves, ascending.
+    /// The VNIs that it serves, ascending.
     pub vnis: Vec<Vni>,
 }
 
-/// What an edge answers to a request.
+/// An edge's answer to a request.
 #[derive(Drop)]
 pub enum Answer {
-    /// What its book answered to the step.
+    /// The book's answer to the step.
     Entered(Result<Reply, BookRefusal>),
-    /// The updates of all registers of its table, in the order of a report, or that memory was
-    /// refused to them.
+    /// The updates of all registers of its table, in the order of a report, or `AllocError` if
+    /// memory was refused for them.
     Table(Result<Vec<Update>, AllocError>),
-    /// How its spanning tree has the port. None where there is none of that number.
+    /// The state of the port in its spanning tree. `None` if no port has that number.
     Port(Option<PortView>),
-    /// What it serves, or that memory was refused to that.
+    /// Its address and networks, or `AllocError` if memory was refused for them.
     Served(Result<Served, AllocError>),
-    /// What is told of a question, or that memory was refused to that.
+    /// The answer to a query, or `AllocError` if memory was refused for it.
     View(Result<Vec<u8>, AllocError>),
 }
 
 impl Answer {
-    /// Takes what the book answered to a step, if that was asked.
+    /// Takes the book's answer to a step, if this is the answer to a step.
     pub(crate) fn take_entered(&mut self) -> Option<Result<Reply, BookRefusal>>
         ensures { result ≡ entered_in self.old }
     {
@@ -100,7 +99,7 @@ impl Answer {
         }
     }
 
-    /// What the table holds, if that was asked.
+    /// Returns the updates of the table, if this is the answer to that query.
     pub(crate) fn table(self) -> Option<Result<Vec<Update>, AllocError>>
         ensures { result ≡ table_in self }
     {
@@ -110,7 +109,7 @@ impl Answer {
         }
     }
 
-    /// How the spanning tree has the port, if that was asked.
+    /// Returns the state of the port, if this is the answer to that query.
     pub(crate) fn port(&self) -> Option<Option<PortView>>
         ensures { result ≡ port_in self.now }
     {
@@ -120,7 +119,7 @@ impl Answer {
         }
     }
 
-    /// What the edge serves, if that was asked.
+    /// Returns the edge's address and networks, if this is the answer to that query.
     pub(crate) fn served(self) -> Option<Result<Served, AllocError>>
         ensures { result ≡ served_in self }
     {
@@ -130,7 +129,7 @@ impl Answer {
         }
     }
 
-    /// What is told of a question, if one was asked.
+    /// Returns the text of the answer to a query, if this is one.
     pub(crate) fn view(self) -> Option<Result<Vec<u8>, AllocError>>
         ensures { result ≡ view_in self }
     {

@@ -1,5 +1,5 @@
-//! A mailbox that the workers of all edges share: those of the others put their updates into it,
-//! the operator asks by it, and the worker of its edge takes both.
+//! A mailbox that the workers of all edges share: the workers of the other edges put their updates
+//! into it, the operator sends requests through it, and the worker of its edge takes both.
 
 use crate::desk::Desk;
 use crate::mailbox::{Mailbox, Message};
@@ -9,38 +9,39 @@ use std::alloc::{AllocError, Global};
 use std::sync::atomic::{AtomicBool, Ordering};
 use std::sync::{Condvar, Mutex, Wait};
 
-/// What the lock of a mailbox holds.
+/// The content of a mailbox's lock.
 #[derive(Drop)]
 struct Held {
     mailbox: Mailbox,
     desk: Desk,
 }
 
-/// A mailbox under a lock of its own. What its calls do is what those of `Mailbox` do that they are
-/// named for; no clause can say so, since none names what a lock holds at that moment. Nobody who
-/// holds the lock waits for another one.
+/// A mailbox under a lock of its own. Each call acts as the call of `Mailbox` for which it is
+/// named; no clause can state that, since a clause can't name the content of a lock at that moment.
+/// A thread that holds the lock never waits for another lock.
 #[derive(Drop)]
 pub(crate) struct SharedMailbox {
     /// The number of its edge, from 1.
     pub(crate) number: usize,
     held: Mutex<Held>,
-    /// Whether its edge is behind, so that it can be asked without the lock.
+    /// Whether its edge is behind, readable without the lock.
     is_behind: AtomicBool,
-    /// Rung behind the lock, when there is something to take or nothing more comes.
+    /// The condition variable of the lock, notified when there is something to take or nothing more
+    /// comes.
     bell: Condvar,
-    /// Rung behind the lock, when who asks has something to take, has room, or gets no answer.
+    /// The condition variable of the lock, notified when a caller has an answer to take, has room
+    /// for a request, or gets no answer.
     desk_bell: Condvar,
-    /// Rung behind the lock, when its edge isn't behind any more.
+    /// The condition variable of the lock, notified when its edge isn't behind any more.
     room_bell: Condvar,
 }
 
 impl SharedMailbox {
-    /// A mailbox in which nothing waits, of the edge with this number, to which so many workers
-    /// send.
+    /// Returns an empty mailbox for the edge with this number, to which `workers` workers send.
     ///
     /// # Errors
     ///
-    /// Where memory is refused.
+    /// `AllocError` if memory is refused.
     pub(crate) fn new(alloc: Global, number: usize, workers: u32) -> Result<Self, AllocError> {
         Ok(SharedMailbox {
             number,
@@ -55,12 +56,12 @@ impl SharedMailbox {
         })
     }
 
-    /// Whether its edge is behind.
+    /// Returns `true` if its edge is behind.
     pub(crate) fn is_behind(&self) -> bool {
         self.is_behind.load(Ordering::SeqCst)
     }
 
-    /// Puts an update behind the others.
+    /// Puts an update after the others.
     pub(crate) fn put<R: Wait>(&self, rt: &R, update: Update) {
         {
             let mut held = self.held.lock(rt);
@@ -71,7 +72,7 @@ impl SharedMailbox {
         self.bell.notify_one();
     }
 
-    /// Puts an update behind the others once its edge isn't behind, and waits until then.
+    /// Waits until its edge isn't behind, then puts an update after the others.
     pub(crate) fn put_waiting<R: Wait>(&self, rt: &R, update: Update) {
         let mut held = self.held.lock(rt);
         for _ in rt.forever() {
@@ -86,12 +87,12 @@ impl SharedMailbox {
         }
     }
 
-    /// Wakes who waits until its edge isn't behind.
+    /// Wakes the threads that wait until its edge isn't behind.
     pub(crate) fn ring_room(&self) {
         self.room_bell.notify_all();
     }
 
-    /// Tells its edge that another one has room again.
+    /// Calls its edge: another edge has room again.
     pub(crate) fn call<R: Wait>(&self, rt: &R) {
         {
             let mut held = self.held.lock(rt);
@@ -100,7 +101,7 @@ impl SharedMailbox {
         self.bell.notify_one();
     }
 
-    /// Tells that nothing more comes.
+    /// Marks the end: nothing more comes.
     pub(crate) fn end<R: Wait>(&self, rt: &R) {
         {
             let mut held = self.held.lock(rt);
@@ -109,7 +110,8 @@ impl SharedMailbox {
         self.bell.notify_one();
     }
 
-    /// Tells that nobody takes any more what waits here, nor answers.
+    /// Closes the mailbox and its desk: drops the updates, ignores later ones, and answers no more
+    /// requests.
     pub(crate) fn close<R: Wait>(&self, rt: &R) {
         {
             let mut held = self.held.lock(rt);
@@ -121,8 +123,9 @@ impl SharedMailbox {
         self.room_bell.notify_all();
     }
 
-    /// Waits for what goes first, a request before all updates, and answers whether its edge was
-    /// behind and isn't any more, too. None once nothing waits and nothing more comes.
+    /// Waits for the first message, a request before all updates. Also returns `true` if its edge
+    /// was behind and isn't any more. The message is `None` once nothing waits and nothing more
+    /// comes.
     pub(crate) fn next<R: Wait>(&self, rt: &R) -> (Option<Message>, bool) {
         let mut held = self.held.lock(rt);
         for _ in rt.forever() {
@@ -141,8 +144,8 @@ impl SharedMailbox {
         unreachable!()
     }
 
-    /// Waits until no other request lies on the desk, and puts this one there: whether it is there.
-    /// It isn't where nobody answers any more.
+    /// Waits until the desk is free, and puts this request there. Returns `true` if the request is
+    /// there, and `false` if the desk is closed.
     fn hand_in<R: Wait>(&self, rt: &R, request: &Request) -> bool {
         let mut held = self.held.lock(rt);
         for _ in rt.forever() {
@@ -157,7 +160,8 @@ impl SharedMailbox {
         unreachable!()
     }
 
-    /// Waits for the answer to the request on the desk. None where nobody answers any more.
+    /// Waits for the answer to the request on the desk. Returns `None` if the desk is closed
+    /// without an answer.
     fn collect<R: Wait>(&self, rt: &R) -> Option<Answer> {
         let mut held = self.held.lock(rt);
         for _ in rt.forever() {
@@ -170,8 +174,8 @@ impl SharedMailbox {
         unreachable!()
     }
 
-    /// Asks the edge, and waits for its answer. None where it has ended, or has no thread for its
-    /// updates.
+    /// Sends the edge a request, and waits for its answer. Returns `None` if the edge has ended, or
+    /// has no thread for its updates.
     pub(crate) fn ask<R: Wait>(&self, rt: &R, request: &Request) -> Option<Answer> {
         if !self.hand_in(rt, request) {
             return None;
@@ -182,7 +186,7 @@ impl SharedMailbox {
         answer
     }
 
-    /// Puts the answer to the request that was taken last where who asked finds it.
+    /// Answers the request that was taken last: puts the answer on the desk for the caller.
     pub(crate) fn answer<R: Wait>(&self, rt: &R, answer: Answer) {
         {
             let mut held = self.held.lock(rt);
@@ -191,7 +195,7 @@ impl SharedMailbox {
         self.desk_bell.notify_all();
     }
 
-    /// How many updates were lost.
+    /// Returns the number of lost updates.
     pub(crate) fn lost<R: Wait>(&self, rt: &R) -> u64 {
         self.held.lock(rt).mailbox.lost()
     }

@@ -1,4 +1,4 @@
--- What was told of alerts that came one after the other.
+-- The text that `tell_in_turn` writes of alerts that come one after the other.
 use Rattle.std.proofs.Common.{◌≡◌, ◌<◌, ◌≤◌, ◌+◌, ℕ, List, take, length, get_or, Option, Result, ap, sym, subst, ◌∙◌}
 use Rattle.std.proofs.lemmas.List.{take_all}
 use Rattle.std.proofs.lemmas.List.Sums.{fold_more}

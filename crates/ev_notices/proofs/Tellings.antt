@@ -1,4 +1,4 @@
--- What was told to the operator, one notice after the other.
+-- The lines that `notice_worker` writes, one piece of news after the other.
 use Rattle.std.proofs.Common.{◌≡◌, List, [], ◌∷◌, Option, Some, None, Ok, Err, ap, sym, ◌∙◌}
 use Rattle.ether_wire.specs.declared.ends.Device.{Device}
 use Rattle.ether_wire.specs.Ends.{End, with_text, Puts}
@@ -8,7 +8,7 @@ use Rattle.ev_notices.specs.Telling.{Told, lines_of, news_text, TellsAll}
 use Rattle.ev_links.proofs.Behind.{behind_none}
 use Rattle.ev_links.proofs.Coming.{one_more}
 
--- what came up to here, and its lines
+-- the news that came up to here, and its lines
 pub record SoFar (came : Option (List (Option Told))) (old : End) (came' : Option (List (Option Told))) (new : End) :
     Type 0 where
   pub things : List Told
@@ -20,7 +20,7 @@ begins came old = record { things = []; told = sym (behind_none came); written =
 
 module _ (came : Option (List (Option Told))) (old : End) (came1 : Option (List (Option Told))) (mid : End)
     (came2 : Option (List (Option Told))) (new : End) (s : SoFar came old came1 mid) where
-  -- one more came, and its line was written
+  -- one more piece of news came, and its line was written
   pub goes_on : (n : Told) (done : Unit {0}) → came2 ≡ behind came1 (Some n ∷ [])
       → Puts mid new (news_text n.0 n.1) (Ok done) → SoFar came old came2 new
   goes_on n done more put = record {
@@ -29,7 +29,7 @@ module _ (came : Option (List (Option Told))) (old : End) (came1 : Option (List 
     written = puts_behind old mid new (lines_of s.things) (news_text n.0 n.1) (Ok done) s.written put;
   }
 
-  -- or it wasn't
+  -- or a call of the writer failed
   pub fails : (n : Told) (device : Device) → came2 ≡ behind came1 (Some n ∷ [])
       → Puts mid new (news_text n.0 n.1) (Err device) → TellsAll came old came2 new (Err device)
   fails n device more put = record {
@@ -38,7 +38,7 @@ module _ (came : Option (List (Option Told))) (old : End) (came1 : Option (List 
     written = puts_behind old mid new (lines_of s.things) (news_text n.0 n.1) (Err device) s.written put;
   }
 
-  -- nothing more came
+  -- no more news came
   pub ends : (done : Unit {0}) → came2 ≡ behind came1 (None ∷ []) → TellsAll came old came2 mid (Ok done)
   ends done more = record {
     things = s.things;

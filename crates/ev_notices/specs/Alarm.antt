@@ -1,4 +1,4 @@
--- What the operator of an edge is told of an event.
+-- The alert of an event, for the operator of an edge.
 use Rattle.std.specs.Prelude.{ℕ, Bool, false, true, List, Option, Some, None, option_map, Result, Ok, Err}
 use Rattle.std.specs.Prelude.{if◌then◌else◌}
 use Rattle.ether_wire.specs.Frame.{source_of, frame_of}
@@ -17,19 +17,19 @@ use Rattle.ev_book.specs.declared.refusal.BookRefusal.{BookRefusal}
 use Rattle.ev_book.specs.declared.refusal.BookRefusal.TheVariants as book
 use Rattle.ev_notices.specs.declared.alarm.Alarm.{Alarm}
 
--- ---- what an event is about
+-- ---- the station and port of an event
 
--- the station that a key names: a flood list is none
+-- the station that a key names; a flood list has none
 abbrev pub station_by : Key → Option Station
 station_by (Flood vni) = None
 station_by (Mac vni mac ip) = Some (record { vni = vni; mac = mac })
 
--- the station in a network that sent a frame, if octets are one
+-- the station that sent a frame of this network, if the octets are a frame
 abbrev pub station_in : ℕ → Result (List ℕ) FrameRefusal → Option Station
 station_in vni (Ok frame) = Some (record { vni = vni; mac = source_of frame })
 station_in vni (Err refusal) = None
 
--- the station that an event is about, which brings a frame of this network
+-- the station of an event; the VNI is that of the frame, if the event brings one
 abbrev pub station_of : ℕ → Event → Option Station
 station_of vni (Frame port octets) = station_in vni (frame_of octets.now)
 station_of vni (Take u) = station_by u.register.key
@@ -38,7 +38,7 @@ station_of vni (Unpin s) = Some s
 station_of vni (Thaw s) = Some s
 station_of vni _ = None
 
--- the access port at which an event's station is
+-- the access port of an event's station
 abbrev pub port_of : Event → Option ℕ
 port_of (Frame port octets) = Some port
 port_of (Pin s port) = Some port
@@ -49,7 +49,7 @@ abbrev pub is_second : Event → Bool
 is_second Second = true
 is_second _ = false
 
--- ---- what its answer tells
+-- ---- the alert of the event's answer
 
 -- the call was refused for want of memory
 abbrev pub is_short : BookRefusal → Bool
@@ -62,7 +62,7 @@ abbrev pub alert_of : Result Reply BookRefusal → Option Alert
 alert_of (Ok reply) = reply.alert
 alert_of (Err refusal) = if is_short refusal then Some alerts.NoMemory else None
 
--- an alert, with what it is about
+-- an alert, with its station and port
 abbrev pub alarm_of : ℕ → Event → Result Reply BookRefusal → Option Alarm
 alarm_of vni event answer =
     option_map (λ alert. record { alert = alert; station = station_of vni event; port = port_of event })

@@ -1,4 +1,5 @@
--- What waits to be told to the operator of an edge, and what was told of late.
+-- The alerts of an edge: those that wait for the operator, and the recent ones, which were taken and came less than 180
+-- seconds ago.
 use Rattle.std.specs.Prelude.{ℕ, ◌+◌, ◌-◌, ◌^◌, min, Bool, false, true, ◌&&◌, not, ◌==◌, nat_lt, if◌then◌else◌, List}
 use Rattle.std.specs.Prelude.{[], ◌∷◌, ◌++◌, length, filter, Option, Some, None}
 use Rattle.std.specs.List.{list_any}
@@ -8,8 +9,8 @@ use Rattle.ev_notices.specs.declared.alarm.Alarm.{Alarm}
 use Rattle.ev_notices.specs.declared.board.Posted.{Posted}
 use Rattle.ev_notices.specs.declared.board.Notice.{Notice}
 
--- What was told and what waits, each with the first one first; how many seconds have passed; and how many alerts were
--- held back since the last one that wasn't.
+-- The alerts that were taken and those that wait, each with the first one first; the number of seconds that have
+-- passed; and the number of alerts that were suppressed since the last accepted one.
 pub record BoardState : Type 0 where
   pub told : List Posted
   pub waiting : List Posted
@@ -22,7 +23,7 @@ board_of told waiting clock held = record { told = told; waiting = waiting; cloc
 abbrev pub empty_board : BoardState
 empty_board = board_of [] [] 0 0
 
--- one more, as far as 64 bits count
+-- one more; the count stops at 2^64 - 1
 abbrev pub one_more : ℕ → ℕ
 one_more n = min (n + 1) (2 ^ 64 - 1)
 
@@ -37,7 +38,7 @@ same_station (Some s) (Some t) = (s.vni == t.vni) && (s.mac == t.mac)
 same_station None (Some t) = false
 same_station (Some s) None = false
 
--- it is of the same kind and station
+-- they have the same kind and station
 abbrev pub is_like : Alarm → Posted → Bool
 is_like a p = (number_of a.alert == number_of p.alarm.alert) && same_station a.station p.alarm.station
 
@@ -45,11 +46,11 @@ is_like a p = (number_of a.alert == number_of p.alarm.alert) && same_station a.s
 abbrev pub is_fresh : ℕ → Posted → Bool
 is_fresh now p = nat_lt (now - p.second) 180
 
--- what was told longer ago is forgotten
+-- the taken alerts that came 180 seconds ago or earlier are forgotten
 abbrev pub forgetting : BoardState → BoardState
 forgetting b = board_of (filter (is_fresh b.clock) b.told) b.waiting b.clock b.held
 
--- none of its kind and station was told of late or waits, and there are fewer than 16 of both
+-- no taken or waiting alert of the board has its kind and station, and there are fewer than 16 of both
 abbrev pub is_put : Alarm → BoardState → Bool
 is_put a b = (not (list_any (is_like a) b.told) && not (list_any (is_like a) b.waiting))
     && nat_lt (length b.told + length b.waiting) 16
@@ -57,7 +58,7 @@ is_put a b = (not (list_any (is_like a) b.told) && not (list_any (is_like a) b.w
 abbrev pub posted : Alarm → ℕ → ℕ → Posted
 posted alarm second held = record { alarm = alarm; second = second; held = held }
 
--- it waits behind the others, with how many were held back before; or it is held back, too
+-- the alert waits after the others, with the number of alerts suppressed before it; or it is suppressed, too
 abbrev pub putting : Alarm → BoardState → BoardState
 putting a b = if is_put a b then board_of b.told (b.waiting ++ posted a b.clock b.held ∷ []) b.clock 0
     else board_of b.told b.waiting b.clock (one_more b.held)
@@ -65,7 +66,7 @@ putting a b = if is_put a b then board_of b.told (b.waiting ++ posted a b.clock 
 abbrev pub after_alarm : Alarm → BoardState → BoardState
 after_alarm a b = putting a (forgetting b)
 
--- ---- what is told
+-- ---- alerts are taken
 
 abbrev pub notice_of : Posted → Notice
 notice_of p = record { held = p.held; alarm = Some p.alarm }
@@ -84,7 +85,7 @@ left (p ∷ ps) b = board_of (b.told ++ p ∷ []) ps b.clock b.held
 abbrev pub after_take : BoardState → BoardState
 after_take b = left b.waiting b
 
--- at the end: how many were held back since the last one that wasn't
+-- at the end: the number of alerts that were suppressed since the last accepted one
 abbrev pub last_notice : BoardState → Option Notice
 last_notice b = if b.held == 0 then None else Some (record { held = b.held; alarm = None })
 

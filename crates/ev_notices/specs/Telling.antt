@@ -1,4 +1,4 @@
--- What is told to the operator while edges run.
+-- The lines for the operator of running edges.
 use Rattle.std.specs.Prelude.{◌≡◌, ℕ, Bool, false, true, List, [], ◌∷◌, ◌++◌, codes, nat_lt, if◌then◌else◌}
 use Rattle.std.specs.Prelude.{Option, Some, None, Result}
 use Rattle.std.specs.Prelude.{Ok, Err}
@@ -38,7 +38,7 @@ edge_text edge = codes "edge " ++ decimal edge ++ codes ": "
 abbrev pub count_text : ℕ → List ℕ
 count_text held = decimal held ++ codes " more alerts were held back\n"
 
--- `edge E: N more alerts were held back`, where there were any
+-- `edge E: N more alerts were held back`, if N isn't 0
 abbrev pub held_text : ℕ → ℕ → List ℕ
 held_text edge held = if nat_lt 0 held then edge_text edge ++ count_text held else []
 
@@ -60,7 +60,7 @@ abbrev pub about_text : ℕ → Option Alarm → List ℕ
 about_text edge None = []
 about_text edge (Some a) = alarm_text edge a
 
--- how many were held back before, and the alert
+-- the number of alerts that were suppressed before, and the alert
 abbrev pub notice_text : ℕ → Notice → List ℕ
 notice_text edge n = held_text edge n.held ++ about_text edge n.alarm
 
@@ -86,7 +86,7 @@ untold_text edge count =
 
 -- ---- records of a connection
 
--- `records: refused NUMBER`, of a record or of the octets behind the last one
+-- `records: refused NUMBER`, for a record or for the octets after the last one
 abbrev pub refused_text : ℕ → List ℕ
 refused_text number = codes "records: refused " ++ decimal number ++ codes "\n"
 
@@ -98,22 +98,22 @@ news_text edge (Reception change) = reception_text edge change
 news_text edge (Untold count) = untold_text edge count
 news_text edge (Refused number) = refused_text number
 
--- news, and the number of the edge that they are about
+-- a piece of news, and the number of its edge
 abbrev pub Told : Type 0
 Told = ℕ × News
 
--- the lines of these, the last one first
+-- the lines of this news; the list has the last piece first
 abbrev pub lines_of : List Told → List ℕ
 lines_of [] = []
 lines_of (n ∷ ns) = lines_of ns ++ news_text n.0 n.1
 
--- the end came where no call failed
+-- the end came if no call failed
 abbrev pub end_of_all : Result (Unit {0}) Device → List (Option Told)
 end_of_all (Ok done) = None ∷ []
 end_of_all (Err device) = []
 
--- The lines of all that came were written, in their order, to the end; or a call of the writer failed, and nothing
--- more was taken.
+-- The lines of all news that came were written, in order, to the end; or a call of the writer failed, and no more news
+-- was taken.
 pub record TellsAll (came : Option (List (Option Told))) (old : End) (came' : Option (List (Option Told))) (new : End)
     (result : Result (Unit {0}) Device) : Type 0 where
   pub things : List Told

@@ -1,4 +1,4 @@
-//! What the operator of an edge is told of an event.
+//! The alert of an event, for the operator of an edge.
 ghost use Rattle.std.specs.Prelude.{◌≡◌};
 ghost use Rattle.ether_wire.specs.Frame.{frame_of};
 ghost use Rattle.ev_book.specs.Entering.{answered};
@@ -11,18 +11,19 @@ use ev_mobility::Alert;
 use mac_arena::Station;
 use route_wire::Key;
 
-/// An alert, with what it is about.
+/// An alert, with its station and port.
 #[derive(Clone, Copy, Debug, PartialEq, Eq)]
 pub struct Alarm {
-    /// What the operator is to know.
+    /// The alert.
     pub alert: Alert,
-    /// The station that it is about. None where memory was refused to an event of no station.
+    /// The alert's station. `None` if memory was refused to an event without a station.
     pub station: Option<Station>,
-    /// The access port at which the station was heard. None where it was at none.
+    /// The access port of the station: that of the frame or of the pin. `None` if the event has
+    /// none.
     pub port: Option<u8>,
 }
 
-/// The station that a key names: a flood list is none.
+/// Returns the station that a key names; a flood list has none.
 fn station_by(key: &Key) -> Option<Station>
     ensures { result ≡ station_by key.now }
 {
@@ -35,7 +36,7 @@ fn station_by(key: &Key) -> Option<Station>
     }
 }
 
-/// The station in a network that sent a frame, if the octets are one.
+/// Returns the station that sent a frame of this network, if the octets are a frame.
 fn station_in(vni: Vni, octets: &[u8]) -> Option<Station>
     ensures { result ≡ station_in vni (frame_of octets.now) }
 {
@@ -48,7 +49,7 @@ fn station_in(vni: Vni, octets: &[u8]) -> Option<Station>
     }
 }
 
-/// The station that an event is about, which brings a frame of this network.
+/// Returns the station of an event; the VNI is that of the frame, if the event brings one.
 fn station_of(vni: Vni, event: &Event<'_>) -> Option<Station>
     ensures { result ≡ station_of vni event.now }
 {
@@ -60,7 +61,7 @@ fn station_of(vni: Vni, event: &Event<'_>) -> Option<Station>
     }
 }
 
-/// The access port at which an event's station is.
+/// Returns the access port of an event's station.
 fn port_of(event: &Event<'_>) -> Option<u8>
     ensures { result ≡ port_of event.now }
 {
@@ -70,7 +71,7 @@ fn port_of(event: &Event<'_>) -> Option<u8>
     }
 }
 
-/// Whether the book, or its edge, refused the call for want of memory.
+/// Returns `true` if the book, or its edge, refused the call for want of memory.
 fn is_short(refusal: &BookRefusal) -> bool
     ensures { result ≡ is_short refusal.now }
 {
@@ -81,7 +82,7 @@ fn is_short(refusal: &BookRefusal) -> bool
     }
 }
 
-/// The alert of an answer: that of the reply, or refused memory.
+/// Returns the alert of an answer: that of the reply, or refused memory.
 pub fn alert_of(answer: &Result<(), BookRefusal>, reply: &Reply) -> Option<Alert>
     ensures { result ≡ alert_of (answered answer.now reply.now) }
 {
@@ -92,7 +93,8 @@ pub fn alert_of(answer: &Result<(), BookRefusal>, reply: &Reply) -> Option<Alert
     }
 }
 
-/// What the operator is told of an event that brings a frame of this network, and of its answer.
+/// Returns the alarm of an event and its answer, if there is one. The VNI is that of the frame, if
+/// the event brings one.
 pub fn alarm_of(
     vni: Vni,
     event: &Event<'_>,
@@ -109,7 +111,7 @@ pub fn alarm_of(
     })
 }
 
-/// Whether a second passes with the event.
+/// Returns `true` if a second passes with the event.
 pub fn is_second(event: &Event<'_>) -> bool
     ensures { result ≡ is_second event.now }
 {

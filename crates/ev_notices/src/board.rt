@@ -1,5 +1,6 @@
-//! What waits to be told to the operator of an edge, and what was told of late: each alert of a
-//! station is told once in 180 seconds, and the others are counted.
+//! The alerts of an edge: those that wait for the operator, and the recent ones, which were taken
+//! and came less than 180 seconds ago. Each alert of a station is reported once in 180 seconds, and
+//! the others are counted.
 ghost use Rattle.std.specs.Prelude.{◌≡◌, ◌+◌, ◌≤◌, [], length, filter};
 ghost use Rattle.std.specs.List.{list_any};
 ghost use Rattle.ev_notices.specs.Board.{empty_board, same_station, is_like, is_fresh, forgetting, after_second, is_put, after_alarm, first_in, first_notice, after_take, last_notice, after_last};
@@ -10,12 +11,13 @@ use ev_mobility::Alert;
 use mac_arena::Station;
 use std::marker::Model;
 
-/// How many alerts wait or were told of late, at most. Where there are so many a line comes every
-/// eleven seconds: more of them nobody reads, and each further alert is looked for among them all.
+/// The greatest number of alerts that wait or are recent. With this number a line comes every
+/// eleven seconds: no operator reads more of them, and each further alert is compared with all of
+/// them.
 const MOST: usize = 16;
 
-/// For how many seconds an alert that was told isn't told again: those in which a station that
-/// moves five times is frozen.
+/// The number of seconds for which a reported alert isn't reported again. A station that moves five
+/// times within this number of seconds is frozen.
 const SPAN: u64 = 180;
 
 /// An alert that was put on a board.
@@ -25,12 +27,12 @@ pub struct Posted {
     pub alarm: Alarm,
     /// The second at which it came.
     pub second: u64,
-    /// How many were held back before it, since the one before.
+    /// The number of alerts suppressed between the alert before it and this one.
     pub held: u64,
 }
 
 impl Default for Posted {
-    /// What stands in a place of a board to which nothing was put.
+    /// Returns the content of an unused place of a board.
     fn default() -> Self {
         Posted {
             alarm: Alarm {
@@ -44,27 +46,27 @@ impl Default for Posted {
     }
 }
 
-/// What an operator is told at once: how many alerts were held back before, and an alert. There is
-/// none at the end.
+/// One notice for an operator: the number of alerts that were suppressed before, and an alert. The
+/// notice at the end has no alert.
 #[derive(Clone, Copy, Debug, PartialEq, Eq)]
 pub struct Notice {
-    /// How many alerts were held back.
+    /// The number of suppressed alerts.
     pub held: u64,
     /// The alert.
     pub alarm: Option<Alarm>,
 }
 
-/// What waits to be told to the operator of an edge, and what was told of late. It takes no memory
-/// beyond its own.
+/// The alerts of an edge: those that wait for the operator, and the recent ones, which were taken
+/// and came less than 180 seconds ago. A board takes no memory beyond its own.
 #[derive(Drop)]
 pub struct Board {
-    /// What was told, the first one first.
+    /// The alerts that were taken, the first one first.
     told: ArrayVec<Posted, MOST>,
-    /// What waits, the first one first.
+    /// The alerts that wait, the first one first.
     waiting: ArrayVec<Posted, MOST>,
-    /// How many seconds have passed.
+    /// The number of seconds that have passed.
     clock: u64,
-    /// How many alerts were held back since the last one that wasn't.
+    /// The number of alerts that were suppressed since the last accepted one.
     held: u64,
 }
 
@@ -83,7 +85,7 @@ impl Model for Board {
     ghost invariant = { λ b. length b.told.items + length b.waiting.items ≤ 16 };
 }
 
-/// Whether two stations are the same.
+/// Returns `true` if two stations are equal.
 fn same_station(one: &Option<Station>, other: &Option<Station>) -> bool
     ensures { result ≡ same_station one.now other.now }
 {
@@ -96,7 +98,7 @@ fn same_station(one: &Option<Station>, other: &Option<Station>) -> bool
     }
 }
 
-/// Whether an alert that was put up is of the same kind and station.
+/// Returns `true` if an accepted alert has the same kind and station.
 fn is_like(alarm: &Alarm, posted: &Posted) -> bool
     ensures { result ≡ is_like alarm.now posted.now }
 {
@@ -104,7 +106,7 @@ fn is_like(alarm: &Alarm, posted: &Posted) -> bool
         && same_station(&alarm.station, &posted.alarm.station)
 }
 
-/// Whether one of these is of the same kind and station.
+/// Returns `true` if one of these alerts has the same kind and station.
 fn is_known(alarm: &Alarm, all: &[Posted]) -> bool
     ensures { result ≡ list_any (is_like alarm.now) all.now }
 {
@@ -116,14 +118,14 @@ fn is_known(alarm: &Alarm, all: &[Posted]) -> bool
     false
 }
 
-/// Whether what was told isn't told again at this second.
+/// Returns `true` if an alert came less than 180 seconds before this second.
 fn is_fresh(now: u64, posted: &Posted) -> bool
     ensures { result ≡ is_fresh now posted.now }
 {
     now.saturating_sub(posted.second) < SPAN
 }
 
-/// Those of what was told that aren't told again at this second.
+/// Returns the taken alerts that came less than 180 seconds before this second.
 fn fresh(now: u64, told: &ArrayVec<Posted, MOST>) -> ArrayVec<Posted, MOST>
     ensures items { result.items ≡ filter (is_fresh now) told.now.items }
     ensures fewer { length result.items ≤ length told.now.items }
@@ -137,7 +139,7 @@ fn fresh(now: u64, told: &ArrayVec<Posted, MOST>) -> ArrayVec<Posted, MOST>
     left
 }
 
-/// What is told of the first of these.
+/// Returns the notice of the first of these alerts.
 fn first_in(waiting: &[Posted]) -> Option<Notice>
     ensures { result ≡ first_in waiting.now }
 {
@@ -149,7 +151,7 @@ fn first_in(waiting: &[Posted]) -> Option<Notice>
 }
 
 impl Board {
-    /// A board on which nothing was put.
+    /// Returns an empty board.
     pub fn new() -> Self
         ensures { result ≡ empty_board }
     {
@@ -161,15 +163,15 @@ impl Board {
         }
     }
 
-    /// A second passes.
+    /// Counts a second that passes.
     pub fn second(&mut self)
         ensures { self.new ≡ after_second self.old }
     {
         self.clock = self.clock.saturating_add(1);
     }
 
-    /// Whether an alert is put up: none of its kind and station waits or was told of late, and
-    /// there is room.
+    /// Returns `true` if the board accepts an alert: no taken or waiting alert of the board has its
+    /// kind and station, and there is room.
     fn is_put(&self, alarm: &Alarm) -> bool
         ensures { result ≡ is_put alarm.now self.now }
     {
@@ -178,7 +180,7 @@ impl Board {
             && self.told.len() + self.waiting.len() < MOST
     }
 
-    /// Puts an alert up, or holds it back and counts it. It answers whether it was put up.
+    /// Accepts an alert, or suppresses and counts it. Returns `true` if the board accepted it.
     pub fn alarm(&mut self, alarm: Alarm) -> bool
         ensures put { result ≡ is_put alarm (forgetting self.old) }
         ensures after { self.new ≡ after_alarm alarm self.old }
@@ -197,7 +199,7 @@ impl Board {
         true
     }
 
-    /// Takes what waits first.
+    /// Takes the first waiting alert.
     pub fn take(&mut self) -> Option<Notice>
         ensures first { result ≡ first_notice self.old }
         ensures rest { self.new ≡ after_take self.old }
@@ -208,7 +210,8 @@ impl Board {
         Some(first)
     }
 
-    /// Takes what is told at the end: how many were held back since the last one that wasn't.
+    /// Takes the notice at the end: the number of alerts that were suppressed since the last
+    /// accepted one.
     pub fn take_last(&mut self) -> Option<Notice>
         ensures last { result ≡ last_notice self.old }
         ensures rest { self.new ≡ after_last self.old }

@@ -1,4 +1,5 @@
-//! What is told of alerts that come one after the other, where each is told as soon as it may be.
+//! The lines of alerts that come one after the other, if each accepted one is taken from the board
+//! at once.
 ghost use Rattle.std.specs.Prelude.{◌≡◌};
 ghost use Rattle.ether_wire.specs.Ends.{IsOpen, Puts};
 ghost use Rattle.ev_notices.specs.InTurn.{after_sign, told_by, some_text, told_text};
@@ -20,7 +21,7 @@ fn put_some<N: Out>(notes: &mut N, edge: u64, notice: &Option<Notice>) -> Result
     }
 }
 
-/// Puts an alert on a board and takes what is told then; none stands for a second that passes.
+/// Puts an alert on a board and takes the first notice; `None` means that a second passes.
 fn told_by(board: &mut Board, sign: &Option<Alarm>) -> Option<Notice>
     ensures told { result ≡ told_by sign.now board.old }
     ensures after { board.new ≡ after_sign sign.now board.old }
@@ -37,13 +38,13 @@ fn told_by(board: &mut Board, sign: &Option<Alarm>) -> Option<Notice>
     }
 }
 
-/// Writes what is told of the edge with this number where these alerts come one after the other;
-/// none stands for a second that passes. Each is told, or held back, as it comes, and at the end
-/// how many were held back since.
+/// Writes the lines of the edge with this number for these alerts, which come one after the other;
+/// `None` means that a second passes. Each alert is written or suppressed as it comes. The last
+/// line has the number of alerts that were suppressed since, if any.
 ///
 /// # Errors
 ///
-/// `Device` exactly where a call of the writer failed; then no further call is made.
+/// `Device` exactly if a call of the writer failed; then no further call is made.
 pub fn tell_in_turn<N: Out>(notes: &mut N, edge: u64, signs: &[Option<Alarm>]) -> Result<(), Device>
     requires { IsOpen (N.end notes.old) }
     ensures { Puts (N.end notes.old) (N.end notes.new) (told_text edge signs.now) result }

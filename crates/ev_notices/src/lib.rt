@@ -1,5 +1,5 @@
-//! What an operator is told of edges that run: alerts, links that fail and work again, records that
-//! weren't taken, and the lines that are written of them.
+//! News of running edges for an operator: alerts, links that fail and work again, refused records,
+//! and the lines that are written for them.
 #![tactic(auto)]
 
 mod alarm;

@@ -1,16 +1,16 @@
-//! What waits to be told of the links that an edge receives over: each time that one fails, and
-//! each time that it works again.
+//! The changes of an edge's links that wait for the operator: each time that receiving over one
+//! fails, and each time that it works again.
 ghost use Rattle.std.specs.Prelude.{◌≡◌};
 ghost use Rattle.ev_notices.specs.Receptions.{no_receptions, has_place, after_reception, first_of, first_reception, after_first, untold, after_untold};
 
 use arrayvec::ArrayVec;
 use std::marker::Model;
 
-/// How many changes wait at most. A link that fails is tried again each second: so a minute passes
-/// before an edge of two ports has so many.
+/// The greatest number of waiting changes. A link that fails is tried again each second, so an edge
+/// of two ports needs a minute to reach this number.
 const MOST: usize = 128;
 
-/// What an edge receives over.
+/// An input over which an edge receives.
 #[derive(Clone, Copy, Debug, PartialEq, Eq)]
 pub enum Input {
     /// The link of the access port with this number.
@@ -21,17 +21,17 @@ pub enum Input {
     Clock,
 }
 
-/// That receiving works again, or has failed.
+/// A change of an input: receiving works again, or has failed.
 #[derive(Clone, Copy, Debug, PartialEq, Eq)]
 pub struct Reception {
-    /// What is received over.
+    /// The input.
     pub input: Input,
     /// Whether it works.
     pub works: bool,
 }
 
 impl Default for Reception {
-    /// What stands in a place of which nothing is told.
+    /// Returns the content of an unused place.
     fn default() -> Self {
         Reception {
             input: Input::Clock,
@@ -40,12 +40,12 @@ impl Default for Reception {
     }
 }
 
-/// The changes that wait to be told. They take no memory beyond their own.
+/// The changes that wait to be reported. They take no memory beyond their own.
 #[derive(Drop)]
 pub struct Receptions {
-    /// What waits, the first one first.
+    /// The waiting changes, the first one first.
     waiting: ArrayVec<Reception, MOST>,
-    /// How many had no place.
+    /// The number of changes without a place.
     untold: u64,
 }
 
@@ -61,7 +61,7 @@ impl Model for Receptions {
     ghost view = { λ r. receptions_of r.waiting.items r.untold };
 }
 
-/// The first of these.
+/// Returns the first of these changes.
 fn first_of(waiting: &[Reception]) -> Option<Reception>
     ensures { result ≡ first_of waiting.now }
 {
@@ -70,7 +70,7 @@ fn first_of(waiting: &[Reception]) -> Option<Reception>
 }
 
 impl Receptions {
-    /// Nothing has changed yet.
+    /// Returns an empty list of changes.
     pub fn new() -> Self
         ensures { result ≡ no_receptions }
     {
@@ -80,8 +80,8 @@ impl Receptions {
         }
     }
 
-    /// Puts a change behind the others, or counts it where there is no place. It answers whether
-    /// there was one.
+    /// Puts a change after the others, or counts it if there is no place. Returns `true` if there
+    /// was a place.
     pub fn put(&mut self, reception: Reception) -> bool
         ensures put { result ≡ has_place self.old }
         ensures after { self.new ≡ after_reception reception self.old }
@@ -94,7 +94,7 @@ impl Receptions {
         true
     }
 
-    /// Takes what waits first.
+    /// Takes the first waiting change.
     pub fn take(&mut self) -> Option<Reception>
         ensures first { result ≡ first_reception self.old }
         ensures rest { self.new ≡ after_first self.old }
@@ -104,7 +104,7 @@ impl Receptions {
         Some(first)
     }
 
-    /// Takes how many changes had no place, where there were any.
+    /// Takes the number of changes without a place, if there were any.
     pub fn take_untold(&mut self) -> Option<u64>
         ensures untold { result ≡ untold self.old }
         ensures rest { self.new ≡ after_untold self.old }

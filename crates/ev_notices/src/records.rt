@@ -1,4 +1,4 @@
-//! What is told of records that came over connections: each kind of fault and of refusal once.
+//! Refused records of connections: each kind of fault and of refusal is reported once.
 ghost use Rattle.std.specs.Prelude.{◌≡◌};
 ghost use Rattle.std.specs.List.{list_any};
 ghost use Rattle.ev_notices.specs.Records.{no_refusals, is_number, is_new, after_refusal, first_refusal, after_told};
@@ -6,15 +6,15 @@ ghost use Rattle.ev_notices.specs.Records.{no_refusals, is_number, is_new, after
 use arrayvec::ArrayVec;
 use std::marker::Model;
 
-/// How many kinds are told at most: more than there are of both.
+/// The greatest number of kinds that are reported: there are fewer faults and refusals.
 const MOST: usize = 16;
 
-/// The kinds that came and were told, or wait to be. They take no memory beyond their own.
+/// The kinds that came, reported or waiting. They take no memory beyond their own.
 #[derive(Drop)]
 pub struct Refusals {
     /// The numbers of the kinds that came, the first one first.
     came: ArrayVec<u8, MOST>,
-    /// How many of them were told.
+    /// The number of kinds that were taken.
     told: usize,
 }
 
@@ -33,7 +33,7 @@ impl Model for Refusals {
     ghost invariant = { λ r. r.told ≤ length r.came.items };
 }
 
-/// Whether the number is among these.
+/// Returns `true` if the number is among these.
 fn is_known(number: u8, all: &[u8]) -> bool
     ensures { result ≡ list_any (is_number number) all.now }
 {
@@ -46,7 +46,7 @@ fn is_known(number: u8, all: &[u8]) -> bool
 }
 
 impl Refusals {
-    /// Nothing came yet.
+    /// Returns an empty list of kinds.
     pub fn new() -> Self
         ensures { result ≡ no_refusals }
     {
@@ -56,8 +56,9 @@ impl Refusals {
         }
     }
 
-    /// Puts a fault of a stream (1 to 4) or a refusal of a record (5 and above) behind the others,
-    /// by its number. It answers whether that is the first of its kind, which is told.
+    /// Puts a fault of a stream (1 to 4) or a refusal of a record (5 and above) after the others,
+    /// by its number. Returns `true` if it is the first of its kind and has a place; only then it
+    /// is reported.
     pub fn put(&mut self, number: u8) -> bool
         ensures put { result ≡ is_new number self.old }
         ensures after { self.new ≡ after_refusal number self.old }
@@ -69,7 +70,7 @@ impl Refusals {
         true
     }
 
-    /// Takes the first kind that wasn't told.
+    /// Takes the first kind that wasn't taken before.
     pub fn take(&mut self) -> Option<u8>
         ensures first { result ≡ first_refusal self.old }
         ensures rest { self.new ≡ after_told self.old }

@@ -1,4 +1,4 @@
-//! What is told to the operator while edges run, a line each, and the worker that writes it.
+//! The lines for the operator of running edges, and the worker that writes them.
 ghost use Rattle.std.specs.Prelude.{◌≡◌, ◌++◌, ◌∷◌, [], Option, List, codes};
 ghost use Rattle.std.specs.Fmt.{decimal};
 ghost use Rattle.ether_wire.specs.Ends.{IsOpen, Puts};
@@ -13,32 +13,32 @@ use ev_mobility::Alert;
 use mac_arena::Station;
 use std::sync::Wait;
 
-/// What an operator is told at once of an edge.
+/// One piece of news of an edge for an operator.
 #[derive(Clone, Copy, Debug, PartialEq, Eq)]
 pub enum News {
-    /// An alert, or how many were held back.
+    /// An alert, or a number of suppressed alerts.
     Alerts(Notice),
-    /// That receiving over a link failed, or works again.
+    /// Receiving over a link failed, or works again.
     Reception(Reception),
-    /// So many times this wasn't told.
+    /// The number of changes of links that were not reported.
     Untold(u64),
-    /// That records which came over a connection were refused: a fault of the stream by its number
-    /// (1 to 4), or a refusal of a record (5 and above). It is of no edge.
+    /// Records of a connection were refused: a fault of the stream by its number (1 to 4), or a
+    /// refusal of a record (5 and above). It belongs to no edge.
     Refused(u64),
 }
 
-/// Where what an operator is told comes from.
+/// A source of news for an operator.
 pub trait NoticesIn {
-    /// What came, in its order, where it tells it: each piece of news with the number of its edge,
-    /// and none for the end.
+    /// The news that came, in order, if the source reports it: `Some` for each piece of news, with
+    /// the number of its edge, and `None` for the end.
     ghost came: { Self → Option (List (Option Told)) };
 
-    /// Waits for the next news, and the number of the edge that they are about. None at the end.
+    /// Waits for the next piece of news, with the number of its edge. Returns `None` at the end.
     fn next(&mut self) -> Option<(u64, News)>
         ensures { came self.new ≡ behind (came self.old) (result ∷ []) };
 }
 
-/// The words for an alert.
+/// Returns the text for an alert.
 fn alert_words(alert: Alert) -> &'static str
     ensures { result.now ≡ alert_words alert }
 {
@@ -74,7 +74,7 @@ fn put_count<N: Out>(notes: &mut N, held: u64) -> Result<(), Device>
     notes.put(b" more alerts were held back\n")
 }
 
-/// Writes how many alerts were held back, where there were any.
+/// Writes the number of suppressed alerts, if it isn't 0.
 #[tactic(auto, using(ether_wire::proofs::Appending::with_text_twice, ether_wire::proofs::Appending::with_text_none))]
 fn put_held<N: Out>(notes: &mut N, edge: u64, held: u64) -> Result<(), Device>
     requires { IsOpen (N.end notes.old) }
@@ -87,7 +87,7 @@ fn put_held<N: Out>(notes: &mut N, edge: u64, held: u64) -> Result<(), Device>
     put_count(notes, held)
 }
 
-/// Writes ` VNI MAC`, where there is a station.
+/// Writes ` VNI MAC`, if there is a station.
 #[tactic(auto, using(ether_wire::proofs::Appending::with_text_twice, ether_wire::proofs::Appending::with_text_none))]
 fn put_station<N: Out>(notes: &mut N, station: &Option<Station>) -> Result<(), Device>
     requires { IsOpen (N.end notes.old) }
@@ -102,7 +102,7 @@ fn put_station<N: Out>(notes: &mut N, station: &Option<Station>) -> Result<(), D
     put_mac(notes, station.mac)
 }
 
-/// Writes ` on port P`, where there is a port, and the end of the line.
+/// Writes ` on port P`, if there is a port, and the end of the line.
 #[tactic(auto, using(ether_wire::proofs::Appending::with_text_twice, ether_wire::proofs::Appending::with_text_none))]
 fn put_place<N: Out>(notes: &mut N, port: Option<u8>) -> Result<(), Device>
     requires { IsOpen (N.end notes.old) }
@@ -116,7 +116,8 @@ fn put_place<N: Out>(notes: &mut N, port: Option<u8>) -> Result<(), Device>
     notes.put(b"\n")
 }
 
-/// Writes `edge E: WORDS VNI MAC on port P`, as far as there are a station and a port.
+/// Writes `edge E: WORDS VNI MAC on port P`, without the parts for a station or port that the alert
+/// doesn't have.
 #[tactic(auto, using(ether_wire::proofs::Appending::with_text_twice))]
 fn put_alarm<N: Out>(notes: &mut N, edge: u64, alarm: &Alarm) -> Result<(), Device>
     requires { IsOpen (N.end notes.old) }
@@ -140,11 +141,11 @@ fn put_about<N: Out>(notes: &mut N, edge: u64, alarm: &Option<Alarm>) -> Result<
     }
 }
 
-/// Writes what an operator is told at once of the edge with this number, and sees that it goes out.
+/// Writes a notice of the edge with this number, and flushes the writer.
 ///
 /// # Errors
 ///
-/// `Device` exactly where a call of the writer failed; then no further call is made.
+/// `Device` exactly if a call of the writer failed; then no further call is made.
 #[tactic(auto, using(ether_wire::proofs::Appending::with_text_twice, ether_wire::proofs::Appending::with_text_none))]
 pub fn put_notice<N: Out>(notes: &mut N, edge: u64, notice: &Notice) -> Result<(), Device>
     requires { IsOpen (N.end notes.old) }
@@ -219,11 +220,11 @@ fn put_refused<N: Out>(notes: &mut N, number: u64) -> Result<(), Device>
     notes.put(b"\n")
 }
 
-/// Writes what an operator is told at once of the edge with this number, and sees that it goes out.
+/// Writes a piece of news of the edge with this number, and flushes the writer.
 ///
 /// # Errors
 ///
-/// `Device` exactly where a call of the writer failed; then no further call is made.
+/// `Device` exactly if a call of the writer failed; then no further call is made.
 #[tactic(auto, using(ether_wire::proofs::Appending::with_text_twice, ether_wire::proofs::Appending::with_text_none))]
 fn put_news<N: Out>(notes: &mut N, edge: u64, news: &News) -> Result<(), Device>
     requires { IsOpen (N.end notes.old) }
@@ -246,11 +247,11 @@ fn put_news<N: Out>(notes: &mut N, edge: u64, news: &News) -> Result<(), Device>
     }
 }
 
-/// Writes what comes for the operator, until nothing more comes or a call of the writer fails.
+/// Writes the operator's news, until no more comes or a call of the writer fails.
 ///
 /// # Errors
 ///
-/// `Device` exactly where a call of the writer failed; then no further call is made.
+/// `Device` exactly if a call of the writer failed; then no further call is made.
 pub fn notice_worker<A: NoticesIn, N: Out, R: Wait>(
     rt: &R,
     notices: &mut A,

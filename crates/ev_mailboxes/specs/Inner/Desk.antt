@@ -1,11 +1,11 @@
--- Where the operator's request to an edge waits for its worker, and the answer for the operator.
+-- The desk of an edge: the operator's request waits there for the edge's worker, and the answer for the operator.
 use Rattle.std.specs.Prelude.{Bool, true, false, Option, Some, None}
 use Rattle.ev_mailboxes.specs.declared.request.Request.{Request}
 use Rattle.ev_mailboxes.specs.declared.request.Answer.{Answer}
 use Rattle.ev_mailboxes.specs.declared.desk.Slip.{Slip}
 use Rattle.ev_mailboxes.specs.declared.desk.Slip.TheVariants.{Free, Asked, Taken, Answered}
 
--- a request is put where nothing lies
+-- a request is put if the desk is free
 abbrev pub put_on : Request → Slip → Bool × Slip
 put_on request Free = (true, Asked request)
 put_on request (Asked other) = (false, Asked other)

@@ -1,4 +1,4 @@
--- What an answer of an edge holds.
+-- The content of an edge's answer.
 use Rattle.std.specs.Prelude.{ℕ, Option, Some, None, Result}
 use Rattle.std.specs.Global.{Vec}
 use Rattle.std.specs.declared.alloc.AllocError.{AllocError}
@@ -10,7 +10,7 @@ use Rattle.ev_mailboxes.specs.declared.request.Answer.TheVariants.{Entered, Tabl
 use Rattle.ev_mailboxes.specs.declared.request.PortView.{PortView}
 use Rattle.ev_mailboxes.specs.declared.request.Served.{Served}
 
--- what a book answered to a step, if the answer is to one
+-- the book's answer to a step, if this is the answer to a step
 abbrev pub entered_in : Answer → Option (Result Reply BookRefusal)
 entered_in (Entered answer) = Some answer
 entered_in (Table updates) = None
@@ -18,7 +18,7 @@ entered_in (Port view) = None
 entered_in (Serves served) = None
 entered_in (View text) = None
 
--- what a table holds, if the answer is to that question
+-- the updates of a table, if this is the answer to that query
 abbrev pub table_in : Answer → Option (Result (Vec Fields) AllocError)
 table_in (Entered answer) = None
 table_in (Table updates) = Some updates
@@ -26,7 +26,7 @@ table_in (Port view) = None
 table_in (Serves served) = None
 table_in (View text) = None
 
--- how a port is, if the answer is to that question
+-- the state of a port, if this is the answer to that query
 abbrev pub port_in : Answer → Option (Option PortView)
 port_in (Entered answer) = None
 port_in (Table updates) = None
@@ -34,7 +34,7 @@ port_in (Port view) = Some view
 port_in (Serves served) = None
 port_in (View text) = None
 
--- what an edge serves, if the answer is to that question
+-- an edge's address and networks, if this is the answer to that query
 abbrev pub served_in : Answer → Option (Result Served AllocError)
 served_in (Entered answer) = None
 served_in (Table updates) = None
@@ -42,7 +42,7 @@ served_in (Port view) = None
 served_in (Serves served) = Some served
 served_in (View text) = None
 
--- the text of a view, if the answer is to that question
+-- the text of a view, if this is the answer to that query
 abbrev pub view_in : Answer → Option (Result (Vec ℕ) AllocError)
 view_in (Entered answer) = None
 view_in (Table updates) = None

@@ -3,7 +3,7 @@ use Rattle.ether_wire.specs.Ends.{with_text}
 use Rattle.ev_notices.specs.InTurn.{after_signs}
 use Rattle.ev_notices.proofs.in_turn.tell_in_turn.Given as goal
 
--- board and text of all signs up to here
+-- board and text after all signs up to here
 abbrev pub invariant-loop-sign : goal.invariant-loop-sign
 invariant-loop-sign g l = record {
   board : l.board ≡ (after_signs l.edge (take l.sign-index l.signs)).board;
