@@ -224,8 +224,7 @@ fn add_port(
     add_remote(found, seat, link.remote)
 }
 
-/// Adds the ends that are of no use of an edge's ports. `before` has the links of the edges before
-/// it.
+/// Adds the useless ends of an edge's ports. `before` has the links of the edges before that edge.
 fn add_ports(
     found: &mut Vec<Obstacle>,
     edges: &[EdgeConfig],
