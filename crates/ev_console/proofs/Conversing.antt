@@ -1,4 +1,4 @@
--- How a conversation goes on, octet by octet.
+-- The course of a conversation, octet by octet.
 use Rattle.std.proofs.Common.{◌≡◌, ℕ, zero, suc, ◌+◌, Bool, true, false, not, cond, List, [], ◌∷◌, ◌++◌, take}
 use Rattle.std.proofs.Common.{Option, Result, Ok, Err, refl, sym, ap, subst, ◌∙◌, append_assoc, append-nil, codes}
 use Rattle.std.proofs.Common.{◌<◌, length, length-append, arith}
@@ -20,7 +20,7 @@ use Rattle.ev_console.specs.Inner.Conversation.{SoFar}
 use Rattle.ev_console.specs.Inner.Conversation.{ToOctets, TakesOctets}
 use Rattle.ev_console.specs.Inner.Conversation.{TakesEnd}
 
--- ---- what is kept of a line
+-- ---- the octets of a line that are kept
 
 take_kept : (n : ℕ) (p q : List ℕ) → take n (take n p ++ q) ≡ take n (p ++ q)
 take_kept zero p q = refl
@@ -47,7 +47,7 @@ asked_more : (xs : List Exchange) (x : Exchange) → asked_of (xs ++ x ∷ []) �
 asked_more xs x = flat_map-append (λ (y : Exchange). y.asked) xs (x ∷ [])
     ∙ ap (λ (t : List Asked). asked_of xs ++ t) (append-nil x.asked)
 
--- a line that has begun, and the answer to what is kept of it
+-- a line that has begun, and the answer to its kept octets
 abbrev exchange : List ℕ → List Asked → List ℕ → Exchange
 exchange line asked text = record { line = line; asked = asked; text = text }
 
@@ -122,7 +122,7 @@ module _ (count : ℕ) (octets held : List ℕ) (before middle : Option (List As
           ∙ ap (λ (e : End). e.failures + 1) s.written;
     }
 
--- what wasn't looked at may go on
+-- more octets may follow those that weren't processed
 pub breaks_more : (count : ℕ) (octets more : List ℕ) (before after : Option (List Asked)) (old new : End)
     → BreaksOff count octets before after old new → BreaksOff count (octets ++ more) before after old new
 breaks_more count octets more before after old new b = record {
@@ -140,7 +140,7 @@ breaks_more count octets more before after old new b = record {
   failed = b.failed;
 }
 
--- ---- octets behind octets
+-- ---- octets after octets
 
 pub takes_none : (count : ℕ) (held : List ℕ) (asked : Option (List Asked)) (e : End) (done : Unit {0})
     → TakesOctets count [] held held asked asked e e (Ok done)
@@ -219,7 +219,7 @@ module _ (count : ℕ) (octets held : List ℕ) (before middle : Option (List As
       ∙ append-nil (lines_of s.exchanges) in
       (none, ap (λ (b : Bool). cond b feed []) (ap is_cut whole ∙ cut_lines s.exchanges))
 
-  -- one has
+  -- a line has begun
   one_missing : (o : ℕ) (p : List ℕ) → s.pending ≡ o ∷ p → missing_feed octets ≡ feed
   one_missing o p is =
       let begun : IsLine (o ∷ p) = subst IsLine is s.begun in
@@ -251,7 +251,7 @@ ends_answered count held middle after mid new (Err device) some h = λ octets be
     (sym (some_pending count octets held before middle old mid s s.pending refl some))
     (sofar_broken count octets held before middle old mid s after new (Err device) h device refl)
 
--- ---- before anything came, and where nothing is left
+-- ---- the beginning, and an end without a rest
 
 pub sofar_none : (count : ℕ) (held : List ℕ) (asked : Option (List Asked)) (e : End) → held ≡ []
     → SoFar count [] held asked asked e e

@@ -1,4 +1,4 @@
--- What was asked for a line and told, where nothing is asked, and where each edge is.
+-- The requests and the text of a line that makes no request, or one to each edge.
 use Rattle.std.proofs.Common.{◌≡◌, ℕ, ◌+◌, Bool, true, false, List, [], ◌∷◌, ◌++◌, length, length-append}
 use Rattle.std.proofs.Common.{Option, Result, Ok, Err, refl, sym, ap, subst, ◌∙◌, arith, append-nil}
 use Rattle.ether_wire.specs.declared.ends.Device.{Device}
@@ -35,7 +35,7 @@ says_put words before old new r put = record {
   written = put;
 }
 
--- so many edges were asked what they serve, and what they answered was told
+-- `n` edges were queried for their address, ports and VNIs, and their answers were written
 pub record Showing (n : ℕ) (before after : Option (List Asked)) (old new : End) (is_told : Bool) : Type 0 where
   pub answers : List ServedSeen
   pub many : length answers ≡ n
@@ -84,7 +84,7 @@ module _ (n : ℕ) (before middle : Option (List Asked)) (old mid : End) (is_tol
             (subst (λ m. Tells mid new is_told is_told' (served_seen_text m answer)) place told));
       }
 
-  -- where all was told, one call more may fail
+  -- if all answers were written, one call more may fail
   pub showing_open : IsOpen old → is_told ≡ true → IsOpen mid
   showing_open room e = let same = ap (λ (x : End). x.failures) (s.told.written e) in omega arith
 
@@ -120,7 +120,7 @@ pub none_of : {X : Type 0} (us : List X) → length us ≡ 0 → us ≡ []
 none_of [] h = refl
 none_of (u ∷ us) h = absurd (omega (arith, h))
 
--- of no update
+-- the report of no update
 pub none_reported : (us : List Fields) → length us ≡ 0 → IsReportOf us []
 none_reported us e =
     let t = table_from [] [] in

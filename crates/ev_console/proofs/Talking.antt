@@ -1,4 +1,4 @@
--- A conversation, read after read.
+-- A conversation, read by read.
 use Rattle.std.proofs.Common.{◌≡◌, inl, inr, ℕ, ◌+◌, ◌<◌, ◌^◌, List, [], ◌++◌, take, length, Option, Result, Ok, Err}
 use Rattle.std.proofs.Common.{refl, sym, ap, ◌∙◌, arith}
 use Rattle.ether_wire.specs.declared.ends.Device.{Device}
@@ -11,7 +11,7 @@ use Rattle.ev_console.specs.Conversation.{Converses, missing_feed}
 use Rattle.ev_console.specs.Inner.Conversation.{SoFar, TakesOctets, TakesEnd}
 use Rattle.ev_console.proofs.Conversing.{sofar_none, sofar_whole}
 
--- so many reads gave octets, and these were looked at
+-- `turn` reads returned octets, which were processed
 pub record Goes (turn count : ℕ) (source mid : Source) (held : List ℕ) (before after : Option (List Asked))
     (old new : End) : Type 0 where
   pub input : List ℕ
@@ -38,7 +38,7 @@ module _ (turn count : ℕ) (source mid last : Source) (held buffer : List ℕ) 
   goes_open room = let same = ap (λ (x : End). x.failures) g.sofar.written in omega arith
 
   module _ (n : ℕ) (got : Gets mid last buffer (Ok n)) (held' : List ℕ) (after : Option (List Asked)) (new : End) where
-    -- a piece more
+    -- one piece more
     pub goes_more : (done : Unit {0}) → 0 < n
         → TakesOctets count (take n buffer) held held' middle after e new (Ok done)
         → Goes (turn + 1) count source last held' before after old new
@@ -48,7 +48,7 @@ module _ (turn count : ℕ) (source mid last : Source) (held buffer : List ℕ) 
       sofar = takes g.input before old g.sofar;
     }
 
-    -- and a call of the writer failed
+    -- one piece more, for which a call of the writer failed
     pub goes_unwritten : (device : Device) → 0 < n
         → TakesOctets count (take n buffer) held held' middle after e new (Err device)
         → Converses count source last before after old new (Err device)
@@ -62,7 +62,7 @@ module _ (turn count : ℕ) (source mid last : Source) (held buffer : List ℕ) 
       breaks = takes g.input before old g.sofar;
     })
 
-  -- the end
+  -- the end of the input
   pub goes_end : (after : Option (List Asked)) (new : End) (r : Result (Unit {0}) Device) → turn < 2 ^ 40
       → 0 < length buffer → Gets mid last buffer (Ok 0) → TakesEnd count held middle after e new r
       → Converses count source last before after old new r
@@ -109,7 +109,7 @@ module _ (turn count : ℕ) (source mid last : Source) (held buffer : List ℕ) 
     written = g.sofar.written;
   })
 
-  -- too many
+  -- too many reads
   pub goes_on : (device : Device) → turn ≡ 2 ^ 40 → Converses count source mid before middle old e (Err device)
   goes_on device turns = inl (record {
     turns = turn;

@@ -1,4 +1,4 @@
--- What a line of the console asks of edges that run, and what it is answered.
+-- The requests that a line of the console makes to edges that run, and its answer.
 use Rattle.std.specs.Prelude.{◌<◌}
 use Rattle.std.specs.Prelude.{◌≡◌, ◌⊎◌, ℕ, List, [], ◌∷◌, ◌++◌, length, codes, Option, Some, None, Result, Ok, Err}
 use Rattle.std.specs.Global.{Vec}
@@ -27,7 +27,7 @@ use Rattle.ev_console.specs.Asking.{ViewSeen, view_seen, served_from}
 use Rattle.ev_view.specs.declared.view.EdgeQuestion.{EdgeQuestion}
 use Rattle.ev_console.specs.Table.{IsReportOf}
 
--- ---- what is told of an answer
+-- ---- the text of an answer
 
 -- `E refused fabric 18`, or `E ended`
 abbrev pub unreached_text : ℕ → Unreached → List ℕ
@@ -65,11 +65,11 @@ served_seen_text e (Ok (Ok served)) = edge_words e served.address served.ports.i
 served_seen_text e (Ok (Err refused)) = no_memory_text e
 served_seen_text e (Err unreached) = unreached_text e unreached
 
--- the report of these updates; or, where there are some, that memory was refused to it
+-- the report of these updates; or, if there are any, that memory for the report was refused
 abbrev pub TellsUpdates : ℕ → List Fields → List ℕ → Type 0
 TellsUpdates e updates = λ text. IsReportOf updates text ⊎ (0 < length updates) × (text ≡ no_memory_text e)
 
--- so of what was shown
+-- the text for the updates that were shown
 abbrev pub TellsShown : ℕ → Result (Vec Fields) AllocError → List ℕ → Type 0
 TellsShown e (Ok updates) = TellsUpdates e updates.items
 TellsShown e (Err refused) = λ text. text ≡ no_memory_text e
@@ -80,11 +80,11 @@ TellsTable e (Err unreached) = λ text. text ≡ unreached_text e unreached
 
 -- ---- a line
 
--- nothing is asked, and this is told
+-- no request is made, and this is the text
 abbrev pub Says : List ℕ → List Asked → List ℕ → Type 0
 Says words = λ asked text. (asked ≡ []) × (text ≡ words)
 
--- one step of one edge, and what became of it
+-- one step of one edge, and its result
 abbrev pub Steps : ℕ → Step → List Asked → List ℕ → Type 0
 Steps e step = λ asked text.
     (answer : Entered) × (asked ≡ entered e step answer ∷ []) × (text ≡ entered_text e answer)
@@ -96,11 +96,11 @@ abbrev pub ShowsPort : ℕ → ℕ → List Asked → List ℕ → Type 0
 ShowsPort e p = λ asked text.
     (answer : PortSeen) × (asked ≡ port_seen e p answer ∷ []) × (text ≡ port_seen_text e p answer)
 
--- the line of a simulation
+-- the answer to a line of a simulation
 abbrev pub simulated_text : List ℕ
 simulated_text = codes "bad: only a simulation takes this line\n"
 
--- what a command asks of the edge that it names, and is answered
+-- the request of a command to the edge that it names, and the answer
 abbrev pub AnswersCommand : ℕ → Command → List Asked → List ℕ → Type 0
 AnswersCommand e (up p) = Steps e (steps.PortUp (port_number p))
 AnswersCommand e (down p) = Steps e (steps.PortDown (port_number p))
@@ -126,7 +126,7 @@ abbrev pub AnswersWords : List ℕ → Option (ℕ × Command) → List Asked �
 AnswersWords line None = Says (bad_text line)
 AnswersWords line (Some found) = AnswersCommand found.0 found.1
 
--- which lines there are, one a line
+-- the lines of the console, one a line
 abbrev pub help_text : List ℕ
 help_text =
     codes "E up P\n" ++ codes "E down P\n" ++ codes "E mcheck P\n" ++ codes "E pin VNI MAC P\n"
@@ -138,12 +138,12 @@ abbrev pub ShowsView : ℕ → EdgeQuestion → List Asked → List ℕ → Type
 ShowsView e q = λ asked text.
     (answer : ViewSeen) × (asked ≡ view_seen e q answer ∷ []) × (text ≡ view_seen_text e answer)
 
--- each edge is asked once, the first one first, and has a line
+-- each edge is queried once, the first one first, and has a line
 abbrev pub ShowsEdges : ℕ → List Asked → List ℕ → Type 0
 ShowsEdges count = λ asked text. (answers : List ServedSeen) × (length answers ≡ count)
     × (asked ≡ served_from 1 answers) × (text ≡ each_from served_seen_text 1 answers)
 
--- a question to this many edges
+-- a question to `count` edges
 abbrev pub AnswersQuestion : ℕ → Question → List Asked → List ℕ → Type 0
 AnswersQuestion count Help = Says help_text
 AnswersQuestion count Edges = ShowsEdges count
@@ -153,6 +153,6 @@ abbrev pub AnswersAsked : ℕ → List ℕ → Option Question → List Asked �
 AnswersAsked count line None = AnswersWords line (line_of line)
 AnswersAsked count line (Some question) = AnswersQuestion count question
 
--- a line, where there are this many edges
+-- a line, if there are `count` edges
 abbrev pub AnswersLine : ℕ → List ℕ → List Asked → List ℕ → Type 0
 AnswersLine count line = AnswersAsked count line (question_of line)

@@ -1,4 +1,4 @@
--- What a console asks of edges that run, and what they answer.
+-- The requests that a console makes to edges that run, and their answers.
 use Rattle.std.specs.Prelude.{ℕ, ◌+◌, List, [], ◌∷◌, Option, Result}
 use Rattle.std.specs.Global.{Vec}
 use Rattle.std.specs.declared.alloc.AllocError.{AllocError}
@@ -11,27 +11,27 @@ use Rattle.ev_mailboxes.specs.declared.request.Served.{Served}
 use Rattle.ev_view.specs.declared.view.EdgeQuestion.{EdgeQuestion}
 use Rattle.ev_console.specs.declared.operated.Unreached.{Unreached}
 
--- what a step is answered
+-- the answer to a step
 abbrev pub Entered : Type 0
 Entered = Result (Result Reply BookRefusal) Unreached
 
--- what stands in a table
+-- the contents of a table
 abbrev pub TableSeen : Type 0
 TableSeen = Result (Result (Vec Fields) AllocError) Unreached
 
--- how a port is
+-- the state of a port
 abbrev pub PortSeen : Type 0
 PortSeen = Result (Option PortView) Unreached
 
--- what is told of a question
+-- the answer to a question
 abbrev pub ViewSeen : Type 0
 ViewSeen = Result (Result (Vec ℕ) AllocError) Unreached
 
--- what an edge serves
+-- the address, ports and VNIs that an edge serves
 abbrev pub ServedSeen : Type 0
 ServedSeen = Result (Result Served AllocError) Unreached
 
--- what was asked of the edge with this number, and what came of it
+-- a request to the edge with this number, and its answer
 pub data Asked : Type 0 where
   entered : ℕ → Step → Entered → Asked
   table_seen : ℕ → TableSeen → Asked
@@ -39,7 +39,7 @@ pub data Asked : Type 0 where
   view_seen : ℕ → EdgeQuestion → ViewSeen → Asked
   served_seen : ℕ → ServedSeen → Asked
 
--- what these edges serve, the first of which has this number
+-- the requests for the address, ports and VNIs of these edges; the first edge has this number
 abbrev pub served_from : ℕ → List ServedSeen → List Asked
 served_from number [] = []
 served_from number (answer ∷ answers) = served_seen number answer ∷ served_from (number + 1) answers

@@ -1,4 +1,4 @@
--- The report of a table, of which an edge has shown the updates.
+-- The report of a table whose updates an edge has shown.
 use Rattle.std.specs.Prelude.{◌≡◌, ℕ, List}
 use Rattle.route_wire.specs.Fields.{Fields}
 use Rattle.route_join.specs.Table.{Table, IsTableOf}

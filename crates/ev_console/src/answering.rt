@@ -1,4 +1,4 @@
-//! The answer to one line: what it asks for is asked once, and told in the words of a simulation.
+//! The answer to one line: its requests are made once, and answered in the words of a simulation.
 ghost use Rattle.std.specs.Prelude.{◌≡◌, true, OnOk};
 ghost use Rattle.ether_wire.specs.Ends.{IsOpen};
 ghost use Rattle.ev_report.specs.Ends.{Tells};
@@ -17,7 +17,7 @@ use ev_script::{Command, Question, parse, port_number, question_of};
 use ev_view::EdgeQuestion;
 use std::alloc::{AllocError, Global};
 
-/// Enters a step, and tells what became of it.
+/// Enters a step, and writes its result.
 fn enter<O: Operated, W: Out>(
     operated: &mut O,
     edge: u64,
@@ -33,7 +33,7 @@ fn enter<O: Operated, W: Out>(
     put_entered(out, edge, &answer)
 }
 
-/// Tells the report of an edge's table.
+/// Writes the report of an edge's table.
 fn show_table<O: Operated, W: Out>(
     alloc: Global,
     operated: &mut O,
@@ -49,7 +49,7 @@ fn show_table<O: Operated, W: Out>(
     put_table_seen(alloc, out, edge, &answer)
 }
 
-/// Tells how a port is.
+/// Writes the state of a port.
 fn show_port<O: Operated, W: Out>(
     operated: &mut O,
     edge: u64,
@@ -65,7 +65,7 @@ fn show_port<O: Operated, W: Out>(
     put_port_seen(out, edge, port, &answer)
 }
 
-/// Tells what is asked of an edge.
+/// Writes the answer of an edge to a question.
 fn show_view<O: Operated, W: Out>(
     alloc: Global,
     operated: &mut O,
@@ -82,7 +82,8 @@ fn show_view<O: Operated, W: Out>(
     put_view_seen(out, edge, &answer)
 }
 
-/// Tells what an edge serves, where nothing has failed: whether nothing has failed then.
+/// Writes the address, ports and VNIs that an edge serves, if nothing has failed. Returns `true` if
+/// nothing has failed then.
 fn tell_served<W: Out>(
     is_told: bool,
     out: &mut W,
@@ -96,7 +97,8 @@ fn tell_served<W: Out>(
     is_told && put_served(out, edge, answer).is_ok()
 }
 
-/// Tells what each edge serves. All are asked, whether or not the writer fails.
+/// Writes the address, ports and VNIs that each edge serves. Queries all edges, whether or not the
+/// writer fails.
 fn show_edges<O: Operated, W: Out>(
     alloc: Global,
     operated: &mut O,
@@ -115,7 +117,7 @@ fn show_edges<O: Operated, W: Out>(
     if is_told { Ok(()) } else { Err(Device) }
 }
 
-/// Tells that a line belongs to a simulation.
+/// Writes that a line belongs to a simulation.
 #[tactic(auto, using(crate::proofs::Doing::says_put))]
 fn refuse<O: Operated, W: Out>(operated: &mut O, out: &mut W) -> Result<(), Device>
     requires { IsOpen (W.end out.old) }
@@ -126,7 +128,7 @@ fn refuse<O: Operated, W: Out>(operated: &mut O, out: &mut W) -> Result<(), Devi
     put_simulated(out)
 }
 
-/// Does what a command asks of its edge, and tells what became of it.
+/// Makes the request of a command to its edge, and writes the result.
 fn perform<O: Operated, W: Out>(
     alloc: Global,
     operated: &mut O,
@@ -221,7 +223,7 @@ fn answer<O: Operated, W: Out>(
     }
 }
 
-/// Answers a line, writes an empty one behind it, and sees that they go out.
+/// Answers a line, writes an empty line after the answer, and flushes the writer.
 pub(crate) fn reply<O: Operated, W: Out>(
     alloc: Global,
     operated: &mut O,

@@ -1,4 +1,4 @@
-//! A conversation: line after line, each answered before the next one is looked at.
+//! A conversation: line after line, each answered before the next one is processed.
 ghost use Rattle.std.specs.Prelude.{◌≡◌, ◌^◌, ◌∷◌, ◌++◌, [], take, OnOk};
 ghost use Rattle.ether_wire.specs.Ends.{IsOpen, Allows};
 ghost use Rattle.ev_console.specs.Conversation.{Converses, Talks};
@@ -14,10 +14,11 @@ use ev_report::MOST_READS;
 use std::alloc::Global;
 use std::sync::Wait;
 
-/// How many octets of a line are kept: one more than it may have, so that a longer one is known.
+/// The number of octets of a line that are kept: one more than a line may have, so that a longer
+/// line is recognized.
 const KEPT: usize = 20_001;
 
-/// How many octets a read asks for at most.
+/// The most octets of one read.
 const PIECE: usize = 4_096;
 
 /// Keeps an octet with the line that has begun, if there is room.
@@ -29,8 +30,8 @@ fn keep(line: &mut ArrayVec<u8, KEPT>, octet: u8)
     }
 }
 
-/// Looks at an octet: it ends the line that has begun, which is answered then, or is kept with it
-/// if there is room.
+/// Processes an octet. A line feed ends the line that has begun, which is then answered. Any other
+/// octet is kept with that line if there is room.
 fn take_octet<O: Operated, W: Out>(
     alloc: Global,
     operated: &mut O,
@@ -53,7 +54,7 @@ fn take_octet<O: Operated, W: Out>(
     replied
 }
 
-/// Looks at the octets of a piece that was read.
+/// Processes the octets of a piece that was read.
 fn take_piece<O: Operated, W: Out>(
     alloc: Global,
     operated: &mut O,
@@ -93,12 +94,13 @@ fn take_end<O: Operated, W: Out>(
     reply(alloc, operated, line, out)
 }
 
-/// Answers the lines that are read, each once and in their order, of any edges that can be asked.
+/// Answers the lines that are read, each once and in their order, for any edges that can be
+/// queried.
 ///
 /// # Errors
 ///
-/// `Device` where a read or a write failed, or 2^40 reads didn't reach the end; then no further
-/// line is looked at.
+/// `Device` if a read or a write failed, or 2^40 reads didn't reach the end; then no further line
+/// is processed.
 pub fn converse_with<O: Operated, I: In, W: Out>(
     alloc: Global,
     operated: &mut O,
@@ -128,14 +130,14 @@ pub fn converse_with<O: Operated, I: In, W: Out>(
     Err(Device)
 }
 
-/// Answers the lines that an operator writes, each once and in their order, up to the end of what
-/// is read. Behind each answer comes an empty line, and then the writer is flushed. A line of more
-/// than 20,000 octets is a bad one; it takes no more memory than another.
+/// Answers the lines that an operator writes, each once and in their order, up to the end of the
+/// input. After each answer it writes an empty line, and then flushes the writer. A line of more
+/// than 20,000 octets is a bad one; it takes no more memory than any other line.
 ///
 /// # Errors
 ///
-/// `Device` where a read or a write failed, or 2^40 reads didn't reach the end; then no further
-/// line is looked at.
+/// `Device` if a read or a write failed, or 2^40 reads didn't reach the end; then no further line
+/// is processed.
 pub fn converse<R: Wait, I: In, W: Out>(
     rt: &R,
     alloc: Global,

@@ -1,4 +1,4 @@
-//! The edges of this process as a console asks them.
+//! The edges of this process, as a console queries them.
 ghost use Rattle.std.specs.Prelude.{◌≡◌, IfOk};
 
 use crate::operated::{Operated, Unreached};
@@ -10,8 +10,8 @@ use route_wire::Update;
 use std::alloc::{AllocError, Global};
 use std::sync::Wait;
 
-/// Edges that run on this system's threads. What was asked of them isn't told: it lies under
-/// locks, of which no clause speaks.
+/// Edges that run on this system's threads. The history of requests is `None`, since no clause
+/// describes state under a lock.
 #[derive(Drop)]
 pub(crate) struct Edges<'x, R> {
     rt: &'x R,
@@ -20,13 +20,13 @@ pub(crate) struct Edges<'x, R> {
 }
 
 impl<'x, R: Wait> Edges<'x, R> {
-    /// These edges.
+    /// Returns these edges.
     pub(crate) fn new(rt: &'x R, running: Running<'x>) -> Self {
         let count = running.edges() as u64;
         Edges { rt, running, count }
     }
 
-    /// The edge with this number.
+    /// Returns the edge with this number.
     fn reach(&self, edge: u64) -> Result<Control<'x>, Unreached>
         ensures { IfOk result (λ control. control.mailbox.now.number ≡ edge) }
     {

@@ -1,4 +1,4 @@
-//! Edges that run, as a console asks them.
+//! Edges that run, as a console queries them.
 ghost use Rattle.std.specs.Prelude.{◌≡◌, ℕ, Option, List, [], ◌∷◌};
 ghost use Rattle.ev_links.specs.Coming.{behind};
 ghost use Rattle.ev_console.specs.Asking.{Asked, entered, table_seen, port_seen, view_seen, served_seen};
@@ -10,32 +10,32 @@ use ev_view::EdgeQuestion;
 use route_wire::Update;
 use std::alloc::{AllocError, Global};
 
-/// Why an edge answers nothing.
+/// The reason why an edge doesn't answer.
 #[derive(Clone, Copy, Debug, PartialEq, Eq)]
 pub enum Unreached {
-    /// There is none of this number.
+    /// No edge has this number.
     NoEdge,
-    /// It has ended.
+    /// The edge has ended.
     Ended,
 }
 
-/// Edges that run, numbered from 1, as a console asks them.
+/// Edges that run, numbered from 1, as a console queries them.
 ///
 /// # Errors
 ///
-/// Each call but `edges` answers `Unreached` where the edge answers nothing.
+/// Each call but `edges` returns `Unreached` if the edge doesn't answer.
 pub trait Operated {
-    /// How many there are.
+    /// The number of edges.
     ghost count: { Self → ℕ };
 
-    /// What was asked of them and what they answered, in its order, where that is told.
+    /// The requests to the edges and their answers, in order, if that history is known.
     ghost asked: { Self → Option (List Asked) };
 
-    /// How many there are.
+    /// Returns the number of edges.
     fn edges(&self) -> u64
         ensures { result ≡ count self.now };
 
-    /// Enters a step at the edge with this number: what its book answered.
+    /// Enters a step at the edge with this number, and returns the answer of its book.
     fn enter(
         &mut self,
         edge: u64,
@@ -45,7 +45,7 @@ pub trait Operated {
             ≡ behind (asked self.old) (entered edge command.now result ∷ []) }
         ensures count { count self.new ≡ count self.old };
 
-    /// What the edge's table holds, in the order of a report.
+    /// Returns the contents of the edge's table, in the order of a report.
     fn table(
         &mut self,
         alloc: Global,
@@ -55,13 +55,14 @@ pub trait Operated {
             ≡ behind (asked self.old) (table_seen edge result ∷ []) }
         ensures count { count self.new ≡ count self.old };
 
-    /// How the edge's spanning tree has a port, none where there is no such port.
+    /// Returns the state of a port in the edge's spanning tree, or `None` if the edge has no port
+    /// with this number.
     fn port(&mut self, edge: u64, port: u8) -> Result<Option<PortView>, Unreached>
         ensures asked { asked self.new
             ≡ behind (asked self.old) (port_seen edge port result ∷ []) }
         ensures count { count self.new ≡ count self.old };
 
-    /// What is told of a question of the edge, with its number before each line.
+    /// Returns the text that answers a question to the edge, with its number before each line.
     fn view(
         &mut self,
         alloc: Global,
@@ -72,7 +73,7 @@ pub trait Operated {
             ≡ behind (asked self.old) (view_seen edge question.now result ∷ []) }
         ensures count { count self.new ≡ count self.old };
 
-    /// What the edge serves.
+    /// Returns the address, ports and VNIs that the edge serves.
     fn served(&mut self, alloc: Global, edge: u64) -> Result<Result<Served, AllocError>, Unreached>
         ensures asked { asked self.new
             ≡ behind (asked self.old) (served_seen edge result ∷ []) }

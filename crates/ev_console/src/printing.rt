@@ -1,4 +1,4 @@
-//! What a console tells of what edges answer, in the words of a simulation.
+//! The texts of a console's answers, in the words of a simulation.
 ghost use Rattle.std.specs.Prelude.{◌≡◌, ◌++◌, codes};
 ghost use Rattle.ether_wire.specs.Ends.{IsOpen, Puts};
 ghost use Rattle.ev_console.specs.Answers.{unreached_text, book_refusal_text, entered_text, port_seen_text, no_memory_text, view_seen_text, served_seen_text, bad_text, help_text, simulated_text};
@@ -13,7 +13,7 @@ use ev_script::{put_number, put_port, put_refusal, put_reply, put_words, why_tex
 use ev_view::put_edge_line;
 use std::alloc::AllocError;
 
-/// Writes why an edge answers nothing.
+/// Writes why an edge doesn't answer.
 pub(crate) fn put_unreached<W: Out>(
     out: &mut W,
     edge: u64,
@@ -28,7 +28,8 @@ pub(crate) fn put_unreached<W: Out>(
     }
 }
 
-/// Writes why a book refused a step. Its own refusals have numbers beside those of its edge.
+/// Writes why a book refused a step. Its own refusals have numbers in addition to those of its
+/// edge.
 fn put_book_refusal<W: Out>(out: &mut W, edge: u64, refusal: BookRefusal) -> Result<(), Device>
     requires { IsOpen (W.end out.old) }
     ensures { Puts (W.end out.old) (W.end out.new) (book_refusal_text edge refusal) result }
@@ -41,7 +42,7 @@ fn put_book_refusal<W: Out>(out: &mut W, edge: u64, refusal: BookRefusal) -> Res
     }
 }
 
-/// Writes what became of a step.
+/// Writes the result of a step.
 pub(crate) fn put_entered<W: Out>(
     out: &mut W,
     edge: u64,
@@ -57,7 +58,7 @@ pub(crate) fn put_entered<W: Out>(
     }
 }
 
-/// Writes how a port is.
+/// Writes the state of a port.
 pub(crate) fn put_port_seen<W: Out>(
     out: &mut W,
     edge: u64,
@@ -85,7 +86,7 @@ pub(crate) fn put_no_memory<W: Out>(out: &mut W, edge: u64) -> Result<(), Device
     put_refusal(out, edge, &FabricRefusal::NoMemory)
 }
 
-/// Writes what an edge serves.
+/// Writes the address, ports and VNIs that an edge serves.
 pub(crate) fn put_served<W: Out>(
     out: &mut W,
     edge: u64,
@@ -104,7 +105,7 @@ pub(crate) fn put_served<W: Out>(
     }
 }
 
-/// Writes what is told of a question.
+/// Writes the answer to a question.
 pub(crate) fn put_view_seen<W: Out>(
     out: &mut W,
     edge: u64,
@@ -138,7 +139,7 @@ pub(crate) fn put_simulated<W: Out>(out: &mut W) -> Result<(), Device>
     out.put(b"bad: only a simulation takes this line\n")
 }
 
-/// Writes which lines there are.
+/// Writes the list of the console's lines.
 pub(crate) fn put_help<W: Out>(out: &mut W) -> Result<(), Device>
     requires { IsOpen (W.end out.old) }
     ensures { Puts (W.end out.old) (W.end out.new) help_text result }

@@ -1,4 +1,4 @@
-//! The report of a table, of which an edge has shown the updates.
+//! The report of a table whose updates an edge has shown.
 ghost use Rattle.std.specs.Prelude.{◌≡◌, ◌≤◌, eqb, length, true, IfSome};
 ghost use Rattle.std.specs.List.{IsDistinct};
 ghost use Rattle.ether_wire.specs.Ends.{IsOpen};
@@ -14,7 +14,7 @@ use route_join::Table;
 use route_wire::Update;
 use std::alloc::{AllocError, Global};
 
-/// Lists an originator, if it isn't listed: whether there was room for it.
+/// Lists an originator, if it isn't listed. Returns `false` if there was no room for it.
 fn list(originators: &mut ArrayVec<Addr, 64>, originator: Addr) -> bool
     requires { IsDistinct eqb originators.old.items }
     ensures distinct { IsDistinct eqb originators.new.items }
@@ -30,7 +30,7 @@ fn list(originators: &mut ArrayVec<Addr, 64>, originator: Addr) -> bool
     true
 }
 
-/// The originators of updates, if there are 1 to 64.
+/// Returns the originators of updates, if there are 1 to 64.
 fn originators_of(updates: &[Update]) -> Option<ArrayVec<Addr, 64>>
     ensures { IfSome result (λ originators. AreOriginators originators.items) }
 {
@@ -46,8 +46,8 @@ fn originators_of(updates: &[Update]) -> Option<ArrayVec<Addr, 64>>
     Some(originators)
 }
 
-/// The table of updates, none where they have no originator, or more than 64, or where memory is
-/// refused.
+/// Returns the table of updates. Returns `None` if they have no originator, or more than 64, or if
+/// memory is refused.
 fn table_of(alloc: Global, updates: &[Update]) -> Option<Table>
     ensures { IfSome result (IsTableOf updates.now) }
 {
@@ -81,7 +81,7 @@ fn put_updates<W: Out>(
     }
 }
 
-/// Writes the report of what a table holds, or that memory was refused to that.
+/// Writes the report of a table's contents, or that memory for them was refused.
 #[tactic(auto, using(crate::proofs::Doing::puts_refused))]
 fn put_shown<W: Out>(
     alloc: Global,
@@ -98,7 +98,7 @@ fn put_shown<W: Out>(
     }
 }
 
-/// Writes the report of a table that was asked for.
+/// Writes the report of a table that was requested.
 #[tactic(auto, using(crate::proofs::Doing::puts_unreached))]
 pub(crate) fn put_table_seen<W: Out>(
     alloc: Global,

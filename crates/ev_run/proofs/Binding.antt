@@ -1,4 +1,4 @@
--- The ports whose sockets have been bound so far, and what hinders the next one.
+-- The ports whose sockets have been bound so far, and the reason that prevents the next one.
 use Rattle.std.proofs.Common.{◌≡◌, ℕ, zero, suc, ◌+◌, ◌<◌, Bool, true, false, List, [], ◌∷◌, ◌++◌, map, take, length}
 use Rattle.std.proofs.Common.{get_or, Option, Some, None, refl, sym, ap, ap₂, subst, true≢false, ◌∙◌, arith}
 use Rattle.std.proofs.Common.{◌||◌, Result, Ok, Err, IfErr, IsErrAnd}
@@ -18,7 +18,7 @@ use Rattle.ev_run.specs.declared.bound.PortSocket.{PortSocket}
 use Rattle.ev_run.specs.Sockets.{locals_of, tunnel_of, edge_ends, ends_from, endpoints_of, all_ends, lacks_end}
 use Rattle.ev_run.specs.Sockets.{lacks_ends, lacks_address, Hinders}
 
--- one more
+-- one port more
 pub local_more : (links : List PortEndpoints) (place : ℕ) (d : PortEndpoints) (ports : List PortSocket)
     (port : PortSocket) → place < length links
     → map (λ (p : PortSocket). p.local) ports ≡ locals_of (take place links)
@@ -32,22 +32,22 @@ local_more links place d ports port within was one =
     ∙ sym (filter_map-append (λ (link : PortEndpoints). link.local) before (get_or links place d ∷ []))
     ∙ ap locals_of (sym (take_more links place d within))
 
--- one more that has its addresses
+-- one port more that has its addresses
 pub whole_more : (links : List PortEndpoints) (place : ℕ) (d : PortEndpoints) → place < length links
     → lacks_ends (take place links) ≡ false → lacks_end (get_or links place d) ≡ false
     → lacks_ends (take (place + 1) links) ≡ false
 whole_more links place d within was one =
     list_any_more lacks_end links place d within ∙ ap (λ b. b || lacks_end (get_or links place d)) was ∙ one
 
--- ---- where a socket can't be bound
+-- ---- a socket that can't be bound
 
--- what the exit of a `?` returns
+-- the value that the exit of a `?` returns
 pub exits : {T : Type 0} (r : Result T StartError) (ends : List Endpoint) (lacks : Bool) (why : StartError)
     → IsErrAnd r (λ e. e ≡ why) → Hinders ends lacks why → IfErr r (λ e. Hinders ends lacks e)
 exits (Ok x) ends lacks why is h = tt
 exits (Err e) ends lacks why is h = subst (λ (it : StartError). Hinders ends lacks it) (sym is) h
 
--- what hinders these hinders more
+-- a reason for these addresses is one for more addresses
 hinders_more : (ends wider : List Endpoint) (lacks more : Bool) (why : StartError)
     → ((at : Endpoint) → Contains ends at → Contains wider at) → (lacks ≡ true → more ≡ true)
     → Hinders ends lacks why → Hinders wider more why
@@ -60,7 +60,7 @@ behind : (o : Option Endpoint) (ends : List Endpoint) (at : Endpoint) → Contai
 behind None ends at h = h
 behind (Some first) ends at h = Contains-append_right (first ∷ []) ends at h
 
--- where the port at a place takes its frames
+-- the endpoint at which the port at a place receives its frames
 local_in : (links : List PortEndpoints) (place : ℕ) (d : PortEndpoints) (local : Endpoint) → place < length links
     → (get_or links place d).local ≡ Some local → Contains (locals_of links) local
 local_in [] place d local within is = absurd (omega (arith, within))
@@ -88,7 +88,7 @@ port_hinders links place d local why within is h =
     hinders_more (local ∷ []) (locals_of links) false (lacks_ends links) why
     (all_in_local local (locals_of links) (local_in links place d local within is)) never h
 
--- an edge's tunnels whose socket can't be bound
+-- the socket of an edge's tunnels that can't be bound
 pub tunnel_hinders : (edge : EdgeConfig) (links : ArrayVec PortEndpoints) (at : Endpoint) (why : StartError)
     → at ≡ tunnel_of edge → Hinders (at ∷ []) false why → Hinders (edge_ends edge links) (lacks_ends links.items) why
 tunnel_hinders edge links at why is h =
@@ -96,7 +96,7 @@ tunnel_hinders edge links at why is h =
     (all_in_local at (edge_ends edge links) (subst (λ (e : Endpoint). Contains (edge_ends edge links) e) (sym is)
     (0, omega arith, refl))) never h
 
--- what hinders its ports hinders an edge
+-- a reason for its ports is one for an edge
 pub ports_hinder : (edge : EdgeConfig) (links : ArrayVec PortEndpoints) (why : StartError)
     → Hinders (locals_of links.items) (lacks_ends links.items) why
     → Hinders (edge_ends edge links) (lacks_ends links.items) why
@@ -113,7 +113,7 @@ one_of_all bound one more all same at h =
     (Contains-append_right (flat_map each bound) (flat_map each (one ∷ more)) at
     (Contains-append_left one (flat_map each more) at h)))
 
--- what hinders the next edge hinders a run
+-- a reason for the next edge is one for a run
 pub edge_hinders : (bound : List (List Endpoint)) (edges more : List EdgeConfig)
     (all others : List (ArrayVec PortEndpoints)) (edge : EdgeConfig) (links : ArrayVec PortEndpoints) (config : Config)
     (why : StartError)

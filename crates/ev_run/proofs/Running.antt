@@ -1,4 +1,4 @@
--- A run of edges: the input that is read out, and what is told at the end.
+-- A run of edges: the input that is read out, and the texts at the end.
 use Rattle.std.proofs.Common.{◌≡◌, inl, inr, ℕ, ◌+◌, ◌-◌, ◌<◌, ◌^◌, min, Bool, false, not, ◌||◌, nat_lt, List, [], ◌∷◌}
 use Rattle.std.proofs.Common.{◌++◌, take, length, get_or, Result, Ok, Err, is_ok, refl}
 use Rattle.std.proofs.Common.{MatchOption, sym, ap, subst, ◌∙◌, arith}
@@ -37,7 +37,7 @@ use Rattle.ev_report.proofs.Silence.{passed_refused, passed_four, holds_none, re
 
 -- ---- the input
 
--- so many reads gave octets, whatever those were
+-- `turn` reads returned octets, which may be any
 pub record Drains (turn : ℕ) (old new : Source) : Type 0 where
   pub pieces : List (List ℕ)
   pub gives : Gives old new pieces
@@ -69,7 +69,7 @@ module _ (turn : ℕ) (s mid last : Source) (buffer : List ℕ) (d : Drains turn
 pub drained_unended : (turn : ℕ) (s mid : Source) → Drains turn s mid → turn ≡ 2 ^ 40 → ReadsWhole s mid (Err Device)
 drained_unended turn s mid d turns = whole_unended turn s mid mid (concat d.pieces) [] (gathered turn s mid d) turns
 
--- ---- configurations, taken from behind
+-- ---- configurations, taken from the end of their list
 
 module _ (all left : List EdgeConfig) (config : EdgeConfig) (same : all ≡ left ++ config ∷ [])
     (each : EachConfig all) where
@@ -81,12 +81,12 @@ module _ (all left : List EdgeConfig) (config : EdgeConfig) (same : all ≡ left
   each_left = λ c k. each c (subst (λ (cs : List EdgeConfig). Contains cs c) (sym same)
       (Contains-append_left left (config ∷ []) c k))
 
--- ---- what is told
+-- ---- the texts
 
 min_twice : (a b m : ℕ) → min (min a m + b) m ≡ min (a + b) m
 min_twice a b m = grind arith
 
--- one edge's sends more
+-- the sum with one edge's sends more
 pub lost_more : (ended : List Ended) (place : ℕ) (d : Ended) → place < length ended
     → all_lost (take (place + 1) ended) ≡ min (all_lost (take place ended) + sends_failed (get_or ended place d))
     (2 ^ 64 - 1)
@@ -97,7 +97,7 @@ lost_more ended place d within =
     ∙ ap (λ n. min n (2 ^ 64 - 1)) (sum_by_push sends_failed before one)
     ∙ sym (min_twice (sum_by sends_failed before) (sends_failed one) (2 ^ 64 - 1))
 
--- what is noted behind alerts
+-- the notes after the alerts
 puts_rest : (start notes notes' : End) (alerts text : List ℕ) (told r : Result (Unit {0}) device.Device)
     → Puts start notes alerts told → PutsRest told notes notes' text r → Puts start notes' (alerts ++ text) r
 puts_rest start notes notes' alerts text (Ok done) r put rest = puts_behind start notes notes' alerts text r put rest
@@ -126,17 +126,17 @@ module _ (ended : List Ended) (system : List ℕ) (is_read : Bool) (out out' not
             (sym (put_failed start notes' s text put));
       }
 
--- what is told of why no edge began
+-- the text of the reason why no edge began
 abbrev pub TellsCause : StartError → End → End → ℕ → Type 0
 TellsCause cause notes notes' status =
     MatchOption (start_text cause) ((notes' ≡ notes) × (status ≡ 3)) (λ text. Holds notes notes' text × (status ≡ 4))
 
--- an address is told
+-- the text has an address
 pub tells_address : (notes notes' : End) (r : Result (Unit {0}) device.Device) (at : Endpoint) (why : BindError)
     → Puts notes notes' (bind_error_text at why) r → TellsCause (Unbindable at why) notes notes' 4
 tells_address notes notes' r at why put = (put_holds notes notes' r (bind_error_text at why) put, refl)
 
--- no address is told
+-- the text has no address
 pub tells_nothing : (notes : End) → TellsCause Unnamed notes notes 4
 tells_nothing notes = (holds_none notes, refl)
 
@@ -171,7 +171,7 @@ runs_none config Unnamed input out notes notes' status hinders told = inr (inl (
 runs_none config NoMemory input out notes notes' status hinders told =
     rw told.0 (inr (inr (refused_memory out notes status told.1)))
 
--- they ran with sockets that are where they should be
+-- the edges ran with sockets that are bound to the right endpoints
 pub runs_bound : (config : Config) (bound : List (List Endpoint)) (before after : Devices) (status : ℕ)
     → Ran (length config.edges.items) bound before after status → bound ≡ endpoints_of config
     → lacks_address config ≡ false → RunsEdges config before after status
@@ -180,13 +180,13 @@ runs_bound config bound before after status ran same whole = inl (
   subst (λ (ends : List (List Endpoint)). Ran (length config.edges.items) ends before after status) same ran,
 )
 
--- memory was refused to what the edges begin with
+-- the memory with which the edges begin was refused
 pub runs_refused : (config : Config) (input input' : Source) (out out' notes notes' : End)
     → out' ≡ out → notes' ≡ notes → RunsEdges config (devices input out notes) (devices input' out' notes') 3
 runs_refused config input input' out out' notes notes' a b =
     rw (a, b) (inr (inr (refused_memory out notes 3 refl)))
 
--- ---- writers that are given more at once
+-- ---- buffered writers
 
 module _ (config : Config) (before held after : Devices) (status last : ℕ)
     (p : Passes before.out.failures before.notes.failures held after status last) where

@@ -1,4 +1,4 @@
--- A run that answers clients: what is told where nothing can listen, and writers that are given more at once.
+-- A run that answers clients: the note if nothing can listen, and buffered writers.
 use Rattle.std.proofs.Common.{inl, inr, ℕ, [], Result, refl, ◌∙◌}
 use Rattle.ether_wire.specs.declared.ends.Device as device
 use Rattle.ether_wire.specs.Ends.{End, Source, Puts}
@@ -11,7 +11,7 @@ use Rattle.ev_run.specs.declared.control_socket.ListenError.{ListenError}
 use Rattle.ev_run.specs.Serving.{listen_error_text, TellsListenError, ServesEdges}
 use Rattle.ev_run.proofs.Running.{passed_runs}
 
--- a path is told
+-- the note has a path
 pub tells_path : (path : Text) (notes notes' : End) (r : Result (Unit {0}) device.Device) (why : ListenError)
     → Puts notes notes' (listen_error_text path why) r → TellsListenError path notes notes' 4
 tells_path path notes notes' r why put = record {

@@ -1,33 +1,33 @@
--- What a run takes at its beginning.
+-- The resources that a run takes at its beginning.
 use Rattle.std.specs.Prelude.{ℕ, ◌+◌, ◌-◌, ◌*◌, ◌/◌, ◌^◌, min, Bool, if◌then◌else◌, List, [], ◌++◌, length, fold, codes}
 use Rattle.std.specs.Fmt.{decimal}
 use Rattle.ev_edge.specs.declared.config.EdgeConfig.{EdgeConfig}
 use Rattle.ev_report.specs.Originators.{Text}
 use Rattle.ev_run.specs.declared.needs.Needs.{Needs}
 
--- the ports of an edge
+-- the number of ports of an edge
 abbrev pub ports_of : EdgeConfig → ℕ
 ports_of c = length c.ports.items
 
--- two threads for each port, of which one receives and one sends, and so for the tunnel; one for the clock, one for
--- what other edges say, and the edge's own
+-- two threads for each port and two for the tunnel, of which one receives and one sends; one for the clock, one for the
+-- updates of other edges, and the edge's own
 abbrev pub edge_threads : EdgeConfig → ℕ
 edge_threads c = 2 * ports_of c + 5
 
--- a socket for the tunnel, and one for each port
+-- one socket for the tunnel, and one for each port
 abbrev pub edge_sockets : EdgeConfig → ℕ
 edge_sockets c = ports_of c + 1
 
--- About so many octets of memory: what an edge, each thread, and each place and bucket of a learning table, of which
--- there are at most 65536, have been seen to take.
+-- The approximate number of octets of memory: the measured needs of an edge, of each thread, and of each place and
+-- bucket of a learning table, of which there are at most 65536.
 abbrev pub edge_memory : EdgeConfig → ℕ
 edge_memory c = (512000 + 98304 * edge_threads c) + (68 * min c.capacity 65536 + 12 * min c.buckets 65536)
 
--- the most that is counted
+-- the greatest number that is counted
 abbrev pub most : ℕ
 most = 2 ^ 64 - 1
 
--- with one edge more
+-- the needs with one edge more
 abbrev pub with_edge : Needs → EdgeConfig → Needs
 with_edge n c = record {
   threads = min (n.threads + edge_threads c) most;
@@ -35,16 +35,17 @@ with_edge n c = record {
   memory = min (n.memory + edge_memory c) most;
 }
 
--- the thread that reads standard input and the one that tells alerts, and what the program takes without edges
+-- the needs without edges: the thread that reads standard input, the one that writes alerts, and the program's memory
 abbrev pub alone : Needs
 alone = record { threads = 2; sockets = 0; memory = 2351104 }
 
 abbrev pub needs_of : List EdgeConfig → Needs
 needs_of edges = fold with_edge alone edges
 
--- ---- clients that ask meanwhile
+-- ---- clients that query a run
 
--- At most so many sockets: that where they come in, two for each of 8, and one of a client for whom there is no seat.
+-- The most sockets that clients take: the one to which they connect, two for each of 8 clients, and one of a client for
+-- which no seat is free.
 abbrev pub client_sockets : ℕ
 client_sockets = 18
 
@@ -52,7 +53,7 @@ abbrev pub sockets_of : Bool → List EdgeConfig → ℕ
 sockets_of is_asked edges =
     if is_asked then min ((needs_of edges).sockets + client_sockets) most else (needs_of edges).sockets
 
--- ---- what is told of it
+-- ---- the text
 
 abbrev pub threads_text : ℕ → Text
 threads_text threads = decimal threads ++ codes " threads\n"
@@ -60,18 +61,18 @@ threads_text threads = decimal threads ++ codes " threads\n"
 abbrev pub sockets_text : ℕ → Text
 sockets_text sockets = decimal sockets ++ codes " UDP sockets\n"
 
--- in MiB, of which the last one is begun
+-- the whole MiB and one more
 abbrev pub memory_text : ℕ → Text
 memory_text memory = codes "about " ++ decimal (memory / 1048576 + 1) ++ codes " MiB of memory\n"
 
--- a line each
+-- a line for each need
 abbrev pub needs_text : Needs → Text
 needs_text n = threads_text n.threads ++ sockets_text n.sockets ++ memory_text n.memory
 
--- what clients take besides: a thread where they come in, two for each of 8, and memory for these
+-- the resources that clients take in addition: a thread that accepts them, two for each of 8, and memory for these
 abbrev pub clients_text : Text
 clients_text = codes "for 8 clients at most 17 threads, 18 sockets and about 2 MiB of memory more\n"
 
--- so where clients may ask meanwhile
+-- the needs, with those of clients if clients may query the run
 abbrev pub asked_text : Bool → Needs → Text
 asked_text is_asked n = needs_text n ++ (if is_asked then clients_text else [])

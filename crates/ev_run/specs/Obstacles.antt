@@ -1,4 +1,4 @@
--- What a configuration has that no run can use.
+-- The parts of a configuration that no run can use.
 use Rattle.std.specs.Prelude.{ℕ, ◌+◌, ◌-◌, Bool, false, ◌&&◌, ◌||◌, ◌==◌, nat_lt, if◌then◌else◌, List, [], ◌∷◌, ◌++◌}
 use Rattle.std.specs.Prelude.{length, take, codes, Option, Some, None}
 use Rattle.std.specs.Fmt.{decimal}
@@ -21,33 +21,33 @@ use Rattle.ev_view.specs.EdgeViews.{each_from}
 use Rattle.ev_run.specs.Needs.{sockets_of}
 use Rattle.ev_run.specs.Sockets.{tunnel_of}
 
--- ---- sockets that hinder each other
+-- ---- sockets that clash
 
--- both can't be bound: one UDP port at one address, or at all addresses (0.0.0.0)
+-- both can't be bound: they have the same UDP port, and either the same address, or one of them all addresses (0.0.0.0)
 abbrev pub clashes : Endpoint → Endpoint → Bool
 clashes a b = a.port == b.port && (a.address == b.address || (a.address == 0 || b.address == 0))
 
 abbrev pub is_tunnel : List EdgeConfig → Endpoint → Bool
 is_tunnel edges at = list_any (λ c. clashes (tunnel_of c) at) edges
 
--- a port takes its frames there
+-- the local end of a port clashes with this endpoint
 abbrev pub is_local : Endpoint → PortEndpoints → Bool
 is_local at link = option_map_or (λ local. clashes local at) link.local false
 
--- one of these edges' ports does, or one of these ports
+-- the local end of a port of these edges, or of one of these ports, clashes with this endpoint
 abbrev pub is_taken : List (ArrayVec PortEndpoints) → List PortEndpoints → Endpoint → Bool
 is_taken before ports at = list_any (λ links. list_any (is_local at) links.items) before || list_any (is_local at) ports
 
 -- ---- the ends of a port
 
--- why a port can't take its frames there, given all edges, the links of the edges before its own, and of the ports
--- before it
+-- why a port can't receive its frames at this endpoint, given all edges, the links of the edges before its own, and the
+-- links of the ports before it
 abbrev pub local_cause : List EdgeConfig → List (ArrayVec PortEndpoints) → List PortEndpoints → Endpoint → Option Cause
 local_cause edges before ports at =
     if at.port == 0 then Some NoPort
     else if is_tunnel edges at then Some Tunnel else if is_taken before ports at then Some Taken else None
 
--- why it can't send them there
+-- why a port can't send its frames to this endpoint
 abbrev pub remote_cause : Endpoint → Option Cause
 remote_cause at = if at.port == 0 then Some NoPort else if at.address == 0 then Some NoHost else None
 
@@ -64,48 +64,48 @@ abbrev pub remote_obstacles : Seat → Option Endpoint → List Obstacle
 remote_obstacles seat None = []
 remote_obstacles seat (Some at) = useless seat Remote at (remote_cause at)
 
--- those of a port
+-- the obstacles of a port
 abbrev pub port_obstacles : List EdgeConfig → List (ArrayVec PortEndpoints) → List PortEndpoints → Seat → PortEndpoints
     → List Obstacle
 port_obstacles edges before ports seat link =
     local_obstacles edges before ports seat link.local ++ remote_obstacles seat link.remote
 
--- those of the port at a place of an edge, given the links of the edges before it and its own
+-- the obstacles of the port at a place of an edge, given the links of the edges before it and its own links
 abbrev pub obstacles_at : List EdgeConfig → List (ArrayVec PortEndpoints) → List PortEndpoints → ℕ → PortEndpoints
     → List Obstacle
 obstacles_at edges before links place link =
     port_obstacles edges before (take place links) (record { edge = length before + 1; port = place + 1 }) link
 
--- those of all its ports
+-- the obstacles of all ports of an edge
 abbrev pub ports_obstacles : List EdgeConfig → List (ArrayVec PortEndpoints) → List PortEndpoints → List Obstacle
 ports_obstacles edges before links = each_from (obstacles_at edges before links) 0 links
 
--- those of the ports of the edge at a place
+-- the obstacles of the ports of the edge at a place
 abbrev pub ports_at : List EdgeConfig → List (ArrayVec PortEndpoints) → ℕ → ArrayVec PortEndpoints → List Obstacle
 ports_at edges all place links = ports_obstacles edges (take place all) links.items
 
--- those of all ports
+-- the obstacles of all ports
 abbrev pub all_ports_obstacles : List EdgeConfig → List (ArrayVec PortEndpoints) → List Obstacle
 all_ports_obstacles edges all = each_from (ports_at edges all) 0 all
 
--- ---- all
+-- ---- all obstacles
 
--- an edge whose address is 0.0.0.0: what it sends comes from another one
+-- an edge whose address is 0.0.0.0: its datagrams come from a different address
 abbrev pub edge_obstacles : ℕ → EdgeConfig → List Obstacle
 edge_obstacles number c = if c.address == 0 then Unheard number ∷ [] else []
 
--- more sockets, and the three standard streams, than there may be descriptors, where that is known
+-- the sockets and the three standard streams take more descriptors than are allowed, if that limit is known
 abbrev pub count_obstacles : ℕ → Option ℕ → List Obstacle
 count_obstacles sockets None = []
 count_obstacles sockets (Some most) = if nat_lt (most - 3) sockets then TooMany sockets most ∷ [] else []
 
--- those of a run, perhaps one that clients ask meanwhile
+-- the obstacles of a run, which clients may query if `is_asked`
 abbrev pub obstacles_of : List EdgeConfig → List (ArrayVec PortEndpoints) → Bool → Option ℕ → List Obstacle
 obstacles_of edges all is_asked most =
     (each_from edge_obstacles 1 edges ++ all_ports_obstacles edges all)
     ++ count_obstacles (sockets_of is_asked edges) most
 
--- ---- what is told of them
+-- ---- the text
 
 abbrev pub lead_text : End → Text
 lead_text Local = codes "local is "
@@ -125,7 +125,7 @@ port_text port = codes ", port " ++ decimal port ++ codes ": "
 abbrev pub seat_text : Seat → Text
 seat_text seat = codes "edge " ++ decimal seat.edge ++ port_text seat.port
 
--- an end, and where it is
+-- the kind of an end, and its endpoint
 abbrev pub end_text : End → Endpoint → Text
 end_text end at = lead_text end ++ endpoint_text at
 
@@ -138,7 +138,7 @@ obstacle_text (Unheard edge) = codes "edge " ++ decimal edge
 obstacle_text (Useless seat end at cause) = seat_text seat ++ end_text end at ++ cause_text cause
 obstacle_text (TooMany sockets most) = decimal sockets ++ most_text most
 
--- whatever its number
+-- the text is independent of the number
 abbrev pub told_of : ℕ → Obstacle → Text
 told_of number obstacle = obstacle_text obstacle
 

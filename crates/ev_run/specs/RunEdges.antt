@@ -1,4 +1,4 @@
--- What a run of edges over sockets leaves.
+-- The results of a run of edges over sockets.
 use Rattle.std.specs.Prelude.{◌≡◌, ℕ, ◌-◌, ◌^◌, min, ◌⊎◌, ◌||◌, Bool, true, false, not, ◌==◌, nat_lt}
 use Rattle.std.specs.Prelude.{if◌then◌else◌, List, [], ◌++◌, length, codes, Option, Some, None}
 use Rattle.std.specs.Prelude.{Result, Ok, Err}
@@ -48,98 +48,99 @@ bind_error_text at why = codes "can't bind " ++ (endpoint_text at ++ codes ": ")
 
 -- ---- the input
 
--- it was read up to its end
+-- the input was read up to its end
 pub record IsReadOut (old new : Source) : Type 0 where
   pub input : List ℕ
   pub read : ReadsWhole old new (Ok input)
 
--- It was read up to its end; or a read failed, or 2^40 reads didn't reach it.
+-- `true`: the input was read up to its end. `false`: a read failed, or 2^40 reads didn't reach the end.
 abbrev pub ReadsOut : Source → Source → Bool → Type 0
 ReadsOut old new true = IsReadOut old new
 ReadsOut old new false = ReadsWhole old new (Err Device)
 
--- ---- what is told of a run
+-- ---- the texts of a run
 
--- what an edge came to, or that it was refused what it begins with
+-- the outcome of an edge, or that the memory with which it begins was refused
 abbrev pub Ended : Type 0
 Ended = Result Outcome AllocError
 
--- `edge N`, and the report of its table behind it
+-- `edge N`, and then the report of the edge's table
 abbrev pub edge_text : ℕ → Edge → Text
 edge_text number edge = (codes "edge " ++ decimal number ++ codes "\n") ++ report_of (table_of edge)
 
--- nothing of an edge that didn't run
+-- no text for an edge that didn't run
 abbrev pub ended_text : ℕ → Ended → Text
 ended_text number (Ok outcome) = edge_text number outcome.edge
 ended_text number (Err refused) = []
 
--- the texts of all edges, the first of which has this number
+-- the texts of all edges; the first edge has this number
 abbrev pub reports_from : ℕ → List Ended → Text
 reports_from = each_from ended_text
 
--- the link of a line: that of the tunnel, or that of the port with this number
+-- the link of a line: the tunnel's, or that of the port with this number
 abbrev pub link_text : ℕ → Text
 link_text place = if place == 0 then codes "tunnel" else codes "port " ++ decimal place
 
--- what was dropped: frames that a line had no room for, or datagrams that the system had none for at a socket
+-- the kind of a drop: frames for which a line had no room, or datagrams for which the system had no room at a socket
 abbrev pub dropped_words : Dropped → Text
 dropped_words NoRoom = codes " frames dropped: no room\n"
 dropped_words BySystem = codes " datagrams dropped by the system\n"
 
--- `edge E port P: N` and what they were, where there are any
+-- `edge E port P: N` and the kind of the drop, if there are any
 abbrev pub dropped_text : Dropped → ℕ → ℕ → ℕ → Text
 dropped_text what number place dropped =
     if nat_lt 0 dropped then (codes "edge " ++ decimal number ++ codes " ") ++ link_text place
     ++ (codes ": " ++ decimal dropped ++ dropped_words what)
     else []
 
--- so of each line of an edge that ran
+-- the drops of each line of an edge that ran
 abbrev pub drops_text : ℕ → Ended → Text
 drops_text number (Ok outcome) = each_from (dropped_text NoRoom number) 0 outcome.dropped.items
 drops_text number (Err refused) = []
 
--- how many the system dropped at a link's socket, as its table of sockets tells it
+-- how many datagrams the system dropped at a link's socket, as its table of sockets reports it
 abbrev pub socket_text : Text → ℕ → ℕ → Endpoint → Text
 socket_text table number place at = dropped_text BySystem number place (dropped_at table at)
 
--- so of each socket of an edge
+-- the drops at each socket of an edge
 abbrev pub sockets_text : Text → ℕ → List Endpoint → Text
 sockets_text table number ends = each_from (socket_text table number) 0 ends
 
--- so of those of all edges
+-- the drops at the sockets of all edges
 abbrev pub system_text : Text → List (List Endpoint) → Text
 system_text table sockets = each_from (sockets_text table) 1 sockets
 
--- `lost N`, where sends failed
+-- `lost N`, if sends failed
 abbrev pub lost_text : ℕ → Text
 lost_text lost = if nat_lt 0 lost then codes "lost " ++ decimal lost ++ codes "\n" else []
 
--- how many sends of its workers failed
+-- how many sends of an edge's workers failed
 abbrev pub sends_failed : Ended → ℕ
 sends_failed (Ok outcome) = outcome.faults.lost
 sends_failed (Err refused) = 0
 
--- a link of its workers failed
+-- a link of an edge's workers failed
 abbrev pub link_failed : Ended → Bool
 link_failed (Ok outcome) = outcome.faults.device
 link_failed (Err refused) = false
 
--- it, or one of its workers, was refused memory or a thread
+-- an edge, or one of its workers, was refused memory or a thread
 abbrev pub was_out_of_memory : Ended → Bool
 was_out_of_memory (Ok outcome) = outcome.faults.memory
 was_out_of_memory (Err refused) = true
 
--- how many sends failed, as far as 64 bits count
+-- how many sends failed, up to 2^64 - 1
 abbrev pub all_lost : List Ended → ℕ
 all_lost ended = min (sum_by sends_failed ended) (2 ^ 64 - 1)
 
--- what is noted at the end: which links had no room for frames, what the system says of their sockets, and `lost N`
+-- the notes of the end: the links that had no room for frames, the drops that the system reports at their sockets, and
+-- `lost N`
 abbrev pub noted_text : List Ended → Text → ℕ → Text
 noted_text ended system lost = each_from drops_text 1 ended ++ system ++ lost_text lost
 
--- The reports of the edges that ran are written. The alerts of meanwhile are noted, and behind them what their lines
--- had no room for, what the system says of their sockets, and `lost N` where sends failed. The status is 4 where a
--- device failed, 3 where memory or a thread was refused, else 0.
+-- The reports of the edges that ran are written. The notes are the alerts of the run, then the frames for which lines
+-- had no room, the drops that the system reports at the sockets, and `lost N` if sends failed. The status is 4 if a
+-- device failed, 3 if memory or a thread was refused, else 0.
 pub record TellsEnded (alerts : List Told) (ended : List Ended) (system : Text) (is_read : Bool)
     (out out' notes notes' : End) (status : ℕ) : Type 0 where
   pub written : Holds out out' (reports_from 1 ended)
@@ -149,8 +150,8 @@ pub record TellsEnded (alerts : List Told) (ended : List Ended) (system : Text) 
 
 -- ---- a run
 
--- Edges ran until the input's end, and so many came to something. Their sockets were here; `table` is what the system
--- told of its UDP sockets then, nothing where that couldn't be read.
+-- Edges ran until the input's end, and `many` of them have a result. `sockets` are the endpoints of their sockets;
+-- `table` is the system's table of UDP sockets at that time, empty if it couldn't be read.
 pub record Ran (many : ℕ) (sockets : List (List Endpoint)) (before after : Devices) (status : ℕ) : Type 0 where
   pub is_read : Bool
   pub read : ReadsOut before.input after.input is_read
@@ -161,14 +162,15 @@ pub record Ran (many : ℕ) (sockets : List (List Endpoint)) (before after : Dev
   pub told : TellsEnded alerts ended (system_text table sockets) is_read before.out after.out before.notes after.notes
       status
 
--- What is told where no edge begins for want of an address: which one can't be bound, and why; nothing of a port that
--- has none. There is no such text where it is for want of memory.
+-- The text if no edge begins for lack of an address: the address that can't be bound, and why; the empty text if a port
+-- lacks one. There is no text if no edge begins for lack of memory.
 abbrev pub start_text : StartError → Option Text
 start_text (Unbindable at why) = Some (bind_error_text at why)
 start_text Unnamed = Some []
 start_text NoMemory = None
 
--- An address of this configuration couldn't be bound, which is told, or a port of it has none: the status is 4.
+-- The status is 4: an address of this configuration couldn't be bound, and a note reports it, or a port of it lacks an
+-- address.
 pub record IsStartError (config : Config) (notes notes' : End) (status : ℕ) : Type 0 where
   pub why : StartError
   pub hinders : Hinders (all_ends config) (lacks_address config) why
@@ -177,8 +179,8 @@ pub record IsStartError (config : Config) (notes notes' : End) (status : ℕ) : 
   pub noted : Holds notes notes' text
   pub status_is : status ≡ 4
 
--- The edges of a configuration were run, each port of which has its addresses; or no edge began and nothing was read,
--- nothing but why written; or memory was refused to what they begin with.
+-- The edges of a configuration were run, and each port has its addresses; or no edge began, nothing was read, and only
+-- the reason was written; or the memory with which the edges begin was refused.
 abbrev pub RunsEdges : Config → Devices → Devices → ℕ → Type 0
 RunsEdges config before after status =
     ((lacks_address config ≡ false) × Ran (length config.edges.items) (endpoints_of config) before after status)

@@ -1,4 +1,4 @@
--- What a run of edges leaves that answers clients at a control socket meanwhile.
+-- The results of a run of edges that answers clients at a control socket meanwhile.
 use Rattle.std.specs.Prelude.{◌≡◌, ℕ, ◌⊎◌, [], ◌++◌, codes}
 use Rattle.ether_wire.specs.Ends.{End}
 use Rattle.ev_report.specs.Ends.{Devices, Holds}
@@ -22,14 +22,14 @@ reason_of listen_error.Other = codes "the system refuses it\n"
 abbrev pub listen_error_text : Text → ListenError → Text
 listen_error_text path why = codes "can't listen at " ++ (path ++ codes ": ") ++ reason_of why
 
--- Nothing can listen at this path, which is told: the status is 4.
+-- Nothing can listen at this path, and a note reports it: the status is 4.
 pub record TellsListenError (path : Text) (notes notes' : End) (status : ℕ) : Type 0 where
   pub why : ListenError
   pub noted : Holds notes notes' (listen_error_text path why)
   pub status_is : status ≡ 4
 
--- The edges are run, whatever clients do; or nothing can listen at this path, and no edge began, nothing was read, and
--- nothing but that written.
+-- The edges are run, whatever clients do; or nothing can listen at this path, no edge began, nothing was read, and only
+-- a note about the path was written.
 abbrev pub ServesEdges : Text → Config → Devices → Devices → ℕ → Type 0
 ServesEdges path config before after status =
     RunsEdges config before after status

@@ -1,4 +1,4 @@
--- Where the sockets of a run are.
+-- The endpoints of a run's sockets.
 use Rattle.std.specs.Prelude.{◌≡◌, ◌||◌, Bool, true, is_none, List, [], ◌∷◌, Contains}
 use Rattle.std.specs.List.{filter_map, flat_map, list_any}
 use Rattle.arrayvec.specs.ArrayVec.{ArrayVec}
@@ -9,45 +9,46 @@ use Rattle.ev_config.specs.declared.whole.Config.{Config}
 use Rattle.ev_run.specs.declared.sockets.StartError.{StartError}
 use Rattle.ev_run.specs.declared.sockets.StartError.TheVariants.{Unbindable, Unnamed, NoMemory}
 
--- where an edge's tunnels are (RFC 7348)
+-- the endpoint of an edge's tunnels (RFC 7348)
 abbrev pub tunnel_of : EdgeConfig → Endpoint
 tunnel_of c = record { address = c.address; port = 4789 }
 
--- where a port takes its frames
+-- the endpoints at which ports receive their frames
 abbrev pub locals_of : List PortEndpoints → List Endpoint
 locals_of links = filter_map (λ link. link.local) links
 
--- where an edge takes what comes to it: from its tunnels, and from its ports
+-- the endpoints at which an edge receives: from its tunnels, and from its ports
 abbrev pub edge_ends : EdgeConfig → ArrayVec PortEndpoints → List Endpoint
 edge_ends edge links = tunnel_of edge ∷ locals_of links.items
 
--- so of each of these edges, with the links of each
+-- the endpoints of each of these edges, with the links of each
 abbrev pub ends_from : List EdgeConfig → List (ArrayVec PortEndpoints) → List (List Endpoint)
 ends_from [] all = []
 ends_from (edge ∷ edges) [] = []
 ends_from (edge ∷ edges) (links ∷ all) = edge_ends edge links ∷ ends_from edges all
 
--- so of each edge of a configuration
+-- the endpoints of each edge of a configuration
 abbrev pub endpoints_of : Config → List (List Endpoint)
 endpoints_of config = ends_from config.edges.items config.links.items
 
--- all of these
+-- all endpoints of a configuration, in one list
 abbrev pub all_ends : Config → List Endpoint
 all_ends config = flat_map (λ ends. ends) (endpoints_of config)
 
--- a port has no address where it takes its frames, or none to which it sends them
+-- a port has no address at which it receives its frames, or none to which it sends them
 abbrev pub lacks_end : PortEndpoints → Bool
 lacks_end link = is_none link.local || is_none link.remote
 
--- one of these ports is so
+-- one of these ports lacks an address
 abbrev pub lacks_ends : List PortEndpoints → Bool
 lacks_ends links = list_any lacks_end links
 
--- a port of a configuration is so
+-- a port of a configuration lacks an address
 abbrev pub lacks_address : Config → Bool
 lacks_address config = list_any (λ links. lacks_ends links.items) config.links.items
 
--- what hinders a run over these addresses: one of them can't be bound, a port lacks one, or there is no memory
+-- the reason that prevents a run over these addresses: one of them can't be bound, a port lacks one, or there is no
+-- memory
 abbrev pub Hinders : List Endpoint → Bool → StartError → Type 0
 Hinders ends is_lacking (Unbindable at why) = Contains ends at
 Hinders ends is_lacking Unnamed = is_lacking ≡ true

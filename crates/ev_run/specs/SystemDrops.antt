@@ -1,4 +1,5 @@
--- How many datagrams the system has dropped at a socket for want of room, as Linux tells it in `/proc/net/udp`.
+-- The number of datagrams that the system has dropped at a socket for lack of room, as Linux reports it in
+-- `/proc/net/udp`.
 use Rattle.std.specs.Prelude.{ℕ, ◌-◌, ◌/◌, ◌%◌, ◌^◌, max, Bool, true, false, not, ◌==◌, if◌then◌else◌}
 use Rattle.std.specs.Prelude.{List, [], ◌∷◌, ◌++◌, length, Option, Some, None}
 use Rattle.std.specs.Int.{byte_at}
@@ -20,11 +21,11 @@ local_text at =
     upper_pair (byte_at 0 at.address) ++ upper_pair (byte_at 1 at.address) ++ upper_pair (byte_at 2 at.address)
     ++ upper_pair (byte_at 3 at.address) ++ 58 ∷ (upper_pair (byte_at 1 at.port) ++ upper_pair (byte_at 0 at.port))
 
--- the rows of the text: what stands between its line feeds
+-- the rows of the text, which line feeds separate
 abbrev pub rows_of : Text → List Text
 rows_of text = slice_split (λ c. c == 10) text
 
--- the words of a row: what stands between its spaces
+-- the words of a row, which spaces separate
 abbrev pub words_of : Text → List Text
 words_of row = filter (λ word. not (length word == 0)) (slice_split (λ c. c == 32) row)
 
@@ -33,15 +34,16 @@ abbrev pub names : Text → Option Text → Bool
 names local None = false
 names local (Some word) = bytes_eq word local
 
--- the number that a word spells in decimal; 0 where it spells none, or none below 2^64
+-- the number that a word spells in decimal; 0 if it spells none, or none below 2^64
 abbrev pub count_of : Option Text → ℕ
 count_of None = 0
 count_of (Some word) = unwrap_or (decimal_of_text (2 ^ 64 - 1) word) 0
 
--- how many a row says were dropped at a socket: the number of its thirteenth word, where its second one is the socket's
+-- how many datagrams a row reports as dropped at a socket: the number of its thirteenth word, if its second one is the
+-- socket's
 abbrev pub row_drops : Text → Text → ℕ
 row_drops local row = if names local (slice_get (words_of row) 1) then count_of (slice_get (words_of row) 12) else 0
 
--- how many the text says were dropped there: the greatest number of a row
+-- how many datagrams the text reports as dropped there: the greatest number of a row
 abbrev pub dropped_at : Text → Endpoint → ℕ
 dropped_at text at = fold (λ most row. max most (row_drops (local_text at) row)) 0 (rows_of text)

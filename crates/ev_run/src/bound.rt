@@ -9,28 +9,28 @@ use std::net::UdpSocket;
 /// The socket of a port.
 #[derive(Drop)]
 pub(crate) struct PortSocket {
-    /// Where it takes its frames.
+    /// The socket at which the port receives its frames.
     pub(crate) socket: UdpSocket,
-    /// Where that is bound.
+    /// The endpoint to which the socket is bound.
     pub(crate) local: Endpoint,
-    /// Where it sends them.
+    /// The endpoint to which the port sends its frames.
     pub(crate) remote: Endpoint,
 }
 
 /// The sockets of an edge.
 #[derive(Drop)]
 pub(crate) struct Sockets {
-    /// That of its tunnels.
+    /// The socket of the edge's tunnels.
     pub(crate) tunnel: UdpSocket,
-    /// Where that is bound.
+    /// The endpoint to which that socket is bound.
     pub(crate) at: Endpoint,
-    /// Those of its ports, port 1 first.
+    /// The sockets of the edge's ports, port 1 first.
     pub(crate) ports: Vec<PortSocket>,
     ghost few: { vec_len ports ≤ 64 },
 }
 
-/// Sends a socket an empty datagram of its own, to wake its reader. One that is bound to all
-/// addresses of the host is reached at 127.0.0.1.
+/// Wakes the reader of a socket: sends the socket an empty datagram of its own. A socket that is
+/// bound to all addresses of the host is reached at 127.0.0.1.
 fn wake(socket: &UdpSocket) {
     let Ok(at) = socket.local_addr() else {
         return;
@@ -43,7 +43,7 @@ fn wake(socket: &UdpSocket) {
     let _ = socket.send_to(&[], at);
 }
 
-/// Wakes all readers of sockets.
+/// Wakes the readers of all sockets.
 pub(crate) fn wake_all(all: &[Sockets]) {
     for sockets in all {
         wake(&sockets.tunnel);
@@ -51,7 +51,7 @@ pub(crate) fn wake_all(all: &[Sockets]) {
     }
 }
 
-/// Wakes the readers of ports' sockets.
+/// Wakes the readers of the ports' sockets.
 fn wake_ports(ports: &[PortSocket]) {
     for port in ports {
         wake(&port.socket);

@@ -1,5 +1,5 @@
-//! The clients of a run: each is answered on a thread of its own, and has one of a few seats
-//! meanwhile.
+//! The clients of a run. Each client has a thread of its own, and one of a few seats while it is
+//! served.
 ghost use Rattle.std.specs.Prelude.{◌≡◌, ◌^◌};
 ghost use Rattle.ether_wire.specs.Ends.{Allows};
 ghost use Rattle.ev_run.specs.RunEdges.{ReadsOut};
@@ -20,20 +20,20 @@ use std::thread::{Scope, Threads};
 use std::time::{Clock, Duration};
 use std::{io, thread};
 
-/// How many clients are answered at once.
+/// The most clients that are served at once.
 const SEATS: usize = 8;
 
-/// How many seconds a client may take to say what it wants, and to read what it asked for.
+/// The timeout in seconds of each read of a client's first line, and of each write to a client.
 const PATIENCE: u64 = 10;
 
-/// How many milliseconds it waits to try again where no client could be accepted.
+/// The milliseconds to wait before the next try if no client could be accepted.
 const PAUSE: u64 = 100;
 
-/// How many octets of a client's first line are looked at.
+/// The most octets of a client's first line that are read.
 const OPENING: usize = 16;
 
-/// The seats of the clients that are being answered. On each lies what ends the client's
-/// connection.
+/// The seats of the clients that are being served. A taken seat holds the handle that ends the
+/// client's connection.
 #[derive(Drop)]
 struct Seats {
     taken: [Option<UnixStream>; SEATS],
@@ -41,7 +41,7 @@ struct Seats {
 }
 
 impl Seats {
-    /// Seats on which nobody sits.
+    /// Returns seats that are all free.
     fn new() -> Self {
         Seats {
             taken: [None, None, None, None, None, None, None, None],
@@ -49,7 +49,8 @@ impl Seats {
         }
     }
 
-    /// Gives a client a seat, and answers which, if one is free and they aren't closed.
+    /// Gives a client a seat and returns the seat's number. Returns `None` if no seat is free or
+    /// the seats are closed.
     fn take(&mut self, end: UnixStream) -> Option<usize> {
         if self.is_closed {
             return None;
@@ -70,7 +71,8 @@ impl Seats {
         }
     }
 
-    /// Gives nobody a seat any more, and ends the connections of all who sit.
+    /// Closes the seats: gives no client a seat any more, and ends the connections of all clients
+    /// that have one.
     fn close(&mut self) {
         self.is_closed = true;
         for seat in self.taken.iter() {
@@ -81,34 +83,34 @@ impl Seats {
     }
 }
 
-/// What clients share.
+/// The state that the clients share.
 #[derive(Drop)]
 struct Hall<'x, R> {
-    /// What may wait and start threads.
+    /// The runtime, which waits and starts threads.
     rt: &'x R,
-    /// What answers take memory of.
+    /// The allocator of the answers.
     alloc: Global,
-    /// The edges that they ask.
+    /// The edges that the clients query.
     running: Running<'x>,
-    /// Where they come in.
+    /// The socket to which the clients connect.
     socket: &'x ControlSocket,
-    /// Where they sit.
+    /// The seats of the clients.
     seats: &'x Mutex<Seats>,
 }
 
-/// What a client wants, by its first line.
+/// A client's request, by its first line.
 enum Wanted {
-    /// To ask, line after line.
+    /// A conversation, line after line.
     Console,
-    /// To exchange records.
+    /// An exchange of records.
     Records,
-    /// Anything else.
+    /// Any other first line.
     Unknown,
-    /// Nothing: it has gone, or said nothing for too long.
+    /// No first line: the client has gone, or has sent nothing for too long.
     Nothing,
 }
 
-/// The next octet, none at the end.
+/// Returns the next octet, or `None` at the end.
 fn next_octet(stream: &UnixStream) -> io::Result<Option<u8>> {
     let mut stream = stream;
     let mut octet = [0; 1];
@@ -118,8 +120,8 @@ fn next_octet(stream: &UnixStream) -> io::Result<Option<u8>> {
     }
 }
 
-/// A client's first line without its line feed, cut off behind so many octets. None where the
-/// client has gone, or says nothing.
+/// Returns a client's first line without its line feed, cut off after `OPENING` octets. Returns
+/// `None` if the connection ends before that, or a read fails or times out.
 fn first_line(stream: &UnixStream) -> Option<ArrayVec<u8, OPENING>> {
     let mut line = ArrayVec::new();
     for _ in 0..OPENING {
@@ -134,7 +136,7 @@ fn first_line(stream: &UnixStream) -> Option<ArrayVec<u8, OPENING>> {
     Some(line)
 }
 
-/// What a client wants.
+/// Reads a client's first line, and returns its request.
 fn wanted_by(stream: &UnixStream) -> Wanted {
     match first_line(stream) {
         Some(line) if line.as_slice() == b"console".as_slice() => Wanted::Console,
@@ -144,7 +146,7 @@ fn wanted_by(stream: &UnixStream) -> Wanted {
     }
 }
 
-/// Answers a client's lines until it ends, or doesn't read what it asked for.
+/// Answers a client's lines until the client ends, or doesn't read the answers in time.
 fn console<R: Wait>(hall: &Hall<'_, R>, stream: &UnixStream) {
     let mut reader = Reader::new(stream);
     let mut out = Buffered::new(Writer::new(stream));
@@ -152,13 +154,13 @@ fn console<R: Wait>(hall: &Hall<'_, R>, stream: &UnixStream) {
     let _ = out.abandon();
 }
 
-/// Says a few words to a client, which have room in any case.
+/// Writes a short text to a client, for which the socket has room in any case.
 fn say(stream: &UnixStream, words: &[u8]) {
     let mut stream = stream;
     let _ = stream.write_all(words);
 }
 
-/// Gives a client what it wants.
+/// Serves a client by its first line.
 fn attend<R: Threads + Wait + Sync>(hall: &Hall<'_, R>, stream: &UnixStream) -> io::Result<()> {
     let patience = Some(Duration::from_secs(PATIENCE));
     stream.set_write_timeout(patience)?;
@@ -181,14 +183,14 @@ fn attend<R: Threads + Wait + Sync>(hall: &Hall<'_, R>, stream: &UnixStream) -> 
     Ok(())
 }
 
-/// Attends to a client, and frees its seat.
+/// Serves a client, ends its connection, and frees its seat.
 fn attend_seated<R: Threads + Wait + Sync>(hall: &Hall<'_, R>, stream: UnixStream, place: usize) {
     let _ = attend(hall, &stream);
     let _ = stream.shutdown(Shutdown::Both);
     hall.seats.lock(hall.rt).leave(place);
 }
 
-/// Lets a client in: it gets a seat and a thread, or is told that there is none.
+/// Gives a client a seat and a thread, or writes `busy` to it if it gets no seat.
 fn let_in<'s, 'x: 's, R: Threads + Wait + Sync>(
     scope: &Scope<'s, &'x ()>,
     hall: &'x Hall<'x, R>,
@@ -210,7 +212,7 @@ fn let_in<'s, 'x: 's, R: Threads + Wait + Sync>(
     }
 }
 
-/// Lets clients in as they come, until no more may.
+/// Accepts clients as they connect, until the hall is closed.
 fn receive<'s, 'x: 's, R: Threads + Wait + Clock + Sync>(
     scope: &Scope<'s, &'x ()>,
     hall: &'x Hall<'x, R>,
@@ -224,15 +226,15 @@ fn receive<'s, 'x: 's, R: Threads + Wait + Clock + Sync>(
     }
 }
 
-/// Serves clients until the hall is closed and all have gone.
+/// Serves clients until the hall is closed and all clients have gone.
 fn serve_clients<'x, R: Threads + Wait + Clock + Sync>(hall: &'x Hall<'x, R>) {
     thread::scope(thread::scope_env(), hall.rt, move |scope| {
         receive(scope, hall)
     })
 }
 
-/// Reads an input out, and closes the hall then: whether no read failed, and 2^40 of them reached
-/// the end. Clients are served meanwhile, if there is a thread for it.
+/// Reads an input out, and then closes the hall. Returns `true` if no read failed and the end came
+/// within 2^40 reads. Serves clients meanwhile, if a thread can be started for it.
 fn read_beside<'s, 'x: 's, R: Threads + Wait + Clock + Sync, E: In>(
     scope: &Scope<'s, &'x ()>,
     hall: &'x Hall<'x, R>,
@@ -248,19 +250,19 @@ fn read_beside<'s, 'x: 's, R: Threads + Wait + Clock + Sync, E: In>(
 }
 
 impl<R: Wait> Hall<'_, R> {
-    /// Whether no more clients may come in.
+    /// Returns `true` if the hall is closed to more clients.
     fn is_closed(&self) -> bool {
         self.seats.lock(self.rt).is_closed
     }
 
-    /// Lets no client in any more, and ends the connections of all.
+    /// Closes the hall: accepts no more clients, and ends the connections of all.
     fn close(&self) {
         self.seats.lock(self.rt).close();
         self.socket.end();
     }
 }
 
-/// Reads an input out, and serves clients meanwhile. It returns once all of them have gone.
+/// Reads an input out, and serves clients meanwhile. Returns once all clients have gone.
 fn read_serving<'x, R: Threads + Wait + Clock + Sync, E: In>(
     hall: &'x Hall<'x, R>,
     reader: &mut E,
@@ -268,7 +270,7 @@ fn read_serving<'x, R: Threads + Wait + Clock + Sync, E: In>(
     requires { Allows (2 ^ 40) (E.end reader.old) }
     ensures { ReadsOut (E.end reader.old) (E.end reader.new) result }
 {
-    // The reader comes back from the closure: by its name it is known to be this one.
+    // The closure returns the reader; its ghost name shows that it is this reader.
     let (is_read, _reader) = thread::scope(
         thread::scope_env(),
         hall.rt,
@@ -284,8 +286,8 @@ fn read_serving<'x, R: Threads + Wait + Clock + Sync, E: In>(
     is_read
 }
 
-/// Reads an input out, and serves the clients of a socket meanwhile, if there is one: whether no
-/// read failed, and 2^40 of them reached the end. It returns once all clients have gone.
+/// Reads an input out, and serves the clients of a socket meanwhile, if there is one. Returns
+/// `true` if no read failed and the end came within 2^40 reads. Returns once all clients have gone.
 pub(crate) fn read_out<'x, R: Threads + Wait + Clock + Sync, E: In>(
     rt: &'x R,
     alloc: Global,

@@ -1,5 +1,5 @@
-//! The socket at which a run is asked while its edges run: a Unix stream socket at a path, for its
-//! user alone.
+//! The control socket, at which clients query the edges while they run: a Unix stream socket at a
+//! path, only for its user.
 ghost use Rattle.std.specs.Prelude.{◌≡◌};
 ghost use Rattle.ether_wire.specs.Ends.{IsOpen, Puts};
 ghost use Rattle.ev_run.specs.Serving.{reason_of, listen_error_text};
@@ -13,29 +13,29 @@ use std::os::unix::fs::{FileTypeExt, MetadataExt, PermissionsExt};
 use std::os::unix::net::{SocketAddr, UnixListener, UnixStream};
 use std::{fs, io};
 
-/// How many clients may wait until they are accepted: as many as the system lets.
+/// The number of clients that may wait to be accepted: as many as the system allows.
 const BACKLOG: i32 = -1;
 
-/// Why nothing can listen at a path.
+/// The reason why nothing can listen at a path.
 #[derive(Clone, Copy, Debug, PartialEq, Eq)]
 pub enum ListenError {
-    /// Somebody listens there.
+    /// A process listens there.
     InUse,
-    /// A file is there that is no socket.
+    /// The file there is no socket.
     NotSocket,
-    /// The path leads into a folder that isn't there.
+    /// The path leads into a folder that doesn't exist.
     NoFolder,
-    /// It is longer than a socket's may be: 107 octets.
+    /// The path is longer than a socket's path may be: 107 octets.
     TooLong,
-    /// This user may not.
+    /// This user isn't permitted to listen there.
     Denied,
-    /// The system has no memory for it.
+    /// The system has no memory for the socket.
     NoMemory,
-    /// Anything else.
+    /// Any other reason.
     Other,
 }
 
-/// What an error of the system says of a path.
+/// Returns the reason that an error of the system means for a path.
 fn listen_error_of(kind: ErrorKind) -> ListenError {
     match kind {
         ErrorKind::AddrInUse => ListenError::InUse,
@@ -48,7 +48,7 @@ fn listen_error_of(kind: ErrorKind) -> ListenError {
     }
 }
 
-/// What the system gave, or what its error says of a path.
+/// Returns the value that the system gave, or the reason that its error means for a path.
 fn explained<T: Drop>(given: io::Result<T>) -> Result<T, ListenError> {
     match given {
         Ok(value) => Ok(value),
@@ -57,7 +57,7 @@ fn explained<T: Drop>(given: io::Result<T>) -> Result<T, ListenError> {
 }
 
 impl ListenError {
-    /// The words behind the path.
+    /// Returns the text of the reason, which follows the path in a message.
     fn reason(self) -> &'static [u8]
         ensures { result.now ≡ reason_of self }
     {
@@ -73,7 +73,7 @@ impl ListenError {
     }
 }
 
-/// Tells at which path nothing can listen, and why.
+/// Writes at which path nothing can listen, and why.
 #[tactic(auto, using(ether_wire::proofs::Appending::with_text_twice))]
 pub(crate) fn put_listen_error<N: Out>(
     notes: &mut N,
@@ -89,14 +89,14 @@ pub(crate) fn put_listen_error<N: Out>(
     notes.put(why.reason())
 }
 
-/// The file at a path, as the system counts files, if there is one.
+/// Returns the device and inode numbers of the file at a path, if there is one.
 fn file_at<R: Files>(rt: &R, path: &str) -> Option<(u64, u64)> {
     let found = fs::symlink_metadata(rt, path).ok()?;
     Some((found.dev(), found.ino()))
 }
 
-/// Removes the socket at a path at which nobody listens any more. One at which somebody does, and
-/// any other file, stays.
+/// Removes the socket at a path if no process listens at it any more. Keeps a socket at which a
+/// process listens, and any other file.
 fn clear<R: Files + Net>(rt: &R, path: &str) -> Result<(), ListenError> {
     let found = match fs::symlink_metadata(rt, path) {
         Ok(found) => found,
@@ -115,19 +115,20 @@ fn clear<R: Files + Net>(rt: &R, path: &str) -> Result<(), ListenError> {
     }
 }
 
-/// A socket that listens at a path. Its file can be read and written by its user alone.
+/// A socket that listens at a path. Only its user can read and write its file.
 #[derive(Drop)]
 pub(crate) struct ControlSocket {
     listener: UnixListener,
-    /// The same socket, to be shut down.
+    /// A second handle of the socket, which shuts it down.
     end: UnixStream,
-    /// Its file, as the system counts files.
+    /// The device and inode numbers of the socket's file.
     file: Option<(u64, u64)>,
 }
 
 impl ControlSocket {
-    /// Lets a socket listen that was bound at this path. It can't be connected to before that, so
-    /// nobody but its user ever can.
+    /// Gives the file of a socket that is bound to this path mode 0600, and then makes the socket
+    /// listen. No client can connect to a socket that doesn't listen yet, so only its user ever
+    /// can.
     fn listen<R: Files>(rt: &R, path: &str, socket: OwnedFd) -> Result<Self, ListenError> {
         explained(fs::set_permissions(rt, path, Permissions::from_mode(0o600)))?;
         let end = UnixStream::from(explained(socket.try_clone())?);
@@ -141,8 +142,8 @@ impl ControlSocket {
         })
     }
 
-    /// A socket that listens at this path. One that lies there from a run that was killed is
-    /// removed first.
+    /// Opens a socket that listens at this path. Removes a socket first that a killed run left
+    /// there.
     pub(crate) fn open<R: Files + Net>(rt: &R, path: &[u8]) -> Result<Self, ListenError> {
         let Ok(path) = str::from_utf8(path) else {
             return Err(ListenError::Other);
@@ -160,18 +161,18 @@ impl ControlSocket {
         }
     }
 
-    /// The next client that connects.
+    /// Waits for the next client that connects, and returns its connection.
     pub(crate) fn accept(&self) -> io::Result<UnixStream> {
         let (stream, _) = self.listener.accept()?;
         Ok(stream)
     }
 
-    /// Lets no client connect any more: who waits for one is woken by an error.
+    /// Accepts no more clients: a call of `accept` that waits returns an error.
     pub(crate) fn end(&self) {
         let _ = self.end.shutdown(Shutdown::Both);
     }
 
-    /// Removes the socket's file, unless another one lies there by now.
+    /// Removes the socket's file, unless another file is at the path by now.
     pub(crate) fn remove<R: Files>(&self, rt: &R, path: &[u8]) {
         let Ok(path) = str::from_utf8(path) else {
             return;

@@ -1,4 +1,4 @@
-//! Edges that run over UDP sockets until an input ends, and what is told of them then.
+//! Edges that run over UDP sockets until an input ends, and their reports at the end.
 #![tactic(auto)]
 
 mod begun;

@@ -1,27 +1,28 @@
-//! What a run takes at its beginning.
+//! The resources that a run takes at its beginning.
 ghost use Rattle.std.specs.Prelude.{◌≡◌, ◌≤◌};
 ghost use Rattle.ev_run.specs.Needs.{edge_threads, edge_sockets, edge_memory, with_edge, alone, needs_of, sockets_of};
 
 use ev_config::Config;
 use ev_edge::EdgeConfig;
 
-/// What a run takes at its beginning.
+/// The resources that a run takes at its beginning.
 #[derive(Clone, Copy, Debug, PartialEq, Eq)]
 pub struct Needs {
-    /// How many threads it has, those of standard input and standard error among them.
+    /// The number of threads, those of standard input and standard error among them.
     pub threads: u64,
-    /// How many UDP sockets it binds.
+    /// The number of UDP sockets that the run binds.
     pub sockets: u64,
-    /// About how many octets of memory it takes: as many as runs were seen to take.
+    /// The approximate number of octets of memory, as measured in runs.
     pub memory: u64,
 }
 
-/// How many sockets clients take at most, who ask while a run goes on: that where they come in, two
-/// for each of 8, and one of a client for whom there is no seat.
+/// The most sockets that clients take while they query a run: the socket to which they connect, two
+/// for each of 8 clients, and one of a client for which no seat is free.
 const CLIENT_SOCKETS: u64 = 18;
 
-/// How many threads an edge has: two for each port and two for the tunnel, of which one receives
-/// and one sends; one for the clock, one for what other edges say, and its own.
+/// Returns the number of threads of an edge: two for each port and two for the tunnel, of which one
+/// receives and one sends; one for the clock, one for the updates of other edges, and the edge's
+/// own.
 fn edge_threads(edge: &EdgeConfig) -> u64
     ensures value { result ≡ edge_threads edge.now }
     ensures few { result ≤ 133 }
@@ -29,14 +30,15 @@ fn edge_threads(edge: &EdgeConfig) -> u64
     2 * edge.ports.len() as u64 + 5
 }
 
-/// How many sockets an edge has: that of the tunnel, and one for each port.
+/// Returns the number of sockets of an edge: one for the tunnel, and one for each port.
 fn edge_sockets(edge: &EdgeConfig) -> u64
     ensures { result ≡ edge_sockets edge.now }
 {
     edge.ports.len() as u64 + 1
 }
 
-/// About how many octets of memory an edge takes: its own, its threads', and its learning table's.
+/// Returns the approximate number of octets of memory that an edge takes: its own, its threads',
+/// and its learning table's.
 fn edge_memory(edge: &EdgeConfig) -> u64
     ensures { result ≡ edge_memory edge.now }
 {
@@ -46,7 +48,7 @@ fn edge_memory(edge: &EdgeConfig) -> u64
 }
 
 impl Needs {
-    /// With one edge more.
+    /// Returns these needs with one edge more.
     fn with(self, edge: &EdgeConfig) -> Needs
         ensures { result ≡ with_edge self edge.now }
     {
@@ -58,7 +60,7 @@ impl Needs {
     }
 }
 
-/// What a run of a configuration takes at its beginning.
+/// Returns the resources that a run of a configuration takes at its beginning.
 pub fn needs_of(config: &Config) -> Needs
     ensures { result ≡ needs_of config.now.edges.items }
 {
@@ -73,7 +75,7 @@ pub fn needs_of(config: &Config) -> Needs
     needs
 }
 
-/// How many sockets a run has at most, where it may be that clients ask meanwhile.
+/// Returns the most sockets that a run has, with those of clients if `is_asked`.
 pub fn sockets_of(config: &Config, is_asked: bool) -> u64
     ensures { result ≡ sockets_of is_asked config.now.edges.items }
 {

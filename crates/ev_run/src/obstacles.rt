@@ -1,5 +1,5 @@
-//! What a configuration has that no run can use: sockets that can't all be bound, and addresses to
-//! which nothing can be sent.
+//! The parts of a configuration that no run can use: sockets that can't all be bound, and addresses
+//! to which nothing can be sent.
 ghost use Rattle.std.specs.Prelude.{◌≡◌, ◌==◌, ◌||◌, ◌++◌, OnOk, IfOk};
 ghost use Rattle.std.specs.List.{list_any};
 ghost use Rattle.ev_run.specs.Obstacles.{clashes, is_tunnel, is_local, local_cause, remote_cause, useless, local_obstacles, remote_obstacles, port_obstacles, ports_obstacles, all_ports_obstacles, edge_obstacles, count_obstacles, obstacles_of};
@@ -16,13 +16,13 @@ use std::alloc::{AllocError, Global};
 /// An end of a port's link.
 #[derive(Clone, Copy, Debug, PartialEq, Eq)]
 pub enum End {
-    /// Where its frames are taken.
+    /// The end at which the port receives its frames.
     Local,
-    /// Where they are sent.
+    /// The end to which the port sends its frames.
     Remote,
 }
 
-/// Why an end is of no use.
+/// The reason why an end is of no use.
 #[derive(Clone, Copy, Debug, PartialEq, Eq)]
 pub enum Cause {
     /// Its UDP port is 0.
@@ -31,56 +31,58 @@ pub enum Cause {
     NoHost,
     /// An edge has its tunnels there.
     Tunnel,
-    /// A port before it takes its frames there.
+    /// An earlier port receives its frames there.
     Taken,
 }
 
-/// A port of an edge. Both count from 1.
+/// A port of an edge. Both numbers count from 1.
 #[derive(Clone, Copy, Debug, PartialEq, Eq)]
 pub struct Seat {
-    /// The edge.
+    /// The number of the edge.
     pub edge: u64,
-    /// The port.
+    /// The number of the port.
     pub port: u64,
 }
 
-/// What no run can use.
+/// A part of a configuration that no run can use.
 #[derive(Clone, Copy, Debug, PartialEq, Eq, Drop)]
 pub enum Obstacle {
     /// The address of the edge with this number is 0.0.0.0.
     Unheard(u64),
     /// This end of a port is of no use.
     Useless(Seat, End, Endpoint, Cause),
-    /// There are so many sockets, and only so many descriptors.
+    /// The first number is that of the sockets. The second is that of the descriptors that are
+    /// allowed, which are too few.
     TooMany(u64, u64),
 }
 
-/// What the ends of a port are compared with.
+/// The ends with which the ends of a port are compared.
 #[derive(Clone, Copy)]
 struct Others<'a> {
     /// All edges.
     edges: &'a [EdgeConfig],
     /// The links of the edges before its own.
     before: &'a [ArrayVec<PortEndpoints, 64>],
-    /// Those of the ports before it.
+    /// The links of the ports before it.
     ports: &'a [PortEndpoints],
 }
 
-/// Whether an address is 0.0.0.0.
+/// Returns `true` if an address is 0.0.0.0.
 fn is_nobody(address: Addr) -> bool
     ensures { result ≡ (address == 0) }
 {
     address.number() == 0
 }
 
-/// Whether two sockets hinder each other: they have one UDP port, and one address or all addresses.
+/// Returns `true` if two sockets clash: they have the same UDP port, and either the same address,
+/// or one of them all addresses.
 fn clashes(a: &Endpoint, b: &Endpoint) -> bool
     ensures { result ≡ clashes a.now b.now }
 {
     a.port == b.port && (a.address == b.address || is_nobody(a.address) || is_nobody(b.address))
 }
 
-/// Whether an edge has its tunnels there.
+/// Returns `true` if the tunnels of an edge clash with this endpoint.
 fn is_tunnel(edges: &[EdgeConfig], at: &Endpoint) -> bool
     ensures { result ≡ is_tunnel edges.now at.now }
 {
@@ -92,7 +94,7 @@ fn is_tunnel(edges: &[EdgeConfig], at: &Endpoint) -> bool
     false
 }
 
-/// Whether a port takes its frames there.
+/// Returns `true` if the local end of a port clashes with this endpoint.
 fn is_local(at: &Endpoint, link: &PortEndpoints) -> bool
     ensures { result ≡ is_local at.now link.now }
 {
@@ -102,7 +104,7 @@ fn is_local(at: &Endpoint, link: &PortEndpoints) -> bool
     }
 }
 
-/// Whether one of these ports does.
+/// Returns `true` if the local end of one of these ports clashes with this endpoint.
 fn has_local(ports: &[PortEndpoints], at: &Endpoint) -> bool
     ensures { result ≡ list_any (is_local at.now) ports.now }
 {
@@ -114,7 +116,7 @@ fn has_local(ports: &[PortEndpoints], at: &Endpoint) -> bool
     false
 }
 
-/// Whether a port of one of these edges does.
+/// Returns `true` if the local end of a port of one of these edges clashes with this endpoint.
 fn is_before(before: &[ArrayVec<PortEndpoints, 64>], at: &Endpoint) -> bool
     ensures { result ≡ list_any (λ links. list_any (is_local at.now) links.items) before.now }
 {
@@ -126,7 +128,7 @@ fn is_before(before: &[ArrayVec<PortEndpoints, 64>], at: &Endpoint) -> bool
     false
 }
 
-/// Why a port can't take its frames there, if it can't.
+/// Returns why a port can't receive its frames at this endpoint, or `None` if it can.
 fn local_cause(others: &Others<'_>, at: &Endpoint) -> Option<Cause>
     ensures { result ≡ local_cause others.now.edges.now others.now.before.now others.now.ports.now
         at.now }
@@ -143,7 +145,7 @@ fn local_cause(others: &Others<'_>, at: &Endpoint) -> Option<Cause>
     None
 }
 
-/// Why it can't send them there, if it can't.
+/// Returns why a port can't send its frames to this endpoint, or `None` if it can.
 fn remote_cause(at: &Endpoint) -> Option<Cause>
     ensures { result ≡ remote_cause at.now }
 {
@@ -156,7 +158,7 @@ fn remote_cause(at: &Endpoint) -> Option<Cause>
     None
 }
 
-/// Adds an end that is of no use.
+/// Adds an end of a port if there is a cause why it is of no use.
 fn add_useless(
     found: &mut Vec<Obstacle>,
     seat: Seat,
@@ -172,7 +174,7 @@ fn add_useless(
     }
 }
 
-/// Adds where a port takes its frames, if that is of no use.
+/// Adds the local end of a port if it is of no use.
 fn add_local(
     found: &mut Vec<Obstacle>,
     others: &Others<'_>,
@@ -191,7 +193,7 @@ fn add_local(
     }
 }
 
-/// Adds where it sends them, if that is of no use.
+/// Adds the remote end of a port if it is of no use.
 fn add_remote(
     found: &mut Vec<Obstacle>,
     seat: Seat,
@@ -222,7 +224,7 @@ fn add_port(
     add_remote(found, seat, link.remote)
 }
 
-/// Adds those of the ports of the edge behind these.
+/// Adds the useless ends of an edge's ports. `before` has the links of the edges before that edge.
 fn add_ports(
     found: &mut Vec<Obstacle>,
     edges: &[EdgeConfig],
@@ -248,7 +250,7 @@ fn add_ports(
     Ok(())
 }
 
-/// Adds those of all ports.
+/// Adds the ends of all ports that are of no use.
 fn add_all_ports(
     found: &mut Vec<Obstacle>,
     edges: &[EdgeConfig],
@@ -264,7 +266,7 @@ fn add_all_ports(
     Ok(())
 }
 
-/// Adds an edge whose address is 0.0.0.0: what it sends comes from another one.
+/// Adds an edge if its address is 0.0.0.0: its datagrams come from a different address.
 fn add_edge(found: &mut Vec<Obstacle>, number: u64, edge: &EdgeConfig) -> Result<(), AllocError>
     ensures { OnOk result (found.new.items ≡ found.old.items ++ edge_obstacles number edge.now) }
 {
@@ -274,7 +276,7 @@ fn add_edge(found: &mut Vec<Obstacle>, number: u64, edge: &EdgeConfig) -> Result
     Ok(found.push(Obstacle::Unheard(number))?)
 }
 
-/// Adds such edges.
+/// Adds the edges whose address is 0.0.0.0.
 fn add_edges(found: &mut Vec<Obstacle>, edges: &[EdgeConfig]) -> Result<(), AllocError>
     ensures { OnOk result (found.new.items ≡ found.old.items
         ++ each_from edge_obstacles 1 edges.now) }
@@ -285,8 +287,8 @@ fn add_edges(found: &mut Vec<Obstacle>, edges: &[EdgeConfig]) -> Result<(), Allo
     Ok(())
 }
 
-/// Adds that there are more sockets, with the three standard streams, than there may be
-/// descriptors, where that is known.
+/// Adds that the sockets and the three standard streams take more descriptors than are allowed, if
+/// that limit is known.
 fn add_count(found: &mut Vec<Obstacle>, sockets: u64, most: Option<u64>) -> Result<(), AllocError>
     ensures { OnOk result (found.new.items ≡ found.old.items ++ count_obstacles sockets most) }
 {
@@ -298,12 +300,12 @@ fn add_count(found: &mut Vec<Obstacle>, sockets: u64, most: Option<u64>) -> Resu
     }
 }
 
-/// What of a configuration no run can use, in its order, perhaps one that clients ask meanwhile;
-/// `most` is how many descriptors there may be.
+/// Returns the parts of a configuration that no run can use, in its order. If `is_asked`, clients
+/// may query the run; `most` is the number of descriptors that are allowed, if it is known.
 ///
 /// # Errors
 ///
-/// Where memory is refused.
+/// `AllocError` if memory is refused.
 pub fn obstacles_of(
     alloc: Global,
     config: &Config,

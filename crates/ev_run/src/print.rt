@@ -1,4 +1,4 @@
-//! What a run writes when it has ended.
+//! The texts that a run writes at its end.
 ghost use Rattle.std.specs.Prelude.{◌≡◌, ◌++◌, codes, map};
 ghost use Rattle.std.specs.Fmt.{decimal};
 ghost use Rattle.ether_wire.specs.Ends.{IsOpen, Puts};
@@ -15,7 +15,7 @@ use ev_edge::Edge;
 use ev_peers::Outcome;
 use std::alloc::AllocError;
 
-/// Writes `edge E`, and the edge's report behind it.
+/// Writes `edge E`, and then the edge's report.
 #[tactic(auto, using(ether_wire::proofs::Appending::with_text_twice))]
 fn put_report<W: Out>(out: &mut W, number: u64, edge: &Edge) -> Result<(), Device>
     requires { IsOpen (W.end out.old) }
@@ -47,7 +47,7 @@ fn put_ended<W: Out>(
 ///
 /// # Errors
 ///
-/// `Device` exactly where a call of the writer failed; then no further call is made.
+/// `Device` exactly if a call of the writer failed; then no further call is made.
 pub(crate) fn put_reports<W: Out>(
     out: &mut W,
     ended: &[Result<Outcome, AllocError>],
@@ -61,7 +61,7 @@ pub(crate) fn put_reports<W: Out>(
     Ok(())
 }
 
-/// Writes which link a line is for: that of the tunnel, or that of the port with this number.
+/// Writes which link a line is for: the tunnel's, or that of the port with this number.
 #[tactic(auto, using(ether_wire::proofs::Appending::with_text_twice))]
 fn put_link<N: Out>(notes: &mut N, place: u64) -> Result<(), Device>
     requires { IsOpen (N.end notes.old) }
@@ -86,17 +86,17 @@ fn put_edge<N: Out>(notes: &mut N, number: u64) -> Result<(), Device>
     notes.put(b" ")
 }
 
-/// What was dropped at a link.
+/// The kind of a drop at a link.
 #[derive(Clone, Copy)]
 enum Dropped {
-    /// Frames that its line had no room for.
+    /// Frames for which the link's line had no room.
     NoRoom,
-    /// Datagrams that the system had no room for at its socket.
+    /// Datagrams for which the system had no room at the link's socket.
     BySystem,
 }
 
 impl Dropped {
-    /// The words behind the count.
+    /// Returns the text after the number.
     fn words(self) -> &'static [u8]
         ensures { result.now ≡ dropped_words self }
     {
@@ -107,7 +107,7 @@ impl Dropped {
     }
 }
 
-/// Writes `: N` and what they were.
+/// Writes `: N` and the kind of the drop.
 #[tactic(auto, using(ether_wire::proofs::Appending::with_text_twice))]
 fn put_count<N: Out>(notes: &mut N, dropped: u64, what: Dropped) -> Result<(), Device>
     requires { IsOpen (N.end notes.old) }
@@ -119,7 +119,7 @@ fn put_count<N: Out>(notes: &mut N, dropped: u64, what: Dropped) -> Result<(), D
     notes.put(what.words())
 }
 
-/// Writes how many were dropped at a link, where there were any.
+/// Writes how many frames or datagrams were dropped at a link, if there were any.
 #[tactic(auto, using(ether_wire::proofs::Appending::with_text_twice, ether_wire::proofs::Appending::with_text_none))]
 fn put_dropped<N: Out>(
     notes: &mut N,
@@ -152,7 +152,7 @@ fn put_lines<N: Out>(notes: &mut N, number: u64, dropped: &[u64]) -> Result<(), 
     Ok(())
 }
 
-/// Writes so of each line of an edge, if it ran.
+/// Writes how many frames each line of an edge had no room for, if the edge ran.
 #[tactic(auto, using(ether_wire::proofs::Appending::with_text_none))]
 fn put_drops<N: Out>(
     notes: &mut N,
@@ -168,7 +168,7 @@ fn put_drops<N: Out>(
     }
 }
 
-/// Writes so of each line of the edges that ran.
+/// Writes how many frames each line of the edges that ran had no room for.
 fn put_all_drops<N: Out>(notes: &mut N, ended: &[Result<Outcome, AllocError>]) -> Result<(), Device>
     requires { IsOpen (N.end notes.old) }
     ensures { Puts (N.end notes.old) (N.end notes.new) (each_from drops_text 1 ended.now) result }
@@ -179,16 +179,16 @@ fn put_all_drops<N: Out>(notes: &mut N, ended: &[Result<Outcome, AllocError>]) -
     Ok(())
 }
 
-/// The sockets of all edges, and what the system tells of them.
+/// The sockets of all edges, and the system's table of sockets.
 #[derive(Clone, Copy)]
 pub(crate) struct Watched<'a> {
-    /// The system's table of UDP sockets, nothing where that couldn't be read.
+    /// The system's table of UDP sockets, empty if it couldn't be read.
     pub(crate) table: &'a [u8],
-    /// Those of each edge.
+    /// The sockets of each edge.
     pub(crate) sockets: &'a [Sockets],
 }
 
-/// Writes how many datagrams the system dropped at a link's socket, where it did.
+/// Writes how many datagrams the system dropped at a link's socket, if there were any.
 fn put_socket<N: Out>(
     notes: &mut N,
     number: u64,
@@ -209,7 +209,7 @@ fn put_socket<N: Out>(
     )
 }
 
-/// Writes so of the sockets of an edge's ports.
+/// Writes how many datagrams the system dropped at the sockets of an edge's ports.
 fn put_ports<N: Out>(
     notes: &mut N,
     number: u64,
@@ -227,7 +227,7 @@ fn put_ports<N: Out>(
     Ok(())
 }
 
-/// Writes so of the sockets of an edge.
+/// Writes how many datagrams the system dropped at the sockets of an edge.
 fn put_sockets<N: Out>(
     notes: &mut N,
     number: u64,
@@ -242,7 +242,7 @@ fn put_sockets<N: Out>(
     put_ports(notes, number, table, sockets.ports.as_slice())
 }
 
-/// Writes so of the sockets of all edges.
+/// Writes how many datagrams the system dropped at the sockets of all edges.
 fn put_all_sockets<N: Out>(notes: &mut N, table: &[u8], sockets: &[Sockets]) -> Result<(), Device>
     requires { IsOpen (N.end notes.old) }
     ensures { Puts (N.end notes.old) (N.end notes.new)
@@ -255,12 +255,12 @@ fn put_all_sockets<N: Out>(notes: &mut N, table: &[u8], sockets: &[Sockets]) -> 
     Ok(())
 }
 
-/// Writes which links had no room for frames, what the system dropped at their sockets, and
-/// `lost N` where N sends failed.
+/// Writes the links that had no room for frames, the datagrams that the system dropped at their
+/// sockets, and `lost N` if N sends failed.
 ///
 /// # Errors
 ///
-/// `Device` exactly where a call of the writer failed; then no further call is made.
+/// `Device` exactly if a call of the writer failed; then no further call is made.
 pub(crate) fn put_notes<N: Out>(
     notes: &mut N,
     ended: &[Result<Outcome, AllocError>],
@@ -278,7 +278,7 @@ pub(crate) fn put_notes<N: Out>(
     put_lost(notes, lost)
 }
 
-/// Writes `lost N`, where sends failed.
+/// Writes `lost N` if sends failed.
 #[tactic(auto, using(ether_wire::proofs::Appending::with_text_twice, ether_wire::proofs::Appending::with_text_none))]
 fn put_lost<N: Out>(notes: &mut N, lost: u64) -> Result<(), Device>
     requires { IsOpen (N.end notes.old) }

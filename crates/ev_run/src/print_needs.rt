@@ -1,4 +1,5 @@
-//! What is told of what a run takes, and of what it can't use.
+//! The texts about the resources that a run takes, and about the parts of a configuration that it
+//! can't use.
 ghost use Rattle.ether_wire.specs.Ends.{IsOpen, Puts};
 ghost use Rattle.std.specs.Prelude.{◌++◌, [], if◌then◌else◌};
 ghost use Rattle.ev_run.specs.Needs.{threads_text, sockets_text, memory_text, needs_text, clients_text, asked_text};
@@ -10,7 +11,7 @@ use crate::sockets::put_endpoint;
 use ether_wire::{Device, Out, put_decimal};
 use ev_config::Endpoint;
 
-/// Writes how many threads there are.
+/// Writes the number of threads.
 #[tactic(auto, using(ether_wire::proofs::Appending::with_text_twice))]
 fn put_threads<W: Out>(out: &mut W, threads: u64) -> Result<(), Device>
     requires { IsOpen (W.end out.old) }
@@ -20,7 +21,7 @@ fn put_threads<W: Out>(out: &mut W, threads: u64) -> Result<(), Device>
     out.put(b" threads\n")
 }
 
-/// Writes how many sockets there are.
+/// Writes the number of sockets.
 #[tactic(auto, using(ether_wire::proofs::Appending::with_text_twice))]
 fn put_sockets<W: Out>(out: &mut W, sockets: u64) -> Result<(), Device>
     requires { IsOpen (W.end out.old) }
@@ -30,7 +31,7 @@ fn put_sockets<W: Out>(out: &mut W, sockets: u64) -> Result<(), Device>
     out.put(b" UDP sockets\n")
 }
 
-/// Writes how much memory that is, in MiB.
+/// Writes the amount of memory in MiB.
 #[tactic(auto, using(ether_wire::proofs::Appending::with_text_twice))]
 fn put_memory<W: Out>(out: &mut W, memory: u64) -> Result<(), Device>
     requires { IsOpen (W.end out.old) }
@@ -41,11 +42,11 @@ fn put_memory<W: Out>(out: &mut W, memory: u64) -> Result<(), Device>
     out.put(b" MiB of memory\n")
 }
 
-/// Writes what a run takes at its beginning, a line each.
+/// Writes the resources that a run takes at its beginning, a line each.
 ///
 /// # Errors
 ///
-/// `Device` exactly where a call of the writer failed; then no further call is made.
+/// `Device` exactly if a call of the writer failed; then no further call is made.
 #[tactic(auto, using(ether_wire::proofs::Appending::with_text_twice))]
 fn put_needs<W: Out>(out: &mut W, needs: Needs) -> Result<(), Device>
     requires { IsOpen (W.end out.old) }
@@ -56,7 +57,7 @@ fn put_needs<W: Out>(out: &mut W, needs: Needs) -> Result<(), Device>
     put_memory(out, needs.memory)
 }
 
-/// Writes what clients take besides, where they may ask meanwhile.
+/// Writes the resources that clients take in addition, if clients may query the run.
 #[tactic(auto, using(ether_wire::proofs::Appending::with_text_none))]
 fn put_clients<W: Out>(out: &mut W, is_asked: bool) -> Result<(), Device>
     requires { IsOpen (W.end out.old) }
@@ -69,8 +70,8 @@ fn put_clients<W: Out>(out: &mut W, is_asked: bool) -> Result<(), Device>
     out.put(b"for 8 clients at most 17 threads, 18 sockets and about 2 MiB of memory more\n")
 }
 
-/// Writes what a run takes, and what its clients take at most where they may ask meanwhile, a line
-/// each.
+/// Writes the resources that a run takes, a line each, and those that its clients take at most if
+/// they may query the run.
 ///
 /// # Errors
 ///
@@ -106,7 +107,7 @@ fn put_seat<N: Out>(notes: &mut N, seat: Seat) -> Result<(), Device>
     put_port(notes, seat.port)
 }
 
-/// Writes which end it is.
+/// Writes the kind of an end.
 fn put_lead<N: Out>(notes: &mut N, end: End) -> Result<(), Device>
     requires { IsOpen (N.end notes.old) }
     ensures { Puts (N.end notes.old) (N.end notes.new) (lead_text end) result }
@@ -117,7 +118,7 @@ fn put_lead<N: Out>(notes: &mut N, end: End) -> Result<(), Device>
     }
 }
 
-/// Writes which end it is, and where.
+/// Writes the kind of an end, and its endpoint.
 #[tactic(auto, using(ether_wire::proofs::Appending::with_text_twice))]
 fn put_end<N: Out>(notes: &mut N, end: End, at: Endpoint) -> Result<(), Device>
     requires { IsOpen (N.end notes.old) }
@@ -127,7 +128,7 @@ fn put_end<N: Out>(notes: &mut N, end: End, at: Endpoint) -> Result<(), Device>
     put_endpoint(notes, at)
 }
 
-/// Writes why it is of no use.
+/// Writes why an end is of no use.
 fn put_cause<N: Out>(notes: &mut N, cause: Cause) -> Result<(), Device>
     requires { IsOpen (N.end notes.old) }
     ensures { Puts (N.end notes.old) (N.end notes.new) (cause_text cause) result }
@@ -140,7 +141,7 @@ fn put_cause<N: Out>(notes: &mut N, cause: Cause) -> Result<(), Device>
     }
 }
 
-/// Writes which edge can't be heard.
+/// Writes which edge has the address 0.0.0.0.
 #[tactic(auto, using(ether_wire::proofs::Appending::with_text_twice))]
 fn put_unheard<N: Out>(notes: &mut N, edge: u64) -> Result<(), Device>
     requires { IsOpen (N.end notes.old) }
@@ -170,7 +171,7 @@ fn put_useless<N: Out>(
     put_cause(notes, cause)
 }
 
-/// Writes how many descriptors there may be.
+/// Writes the number of descriptors that are allowed.
 #[tactic(auto, using(ether_wire::proofs::Appending::with_text_twice))]
 fn put_most<N: Out>(notes: &mut N, most: u64) -> Result<(), Device>
     requires { IsOpen (N.end notes.old) }
@@ -208,7 +209,7 @@ fn put_obstacle<N: Out>(notes: &mut N, obstacle: Obstacle) -> Result<(), Device>
 ///
 /// # Errors
 ///
-/// `Device` exactly where a call of the writer failed; then no further call is made.
+/// `Device` exactly if a call of the writer failed; then no further call is made.
 pub fn put_obstacles<N: Out>(notes: &mut N, found: &[Obstacle]) -> Result<(), Device>
     requires { IsOpen (N.end notes.old) }
     ensures { Puts (N.end notes.old) (N.end notes.new) (obstacles_text found.now) result }

@@ -1,5 +1,5 @@
-//! A client that exchanges records with edges that run: what they say is written to it as they
-//! announce it, and what it says they take.
+//! A client that exchanges records with edges that run. The edges' updates are written to it as the
+//! edges announce them, and the edges take its updates.
 
 use ether_wire::{Buffered, Reader, Writer};
 use ev_exchange::{Announcing, EdgeTable, Entrance, Sender, StreamEnd, announce, receive};
@@ -12,8 +12,8 @@ use std::sync::Wait;
 use std::thread;
 use std::thread::{Scope, Threads};
 
-/// Edges that run, as what they say is told to a connection. It tells nothing of what it was told:
-/// that lies under locks, of which no clause speaks.
+/// Edges that run, as the source of the updates that a connection sends. The history of sent
+/// updates is `None`, since no clause describes state under a lock.
 #[derive(Drop)]
 struct Announced<'x, R> {
     rt: &'x R,
@@ -45,8 +45,8 @@ impl<R: Wait> Announcing for Announced<'_, R> {
     }
 }
 
-/// Edges that run, as they take what comes over a connection. It tells nothing of what it was
-/// given, for the same reason.
+/// Edges that run, as the receiver of the updates that come over a connection. The history of
+/// received updates is `None`, for the same reason.
 #[derive(Drop)]
 struct Entered<'x, R> {
     rt: &'x R,
@@ -67,7 +67,7 @@ impl<R: Wait> Entrance for Entered<'_, R> {
     }
 }
 
-/// Says on a connection what the edges say, until it is cut off, and ends the connection then.
+/// Sends the edges' updates on a connection until it is cut off, and then ends the connection.
 fn say<R: Wait>(
     rt: &R,
     alloc: Global,
@@ -86,7 +86,7 @@ fn say<R: Wait>(
     let _ = stream.shutdown(Shutdown::Both);
 }
 
-/// Has the edges take what comes over a connection, up to its end or its first fault.
+/// Receives updates for the edges over a connection, up to its end or its first fault.
 fn hear<R: Wait>(rt: &R, running: Running<'_>, stream: &UnixStream) {
     let mut into = Entered { rt, running };
     let incoming = receive(&mut into, &mut Reader::new(stream));
@@ -95,7 +95,8 @@ fn hear<R: Wait>(rt: &R, running: Running<'_>, stream: &UnixStream) {
     }
 }
 
-/// Hears a connection while a thread says on it what the edges say, and ends it then.
+/// Receives from a connection while a thread sends the edges' updates on it, and then ends the
+/// connection.
 fn hear_beside<'s, 'x: 's, R: Threads + Wait + Sync>(
     scope: &Scope<'s, &'x ()>,
     rt: &'x R,
@@ -114,9 +115,9 @@ fn hear_beside<'s, 'x: 's, R: Threads + Wait + Sync>(
     let _ = stream.shutdown(Shutdown::Both);
 }
 
-/// Exchanges records over a connection, until either end of it ends it, what comes shows a fault,
-/// or the other end takes too slowly what is said. It is not begun where memory or a thread is
-/// refused, or eight connections exchange records already.
+/// Exchanges records over a connection until either peer ends it, a fault is received, or the peer
+/// is too slow to read the updates. Doesn't begin if memory or a thread is refused, or if eight
+/// connections exchange records already.
 pub(crate) fn exchange<R: Threads + Wait + Sync>(
     rt: &R,
     alloc: Global,

@@ -1,5 +1,5 @@
-//! Edges that carry frames: each on its address at UDP port 4789, its access ports at sockets of
-//! their own, until the input ends. What the operator is to know is told meanwhile.
+//! Edges that carry frames until the input ends: each at its address and UDP port 4789, its access
+//! ports at sockets of their own. Alerts for the operator are written meanwhile.
 ghost use Rattle.std.specs.Prelude.{◌≡◌, ◌+◌, ◌-◌, ◌≤◌, ◌^◌, ◌||◌, min, not, nat_lt, length, map, vec_len, vec_capacity, IfOk, OnOk, OnErr, MatchOption};
 ghost use Rattle.std.specs.List.{list_any};
 ghost use Rattle.ether_wire.specs.Ends.{IsOpen, Allows};
@@ -36,7 +36,8 @@ use std::time::Clock;
 /// An edge over sockets, ready to run.
 type Ready<'x, R> = Setup<Wire<'x, R>, UdpOut<'x>>;
 
-/// Reads up to the end, whatever is read: whether no read failed, and 2^40 of them reached it.
+/// Reads up to the end and ignores the octets. Returns `true` if no read failed and the end came
+/// within 2^40 reads.
 pub(crate) fn is_read_out<E: In>(reader: &mut E) -> bool
     requires { Allows (2 ^ 40) (E.end reader.old) }
     ensures { ReadsOut (E.end reader.old) (E.end reader.new) result }
@@ -55,7 +56,7 @@ pub(crate) fn is_read_out<E: In>(reader: &mut E) -> bool
     false
 }
 
-/// These links and one more, for which there is room.
+/// Returns these links and one more, for which there is room.
 fn with_link<I: Drop, O: Drop>(links: Vec<Link<I, O>>, input: I, output: O) -> Vec<Link<I, O>>
     requires { vec_len links + 1 ≤ vec_capacity links }
     ensures len { vec_len result ≡ vec_len links + 1 }
@@ -66,7 +67,7 @@ fn with_link<I: Drop, O: Drop>(links: Vec<Link<I, O>>, input: I, output: O) -> V
     links
 }
 
-/// An edge over these sockets.
+/// Returns an edge over these sockets.
 fn ready<'x, R: Clock>(
     rt: &'x R,
     alloc: Global,
@@ -122,19 +123,19 @@ fn all_ready<'x, R: Clock>(
     Ok(setups)
 }
 
-/// What the workers of all edges ended with.
+/// The faults of the workers of all edges.
 #[derive(Clone, Copy)]
 struct Sum {
-    /// How many sends failed.
+    /// The number of sends that failed.
     lost: u64,
-    /// Whether a link failed.
+    /// `true` if a link failed.
     is_device: bool,
-    /// Whether memory or a thread was refused.
+    /// `true` if memory or a thread was refused.
     is_out_of_memory: bool,
 }
 
 impl Sum {
-    /// With what one more edge came to.
+    /// Returns this sum with the faults of one more edge.
     fn with(self, ended: &Result<Outcome, AllocError>) -> Self
         ensures lost { result.lost ≡ min (self.lost + sends_failed ended.now) (2 ^ 64 - 1) }
         ensures device { result.is_device ≡ (self.is_device || link_failed ended.now) }
@@ -156,7 +157,7 @@ impl Sum {
     }
 }
 
-/// Sums up what the workers of these edges ended with.
+/// Returns the sum of the faults of these edges.
 fn sum_of(ended: &[Result<Outcome, AllocError>]) -> Sum
     ensures lost { result.lost ≡ all_lost ended.now }
     ensures device { result.is_device ≡ list_any link_failed ended.now }
@@ -173,7 +174,7 @@ fn sum_of(ended: &[Result<Outcome, AllocError>]) -> Sum
     sum
 }
 
-/// Whether a device failed.
+/// Returns `true` if a device failed.
 fn has_failed(sum: Sum, is_read: bool, is_told: bool, is_noted: bool) -> bool
     ensures { result
         ≡ (((not is_read || sum.is_device) || nat_lt 0 sum.lost) || (not is_told || not is_noted)) }
@@ -181,7 +182,7 @@ fn has_failed(sum: Sum, is_read: bool, is_told: bool, is_noted: bool) -> bool
     !is_read || sum.is_device || sum.lost > 0 || !is_told || !is_noted
 }
 
-/// Writes what is noted at the end, unless a call of the writer has failed before.
+/// Writes the notes of the end, unless a call of the writer has failed before.
 fn put_rest<N: Out>(
     notes: &mut N,
     told: Result<(), Device>,
@@ -200,8 +201,8 @@ fn put_rest<N: Out>(
     }
 }
 
-/// Tells what the edges have come to, behind the alerts that were told while they ran or weren't,
-/// and answers the status.
+/// Writes the results of the edges, and returns the status. `told` is the result of the alerts,
+/// which were written while the edges ran.
 fn tell_ended<W: Out, N: Out>(
     told: Result<(), Device>,
     ended: &[Result<Outcome, AllocError>],
@@ -223,7 +224,7 @@ fn tell_ended<W: Out, N: Out>(
     status_of(has_failed, sum.is_out_of_memory, false)
 }
 
-/// Tells the operator what comes to these boards, until nothing more does.
+/// Writes the alerts of these boards for the operator, until no more can come.
 fn tell_meanwhile<R: Wait, N: Out>(rt: &R, boards: &Boards, notes: &mut N) -> Result<(), Device>
     requires { IsOpen (N.end notes.old) }
     ensures { TellsMeanwhile (N.end notes.old) (N.end notes.new) result }
@@ -232,29 +233,29 @@ fn tell_meanwhile<R: Wait, N: Out>(rt: &R, boards: &Boards, notes: &mut N) -> Re
     notice_worker(rt, &mut notices, notes)
 }
 
-/// What a run of edges comes to: each of them, and whether the input was read up to its end.
+/// The result of a run: that of each edge, and `true` if the input was read up to its end.
 type Reached = (Vec<Result<Outcome, AllocError>>, bool);
 
-/// What edges run over.
+/// The environment in which edges run.
 #[derive(Drop)]
 pub(crate) struct Host<'x, R> {
-    /// What may wait, starts threads and has sockets and a clock.
+    /// The runtime, which waits, starts threads, and has sockets and a clock.
     pub(crate) rt: &'x R,
-    /// What gives memory.
+    /// The allocator.
     pub(crate) alloc: Global,
-    /// The socket whose clients may ask the edges, if there is one.
+    /// The socket whose clients may query the edges, if there is one.
     pub(crate) control: Option<&'x ControlSocket>,
 }
 
 impl<'x, R> Host<'x, R> {
-    /// All of it as one value.
+    /// Returns these as one value.
     pub(crate) fn new(rt: &'x R, alloc: Global, control: Option<&'x ControlSocket>) -> Self {
         Host { rt, alloc, control }
     }
 }
 
-/// Runs edges until the reader ends, and stops them then. Clients of a socket may ask them
-/// meanwhile.
+/// Runs edges until the reader ends, and then stops them. Clients of a control socket may query
+/// them meanwhile.
 fn run_reading<'x, R: Threads + Wait + Clock + Sync, E: In>(
     host: &Host<'x, R>,
     start: Start<Wire<'x, R>, UdpOut<'x>>,
@@ -268,7 +269,7 @@ fn run_reading<'x, R: Threads + Wait + Clock + Sync, E: In>(
     ensures read { ReadsOut (E.end reader.old) (E.end reader.new) result.1 }
 {
     let (rt, alloc, control) = (host.rt, host.alloc, host.control);
-    // The reader comes back from the closure: by its name it is known to be this one.
+    // The closure returns the reader; its ghost name shows that it is this reader.
     let (ended, (is_read, _reader)) = run_all(
         rt,
         start,
@@ -288,12 +289,12 @@ fn run_reading<'x, R: Threads + Wait + Clock + Sync, E: In>(
     (ended, is_read)
 }
 
-/// Runs the edges of a configuration over these sockets until the reader ends. Clients of a socket
-/// may ask them meanwhile.
+/// Runs the edges of a configuration over these sockets until the reader ends. Clients of a control
+/// socket may query them meanwhile.
 ///
 /// # Errors
 ///
-/// Where memory is refused before an edge has begun.
+/// `AllocError` if memory is refused before an edge has begun.
 fn run_bound<R: Threads + Wait + Files + Clock + Sync, E: In, W: Out, N: Out + Send>(
     host: &Host<'_, R>,
     configs: Vec<EdgeConfig>,
@@ -320,7 +321,7 @@ fn run_bound<R: Threads + Wait + Files + Clock + Sync, E: In, W: Out, N: Out + S
     let setups = all_ready(rt, alloc, incarnation, configs, sockets, &stop)?;
     let boards = Boards::new(alloc, setups.len())?;
     let start = Start::new(alloc, setups)?;
-    // Reader and notes come back from the closures: by their names they are known to be these.
+    // The closures return `reader` and `notes`; their ghost names show that they are these.
     let ((told, notes), ((ended, is_read), _reader)) = join(
         rt,
         || -> (Result<(), Device>, &mut N)
@@ -349,7 +350,7 @@ fn run_bound<R: Threads + Wait + Files + Clock + Sync, E: In, W: Out, N: Out + S
     Ok(tell_ended(told, ended.as_slice(), watched, is_read, out, notes))
 }
 
-/// Tells why no edge begins, and answers the status.
+/// Writes why no edge begins, and returns the status.
 fn tell_start_error<N: Out>(start_error: StartError, notes: &mut N) -> u8
     requires { IsOpen (N.end notes.old) }
     ensures { MatchOption (start_text start_error)
@@ -366,7 +367,8 @@ fn tell_start_error<N: Out>(start_error: StartError, notes: &mut N) -> u8
     }
 }
 
-/// `run_edges`, with a socket whose clients may ask the edges meanwhile, or without.
+/// Runs edges as `run_edges` does, with or without a control socket whose clients may query them
+/// meanwhile.
 pub(crate) fn run_asked<
     R: Threads + Wait + Net + Files + Clock + Sync,
     E: In,
@@ -392,16 +394,17 @@ pub(crate) fn run_asked<
     }
 }
 
-/// Runs the edges of a configuration, each on a thread with its workers, until the reader ends;
-/// then writes `edge E` and the report of each edge, and on `notes` a line for each link that had
-/// no room for frames, one for each link at whose socket the system had none, where it tells that,
-/// and `lost N` where N sends failed. What is read is ignored. While the edges run `notes` gets a
-/// line for each alert that isn't held back, until a call of it fails.
+/// Runs the edges of a configuration, each on a thread with its workers, until the reader ends.
+/// Ignores the octets that are read. Then writes `edge E` and the report of each edge. On `notes`
+/// it writes a line for each link that had no room for frames, a line for each link at whose socket
+/// the system had no room, if the system reports that, and `lost N` if N sends failed. While the
+/// edges run, it writes a line on `notes` for each alert that isn't held back, until a call of
+/// `notes` fails.
 ///
-/// The status is the greatest that applies: 4 where a device failed, be it a reader, a writer, a
-/// link or a socket that can't be bound; 3 where memory or a thread was refused; else 0. Where a
-/// socket can't be bound no edge begins, and a line on `notes` says which address, and why. Where a
-/// port lacks an address no edge begins either, and nothing is said.
+/// Returns the greatest status that applies: 4 if a device failed, which may be a reader, a writer,
+/// a link or a socket that can't be bound; 3 if memory or a thread was refused; else 0. If a socket
+/// can't be bound, no edge begins, and a line on `notes` has the address and the reason. If a port
+/// lacks an address, no edge begins either, and nothing is written.
 pub fn run_edges<R: Threads + Wait + Net + Files + Clock + Sync, E: In, W: Out, N: Out + Send>(
     rt: &R,
     alloc: Global,
@@ -422,7 +425,7 @@ pub fn run_edges<R: Threads + Wait + Net + Files + Clock + Sync, E: In, W: Out, 
     run_asked(&host, config, reader, out, notes)
 }
 
-/// `run_edges` with few and large writes: it takes the devices, and gives them back.
+/// Runs edges as `run_edges` does, with few and large writes. Takes the devices and returns them.
 pub fn run_buffered<H: Threads + Wait + Net + Files + Clock + Sync, R: In, W: Out, N: Out + Send>(
     rt: &H,
     alloc: Global,

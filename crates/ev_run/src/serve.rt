@@ -17,7 +17,7 @@ use std::sync::Wait;
 use std::thread::Threads;
 use std::time::Clock;
 
-/// Tells at which path nothing can listen, and answers the status.
+/// Writes at which path nothing can listen, and returns the status.
 fn tell_listen_error<N: Out>(path: &[u8], why: ListenError, notes: &mut N) -> u8
     requires { IsOpen (N.end notes.old) }
     ensures { TellsListenError path.now (N.end notes.old) (N.end notes.new) result }
@@ -27,12 +27,11 @@ fn tell_listen_error<N: Out>(path: &[u8], why: ListenError, notes: &mut N) -> u8
 }
 
 /// Runs the edges of a configuration as `run_edges` does, and answers up to 8 clients at a time
-/// meanwhile, which connect to a Unix stream socket at the path that is configured: what they do
-/// changes nothing of what the run promises. The socket's file is there for its user alone, and is
-/// removed at the end.
+/// meanwhile, which connect to a Unix stream socket at the configured path. The promises of the run
+/// hold whatever clients do. The socket's file is only for its user, and is removed at the end.
 ///
-/// Where nothing can listen at the path no edge begins, a line on `notes` says why, and the status
-/// is 4.
+/// If nothing can listen at the path, no edge begins, a line on `notes` has the reason, and the
+/// status is 4.
 pub fn serve_edges<R: Threads + Wait + Net + Files + Clock + Sync, E: In, W: Out, N: Out + Send>(
     rt: &R,
     alloc: Global,
@@ -61,7 +60,7 @@ pub fn serve_edges<R: Threads + Wait + Net + Files + Clock + Sync, E: In, W: Out
     status
 }
 
-/// `serve_edges` with few and large writes: it takes the devices, and gives them back.
+/// Runs edges as `serve_edges` does, with few and large writes. Takes the devices and returns them.
 pub fn serve_buffered<H: Threads + Wait + Net + Files + Clock + Sync, R: In, W: Out, N: Out + Send>(
     rt: &H,
     alloc: Global,

@@ -1,4 +1,4 @@
-//! Binds the sockets of a run, and tells which one can't be bound.
+//! Binds the sockets of a run, and reports which one can't be bound.
 ghost use Rattle.std.specs.Prelude.{◌≡◌, ◌≤◌, ◌∷◌, [], false, vec_len, map, Some, IfOk, IfErr};
 ghost use Rattle.ether_wire.specs.Ends.{IsOpen, Puts};
 ghost use Rattle.ev_run.specs.RunEdges.{why_text, endpoint_text, bind_error_text};
@@ -18,33 +18,33 @@ use std::net::{Net, UdpSocket};
 /// The UDP port of tunnels (RFC 7348).
 pub(crate) const TUNNELS: u16 = 4789;
 
-/// Why an address can't be bound.
+/// The reason why an address can't be bound.
 #[derive(Clone, Copy, Debug, PartialEq, Eq)]
 pub enum BindError {
-    /// Another socket has it.
+    /// Another socket is bound to it.
     InUse,
     /// No device of this host has it.
     NotHere,
-    /// This user may not.
+    /// This user isn't permitted to bind it.
     Denied,
-    /// The system has no memory for it.
+    /// The system has no memory for the socket.
     NoMemory,
-    /// Anything else.
+    /// Any other reason.
     Other,
 }
 
-/// Why a run doesn't begin.
+/// The reason why a run doesn't begin.
 #[derive(Clone, Copy, Debug, PartialEq, Eq)]
 pub(crate) enum StartError {
     /// This address can't be bound.
     Unbindable(Endpoint, BindError),
-    /// A port has no address where it takes its frames, or none to which it sends them.
+    /// A port has no address at which it receives its frames, or none to which it sends them.
     Unnamed,
     /// There is no memory.
     NoMemory,
 }
 
-/// What an error of the system says of a bind.
+/// Returns the reason that an error of the system means for a bind.
 fn bind_error_of(kind: ErrorKind) -> BindError {
     match kind {
         ErrorKind::AddrInUse => BindError::InUse,
@@ -56,7 +56,7 @@ fn bind_error_of(kind: ErrorKind) -> BindError {
 }
 
 impl BindError {
-    /// The words behind the address.
+    /// Returns the text of the reason, which follows the address in a message.
     fn reason(self) -> &'static [u8]
         ensures { result.now ≡ why_text self }
     {
@@ -81,7 +81,7 @@ pub(crate) fn put_endpoint<N: Out>(notes: &mut N, at: Endpoint) -> Result<(), De
     put_decimal(notes, u64::from(at.port))
 }
 
-/// Tells which address can't be bound, and why.
+/// Writes which address can't be bound, and why.
 #[tactic(auto, using(ether_wire::proofs::Appending::with_text_twice))]
 pub(crate) fn put_bind_error<N: Out>(
     notes: &mut N,
@@ -97,7 +97,7 @@ pub(crate) fn put_bind_error<N: Out>(
     notes.put(why.reason())
 }
 
-/// Where an edge has its tunnels.
+/// Returns the endpoint of an edge's tunnels.
 pub(crate) fn tunnel_of(edge: &EdgeConfig) -> Endpoint
     ensures { result ≡ tunnel_of edge.now }
 {
@@ -107,7 +107,7 @@ pub(crate) fn tunnel_of(edge: &EdgeConfig) -> Endpoint
     }
 }
 
-/// A socket that is bound there.
+/// Returns a socket that is bound to this endpoint.
 fn bind<R: Net>(rt: &R, at: Endpoint) -> Result<UdpSocket, StartError>
     ensures { IfErr result (λ why. Hinders (at ∷ []) false why) }
 {
@@ -117,7 +117,7 @@ fn bind<R: Net>(rt: &R, at: Endpoint) -> Result<UdpSocket, StartError>
     }
 }
 
-/// Both ends of a port's link.
+/// Returns both ends of a port's link.
 fn ends_of(link: PortEndpoints) -> Result<(Endpoint, Endpoint), StartError>
     ensures local { IfOk result (λ ends. link.local ≡ Some ends.0) }
     ensures whole { IfOk result (λ ends. lacks_end link ≡ false) }
@@ -129,7 +129,7 @@ fn ends_of(link: PortEndpoints) -> Result<(Endpoint, Endpoint), StartError>
     }
 }
 
-/// The socket of a port with these ends.
+/// Returns the bound socket of a port with these ends.
 fn bind_port<R: Net>(rt: &R, local: Endpoint, remote: Endpoint) -> Result<PortSocket, StartError>
     ensures bound { IfOk result (λ port. port.local ≡ local) }
     ensures hindered { IfErr result (λ why. Hinders (local ∷ []) false why) }
@@ -141,7 +141,7 @@ fn bind_port<R: Net>(rt: &R, local: Endpoint, remote: Endpoint) -> Result<PortSo
     })
 }
 
-/// The sockets of one edge's ports.
+/// Returns the bound sockets of one edge's ports.
 fn bind_ports<R: Net>(
     rt: &R,
     alloc: Global,
@@ -165,7 +165,7 @@ fn bind_ports<R: Net>(
     Ok(ports)
 }
 
-/// The sockets of all edges.
+/// Returns the bound sockets of all edges.
 pub(crate) fn bind_all<R: Net>(
     rt: &R,
     alloc: Global,

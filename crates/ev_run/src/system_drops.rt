@@ -1,5 +1,5 @@
-//! How many datagrams the system has dropped at a socket for want of room. Linux tells it in
-//! `/proc/net/udp`: a line of words for each socket.
+//! The number of datagrams that the system has dropped at a socket for lack of room. Linux reports
+//! it in `/proc/net/udp`: a line of words for each socket.
 //!
 //! | word | holds | as |
 //! |---|---|---|
@@ -17,11 +17,11 @@ use std::fs::{File, Files};
 use std::io;
 use std::io::Read;
 
-/// At most so many octets are read: the rows of 131,072 sockets, at 128 octets each. It bounds what
-/// memory is taken at the end of a run.
+/// The most octets that are read: the rows of 131,072 sockets, at 128 octets each. This limit
+/// bounds the memory that is taken at the end of a run.
 const MOST: u64 = 1 << 24;
 
-/// The upper case hexadecimal digit of a number.
+/// Returns the upper case hexadecimal digit of a number.
 fn upper_digit(number: u8) -> u8
     requires { number < 16 }
     ensures { result ≡ digit_glyph true number }
@@ -33,15 +33,15 @@ fn upper_digit(number: u8) -> u8
     }
 }
 
-/// The two upper case hexadecimal digits of an octet.
+/// Returns the two upper case hexadecimal digits of an octet.
 fn upper_pair(octet: u8) -> [u8; 2]
     ensures { result ≡ upper_pair octet }
 {
     [upper_digit(octet / 16), upper_digit(octet % 16)]
 }
 
-/// A socket's address and port as the system writes them: the address as a number in the order of
-/// this machine, whose lowest octet is the address's first.
+/// Returns a socket's address and port as the system writes them. The address is a number in the
+/// byte order of this machine, whose lowest octet is the address's first.
 fn local_text(at: Endpoint) -> [u8; 13]
     ensures { result ≡ local_text at }
 {
@@ -53,7 +53,7 @@ fn local_text(at: Endpoint) -> [u8; 13]
     [d, h, c, g, b, f, a, e, b':', i, j, k, l]
 }
 
-/// The word of a row with this place, the first of which is 0.
+/// Returns the word of a row at this place. The first word has place 0.
 fn word_at(row: &[u8], place: usize) -> Option<&[u8]>
     ensures { option_map (λ word. word.now) result ≡ slice_get (words_of row.now) place }
 {
@@ -62,7 +62,7 @@ fn word_at(row: &[u8], place: usize) -> Option<&[u8]>
         .nth(place)
 }
 
-/// Whether a word is the socket's.
+/// Returns `true` if a word is the socket's.
 fn names(local: &[u8], word: Option<&[u8]>) -> bool
     ensures { result ≡ names local.now (option_map (λ word. word.now) word.entry) }
 {
@@ -72,7 +72,7 @@ fn names(local: &[u8], word: Option<&[u8]>) -> bool
     }
 }
 
-/// The number that a word spells; 0 where it spells none.
+/// Returns the number that a word spells, or 0 if it spells none.
 fn count_of(word: Option<&[u8]>) -> u64
     ensures { result ≡ count_of (option_map (λ word. word.now) word.entry) }
 {
@@ -82,7 +82,7 @@ fn count_of(word: Option<&[u8]>) -> u64
     }
 }
 
-/// How many a row says were dropped at a socket.
+/// Returns the number of datagrams that a row reports as dropped at a socket.
 fn row_drops(local: &[u8], row: &[u8]) -> u64
     ensures { result ≡ row_drops local.now row.now }
 {
@@ -93,9 +93,9 @@ fn row_drops(local: &[u8], row: &[u8]) -> u64
     }
 }
 
-/// How many datagrams were dropped at a socket, as this text of the system tells it: 0 where it
-/// tells nothing of that socket. Where rows come and go while it is read, one may stand there
-/// twice; so the greatest number counts, not the sum.
+/// Returns the number of datagrams that this text of the system reports as dropped at a socket, or
+/// 0 if the text has no number for that socket. If rows come and go while the text is read, it may
+/// have a row twice; so the greatest number counts, not the sum.
 pub(crate) fn dropped_at(text: &[u8], at: Endpoint) -> u64
     ensures { result ≡ dropped_at text.now at }
 {
@@ -104,7 +104,7 @@ pub(crate) fn dropped_at(text: &[u8], at: Endpoint) -> u64
         .fold(0, |most: u64, row| most.max(row_drops(&local, row)))
 }
 
-/// The system's table of UDP sockets, or the part of it that is read.
+/// Reads the system's table of UDP sockets, up to `MOST` octets.
 fn read_table<R: Files>(rt: &R, alloc: Global) -> io::Result<Vec<u8>> {
     let mut file = File::open(rt, "/proc/net/udp")?.take(MOST);
     let mut table = Vec::new(alloc);
@@ -112,9 +112,9 @@ fn read_table<R: Files>(rt: &R, alloc: Global) -> io::Result<Vec<u8>> {
     Ok(table)
 }
 
-/// What the system tells of UDP sockets now. It is nothing where it can't be read, where memory for
-/// it is refused, or where it is too long: its last row may be cut then, and its last number with
-/// it.
+/// Returns the system's table of UDP sockets as it is now. The result is empty if the table can't
+/// be read, if memory for it is refused, or if it is too long: its last row may be cut then, and
+/// its last number with it.
 pub(crate) fn udp_table<R: Files>(rt: &R, alloc: Global) -> Vec<u8> {
     match read_table(rt, alloc) {
         Ok(table) if (table.len() as u64) < MOST => table,

@@ -1,4 +1,4 @@
--- What a line of the console asks of edges that run, and what it is answered.
+-- The requests that a line of the console makes to edges that run, and its answer.
 use Rattle.std.specs.Prelude.{◌≡◌, ℕ, List, ◌++◌, codes, Option, Result}
 use Rattle.std.specs.Global.{Vec}
 use Rattle.std.specs.declared.alloc.AllocError.{AllocError}
@@ -9,7 +9,7 @@ use Rattle.ev_links.specs.Coming.{behind}
 use Rattle.ev_console.specs.Asking.{Asked, TableSeen}
 use Rattle.ev_console.specs.Answers.{TellsUpdates, TellsShown, TellsTable, AnswersLine}
 
--- Such a text was written, or a call of the writer failed.
+-- A text of this kind was written, or a call of the writer failed.
 pub record PutsOne (tells : List ℕ → Type 0) (old new : End) (result : Result (Unit {0}) Device) : Type 0 where
   pub text : List ℕ
   pub told : tells text
@@ -24,7 +24,7 @@ PutsShown e shown old new result = PutsOne (TellsShown e shown) old new result
 abbrev pub PutsTable : ℕ → TableSeen → End → End → Result (Unit {0}) Device → Type 0
 PutsTable e answer old new result = PutsOne (TellsTable e answer) old new result
 
--- This was asked and answered: nothing else was asked, and this text was written, or a call of the writer failed.
+-- These requests were made and answered, and no others; this text was written, or a call of the writer failed.
 pub record Does (says : List Asked → List ℕ → Type 0) (before after : Option (List Asked)) (old new : End)
     (result : Result (Unit {0}) Device) : Type 0 where
   pub asked : List Asked
@@ -33,7 +33,7 @@ pub record Does (says : List Asked → List ℕ → Type 0) (before after : Opti
   pub told : after ≡ behind before asked
   pub written : Puts old new text result
 
--- a line was answered, and behind it stands an empty one
+-- a line was answered, with an empty line after the answer
 pub record Replies (count : ℕ) (line : List ℕ) (before after : Option (List Asked)) (old new : End)
     (result : Result (Unit {0}) Device) : Type 0 where
   pub asked : List Asked

@@ -1,4 +1,5 @@
--- A conversation: the lines that came, each asked for and answered once, in their order.
+-- A conversation: the lines that were received, in their order. The requests of each line are made once, and it is
+-- answered once.
 use Rattle.std.specs.Prelude.{◌≡◌, ℕ, List, [], ◌++◌}
 use Rattle.std.specs.Prelude.{Option, Result, Ok, Err}
 use Rattle.ether_wire.specs.declared.ends.Device.{Device}
@@ -8,7 +9,7 @@ use Rattle.ev_console.specs.Asking.{Asked}
 use Rattle.ev_console.specs.Conversation.{IsLine, kept, Exchange, asked_of, said_of, AreExchanges, missing_feed}
 use Rattle.ev_console.specs.Conversation.{BreaksOff}
 
--- These octets came. Each whole line was answered, and of what has begun a line this is kept.
+-- These octets were received. Each whole line was answered, and `held` is kept of the line that has begun.
 pub record SoFar (count : ℕ) (octets held : List ℕ) (before after : Option (List Asked)) (old new : End) : Type 0 where
   pub exchanges : List Exchange
   pub pending : List ℕ
@@ -18,13 +19,13 @@ pub record SoFar (count : ℕ) (octets held : List ℕ) (before after : Option (
   pub told : after ≡ behind before (asked_of exchanges)
   pub written : new ≡ with_text old (said_of exchanges)
 
--- one octet more
+-- the state after these octets, or the failed write that ended them
 abbrev pub ToOctets : ℕ → List ℕ → List ℕ → Option (List Asked) → Option (List Asked) → End → End
     → Result (Unit {0}) Device → Type 0
 ToOctets count octets held before after old new (Ok done) = SoFar count octets held before after old new
 ToOctets count octets held before after old new (Err device) = BreaksOff count octets before after old new
 
--- Whatever had come before, these octets behind it were looked at.
+-- After any octets before them, these octets were processed.
 abbrev pub TakesOctets : ℕ → List ℕ → List ℕ → List ℕ → Option (List Asked) → Option (List Asked) → End → End
     → Result (Unit {0}) Device → Type 0
 TakesOctets count more held held' middle after mid new result =
