@@ -53,7 +53,7 @@ fn copy_of<T: Copy + Default>(list: &ArrayVec<T, 64>) -> ArrayVec<T, 64>
     copy
 }
 
-/// Returns the configuration with another incarnation.
+/// Returns the configuration with this incarnation.
 fn in_incarnation(config: &EdgeConfig, incarnation: u32) -> EdgeConfig
     ensures { result ≡ in_incarnation config.now incarnation }
 {
