@@ -60,7 +60,7 @@ Announced = (f : Fabric) → IsSound f → (i : ℕ) (a : Edge) → IsEdge f i a
     → value_at (table_of a) r ≡ Some v
     → (r.originator ≡ address_of a → Contains a.routes.speaker.pending r → ⊥) → Contains f.pool (update_of r v)
 
--- two updates of one register, incarnation and number are one
+-- two updates of one register, incarnation and number are equal
 abbrev pub SaidOnce : Type 0
 SaidOnce = (f : Fabric) → IsSound f → (u w : Fields) → Contains f.pool u → Contains f.pool w → u.register ≡ w.register
     → u.value.incarnation ≡ w.value.incarnation → u.value.counter ≡ w.value.counter → u ≡ w

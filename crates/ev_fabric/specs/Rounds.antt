@@ -52,7 +52,7 @@ pub record IsRound (s : Station) (old new : Fabric) : Type 0 where
   pub announced : AllAnnounced s old new
   pub taken : AllTaken s old new
 
--- n rounds, each by a list of steps that goes so
+-- n rounds, each by a list of steps of this kind
 abbrev pub Rounds : (Fabric → List Step → Fabric → Type 0) → Station → ℕ → Fabric → Fabric → Type 0
 Rounds Goes s zero old new = new ≡ old
 Rounds Goes s (suc n) old new = (mid : Fabric) × (steps : List Step) × Goes old steps mid × IsRound s old mid

@@ -279,13 +279,14 @@ NoneRestarts (Announce e ∷ steps) = NoneRestarts steps
 NoneRestarts (Deliver e k ∷ steps) = NoneRestarts steps
 NoneRestarts (Restart e n ∷ steps) = ⊥
 
--- edges that agree on an undisturbed station go on agreeing on it, and nothing more of it is announced
+-- edges that agree on an undisturbed station go on agreeing on it while no edge restarts, and nothing more of it is
+-- announced
 abbrev pub StationLasts : Type 0
 StationLasts = (s : Station) (steps : List Step) (old new : Fabric) → IsSound old → AgreesOn old s
     → RunsAlone s old steps new → NoneRestarts steps → AgreesOn new s × (updates_on s new.pool ≡ updates_on s old.pool)
 
--- two rounds lead an opened fabric to a state in which all agree on each station, and go on agreeing on it in any other
--- traffic
+-- two rounds lead an opened fabric to a state in which all agree on each station, and go on agreeing on it while it is
+-- undisturbed and no edge restarts
 abbrev pub StationReached : Type 0
 StationReached = (configs : List EdgeConfig) (f : Fabric) → AreConfigs configs → IsStart configs f
     → (mid : Fabric) × Rests f (two_rounds f) mid × IsSound mid
