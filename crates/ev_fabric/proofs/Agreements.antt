@@ -1,4 +1,4 @@
--- What follows for a sound fabric, and for one whose edges agree.
+-- Consequences for a sound fabric, and for one whose edges agree.
 use Rattle.std.proofs.Common.{◌≡◌, ◌⊎◌, inl, inr, ℕ, ◌<◌, Bool, false, Option, Some, None, [], refl, sym, ap, subst}
 use Rattle.std.proofs.Common.{◌∙◌, arith}
 use Rattle.std.proofs.lemmas.Bool.{cases_eq}
@@ -63,7 +63,7 @@ announced f h i a at r v is quiet = elim (cases_eq r.originator (address_of a)) 
 
 -- ---- equal tables
 
--- what a good edge advertises has no IP address
+-- an advert of a good edge has no IP address
 pub advert_bare : (a : Edge) (s : Station) → IsGoodEdge a → Advertises a s
     → (x : Advert) × (own_advert a.routes.speaker (key_of s) ≡ Some x)
 advert_bare a s h y = go y.0 y.2
@@ -87,7 +87,7 @@ one_of_two a b s good_a good_b same x y =
     (owner_along (table_of b) (table_of a) s.vni s.mac (address_of b) (same_adverts b a (sym same) s)
     (owns b s good_b y))
 
--- ---- where all agree
+-- ---- if all agree
 
 pub none_pending : {r : Register} → Contains [] r → ⊥
 none_pending (x, lt, is) = omega (arith, lt)
@@ -105,7 +105,7 @@ agreed_registers f h agree i j a b at_a at_b = one_table f.pool f.pool (table_of
     (record { there = λ w in'. in'; back = λ w in'. in' }) (agreed_table f h agree i a at_a)
     (agreed_table f h agree j b at_b)
 
--- a report depends on the registers alone
+-- a report depends only on the registers
 pub agreed_reports : AgreedReports
 agreed_reports f h agree i j a b at_a at_b = ap (λ registers. report_of
     (record { originators = []; registers = registers })) (agreed_registers f h agree i j a b at_a at_b)

@@ -1,4 +1,4 @@
--- The calls of a fabric: what each part of them says is a step of the fabric, and keeps it sound.
+-- The calls of a fabric: each of their parts is a step of the fabric, and keeps it sound.
 use Rattle.std.proofs.Common.{◌≡◌, inl, inr, ℕ, zero, suc, ◌<◌, ◌≤◌, true, Option, Some, None, is_some, Result, Ok}
 use Rattle.std.proofs.Common.{Err, List, [], ◌∷◌, refl, sym, ap, subst, ◌∙◌}
 use Rattle.std.specs.Prelude.{IsSome, slice_get}
@@ -31,7 +31,7 @@ use Rattle.ev_fabric.proofs.Fabrics.{step_sound}
 
 -- ---- steps
 
--- a step of the fabric and what is kept
+-- a step of the fabric and the soundness after it
 pub record Does (old new : Fabric) (step : Step) (result : Result Reply FabricRefusal) : Type 0 where
   pub steps : FabricSteps old step result new
   pub sound : IsSound new
@@ -116,7 +116,7 @@ first_announced : (v : Speaker) (rs : List Register) → IsSome (announced_of v 
 first_announced v [] some = some
 first_announced v (r ∷ rs) some = refl
 
--- what is announced was waiting
+-- the announced register was pending
 pub announced_waits : (ys zs : List Edge) (e : ℕ) (a : Edge) (reply : Reply) → nth ys e ≡ Some a
     → OneSteps ys e events.Announce (Ok reply) zs → IsSome reply.announced
     → is_some (slice_get a.routes.speaker.pending 0) ≡ true
@@ -178,7 +178,7 @@ pub incarnation_is : (f : Fabric) (e : ℕ) (a : Edge) (c : EdgeConfig) → IsSo
 incarnation_is f zero a c h there config = absurd cc
 incarnation_is f (suc i) a c h there config = (h.configs i c a config there).life
 
--- what an edge was opened with
+-- the configuration with which an edge was opened
 pub config_fits : (f : Fabric) (e n : ℕ) (a : Edge) (c : EdgeConfig) → IsSound f → nth f.edges e ≡ Some a
     → nth f.configs e ≡ Some c → IsConfig (in_incarnation c n)
 config_fits f zero n a c h there config = absurd cc

@@ -1,4 +1,4 @@
--- What a delivery does to what an edge says and has learnt.
+-- The effect of a delivery on an edge's own registers and on its learning table.
 use Rattle.std.proofs.Common.{◌≡◌, ◌≢◌, ◌⊎◌, inl, inr, ◌+◌, ◌≤◌, ◌<◌, Bool, true, false, cond, nat_lt, Option, Some}
 use Rattle.std.proofs.Common.{None, List, [], ◌∷◌, ◌++◌, length, refl, sym, ap, subst, ◌∙◌, arith}
 use Rattle.std.proofs.lemmas.Bool.Decides.{nat_tests}
@@ -62,7 +62,7 @@ later_trans a b c h g = record {
   ];
 }
 
--- an update sets its own register, where it is news, and leaves all others
+-- an update sets its own register if it is news, and leaves all others
 pub update_cases : (t : Table) (u : Fields) (r : Register)
     → ((r ≡ u.register) × (is_news (value_at t u.register) u.value ≡ true)
     × (value_at (with_update t u) r ≡ Some u.value)) ⊎ (value_at (with_update t u) r ≡ value_at t r)
@@ -86,7 +86,7 @@ update_cases t u r = go (is_news (value_at t u.register) u.value) refl
         ]
     go false e = inr refl
 
--- what is no news for a table is none after any update
+-- a value that is no news for a table is no news after any update
 pub news_stay : (t : Table) (u : Fields) (r : Register) (w : Value) → is_news (value_at t r) w ≡ false
     → is_news (value_at (with_update t u) r) w ≡ false
 news_stay t u r w h = elim (update_cases t u r) as (λ _. is_news (value_at (with_update t u) r) w ≡ false) [
@@ -157,7 +157,7 @@ comes_when e u c =
     let advert = c.advert in
     rw (test, newest, earlier, advert) refl
 
--- what isn't so doesn't come back
+-- an update that isn't `ComesBack` doesn't come back
 pub stays_away : (e : Speaker) (u : Fields) → (ComesBack e u → ⊥) → comes_back e u ≡ false
 stays_away e u never = pick (comes_back e u) refl
   where
@@ -171,7 +171,7 @@ others_stay_away e u ne = stays_away e u (λ c. ne c.mine)
 pub known_stays_away : (e : Speaker) (u : Fields) → is_newest e u ≡ false → comes_back e u ≡ false
 known_stays_away e u none = stays_away e u (λ c. let newest = c.newest in cc)
 
--- ---- what an edge accepts, and what it makes of it
+-- ---- the updates that an edge accepts, and their effects
 pub record Accepts (e : Speaker) (u : Fields) : Type 0 where
   pub listed : is_listed e.table u.register.originator ≡ true
   pub ahead : u.register.originator ≡ e.address → is_ahead e u ≡ false
@@ -180,7 +180,7 @@ pub record Accepts (e : Speaker) (u : Fields) : Type 0 where
 abbrev pub heard : LocalRoutes → Fields → LocalRoutes
 heard c u = cond (u.register.originator == c.speaker.address) (after_own c u) (after_take c u)
 
--- an own advert is withdrawn as it comes back, or a station is lost to another edge, or the table alone changes
+-- an own advert is withdrawn as it comes back, or a station is lost to another edge, or only the table changes
 pub data Heard (c : LocalRoutes) (u : Fields) : LocalRoutes → Type 0 where
   Back : comes_back c.speaker u ≡ true → Heard c u (record c {
     speaker = after_originating c.speaker u.register.key
@@ -269,7 +269,7 @@ pub heard_later : (c : LocalRoutes) (u : Fields) → KeepsNumbers c.speaker → 
     → IsLater c.speaker (heard c u).speaker
 heard_later c u h ok = heard_later_by c u (heard c u) h ok (hears c u)
 
--- ---- what may come back
+-- ---- updates that may come back
 pub comes_before : (a b : Speaker) → IsLater a b → (u : Fields) → comes_back b u ≡ true → comes_back a u ≡ true
 comes_before a b h u back =
     let c = comes b u back in
@@ -292,7 +292,7 @@ pub returns_before : (pool : List Fields) (a b : Speaker) → IsLater a b → (u
 returns_before pool a b h u is = let t = both_true (comes_back b u) (is_latest pool u) is in
     let back = comes_before a b h u t.0 in let last = t.1 in rw (back, last) refl
 
--- what the pool has of the edge's own is of an earlier incarnation, or is no news to it
+-- an own update of the edge in the pool is of an earlier incarnation, or is no news to it
 abbrev pub KnowsOwn : List Fields → Speaker → Type 0
 KnowsOwn pool e = (u : Fields) → Contains pool u → u.register.originator ≡ e.address
     → (u.value.incarnation < e.incarnation) ⊎ (is_newest e u ≡ false)
@@ -362,7 +362,7 @@ marked_length rs r = go (list_any (eq_by_cmp register_cmp r) rs)
         more [] = omega arith
         more (x ∷ rs) = let h = more rs in omega (arith, h)
 
--- what is advertised is learnt
+-- an advertised station is learnt
 pub learnt : (c : LocalRoutes) (s : Station) → KeepsRoutes c → is_some (own_advert c.speaker (key_of s)) ≡ true
     → (x : Entry) × (entry_at c.learned s ≡ Some x)
 learnt c s h some = go (entry_at c.learned s) refl (own_advert c.speaker (key_of s)) refl
@@ -379,7 +379,7 @@ learnt c s h some = go (entry_at c.learned s) refl (own_advert c.speaker (key_of
         ≡ Some y.is_static = ap (option_map (λ (a : Advert). a.is_static)) q in
         absurd (let bad : None ≡ Some y.is_static = sym left ∙ k ∙ right in cc)
 
--- ---- what is still to be said never grows, and pays for each number and each announcement
+-- ---- the number of updates to come never grows, and pays for each number and each announcement
 pub record Pays (pool : List Fields) (a b : LocalRoutes) : Type 0 where
   pub numbers : b.speaker.counter + unsaid pool b ≤ a.speaker.counter + unsaid pool a
   pub announcements : unannounced pool b ≤ unannounced pool a

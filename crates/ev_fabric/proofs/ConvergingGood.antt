@@ -1,4 +1,4 @@
--- A delivery leaves an edge what every edge keeps.
+-- A delivery keeps the invariant of an edge.
 use Rattle.std.proofs.Common.{◌≡◌, ℕ, Bool, true, false, cond, List, ◌∷◌, drop, refl, sym, ap, subst, ◌∙◌, arith}
 use Rattle.std.proofs.lemmas.Bool.Decides.{nat_tests}
 use Rattle.std.specs.Prelude.{length, ◌==◌, ◌≤◌, ◌^◌}
@@ -9,7 +9,7 @@ use Rattle.ev_edge.specs.Edge.{Edge, IsGoodEdge}
 use Rattle.ev_edge.proofs.Staying.{Keeps, keeps_of, other_keeps, own_keeps, announced_keeps}
 use Rattle.ev_fabric.proofs.ConvergingEdge.{Accepts, Heard, Back, Lost, Kept, heard, hears}
 
--- what no announcement and no delivery changes of an edge, beside its local routes
+-- the parts of an edge, beside its local routes, that no announcement and no delivery changes
 pub record IsSteady (a : Edge) : Type 0 where
   pub ports : length a.tree.ports ≡ length a.routes.ports
   pub early : a.clock ≤ 2 ^ 63
@@ -39,7 +39,7 @@ heard_keeps c u second ok h = go (u.register.originator == c.speaker.address) re
     go false t = let other : u.register.originator ≡ c.speaker.address → ⊥ = grind (arith, nat_tests) in
         other_keeps c u second other h
 
--- an announcement says and learns nothing
+-- an announcement makes no update and learns nothing
 abbrev pub quieter : LocalRoutes → List Register → LocalRoutes
 quieter c rs = record c { speaker = record c.speaker { pending = rs } }
 

@@ -1,4 +1,4 @@
--- A delivery of what is no news, or of a withdrawal, takes nothing from an edge and makes nothing pending.
+-- A delivery of an update that is no news, or of a withdrawal, takes nothing from an edge and makes nothing pending.
 use Rattle.std.proofs.Common.{◌≡◌, ◌≢◌, ◌⊎◌, inl, inr, ℕ, Bool, true, false, cond, nat_lt, Option, Some, None, refl}
 use Rattle.std.proofs.Common.{sym, ap, subst, ◌∙◌, arith}
 use Rattle.std.proofs.lemmas.Bool.Decides.{nat_tests}
@@ -118,7 +118,7 @@ idle_hearing c u owns idle = choose (u.register.originator == c.speaker.address)
     choose false t = let other : u.register.originator ≡ c.speaker.address → ⊥ = grind (arith, nat_tests) in
         losing other u.register.key
 
--- what is no news leaves an edge as it is
+-- an update that is no news leaves an edge unchanged
 pub known_hearing : (c : LocalRoutes) (u : Fields) → ((s : Station) → OwnsAt c s) → is_newest c.speaker u ≡ false
     → heard c u ≡ c
 known_hearing c u owns none = idle_hearing c u owns (inl none)
@@ -129,7 +129,7 @@ known_hearing c u owns none = idle_hearing c u owns (inl none)
       };
     })
 
--- ---- what is pending is withdrawn
+-- ---- each pending register is withdrawn
 abbrev pub Mourns : Speaker → Type 0
 Mourns e = (r : Register) → Contains e.pending r → advert_of (value_at e.table r) ≡ None
 

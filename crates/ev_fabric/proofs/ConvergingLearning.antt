@@ -1,4 +1,4 @@
--- What comes to an edge from outside, where the edge has learnt a station afterwards and hadn't before: it says so.
+-- Events from outside after which an edge has learnt a station that it hadn't before: the edge advertises it.
 use Rattle.std.proofs.Common.{◌≡◌, inl, inr, ℕ, ◌-◌, ◌&&◌, Bool, true, false, cond, nat_le, Option, Some, None}
 use Rattle.std.proofs.Common.{Result, Ok, Err, List, [], ◌∷◌, refl, sym, ap, subst, ◌∙◌}
 use Rattle.std.specs.Prelude.{IsSome, not}
@@ -44,13 +44,13 @@ use Rattle.ev_fabric.specs.declared.step.LocalEvent.TheVariants.{Frame, TunnelFr
 use Rattle.ev_fabric.specs.declared.step.LocalEvent.TheVariants.{PortDown, Mcheck}
 use Rattle.ev_fabric.specs.Local.{event_of}
 
--- it advertises the station under the next number, and nothing else that it says changes
+-- it advertises the station under the next number, and none of its other own registers changes
 pub record LearnsIt (b : Edge) (s : Station) (c : Edge) : Type 0 where
   pub content : Content
   pub advert : IsSome (advert_in content)
   pub speaker : c.routes.speaker ≡ after_originating b.routes.speaker (key_of s) content
 
--- ---- what isn't learnt isn't pinned elsewhere
+-- ---- a station that isn't learnt isn't pinned elsewhere
 abbrev is_shift : PinCase → Bool
 is_shift pins.Keep = false
 is_shift pins.Shift = true
@@ -68,9 +68,9 @@ new_shift e s = go (is_static (seq_for (table_of e) (address_of e) s.vni s.mac))
     go false false true = refl
     go false false false = refl
 
--- ---- what goes
+-- ---- stations that are removed
 
--- what isn't learnt isn't after stations went
+-- a station that isn't learnt isn't learnt after removals
 removed_still : (c : LocalRoutes) (ss : List Station) (s : Station) → entry_at c.learned s ≡ None
     → entry_at (after_removals c ss).learned s ≡ None
 removed_still c ss s unknown = removals_entries c ss s ∙ taken_out (stands ss s) (entry_at c.learned s) unknown
@@ -101,7 +101,7 @@ module _ (b : Edge) (s : Station) (c : Edge) (unknown : entry_at b.routes.learne
   absent : entry_at c.routes.learned s ≡ None → LearnsIt b s c
   absent none = absurd (let no : IsSome {T = Entry} None = subst IsSome none some in cc)
 
-  -- where nothing is learnt
+  -- if nothing is learnt
   without : (d : Edge) → c ≡ d → entry_at d.routes.learned s ≡ None → LearnsIt b s c
   without d is none = absent (ap (λ (e : Edge). entry_at e.routes.learned s) is ∙ none)
 

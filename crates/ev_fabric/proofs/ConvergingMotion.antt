@@ -92,13 +92,13 @@ agreed_none pool (u ∷ us) e h =
     sum_by-cons (λ y. one (may_return pool e y)) u us in
     omega (arith, here, rest, sum)
 
--- a station that is said leaves what was no news
+-- a value that was no news is still no news after an own update
 said_news : (e : Speaker) (k : Key) (c : Content) → KeepsNumbers e → (u : Fields) → is_newest e u ≡ false
     → is_newest (after_originating e k c) u ≡ false
 said_news e k c h u old = ap (λ t. is_news (value_at t u.register) u.value) (sym (said_joins e k c h))
     ∙ news_stay e.table (record { register = own_register e k; value = next_value e c }) u.register u.value old
 
--- what a good edge advertises has no IP address
+-- an advert of a good edge has no IP address
 bare_advert : (a : Edge) (s : Station) → IsGoodEdge a → Advertises a s
     → (x : Advert) × (own_advert a.routes.speaker (key_of s) ≡ Some x)
 bare_advert a s h y = go y.0 y.2
@@ -108,7 +108,7 @@ bare_advert a s h y = go y.0 y.2
     go None is = (y.1, is)
     go (Some n) is = absurd (let bad : None ≡ Some y.1 = sym (h.routes.routes.bare s n) ∙ is in cc)
 
--- ---- what a move begins with
+-- ---- the beginning of a move
 record Begins (old : Fabric) (i j : ℕ) (s : Station) (o p : ℕ) (new : Fabric) : Type 0 where
   said : Value
   advert : IsSome (advert_in said.content)
@@ -208,8 +208,8 @@ moved_ready old i j s mid sound_old sound_mid m = record {
   numbers = (begins old i j s mid sound_old m).numbers;
 }
 
--- whatever announcements and deliveries follow, when all agree again the pool has got two updates, and the second edge
--- is the one owner everywhere
+-- after any announcements and deliveries, when all agree again, the pool has got two updates, and the second edge is
+-- the one owner everywhere
 pub move_ends : (old : Fabric) (i j : ℕ) (s : Station) (mid : Fabric) (steps : List Step) (new : Fabric) → IsSound old
     → IsSound mid → (m : StationMoves old i j s mid) → Rests mid steps new → IsSound new → AllAgree new
     → IsMoved old.pool s (address_of m.from) (address_of m.to) new.pool

@@ -1,4 +1,4 @@
--- What an announcement or a delivery makes of a fabric.
+-- The effect of an announcement or a delivery on a fabric.
 use Rattle.std.proofs.Common.{◌≡◌, ◌⊎◌, inl, inr, ℕ, zero, suc, ◌+◌, ◌-◌, ◌<◌, ◌≤◌, Bool, true, false, cond, eqb}
 use Rattle.std.proofs.Common.{Option, Some, None, Result, Ok, Err, List, [], ◌∷◌, ◌++◌, length, refl, sym, ap, subst}
 use Rattle.std.proofs.Common.{◌∙◌, arith}
@@ -40,7 +40,7 @@ use Rattle.ev_edge.proofs.Staying.{Keeps}
 use Rattle.ev_fabric.proofs.ConvergingGood.{IsSteady, good_kept, heard_keeps, heard_steady, quieter}
 use Rattle.ev_fabric.proofs.ConvergingGood.{quieter_keeps}
 
--- ---- what is used of a sound fabric
+-- ---- the used parts of a sound fabric's invariant
 pub record Kept (f : Fabric) : Type 0 where
   pub apart : (i j : ℕ) (a b : Edge) → IsEdge f i a → IsEdge f j b → address_of a ≡ address_of b → i ≡ j
   pub keeps : (i : ℕ) (a : Edge) → IsEdge f i a → Keeps a.routes a.clock
@@ -50,7 +50,7 @@ pub record Kept (f : Fabric) : Type 0 where
       × (address_of a ≡ u.register.originator)
   pub listed : (i j : ℕ) (a b : Edge) → IsEdge f i a → IsEdge f j b → is_listed (table_of a) (address_of b) ≡ true
 
--- what an edge has announced in this incarnation is no news to it
+-- an update that an edge has announced in this incarnation is no news to it
 behind_no_news : (e : Speaker) (u : Fields) → IsBehind e.incarnation e.table u → is_newest e u ≡ false
 behind_no_news e u b = ap (λ o. is_news o u.value) b.there ∙ elim b.order as (λ _. is_newer u.value b.says ≡ false) [
   | inl equal ↦ ap (λ w. is_newer u.value w) (sym equal) ∙ not_newer_itself u.value
@@ -71,7 +71,7 @@ sound_kept f h = record {
   listed = h.listed;
 }
 
--- ---- what a quiet step is
+-- ---- the form of a quiet step
 pub data Move (old : Fabric) : Fabric → Type 0 where
   Stays : Move old old
   Tells : (i : ℕ) (a : Edge) (r : Register) (rs : List Register) (v : Value) → IsEdge old i a
@@ -89,7 +89,7 @@ minus i = omega arith
 pub same_edges : (f : Fabric) (i : ℕ) (a : Edge) → IsEdge f i a → record f { edges = slice_set f.edges i a } ≡ f
 same_edges f i a at = λ j. record f { edges = set_itself f.edges i a at j }
 
--- what is announced: nothing, where nothing is pending; else the value of the register that waits longest
+-- the announced update: none if nothing is pending; otherwise the value of the register that has been pending longest
 pub announced_none : (e : Speaker) → e.pending ≡ [] → announced e ≡ None
 announced_none e pend = ap (announced_of e) pend
 
@@ -235,7 +235,7 @@ pub record Before (old new : Fabric) (j : ℕ) (b : Edge) : Type 0 where
       + unsaid old.pool was.routes
   pub returns : returning new.pool b.routes.speaker ≤ returning old.pool was.routes.speaker
 
--- what another announced doesn't come back
+-- an update that another edge announced doesn't come back
 pub push_returns : (pool : List Fields) (a : Speaker) (u : Fields) → comes_back a u ≡ false
     → returning (pool ++ u ∷ []) a ≤ returning pool a
 push_returns pool a u none =
@@ -252,7 +252,7 @@ push_returns pool a u none =
     front x true is = ap not (any_front (is_over x) pool (u ∷ []) (off (list_any (is_over x) (pool ++ u ∷ [])) is))
     front x false is = is
 
--- what an edge announces is no news to it, and so doesn't come back
+-- an update that an edge announces is no news to it, and so doesn't come back
 pub announced_known : (e : Speaker) (r : Register) (v : Value) → value_at e.table r ≡ Some v
     → is_newest e (update_of r v) ≡ false
 announced_known e r v is = ap (λ o. is_news o v) is ∙ not_newer_itself v
@@ -388,7 +388,7 @@ move_full old _ (Tells i a r rs v at pend is) h =
     omega (arith, fewer, longer)
 move_full old _ (Takes i a u at in' ok) h = let fewer = taken_fewer old i a u h at in' ok in omega (arith, fewer)
 
--- ---- what is kept goes through each step
+-- ---- each step keeps the invariant
 pub forward : (old new : Fabric) → Move old new → (j : ℕ) (a : Edge) → IsEdge old j a → (b : Edge) × IsEdge new j b
 forward old _ Stays j a at = (a, at)
 forward old _ (Tells i c r rs v at_c pend is) j a at = set_kept old.edges i (record c { routes = quieter c.routes rs })
@@ -410,7 +410,7 @@ move_keeps old _ (Takes i a u at in' ok) h j b at_b = elim (set_cases old.edges 
       | inr p ↦ h.keeps j b p.1
     ]
 
--- what the pool gets is of the edge that announced it, and known to it
+-- a new update of the pool is of the edge that announced it, and known to it
 move_pool : (old new : Fabric) → Move old new → Kept old → (w : Fields) → Contains new.pool w
     → Contains old.pool w ⊎ ((i : ℕ) × (a : Edge) × IsEdge old i a × (w.register.originator ≡ address_of a)
     × (is_newest a.routes.speaker w ≡ false))

@@ -1,4 +1,4 @@
--- Where numbers are left in plenty.
+-- Fabrics in which plenty of numbers are left.
 use Rattle.std.proofs.Common.{◌≡◌, ℕ, ◌+◌, ◌≤◌, ◌^◌, List, length, ap, arith}
 use Rattle.std.proofs.lemmas.List.Sums.{count_by-le-length}
 use Rattle.ev_claims.specs.LocalRoutes.{capacity}
@@ -11,7 +11,7 @@ use Rattle.ev_fabric.specs.ConvergenceEdge.{returning}
 use Rattle.ev_fabric.specs.Convergence.{HasNumbers}
 use Rattle.ev_fabric.proofs.ConvergingEdge.{may_return}
 
--- where nothing was announced, nothing comes back
+-- if nothing was announced, nothing comes back
 pub start_numbers : (configs : List EdgeConfig) (f : Fabric) → IsStart configs f → HasNumbers f
 start_numbers configs f h i a at some =
     let none : returning f.pool a.routes.speaker ≡ 0 = ap (λ us. returning us a.routes.speaker) h.quiet in

@@ -1,4 +1,4 @@
--- Two rounds make a fabric that is left alone agree.
+-- Two rounds make an undisturbed fabric agree.
 use Rattle.std.proofs.Common.{◌≡◌, ◌⊎◌, inl, inr, ℕ, zero, suc, ◌<◌, ◌≤◌, ◌^◌, Bool, true, false, cond, nat_le, Option}
 use Rattle.std.proofs.Common.{Some, None, Result, Ok, Err, List, [], ◌∷◌, ◌++◌, length, refl, sym, ap, subst, ◌∙◌}
 use Rattle.std.proofs.Common.{arith}
@@ -60,7 +60,7 @@ move_ready old new move h = record {
       omega (arith, bound, pays);
 }
 
--- such an edge takes each update of the pool
+-- an edge of a ready fabric takes each update of the pool
 pub ready_accepted : (f : Fabric) → IsReady f → (i : ℕ) (a : Edge) (u : Fields) → IsEdge f i a → Contains f.pool u
     → Accepts a.routes.speaker u
 ready_accepted f h i a u at in' = record {
@@ -124,7 +124,7 @@ took old new i a b u kept at same is c at_c =
     let c_is : record a { routes = heard a.routes u } ≡ c = cc in
     subst (λ (e : Edge). is_newest e.routes.speaker u ≡ false) c_is (heard_has a.routes u (kept.keeps i a at).numbers)
 
--- an answered delivery has made the edge hear the update
+-- after an answered delivery the edge has taken the update
 answered : (a b : Edge) (u : Fields) (reply : Reply) → Steps a (events.Take u) (Ok reply) b
     → b ≡ record a { routes = heard a.routes u }
 answered a b u reply h = choose (u.register.originator == address_of a) refl h
@@ -134,7 +134,7 @@ answered a b u reply h = choose (u.register.originator == address_of a) refl h
     choose true t h = h.3 ∙ (λ j. record a { routes = cond (sym t j) (after_own a.routes u) (after_take a.routes u) })
     choose false t h = h.2 ∙ (λ j. record a { routes = cond (sym t j) (after_own a.routes u) (after_take a.routes u) })
 
--- an accepted update is refused for want of memory alone
+-- an accepted update is refused only for lack of memory
 not_refused : (a b : Edge) (u : Fields) (why : edge.Refusal) → Accepts a.routes.speaker u
     → Steps a (events.Take u) (Err why) b → why ≡ OfEdge EdgeNoMemory
 not_refused a b u why ok h = choose (u.register.originator == address_of a) refl h
@@ -276,7 +276,7 @@ each_has (suc m) n old new ready h i i_lt k u lt at = elim (cases_eq i m) as (λ
     mid : IsReady s.0
     mid = rests_ready (taking (suc m) n) old s.0 s.1 ready
 
--- ---- announcements empty what is pending
+-- ---- announcements empty the list of pending registers
 abbrev pub Few : Fabric → ℕ → ℕ → Type 0
 Few f i n = (a : Edge) → IsEdge f i a → length a.routes.speaker.pending ≤ n
 
@@ -369,7 +369,7 @@ each_none (suc m) n old new h i lt few = elim (cases_eq i m) as (λ _. Few new i
     s : (mid : Fabric) × Rests old (announcing (suc m) n) mid × Rests mid (each (λ e. announcing e n) m) new
     s = split (announcing (suc m) n) (each (λ e. announcing e n) m) old new h
 
--- ---- calm: what is pending is withdrawn, and what isn't everywhere is a withdrawal
+-- ---- calm: each pending register is withdrawn, and each update that some edge hasn't got is a withdrawal
 pub record IsCalm (f : Fabric) : Type 0 where
   pub mourns : (i : ℕ) (a : Edge) → IsEdge f i a → Mourns a.routes.speaker
   pub known : (i : ℕ) (a : Edge) (u : Fields) → IsEdge f i a → Contains f.pool u
@@ -617,7 +617,7 @@ rests_pool (step ∷ steps) old new kept h k u at =
     let move = moved old h.0 step h.1 kept h.2 h.4 in
     rests_pool steps h.0 new (move_kept old h.0 move kept) h.5 k u (pool_keeps old h.0 move k u at)
 
--- what was answered was there
+-- the update of an answered delivery was in the pool
 was_there : (old new : Fabric) (i k : ℕ) (reply : Reply) → FabricSteps old (Deliver (suc i) (suc k)) (Ok reply) new
     → (u : Fields) × (slice_get old.pool k ≡ Some u)
 was_there old new i k reply h = go (slice_get old.edges i) h

@@ -1,4 +1,4 @@
--- The stages of a move: the new place advertises, the old one hears that and withdraws.
+-- The stages of a move: the new place advertises, the old one takes that advert and withdraws.
 use Rattle.std.proofs.Common.{◌≡◌, ◌≢◌, ◌⊎◌, inl, inr, ℕ, zero, suc, Bool, true, false, cond, Option, Some, None, List}
 use Rattle.std.proofs.Common.{[], ◌∷◌, ◌++◌, refl, sym, ap, subst, ◌∙◌, arith}
 use Rattle.std.proofs.lemmas.List.Elements.{Contains-append_left, Contains-push, Contains-push_cases}
@@ -38,9 +38,9 @@ use Rattle.ev_fabric.proofs.ConvergingIdle.{idle_hearing}
 use Rattle.ev_fabric.proofs.ConvergingGood.{quieter}
 use Rattle.ev_fabric.proofs.ConvergingMoves.{Kept, Move, Stays, Tells, Takes, before, moved, move_kept}
 
--- ---- an update that is heard and doesn't come back
+-- ---- an update that is taken and doesn't come back
 
--- an own register that it changes says nothing before
+-- an own register that it changes had no advert before
 replaced_silent : (e : Speaker) (u : Fields) (k : Key) → KeepsNumbers e → Accepts e u → own_register e k ≡ u.register
     → is_newest e u ≡ true → own_advert e k ≡ None
 replaced_silent e u k n ok same newest =
@@ -116,9 +116,9 @@ same_edge f i j a b place at_a at_b = let both : Some b ≡ Some a = sym at_b
 
 -- ---- a stage
 
--- The pool has these updates more, and what an edge hasn't got is among them. The edge at place j says u of the
--- station,
--- the one at place i, of the address o, says something of it or not; both have this pending, and the others nothing.
+-- The pool has got these updates, and each update that an edge hasn't got is among them. The edge at place j has the
+-- own value u of the station, the one at place i, of the address o, advertises it or not; these registers are pending
+-- at both, and none at the others.
 pub record AtStage (pool extra : List Fields) (i j : ℕ) (s : Station) (o : ℕ) (u : Fields) (here there : List Register)
     (says : Bool) (f : Fabric) : Type 0 where
   pub grown : f.pool ≡ pool ++ extra
@@ -137,7 +137,7 @@ pub record AtStage (pool extra : List Fields) (i j : ℕ) (s : Station) (o : ℕ
   pub others_say : (x : ℕ) (c : Edge) → x ≢ i → x ≢ j → IsEdge f x c → own_advert c.routes.speaker (key_of s) ≡ None
   pub others_pending : (x : ℕ) (c : Edge) → x ≢ i → x ≢ j → IsEdge f x c → c.routes.speaker.pending ≡ []
 
--- what is new in the pool: the advert, and withdrawals
+-- the new updates of the pool: the advert, and withdrawals
 abbrev News : Fields → List Fields → Type 0
 News u extra = (w : Fields) → Contains extra w → (w ≡ u) ⊎ (advert_in w.value.content ≡ None)
 
@@ -235,7 +235,7 @@ stage_take pool extra i j s o u here there says f g kept news key x a w at in' o
               ap is_some (g.others_say x a ne other at) in let bad : false ≡ true = sym none ∙ said in cc)
         ]
 
--- what is known at a stage stays so
+-- updates that are known at a stage stay known
 stage_known : (pool extra : List Fields) (i j : ℕ) (s : Station) (o : ℕ) (u : Fields) (here there : List Register)
     (says : Bool) (f : Fabric) → AtStage pool extra i j s o u here there says f → Kept f
     → (x : ℕ) (a : Edge) (w : Fields) (at : IsEdge f x a) (in' : Contains f.pool w) (ok : Accepts a.routes.speaker w)
@@ -255,7 +255,7 @@ stage_known pool extra i j s o u here there says f g kept x a w at in' ok y c z 
 abbrev grew : Edge → Fields → Edge
 grew a w = record a { routes = after_update a.routes w }
 
--- the stage stays where the table grows alone
+-- the stage stays if only the table grows
 stage_grows : (pool extra : List Fields) (i j : ℕ) (s : Station) (o : ℕ) (u : Fields) (here there : List Register)
     (says : Bool) (f : Fabric) → AtStage pool extra i j s o u here there says f → Kept f
     → IsSome (advert_in u.value.content)
@@ -543,7 +543,7 @@ two_news u v none w (zero, lt, is) = inl (sym is)
 two_news u v none w (suc zero, lt, is) = inr (subst (λ (y : Fields). advert_in y.value.content ≡ None) is none)
 two_news u v none w (suc (suc n), lt, is) = absurd (omega (arith, lt))
 
--- who has nothing pending announces nothing
+-- an edge with nothing pending announces nothing
 idle_edge : (f : Fabric) (x y : ℕ) (a b : Edge) (r : Register) (rs : List Register) → IsEdge f x a
     → a.routes.speaker.pending ≡ r ∷ rs → IsEdge f y b → b.routes.speaker.pending ≡ [] → x ≢ y
 idle_edge f x y a b r rs at_a pend at_b none place = let b_is = same_edge f x y a b place at_a at_b in

@@ -54,7 +54,7 @@ later_missing a b h u is = go (is_newest a u) refl
     go true e = e
     go false e = absurd (let bad : false ≡ true = sym (h.news u.register u.value e) ∙ is in cc)
 
--- a delivery of what is no news leaves the fabric as it is
+-- a delivery of an update that is no news leaves the fabric unchanged
 same_take : (old : Fabric) (i : ℕ) (a : Edge) (u : Fields) → Kept old → IsEdge old i a
     → is_newest a.routes.speaker u ≡ false → record old {
       edges =
@@ -130,7 +130,7 @@ works_bound (step ∷ steps) old new kept h =
       | inr less ↦ omega (arith, less, rest)
     ]
 
--- ---- where all agree, no such step changes anything
+-- ---- if all agree, no quiet step changes anything
 agreed_stays : (old new : Fabric) → Move old new → Kept old → AllAgree old → new ≡ old
 agreed_stays old _ Stays kept agree = refl
 agreed_stays old _ (Tells i a r rs v at pend is) kept agree =
@@ -145,7 +145,7 @@ agreed_rests (step ∷ steps) old new kept agree h =
     let same = agreed_stays old h.0 (moved old h.0 step h.1 kept h.2 h.4) kept agree in
     agreed_rests steps h.0 new (subst Kept (sym same) kept) (subst AllAgree (sym same) agree) h.5 ∙ same
 
--- ---- where not all agree, some step changes something
+-- ---- if not all agree, some step changes something
 find : {X : Type 0} (P Q : X → Type 0) (xs : List X) → ((x : X) → P x ⊎ Q x)
     → ((i : ℕ) (x : X) → slice_get xs i ≡ Some x → P x) ⊎ ((i : ℕ) × (x : X) × (slice_get xs i ≡ Some x) × Q x)
 find P Q [] test = inl (λ i x at. absurd cc)

@@ -1,4 +1,4 @@
--- What each event of an edge does to what the edge says: it says something, or hears or announces it.
+-- The effect of each event on an edge's own updates: the edge makes some, or takes or announces one.
 use Rattle.std.proofs.Common.{◌≡◌, ◌≢◌, ℕ, ◌-◌, ◌==◌, ◌&&◌, Bool, true, false, cond, nat_le}
 use Rattle.std.proofs.Common.{Option, Some, None, Result, Ok, Err, List, [], ◌∷◌, refl, sym, subst, arith}
 use Rattle.std.specs.Prelude.{not}
@@ -43,7 +43,7 @@ use Rattle.ev_fabric.proofs.Voices.{Talks, Quiet, Says, talks_told, talks_furthe
 use Rattle.ev_fabric.proofs.Voices.{heard_one, own_one, one_itself, one_further, heard_told, own_told}
 use Rattle.std.specs.Prelude.{Contains}
 
--- one edge's words after another's
+-- own updates of one edge lead to the other
 abbrev pub Goes : Edge → Edge → Type 0
 Goes e e' = Talks e.routes.speaker e'.routes.speaker
 
@@ -156,7 +156,7 @@ losing_talks c (Mac v m ip) = go (record { vni = v; mac = m }) (is_lost c (recor
     go s true = Says c.speaker (key_of s) Withdrawn refl Quiet
     go s false = Quiet
 
--- what a take leaves of what the pool and the edge know of each other, and who the edge is
+-- a take keeps the pool's account of the edge, and the edge's identity
 pub record Leaves (pool : List Fields) (e e' : Speaker) : Type 0 where
   pub told : IsTold pool e → IsTold pool e'
   pub one : AreOne e e'

@@ -1,4 +1,4 @@
--- Two edges of one network as they are opened: the laws' first premise can be met.
+-- Two edges with one VNI as they are opened: the laws' first premise can be met.
 use Rattle.std.proofs.Common.{◌≡◌, ◌≤◌, ◌==◌, ◌&&◌, ◌||◌, ℕ, zero, suc, ◌+◌, true, false, Some, None, List, [], ◌∷◌}
 use Rattle.std.proofs.Common.{refl, sym, ap, subst, ◌∙◌, eqb, arith, lit<, lit≤}
 use Rattle.std.specs.Prelude.{Contains, is_some, is_none, slice_get, slice_index_or, nat_lt}
@@ -34,7 +34,7 @@ use Rattle.ev_fabric.specs.Opening.{AreConfigs, IsStart, ListsAll}
 use Rattle.ev_fabric.specs.Witnesses.{FabricOpens}
 use Rattle.ev_fabric.proofs.Opened.{start_sound}
 
--- ---- what the edges are opened with
+-- ---- the configurations of the edges
 
 -- a port that leads to no bridge
 abbrev pub port_of : PortConfig
@@ -49,7 +49,8 @@ port_of = record {
   };
 }
 
--- The edge of this address has two ports of network 5001, room for one station, and listens to 10.0.0.1 and 10.0.0.2.
+-- The edge of this address has two ports of VNI 5001, room for one station, and accepts updates from 10.0.0.1 and
+-- 10.0.0.2.
 abbrev pub config_of : Settings → ℕ → EdgeConfig
 config_of tree address = record {
   address = address;
@@ -97,7 +98,7 @@ fits tree address hello listed = record {
 abbrev pub configs_of : Settings → List EdgeConfig
 configs_of tree = config_of tree 0x0a000001 ∷ config_of tree 0x0a000002 ∷ []
 
--- what holds of two holds of each in their list
+-- a property of two elements holds for each element of their list
 each : (P : EdgeConfig → Type 0) (x y : EdgeConfig) → P x → P y → (c : EdgeConfig) → Contains (x ∷ y ∷ []) c → P c
 each P x y h k c (zero, l, e) = subst P e h
 each P x y h k c (suc zero, l, e) = subst P e k

@@ -40,7 +40,7 @@ use Rattle.ev_fabric.proofs.Voices.{AreOne, talks_told, talks_one, grown_told, a
 use Rattle.ev_fabric.proofs.Events.{Leaves, local_talks, takes_told}
 use Rattle.ev_fabric.proofs.Opened.{opened_told, opened_of, fit_in_life}
 
--- ---- one edge becomes another of the same name
+-- ---- one edge becomes another of the same address
 
 -- the edge at one place of the fabric becomes this one; the pool may grow
 record Becomes (old new : Fabric) (i : ℕ) (before after : Edge) : Type 0 where
@@ -66,7 +66,7 @@ goods old new i before after step good h j a at = elim (at_place old new i befor
       | inr p ↦ h.good j a p.1
     ]
 
--- each edge has the name of the edge that was there, and its listeners
+-- each edge has the address of the edge that was there, and its originators
 record WasThere (old : Fabric) (j : ℕ) (a : Edge) : Type 0 where
   was : Edge
   is : IsEdge old j was
@@ -128,7 +128,7 @@ source_still old new i before after step h u in' = go (h.sources u in')
           )
         ]
 
--- what an edge was opened with, where it goes on
+-- the configuration with which an edge was opened, after a further step
 goes_on : (c : EdgeConfig) (a b : Edge) → AreOne a.routes.speaker b.routes.speaker → IsOf c a → IsOf c b
 goes_on c a b one h = record {
   config = h.config;
@@ -208,7 +208,7 @@ local_leaves old i a b event answer h at steps =
 
 -- ---- an announcement
 
--- the first pending register, and what is announced of it
+-- the first pending register, and its announced update
 record IsAnnounced (a : Edge) (o : Option Fields) (rs : List Register) : Type 0 where
   register : Register
   value : Value
@@ -234,7 +234,7 @@ announced_cases a (r ∷ rs) at h =
       is = ap (announced_of a.routes.speaker) at ∙ ap (option_map (λ (v : Value). update_of r v)) p.1;
     })
 
--- an update of the present number is the one that the edge says
+-- an update of the present number is the edge's own value
 present_once : (pool : List Fields) (e : Speaker) (r : Register) (v : Value) → r.originator ≡ e.address
     → value_at e.table r ≡ Some v → v.incarnation ≡ e.incarnation → IsTold pool e
     → (w : Fields) → Contains pool w → w.register ≡ r → w.value.incarnation ≡ v.incarnation
@@ -414,7 +414,7 @@ restart_sound old new i a n reply at s h = record {
     configs = ap (λ (f : Fabric). f.configs) s.new_is ∙ ap (λ m. slice_set old.configs m (in_incarnation s.config n))
         index
 
-    -- what was announced under this name was said in the old incarnation, or earlier
+    -- each update announced under this address is of the old incarnation, or of an earlier one
     earlier : (u : Fields) → Contains old.pool u → u.register.originator ≡ s.config.address → u.value.incarnation < n
     earlier u in' mine = elim ((h.told i a at).behind u in' (mine ∙ sym was.address)) as (λ _. u.value.incarnation <
         n) [

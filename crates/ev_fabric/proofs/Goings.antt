@@ -1,4 +1,4 @@
--- Whatever comes, edges stay, their lives rise, and the pool grows.
+-- In every run edges stay, their incarnations rise, and the pool grows.
 use Rattle.std.proofs.Common.{◌≡◌, inl, inr, ℕ, zero, suc, ◌-◌, ◌≤◌, Option, Some, None, Result, Ok, Err, List, [], ◌∷◌}
 use Rattle.std.proofs.Common.{◌++◌, length, refl, sym, ap, subst, ◌∙◌, arith}
 use Rattle.std.proofs.lemmas.Bool.{cases_eq}
@@ -93,7 +93,7 @@ steps_later old new i a event result at s leaves =
     ∙ ap (λ n. slice_set old.edges n s.after) (back i)) (same_life a s.after leaves.one)
     (ap (λ (f : Fabric). f.pool) s.new_is ∙ sym (append-nil old.pool))
 
--- what is announced is put at the pool's end
+-- an announced update is put at the pool's end
 grown : (pool : List Fields) (o : Option Fields) → (more : List Fields) × (with_announced pool o ≡ pool ++ more)
 grown pool None = ([], sym (append-nil pool))
 grown pool (Some u) = (u ∷ [], refl)
@@ -109,7 +109,7 @@ announces_later old new i a (Ok reply) at s =
     (record { address = ap address_of speaker; life = let life = ap incarnation_of speaker in omega (arith, life) })
     (ap (λ (f : Fabric). f.pool) s.2 ∙ more.1)
 
--- the edge that is opened anew
+-- the edge that is opened again
 anew : (old new : Fabric) (i : ℕ) (a : Edge) (n : ℕ) (reply : Reply) → IsSound old → IsEdge old i a
     → (s : OpensAnew old (suc i) a n reply new) → IsOf (in_incarnation s.config n) s.after
 anew old new i a n reply h at s = opened_of (in_incarnation s.config n) s.after
@@ -224,7 +224,7 @@ rests_run (step ∷ steps) old new s = (s.0, s.1, s.4, rests_run steps s.0 new s
 no_answer : (reply : Reply) → ◌≡◌ {A = Result Reply FabricRefusal} (Ok reply) (Err NoSuchEdge) → ⊥
 no_answer reply q = cc
 
--- the edge that was opened anew is there, in its new incarnation
+-- the edge that was opened again is there, in its new incarnation
 opened_there : (old mid : Fabric) (e n : ℕ) (reply : Reply) → IsSound old → FabricSteps old (Restart e n) (Ok reply) mid
     → (a : Edge) × (nth mid.edges e ≡ Some a) × (incarnation_of a ≡ n)
 opened_there old mid e n reply h s = go e (nth old.edges e) refl s

@@ -35,7 +35,7 @@ use Rattle.ev_fabric.specs.Station.{StationFromPortToPort}
 use Rattle.ev_fabric.proofs.Stations.{agree_on_each}
 use Rattle.ev_fabric.proofs.Sends.{station_frames_go, tunnel_frames_come_out, tunnel_step}
 
--- what is a frame of a network at a port, is one out of a tunnel
+-- a data frame of a VNI at a port is a data frame from a tunnel, too
 arrives_inner : (e : Edge) (port : ℕ) (octets : List ℕ) (vni destination source : ℕ)
     → frame_arrival e port octets ≡ Ok (Data vni destination source)
     → inner_arrival vni (frame_of octets) ≡ Ok (Data vni destination source)
@@ -70,7 +70,7 @@ arrives_inner e port octets vni destination source is = go (vni_at e.routes.port
     go None q = cc
     go (Some v) q = at_port v (is_up e.tree port) (frame_of octets) q
 
--- a good edge serves the networks of its ports
+-- a good edge serves the VNIs of its ports
 serves_own : (o : Edge) (vni q : ℕ) → IsGoodEdge o → vni_at o.routes.ports q ≡ Some vni → serves o vni ≡ true
 serves_own o vni zero good is = cc
 serves_own o vni (suc l) good is = sym (any_is true o.routes.vnis vni
@@ -79,7 +79,7 @@ serves_own o vni (suc l) good is = sym (any_is true o.routes.vnis vni
 both : (x y : Bool) → x ≡ true → y ≡ true → (x && y) ≡ true
 both x y p q = ap (λ b. b && y) p ∙ q
 
--- the datagram of the frame is one of its network, at an edge that serves it and listens to the sender
+-- the datagram of the frame is one of its VNI, at an edge that serves it and lists the sender
 arrives_there : (o : Edge) (from vni destination source : ℕ) (octets : List ℕ) → vni < 2 ^ 24
     → is_listed (table_of o) from ≡ true → from ≢ address_of o → serves o vni ≡ true
     → inner_arrival vni (frame_of octets) ≡ Ok (Data vni destination source)

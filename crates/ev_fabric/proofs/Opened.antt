@@ -1,4 +1,4 @@
--- An edge as it is opened, and a fabric of such edges.
+-- An edge as it is opened, and a fabric of edges as they are opened.
 use Rattle.std.proofs.Common.{◌≡◌, inl, inr, ℕ, zero, suc, ◌+◌, ◌<◌, ◌++◌, take, Bool, true, false, Some, None, List}
 use Rattle.std.proofs.Common.{[], ◌∷◌, length, refl, sym, ap, subst, ◌∙◌, arith}
 use Rattle.std.proofs.lemmas.Bool.{eq-eqb}
@@ -27,7 +27,7 @@ use Rattle.ev_fabric.proofs.Voices.{Talks, Quiet, Says, talks_one, talks_told, t
 use Rattle.ev_fabric.proofs.Places.{contains_at, there_at, below_length, take_get, get_take, take_length, push_get}
 use Rattle.ev_fabric.proofs.Places.{push_length}
 
--- opening is saying
+-- an opening is a list of own updates
 floods_talk : (e : Speaker) (vs : List ℕ) → Talks e (after_floods e vs)
 floods_talk e [] = Quiet
 floods_talk e (v ∷ vs) = talks_further e (after_originating e (Flood v) (Advertised flood_advert))
@@ -51,7 +51,7 @@ nothing_there : (e : Speaker) (r : Register) (v : Value) → e.table.registers �
 nothing_there e r v is at = let none = ap (λ m. get m r) is ∙ get-empty {X = Value} register_cmp r in
     let bad : None ≡ Some v = sym none ∙ at in cc
 
--- nothing is said yet, and what was announced under this name was said in an earlier incarnation
+-- there are no own values yet, and each update announced under this address is of an earlier incarnation
 silent_told : (pool : List Fields) (address incarnation : ℕ) (originators : List ℕ)
     → ((u : Fields) → Contains pool u → u.register.originator ≡ address → u.value.incarnation < incarnation)
     → IsTold pool (silent address incarnation originators)
@@ -103,7 +103,7 @@ any_there (x ∷ os) a (suc k, less, is) = go (eqb x a) (any_there os a (k, omeg
 
 -- ---- a fabric as it is opened
 
--- what the edge at a place was opened with
+-- the configuration with which the edge at a place was opened
 record HasConfig (cs : List EdgeConfig) (i : ℕ) (a : Edge) : Type 0 where
   config : EdgeConfig
   there : slice_get cs i ≡ Some config

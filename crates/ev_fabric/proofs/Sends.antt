@@ -1,4 +1,4 @@
--- Where an edge sends a frame for a station that some edge advertises.
+-- The destinations of a frame for a station that some edge advertises.
 use Rattle.std.proofs.Common.{◌≡◌, ◌≢◌, ℕ, zero, suc, ◌≤◌, ◌==◌, ◌&&◌, Bool, true, false, cond, not, Option}
 use Rattle.std.proofs.Common.{Some, None, Result, Ok, List, [], ◌∷◌, length, refl, sym, ap, subst, ◌∙◌, arith}
 use Rattle.std.specs.Prelude.{IsTrue, ◌↔◌, ◌||◌}
@@ -88,7 +88,7 @@ learns_leave b e q port told e' s ne h = learnt_by (λ x. LeavesBe e x s) e q po
     (λ heard. entry_leaves e q port s ne) (record { address = refl; tree = refl; entry = refl; adverts = λ o ip. refl })
     (λ new. advert_leaves e q port 0 e.windows s ne) (λ n new. advert_leaves e q port n _ s ne) b h
 
--- ---- what a frame does
+-- ---- the effects of a frame
 
 abbrev port_or : Option (ℕ × List ℕ) → ℕ → ℕ
 port_or None d = d
@@ -183,7 +183,7 @@ tunnel_sent a b event s reply frame steps =
 
 -- ---- to another edge
 
--- the walk finds an owner that there is
+-- the walk finds an owner if there is one
 owner_found : (t : Table) (vni mac o : ℕ) → IsOwner t vni mac o → owner t vni mac ≡ Some o
 owner_found t vni mac o h = go (owner t vni mac) (owner_is t vni mac)
   where
@@ -191,7 +191,7 @@ owner_found t vni mac o h = go (owner t vni mac) (owner_is t vni mac)
     go None none = let some = h.own in let no = none o h.ip in cc
     go (Some p) is = ap Some (one_owner t vni mac p o is h)
 
--- what an edge doesn't advertise it hasn't learnt
+-- a station that an edge doesn't advertise isn't learnt there
 pub no_entry : (a : Edge) (s : Station) → IsGoodEdge a → (Advertises a s → ⊥) → entry_at a.routes.learned s ≡ None
 no_entry a s h none = go (entry_at a.routes.learned s) refl (own_advert a.routes.speaker (key_of s)) refl
   where
@@ -247,7 +247,7 @@ station_frames_go f s h agree i j o a b at_o at_a apart says event port reply fr
     far = let differs : address_of o ≢ address_of b = (λ q. apart (h.apart i j o a at_o at_a (q ∙ x.leaves.address))) in
         grind (arith, nat_tests)
 
--- who agree on everything agree on this station
+-- edges that agree on everything agree on this station
 pub frames_go : FramesGo
 frames_go f h agree i j o a b s = station_frames_go f s h ((agree_on_each f agree).stations s) i j o a b
 
@@ -266,7 +266,7 @@ tunnel_local : (t : Table) (vni m own members passing q : ℕ) (entry : Option �
     → local_for t vni m entry own Tunnel members passing ≡ cond (has_port passing q && true) (with_port 0 q) 0
 tunnel_local t vni m own members passing q entry group some = rw (group, some) refl
 
--- one port alone, or none
+-- one port, or none
 alone : (c : Bool) (q p : ℕ) → IsPort q → (has_port (cond c (with_port 0 q) 0) p ≡ true) ↔ ((p ≡ q) × (c ≡ true))
 alone true q p is = (
   λ there. (grind (arith, nat_tests, has_port-with 0 q is p, has_port-none p, there), refl),
@@ -274,7 +274,7 @@ alone true q p is = (
 )
 alone false q p is = (λ there. absurd (let none = has_port-none p in cc), λ h. absurd (let bad = h.1 in cc))
 
--- a port of a network is one of the bridge's
+-- a port of a VNI is one of the bridge's
 record IsThere (o : Edge) (q : ℕ) : Type 0 where
   least : 1 ≤ q
   most : q ≤ length o.tree.ports

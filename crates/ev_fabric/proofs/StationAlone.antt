@@ -1,4 +1,5 @@
--- What a step is that leaves a station alone, and what stays where nothing of the station is pending or comes back.
+-- Steps that leave a station undisturbed, and the invariant that they keep if nothing of the station is pending or
+-- comes back.
 use Rattle.std.proofs.Common.{◌≡◌, inl, inr, ℕ, zero, suc, Bool, true, false, cond, Option, Some, None}
 use Rattle.std.proofs.Common.{Result, Ok, Err, List, [], ◌∷◌, ◌++◌, refl, sym, ap, subst, ◌∙◌, arith}
 use Rattle.std.proofs.lemmas.List.Elements.{Contains-push_cases}
@@ -44,7 +45,7 @@ use Rattle.ev_fabric.proofs.StationMotion.{not_both, agreed_known, agreed_waits}
 
 -- ---- a step
 
--- an edge opened anew, of which the pool has no advert of the station
+-- an edge that is opened again, of which the pool has no advert of the station
 pub opened_aside : (s : Station) (old new : Fabric) (x : ℕ) (a : Edge) (n : ℕ) (reply : Reply) → IsSound old
     → IsEdge old x a → (h : OpensAnew old (suc x) a n reply new) → NeverAdvertised old.pool s (address_of a)
     → IsAside old.pool s h.after.routes.speaker
@@ -83,13 +84,13 @@ local_same s old new x a event result sound at h same =
           (sound.good x a at).routes.numbers (same h.after here),
     )
 
--- an announcement or a delivery, or an edge that has the same of the station afterwards
+-- an announcement or a delivery, or a change of one edge that keeps all it has of the station
 pub data Still (s : Station) (old : Fabric) : Fabric → Type 0 where
   Moves : (new : Fabric) → Move old new → Still s old new
   Same : (x : ℕ) (a b : Edge) → IsEdge old x a → SameOf s a.routes.speaker b.routes.speaker
       → Still s old (record old { edges = slice_set old.edges x b })
 
--- or one that is opened anew and says nothing of it
+-- or an edge is opened again and advertises nothing of it
 pub data Change (s : Station) (old : Fabric) : Fabric → Type 0 where
   Stills : (new : Fabric) → Still s old new → Change s old new
   Opens : (x : ℕ) (a b : Edge) (cs : List EdgeConfig) → IsEdge old x a → IsAside old.pool s b.routes.speaker
@@ -152,9 +153,9 @@ change s old new (Restart e n) result sound h alone = elim alone as (λ _. Chang
     go zero (Some a) is h never = cc
     go (suc x) (Some a) is h never = opens x a result is h (never x a refl is)
 
--- ---- where nothing is pending, and nothing will be
+-- ---- nothing is pending, and nothing will be
 
--- the edge knows all that the pool has of the station, or says nothing of it
+-- the edge knows each update of the station in the pool, or advertises nothing of it
 pub data IsCalm (pool : List Fields) (s : Station) (e : Speaker) : Type 0 where
   Knows : waiting s e ≡ []
       → ((w : Fields) → Contains pool w → is_of s w.register ≡ true → is_newest e w ≡ false) → IsCalm pool s e
@@ -268,7 +269,7 @@ calm_runs s (step ∷ steps) old new sound h calm =
     let rest = calm_runs s steps h.0 new (step_sound old h.0 step h.1 h.2 sound) h.4 one.0 in
     (rest.0, rest.1 ∙ one.1)
 
--- ---- what the edges know they go on knowing, where none restarts
+-- ---- edges go on knowing the updates that they know, if none restarts
 abbrev pub AllKnow : Station → List Fields → Fabric → Type 0
 AllKnow s pool f = (y : ℕ) (c : Edge) (w : Fields) → IsEdge f y c → Contains pool w → is_of s w.register ≡ true
     → is_newest c.routes.speaker w ≡ false
@@ -299,9 +300,9 @@ know_alone s pool (step ∷ steps) old new sound h none know =
     know_alone s pool steps h.0 new (step_sound old h.0 step h.1 h.2 sound) h.4 n.1
     (know_still s pool old h.0 (sound_kept old sound) (still s old h.0 step h.1 sound h.2 h.3 n.0) know)
 
--- ---- who agree go on agreeing
+-- ---- edges that agree go on agreeing
 
--- each update of the station that the pool has it had before
+-- each update of the station in the new pool was in the old pool
 abbrev pub IsOld : Station → Fabric → Fabric → Type 0
 IsOld s old new = (w : Fields) → is_of s w.register ≡ true → Contains new.pool w → Contains old.pool w
 

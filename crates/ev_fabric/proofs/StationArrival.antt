@@ -1,4 +1,4 @@
--- How far it is from a move to agreement: what waits at two edges, and two deliveries to each edge.
+-- The distance from a move to agreement: the pending registers of two edges, and two deliveries to each edge.
 use Rattle.std.proofs.Common.{◌≡◌, ◌≢◌, inl, inr, ℕ, zero, suc, ◌+◌, ◌<◌, ◌≤◌, Bool, true, false, cond, Option, Some}
 use Rattle.std.proofs.Common.{None, Result, List, [], ◌∷◌, ◌++◌, length, refl, sym, ap, subst, ◌∙◌, arith}
 use Rattle.std.proofs.lemmas.Bool.{cases_eq}
@@ -176,7 +176,7 @@ all_have (suc m) k old new ready h i lt w at = elim (cases_eq i m) as (λ _. Has
     mid : IsReady h.0
     mid = move_ready old h.0 (moved old h.0 (Deliver (suc m) (suc k)) h.1 ready.kept h.2 h.4) ready
 
--- ---- agreement, where nothing waits and all have what the pool has
+-- ---- agreement, if nothing is pending and all have the updates of the pool
 agrees_at : (f : Fabric) (s : Station) → ((y : ℕ) (c : Edge) → IsEdge f y c → waiting s c.routes.speaker ≡ [])
     → ((y : ℕ) (w : Fields) → Contains (updates_on s f.pool) w → Has f y w) → AgreesOn f s
 agrees_at f s waits has = record {
@@ -186,7 +186,7 @@ agrees_at f s waits has = record {
       (has y w (filter_has (λ (x : Fields). is_of s x.register) f.pool w of in') c at);
 }
 
--- at a stage at which nothing waits
+-- at a stage at which nothing is pending
 pub stage_waits : {base extra : List Fields} {i j : ℕ} {s : Station} {o : ℕ} {w : Fields} {says : Bool}
     {pool : List Fields} {edges : List Edge} → StageOf base extra i j s o w [] [] says pool edges → (y : ℕ) (c : Edge)
     → At edges y c
@@ -213,7 +213,7 @@ module _ (old : Fabric) (i j : ℕ) (s : Station) (mid : Fabric) (sound : IsSoun
   abbrev begun : Begins old i j s m.from m.to mid
   begun = begins old i j s mid sound m
 
-  -- what is known of a fabric on the way
+  -- the known state of a fabric on the way
   record Point (f : Fabric) : Type 0 where
     stage : Stage false before i j s (address_of m.from) advert f.pool f.edges
     sound_still : IsSound f
@@ -295,7 +295,7 @@ module _ (old : Fabric) (i j : ℕ) (s : Station) (mid : Fabric) (sound : IsSoun
   longer_by_one f (LateOver w g) = let same = ap length (g.grown ∙ sym (push_after before (advert ∷ []) w))
       ∙ push_length (before ++ advert ∷ []) w ∙ ap suc (push_length before advert) in omega (arith, same)
 
-  -- where nothing is pending at the new place, the advert is out
+  -- if nothing is pending at the new place, the advert is announced
   none_left : (f : Fabric) → Few f j 0 → Point f → length before + 1 ≤ length (updates_on s f.pool)
   none_left f few p = go p.stage.phase p.stage.of
     where

@@ -52,7 +52,7 @@ use Rattle.ev_fabric.proofs.StationMotion.{begins, u, base, first_stage, Begins}
 use Rattle.ev_fabric.proofs.StationArrival.{filter_from}
 use Rattle.ev_fabric.proofs.StationAlone.{AllKnow, know_alone}
 
--- ---- what the edges knew they know
+-- ---- edges still know the updates that they knew
 left_alone : (i j : ℕ) (s : Station) (old new : Fabric) (step : Step) → LeavesStation i j s old step new
     → IsLeftAlone s old step new
 left_alone i j s old new (Local e event) h = h
@@ -126,7 +126,7 @@ module _ (old : Fabric) (i j : ℕ) (s : Station) (mid : Fabric) (sound : IsSoun
                 let p_is : p ≡ m.from = cc in
                 sym name ∙ ap (λ (e : Edge). address_of e) p_is
 
-    -- what an edge has of another's adverts is the old place's or the new one's
+    -- an advert of another edge in an edge's table is of the old place or of the new one
     of_two : (x : ℕ) (a : Edge) → IsEdge new x a → (o : ℕ) → o ≢ address_of a → (ip : Option Ip) (y : Advert)
         → advert_at (table_of a) o (Mac s.vni s.mac ip) ≡ Some y → (o ≡ address_of m.from) ⊎ (o ≡ address_of m.to)
     of_two x a at o other ip y is = go (value_at (table_of a) r) refl is
@@ -196,7 +196,7 @@ module _ (old : Fabric) (i j : ℕ) (s : Station) (mid : Fabric) (sound : IsSoun
             (filter_has (λ (z : Fields). is_of s z.register) new.pool (update_of r v) (about_station s ip)
             ((still_sound.told x a at).foreign r v other there)) stage.phase stage.of
 
-    -- who has learnt the station is one of the two
+    -- an edge that advertises the station is one of the two
     at_two : (x : ℕ) (a : Edge) → IsEdge new x a → Advertises a s → (x ≡ i) ⊎ (x ≡ j)
     at_two x a at says = elim (cases_eq x i) as (λ _. (x ≡ i) ⊎ (x ≡ j)) [
       | inl p ↦ inl p

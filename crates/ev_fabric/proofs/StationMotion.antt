@@ -68,8 +68,8 @@ not_both yes' no' = let bad : true ≡ false = sym yes' ∙ no' in cc
 
 -- ---- a stage
 
--- The pool has these updates of the station more than before. The edge at place j says u of it; the one at place i, of
--- the address o, says something of it or not; each has these of its registers pending, and the others none.
+-- The pool has got these updates of the station. The edge at place j has the own value u of it; the one at place i, of
+-- the address o, advertises it or not; each has these of its registers pending, and the others none.
 pub record StageOf (base extra : List Fields) (i j : ℕ) (s : Station) (o : ℕ) (u : Fields) (here there : List Register)
     (says : Bool) (pool : List Fields) (edges : List Edge) : Type 0 where
   pub grown : updates_on s pool ≡ base ++ extra
@@ -81,8 +81,8 @@ pub record StageOf (base extra : List Fields) (i j : ℕ) (s : Station) (o : ℕ
   pub is_from : IsFrom pool extra s o here says from.routes.speaker
   pub asides : (x : ℕ) (c : Edge) → x ≢ i → x ≢ j → At edges x c → IsAside pool s c.routes.speaker
 
--- What the pool has got, what is pending at the old place and at the new one, and whether the old place advertises
--- still. Where it may lose the station by itself, its withdrawal may come first.
+-- The updates that the pool has got, the pending registers at the old place and at the new one, and whether the old
+-- place still advertises. If the old place may lose the station by itself, its withdrawal may come first.
 pub data Phase (may : Bool) (s : Station) (o : ℕ) (u : Fields) : List Fields → List Register → List Register → Bool
     → Type 0 where
   AtFirst : Phase may s o u [] [] (u.register ∷ []) true
@@ -177,7 +177,7 @@ module _ (may : Bool) (base : List Fields) (i j : ℕ) (s : Station) (o : ℕ) (
             )
           ]
 
-  -- ---- a step that leaves what an edge has of the station
+  -- ---- a step that keeps all that an edge has of the station
   stage_same : {extra : List Fields} {here there : List Register} {says : Bool} {pool : List Fields} {edges : List Edge}
       (x : ℕ) (a b : Edge) → StageOf base extra i j s o u here there says pool edges → At edges x a
       → SameOf s a.routes.speaker b.routes.speaker
@@ -192,7 +192,7 @@ module _ (may : Bool) (base : List Fields) (i j : ℕ) (s : Station) (o : ℕ) (
       → SameOf s a.routes.speaker b.routes.speaker → Staged pool edges → Staged pool (slice_set edges x b)
   stays_same x a b at same k = at_phase k.phase (stage_same x a b k.of at same)
 
-  -- ---- another edge than the two changes, and says nothing of the station
+  -- ---- an edge that is neither of the two changes, and advertises nothing of the station
   stage_aside : {extra : List Fields} {here there : List Register} {says : Bool} {pool : List Fields}
       {edges : List Edge} (x : ℕ) (a b : Edge) → x ≢ i → x ≢ j → StageOf base extra i j s o u here there says pool edges
       → At edges x a → IsAside pool s b.routes.speaker
@@ -207,7 +207,7 @@ module _ (may : Bool) (base : List Fields) (i j : ℕ) (s : Station) (o : ℕ) (
 
   -- ---- an update of the station is taken
 
-  -- what is new of the station in the pool: the advert, and withdrawals
+  -- the new updates of the station in the pool: the advert, and withdrawals
   abbrev News : List Fields → Type 0
   News extra = (w : Fields) → Contains extra w → (w ≡ u) ⊎ (advert_in w.value.content ≡ None)
 
@@ -351,7 +351,7 @@ module _ (may : Bool) (base : List Fields) (i j : ℕ) (s : Station) (o : ℕ) (
 
   -- ---- an edge announces
 
-  -- the pool gets an update of the register that waits first at the edge a
+  -- the pool gets an update of the first pending register of the edge a
   module _ (pool : List Fields) (edges : List Edge) (x : ℕ) (a : Edge) (r : Register) (rs : List Register) (v : Value)
       (at : At edges x a) (pend : a.routes.speaker.pending ≡ r ∷ rs) (is : value_at (table_of a) r ≡ Some v)
       (mine : r.originator ≡ address_of a) (others : (y : ℕ) (c : Edge) → y ≢ x → At edges y c
@@ -402,7 +402,7 @@ module _ (may : Bool) (base : List Fields) (i j : ℕ) (s : Station) (o : ℕ) (
           waits = sym (waits_first ∙ ap (λ b. cond b (r ∷ left) left) other);
         }
 
-    -- a register of the station: it waits at one of the two edges
+    -- a register of the station: it is pending at one of the two edges
     module _ (of : is_of s r ≡ true) where
       waits_mine : waiting s a.routes.speaker ≡ r ∷ left
       waits_mine = waits_first ∙ ap (λ b. cond b (r ∷ left) left) of
@@ -450,7 +450,7 @@ module _ (may : Bool) (base : List Fields) (i j : ℕ) (s : Station) (o : ℕ) (
           (record { name = t.name; said = t.said; waits = refl; known = t.known }))
           (λ ne. absurd (ne p)) (λ ne_i. absurd (ne_i p)) aside_still
 
-      -- who announces it
+      -- the edge that announces it
       place : {extra : List Fields} {here there : List Register} {says : Bool}
           → StageOf base extra i j s o u here there says pool edges → (x ≡ i) ⊎ (x ≡ j)
       place g = elim (cases_eq x i) as (λ _. (x ≡ i) ⊎ (x ≡ j)) [
@@ -655,7 +655,7 @@ module _ (may : Bool) (base : List Fields) (i j : ℕ) (s : Station) (o : ℕ) (
         go (AtLeft y w named none) g e = absurd (never e)
         go (AtBack y w named none) g e = absurd (never e)
 
-  -- a step that leaves what is said of the station, or by which the old place loses it
+  -- a step that keeps each edge's own registers of the station, or by which the old place loses the station
   abbrev Leaves : Fabric → Step → Fabric → Type 0
   Leaves old (Local e event) new = (x : ℕ) (a b : Edge) → e ≡ suc x → IsEdge old x a → IsEdge new x b
       → SaysTheSame s a b ⊎ ((may ≡ true) × LosesItself i s x a b)
@@ -798,9 +798,9 @@ module _ (may : Bool) (base : List Fields) (i j : ℕ) (s : Station) (o : ℕ) (
       → Staged old.pool old.edges → Staged new.pool new.edges × IsSound new
   runs_stage steps old new sound h = leaving_stage steps old new sound (beside_leaves steps old new h)
 
--- ---- what a move begins with
+-- ---- the beginning of a move
 
--- what an edge agrees on it has
+-- an edge that agrees has each update of the station
 pub agreed_known : (f : Fabric) (s : Station) → AgreesOn f s → (i : ℕ) (a : Edge) (u : Fields) → IsEdge f i a
     → Contains f.pool u → is_of s u.register ≡ true → is_newest a.routes.speaker u ≡ false
 agreed_known f s agree i a u at in' of = let v = agree.arrived i a u at of in' in ap (λ o. is_news o u.value) v.1 ∙ v.2
@@ -907,7 +907,7 @@ module _ (old : Fabric) (i j : ℕ) (s : Station) (new : Fabric) (sound : IsSoun
             ];
       }))
 
--- ---- how it ends
+-- ---- the end of a move
 
 some_in : (c : Option Advert) → IsSome c → (x : Advert) × (c ≡ Some x)
 some_in (Some x) is = (x, refl)
@@ -917,13 +917,14 @@ pub some_is : (c : Option Advert) → is_some c ≡ true → (x : Advert) × (c 
 some_is (Some x) is = (x, refl)
 some_is None is = cc
 
--- what the edge of this stage says of the station
+-- the own value of the edge of this stage advertises the station
 pub to_advertises : (pool extra : List Fields) (s : Station) (u : Fields) (there : List Register) (c : Edge)
     → IsSome (advert_in u.value.content) → IsTo pool extra s u there c.routes.speaker → Advertises c s
 to_advertises pool extra s u there c some t = let x = some_in (advert_in u.value.content) some in
     (None, x.0, ap advert_of t.says ∙ x.1)
 
--- what the pool has got in the end: the withdrawal comes first only if the old place lost the station by itself
+-- the updates that the pool has got in the end: the withdrawal comes first only if the old place lost the station by
+-- itself
 record Got (may : Bool) (old : Fabric) (s : Station) (from to : ℕ) (new : Fabric) : Type 0 where
   advert : Value
   withdrawal : Value
@@ -934,7 +935,7 @@ record Got (may : Bool) (old : Fabric) (s : Station) (from to : ℕ) (new : Fabr
       ⊎ ((may ≡ true) × (updates_on s new.pool ≡ updates_on s old.pool ++ update_of (register_of from (key_of s))
       withdrawal ∷ update_of (register_of to (key_of s)) advert ∷ []))
 
--- how each list of steps ends that leads to agreement
+-- the end of each list of steps that leads to agreement
 record Ends (may : Bool) (old : Fabric) (i : ℕ) (s : Station) (from to : ℕ) (new : Fabric) : Type 0 where
   pool : Got may old s from to new
   owner : (x : ℕ) (c : Edge) → IsEdge new x c → IsOwner (table_of c) s.vni s.mac to

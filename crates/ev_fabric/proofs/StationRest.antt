@@ -1,4 +1,5 @@
--- A station that is left alone: who agree on it go on agreeing, and what may still be announced of it never grows.
+-- An undisturbed station: edges that agree on it go on agreeing, and the number of updates of it that may still be
+-- announced never grows.
 use Rattle.std.proofs.lemmas.Bool.{cases_eq}
 use Rattle.std.proofs.Common.{◌≡◌, ◌≢◌, ◌⊎◌, inl, inr, ℕ, ◌+◌, ◌≤◌, ◌&&◌, Bool, true, false, cond, nat_lt, Option}
 use Rattle.std.proofs.Common.{List, [], ◌∷◌, ◌++◌, length, refl, sym, ap, ◌∙◌}
@@ -70,7 +71,7 @@ station_reached configs f are start = (
     agree : AllAgree run.0
     agree = two_rounds_agree (length f.edges) (full_pool f) f run.0 ready (enough_itself f) run.1
 
--- ---- what may still be announced
+-- ---- updates that may still be announced
 
 abbrev one : Bool → ℕ
 one b = cond b 1 0
@@ -109,7 +110,7 @@ back_before : (s : Station) (e v : Speaker) → IsLater e v → (u : Fields) →
 back_before s e v h u is = let t = both_true (is_of s u.register) (comes_back v u) is in let of = t.0 in
     let back = comes_before e v h u t.1 in rw (of, back) refl
 
--- an update of the station is heard
+-- an update of the station is taken
 heard_pays_on : (s : Station) (pool : List Fields) (c : LocalRoutes) (w : Fields) → Hears c w → Contains pool w
     → is_of s w.register ≡ true → unannounced_on s pool (heard c w).speaker ≤ unannounced_on s pool c.speaker
 heard_pays_on s pool c w h in' of = go (comes_back c.speaker w) refl
@@ -165,7 +166,7 @@ heard_pays_on s pool c w h in' of = go (comes_back c.speaker w) refl
               omega (arith, said, none, waits, more, less)
         ]
 
--- what stays the same
+-- unchanged parts
 same_pays : (s : Station) (pool : List Fields) (e v : Speaker) → SameOf s e v
     → unannounced_on s pool v ≤ unannounced_on s pool e
 same_pays s pool e v h =
@@ -188,7 +189,7 @@ same_pays s pool e v h =
         }) in
         rw (of, so) refl
 
--- an update that isn't one's own, or is no news, leaves what may come back
+-- an update of another originator, or one that is no news, keeps the updates that may come back
 push_pays : (s : Station) (pool : List Fields) (e : Speaker) (u : Fields) → comes_back e u ≡ false
     → unannounced_on s (pool ++ u ∷ []) e ≤ unannounced_on s pool e
 push_pays s pool e u none = let same = count_push (back_on s e) pool u (ap (λ b. is_of s u.register && b) none
@@ -278,7 +279,7 @@ count_none p (x ∷ xs) none =
     let sum : count_by p (x ∷ xs) ≡ one (p x) + count_by p xs = sum_by-cons (λ y. one (p y)) x xs in
     omega (arith, here, rest, sum)
 
--- who says nothing of the station announces nothing of it
+-- an edge that advertises nothing of the station announces nothing of it
 aside_pays : (s : Station) (pool : List Fields) (e : Speaker) → IsAside pool s e → unannounced_on s pool e ≡ 0
 aside_pays s pool e h =
     let waits : length (waiting s e) ≡ 0 = ap length h.waits in

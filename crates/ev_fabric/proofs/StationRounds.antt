@@ -44,7 +44,7 @@ beside_runs : (i j : ℕ) (s : Station) (steps : List Step) (old new : Fabric) �
 beside_runs i j s [] old new h = h
 beside_runs i j s (step ∷ steps) old new h = (h.0, h.1, h.2, beside_runs i j s steps h.0 new h.4)
 
--- ---- what the pool has of a station
+-- ---- the pool's updates of a station
 one_at_least : {X : Type 0} (xs : List X) (x : X) → Contains xs x → 1 ≤ length xs
 one_at_least [] x (k, lt, is) = absurd (omega (arith, lt))
 one_at_least (y ∷ ys) x in' = omega arith
@@ -85,7 +85,7 @@ no_more s old new h few w of in' =
           absurd (omega (arith, sum, some, few))
     ]
 
--- where all was taken, nothing is pending, and nothing came meanwhile, the edges agree
+-- if all updates were taken, nothing is pending, and nothing came meanwhile, the edges agree
 taken_agrees : (s : Station) (old new : Fabric) → AllTaken s old new → IsOld s old new
     → ((y : ℕ) (c : Edge) → IsEdge new y c → waiting s c.routes.speaker ≡ []) → AgreesOn new s
 taken_agrees s old new taken pool waits = record {
@@ -96,7 +96,7 @@ taken_agrees s old new taken pool waits = record {
 
 -- ---- from anywhere
 
--- a run that leaves a station alone
+-- a run that leaves a station undisturbed
 module _ (s : Station) (steps : List Step) (old new : Fabric) (sound : IsSound old)
     (runs : RunsAlone s old steps new) where
   alone_later : IsLaterFabric old new
@@ -123,7 +123,7 @@ pub station_agrees_still : StationAgreesStill
 station_agrees_still s zero old new sound agree h = subst (λ f. AgreesOn f s) (sym h) agree
 station_agrees_still s (suc n) old new sound agree h = calm_rounds s n old new sound (agreed_calm old s agree) h
 
--- where an edge has something pending, something may come
+-- if an edge has something pending, something may come
 waits_come : (s : Station) (f : Fabric) (y : ℕ) (c : Edge) → IsEdge f y c
     → length (waiting s c.routes.speaker) ≤ to_come_on s f
 waits_come s f y c at = let has = sum_has (λ (a : Edge). unannounced_on s f.pool a.routes.speaker) f.edges y c at in
@@ -228,7 +228,7 @@ module _ (old : Fabric) (i j : ℕ) (s : Station) (mid : Fabric) (sound : IsSoun
   two_more : (w z : Fields) → length (before ++ w ∷ z ∷ []) ≡ length before + 2
   two_more w z = length-append before (w ∷ z ∷ [])
 
-  -- once all that was pending is announced, the pool has the advert
+  -- once all pending updates are announced, the pool has the advert
   advert_out : (f g : Fabric) → IsLaterFabric f g → {extra : List Fields} {here there : List Register} {says : Bool}
       → Phase false s (address_of m.from) advert extra here there says
       → StageOf before extra i j s (address_of m.from) advert here there says f.pool f.edges → AllAnnounced s f g
@@ -254,7 +254,7 @@ module _ (old : Fabric) (i j : ℕ) (s : Station) (mid : Fabric) (sound : IsSoun
   Lost f = StageOf before (advert ∷ []) i j s (address_of m.from) advert
       (register_of (address_of m.from) (key_of s) ∷ []) [] false f.pool f.edges ⊎ (length before + 2 ≤ count s f)
 
-  -- once all that the pool had is taken, it has: else both places would agree and advertise it
+  -- once all updates of the pool are taken, it has: otherwise both places would agree and advertise it
   station_lost : (f g : Fabric) → IsLaterFabric f g → length before + 1 ≤ count s f → Point g → AllTaken s f g → Lost g
   station_lost f g later out p taken = go p.stage.phase p.stage.of
     where
@@ -278,7 +278,7 @@ module _ (old : Fabric) (i j : ℕ) (s : Station) (mid : Fabric) (sound : IsSoun
       go (AtLeft yes' v named' none') k = absurd (let bad : false ≡ true = yes' in cc)
       go (AtBack yes' v named' none') k = absurd (let bad : false ≡ true = yes' in cc)
 
-  -- once all that was pending is announced, the pool has the withdrawal
+  -- once all pending updates are announced, the pool has the withdrawal
   withdrawal_out : (f g : Fabric) → IsLaterFabric f g → Lost f → AllAnnounced s f g → length before + 2 ≤ count s g
   withdrawal_out f g later (inr out) all = let more = grows s f g later in omega (arith, out, more)
   withdrawal_out f g later (inl k) all =

@@ -1,4 +1,4 @@
--- What each step leaves of one station at an edge, and the stages of its move among all other steps.
+-- The effect of each step on one station at an edge, and the stages of its move among all other steps.
 use Rattle.std.proofs.Common.{◌≡◌, ◌≢◌, ◌⊎◌, inl, inr, ℕ, zero, suc, ◌<◌, ◌≤◌, Bool, true, false, cond, Option, Some}
 use Rattle.std.proofs.Common.{None, List, [], ◌∷◌, ◌++◌, refl, sym, ap, subst, ◌∙◌, arith}
 use Rattle.std.proofs.lemmas.Bool.{cases_eq}
@@ -87,7 +87,7 @@ pub filter_past : {X : Type 0} (p : X → Bool) (xs : List X) (x : X) → p x �
 filter_past p xs x e = filter-append p xs (x ∷ []) ∙ ap (λ b. filter p xs ++ cond b (x ∷ []) []) e
     ∙ no_push (filter p xs)
 
--- ---- what waits of a station
+-- ---- pending registers of a station
 
 abbrev pub waiting : Station → Speaker → List Register
 waiting s e = filter (is_of s) e.pending
@@ -120,7 +120,7 @@ marked_first s rs r none mine = go (list_any (eq_by_cmp register_cmp r) rs) refl
     go true e = absurd (none_pending (subst (λ l. Contains l r) none (filter_has (is_of s) rs r mine (found rs r e))))
     go false e = filter_push (is_of s) rs r mine ∙ ap (λ l. l ++ r ∷ []) none
 
--- ---- what an edge has of a station, says of it and has to announce of it stays
+-- ---- unchanged: all that an edge has of a station, and has to announce of it
 
 pub record SameOf (s : Station) (e v : Speaker) : Type 0 where
   pub address : v.address ≡ e.address
@@ -150,7 +150,7 @@ pub same_newest : (s : Station) (e v : Speaker) (w : Fields) → SameOf s e v �
     → is_newest v w ≡ is_newest e w
 same_newest s e v w h of = ap (λ o. is_news o w.value) (h.values w.register of)
 
--- what is said of something else
+-- an own update of something else
 pub says_other : (s : Station) (e : Speaker) (k : Key) (c : Content) → is_about s.vni s.mac k ≡ false
     → SameOf s e (after_originating e k c)
 says_other s e k c other = record {
@@ -169,9 +169,9 @@ floods_same s e (v ∷ vs) =
     (says_other s e (Flood v) (Advertised flood_advert) refl)
     (floods_same s (after_originating e (Flood v) (Advertised flood_advert)) vs)
 
--- ---- words of an edge
+-- ---- own updates of an edge
 
--- something was said of the station: under a number above all that there were
+-- there was an own update of the station, under a number above all earlier ones
 record Changed (s : Station) (e v : Speaker) : Type 0 where
   ip : Option Ip
   value : Value
@@ -209,7 +209,7 @@ talks_of s e _ (Says v k c bare t) = go (is_about s.vni s.mac k) refl (talks_of 
       more = h.more;
     })
 
--- words that leave what the edge says of the station leave all of it
+-- own updates that keep the edge's own registers of the station keep all it has of the station
 pub left_same : (s : Station) (e v : Speaker) → Talks e v → KeepsNumbers e
     → ((ip : Option Ip) → own v (Mac s.vni s.mac ip) ≡ own e (Mac s.vni s.mac ip)) → SameOf s e v
 left_same s e v t n same = elim (talks_of s e v t) as (λ _. SameOf s e v) [
@@ -218,7 +218,7 @@ left_same s e v t n same = elim (talks_of s e v t) as (λ _. SameOf s e v) [
       let more = h.more in absurd (omega (arith, most, more))
 ]
 
--- a station that is said leaves what was no news
+-- a value that was no news is still no news after an own update
 pub said_news : (e : Speaker) (k : Key) (c : Content) → KeepsNumbers e → (u : Fields) → is_newest e u ≡ false
     → is_newest (after_originating e k c) u ≡ false
 said_news e k c h u old = ap (λ t. is_news (value_at t u.register) u.value) (sym (said_joins e k c h))
@@ -229,8 +229,8 @@ pub talks_news : (e v : Speaker) → Talks e v → KeepsNumbers e → (u : Field
 talks_news e _ Quiet h u old = old
 talks_news e _ (Says v k c bare t) h u old = said_news v k c (talks_numbers e v t h) u (talks_news e v t h u old)
 
--- Words that say something of a station of which nothing was pending: its register is pending then, and what was no
--- news is none.
+-- Own updates about a station of which nothing was pending: its register is pending then, and a value that was no news
+-- still isn't.
 pub record Spoke (s : Station) (e v : Speaker) : Type 0 where
   pub address : v.address ≡ e.address
   pub waits : waiting s v ≡ own_register e (key_of s) ∷ []
@@ -306,7 +306,7 @@ heard_other s c w other = go (comes_back c.speaker w) refl
 
 -- ---- the edges of a move
 
--- the edge to which the station came says u of it
+-- the edge to which the station came has the own value u of it
 pub record IsTo (pool extra : List Fields) (s : Station) (u : Fields) (there : List Register) (e : Speaker) : Type 0
   where
     pub register : own_register e (key_of s) ≡ u.register
@@ -322,14 +322,14 @@ pub record IsFrom (pool extra : List Fields) (s : Station) (o : ℕ) (here : Lis
   pub waits : waiting s e ≡ here
   pub known : (w : Fields) → Contains pool w → is_of s w.register ≡ true → (is_newest e w ≡ false) ⊎ Contains extra w
 
--- any other edge: it says nothing of the station, and nothing of its own comes back
+-- any other edge: it advertises nothing of the station, and no own advert of the station comes back
 pub record IsAside (pool : List Fields) (s : Station) (e : Speaker) : Type 0 where
   pub quiet : own_advert e (key_of s) ≡ None
   pub waits : waiting s e ≡ []
   pub away : (w : Fields) → Contains pool w → is_of s w.register ≡ true → w.register.originator ≡ e.address
       → (is_newest e w ≡ false) ⊎ (advert_in w.value.content ≡ None)
 
--- what stays the same
+-- unchanged parts
 pub to_same : (pool extra : List Fields) (s : Station) (u : Fields) (there : List Register) (e v : Speaker)
     → SameOf s e v
     → IsTo pool extra s u there e → IsTo pool extra s u there v
@@ -359,7 +359,7 @@ aside_same pool s e v h t = record {
       ⊎ (advert_in w.value.content ≡ None)) [ inl old ↦ inl (same_newest s e v w h of ∙ old) | inr none ↦ inr none ];
 }
 
--- where the pool gets an update, which is new if it is of the station
+-- the pool gets an update, which is new if it is of the station
 pub to_push : (pool extra extra' : List Fields) (s : Station) (u : Fields) (there : List Register) (e : Speaker)
     (w : Fields) → (is_of s w.register ≡ true → Contains extra' w)
     → ((z : Fields) → Contains extra z → Contains extra' z) → IsTo pool extra s u there e
@@ -404,7 +404,7 @@ aside_push pool s e w other t = record {
       ];
 }
 
--- ---- an update of the station is heard
+-- ---- an update of the station is taken
 
 pub idle_away : (e : Speaker) (w : Fields) → (is_newest e w ≡ false) ⊎ (advert_in w.value.content ≡ None)
     → comes_back e w ≡ false
@@ -414,13 +414,13 @@ idle_away e w h = elim h as (λ _. comes_back e w ≡ false) [
       ∙ b.advert in cc)
 ]
 
--- what is known of an edge that hears an update
+-- the known state of an edge that takes an update
 pub record Hears (c : LocalRoutes) (w : Fields) : Type 0 where
   pub numbers : KeepsNumbers c.speaker
   pub owns : (s : Station) → OwnsAt c s
   pub accepts : Accepts c.speaker w
 
--- the table grows alone
+-- only the table grows
 abbrev pub Grows : LocalRoutes → Fields → Type 0
 Grows c w = (comes_back c.speaker w ≡ false) × (heard c w ≡ after_update c w)
 
@@ -475,7 +475,7 @@ aside_grows pool s c w h g t = record {
       ];
 }
 
--- who loses a station to an update of another one's registers loses that station, and has advertised it
+-- an edge that loses a station to another originator's update loses the station of that update, and has advertised it
 pub record LosesIt (s : Station) (c : LocalRoutes) (w : Fields) : Type 0 where
   pub said : is_some (own_advert c.speaker (key_of s)) ≡ true
   pub is : heard c w ≡ after_removal (after_update c w) s
@@ -506,7 +506,7 @@ loses_it s c w h of never l = record {
         let macs : l.station.mac ≡ s.mac = cc in
         λ n. record { vni = vnis n; mac = macs n }
 
--- another edge that hears an update of the station says nothing of it
+-- another edge that takes an update of the station advertises nothing of it
 pub aside_hears : (pool : List Fields) (s : Station) (c : LocalRoutes) (w : Fields) → Contains pool w
     → is_of s w.register ≡ true → Hears c w → IsAside pool s c.speaker → IsAside pool s (heard c w).speaker
 aside_hears pool s c w in' of h t = aside_grows pool s c w h grows t
@@ -523,7 +523,7 @@ aside_hears pool s c w in' of h t = aside_grows pool s c w h grows t
           | inr l ↦ absurd (not_both (loses_it s c w h of never l).said (ap is_some t.quiet))
         ]
 
--- what the edge from which the station came makes of the new advert: it stays, or it withdraws the station
+-- the effect of the new advert on the edge from which the station came: it stays, or withdraws the station
 pub from_hears : (pool extra : List Fields) (s : Station) (o : ℕ) (here : List Register) (says : Bool) (c : LocalRoutes)
     (w : Fields) → is_of s w.register ≡ true → w.register.originator ≢ c.speaker.address → Hears c w
     → IsFrom pool extra s o here says c.speaker
@@ -553,7 +553,7 @@ from_hears pool extra s o here says c w of other h t =
           ⊎ Contains extra z) [ inl old ↦ inl (still_known c w z h old) | inr new ↦ inr new ];
     }
 
--- ---- who has said nothing says nothing of a station
+-- ---- an edge with no own values advertises no station
 pub silent_quiet : (s : Station) (address incarnation : ℕ) (originators : List ℕ)
     → own_advert (silent address incarnation originators) (key_of s) ≡ None
 silent_quiet s address incarnation originators = ap advert_of

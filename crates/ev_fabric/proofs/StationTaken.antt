@@ -1,4 +1,4 @@
--- What an edge has taken it has from then on.
+-- An edge has an update that it has taken from then on.
 use Rattle.std.proofs.Common.{◌≡◌, inl, inr, zero, suc, ℕ, Bool, true, false, cond, Option, Some, None, Result, Ok, Err}
 use Rattle.std.proofs.Common.{List, [], ◌∷◌, refl, sym, ap, subst, ◌∙◌}
 use Rattle.std.specs.Prelude.{◌==◌, slice_get, slice_set}
@@ -97,7 +97,7 @@ deliver_knows old new i k u reply sound there h = go (slice_get old.edges i) ref
     go None is h = absurd (let bad = h.0 in cc)
     go (Some a) is h = at_edge a is (slice_get old.pool k) refl h
 
--- what it knows it knows after each step but a restart
+-- an update that is known stays known after each step except a restart
 move_knows : (old new : Fabric) (i : ℕ) (u : Fields) → IsSound old → Move old new → Knows old i u → Knows new i u
 move_knows old new i u sound move know b at = let x = before old new move (sound_kept old sound) i b at in
     x.later.news u.register u.value (know x.was x.at)

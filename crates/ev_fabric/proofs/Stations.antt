@@ -1,4 +1,4 @@
--- What follows for one station of a sound fabric on which the edges agree.
+-- Consequences for one station of a sound fabric on which the edges agree.
 use Rattle.std.proofs.Common.{◌≡◌, ℕ, ◌==◌, ◌&&◌, Bool, true, false, Option, Some, None, List, [], ◌∷◌, refl, sym, ap}
 use Rattle.std.proofs.Common.{subst, ◌∙◌, arith}
 use Rattle.std.proofs.lemmas.Bool.Decides.{nat_tests}
@@ -29,7 +29,7 @@ use Rattle.ev_fabric.proofs.Agreements.{announced, owns, learnt, none_pending}
 pub same_number : (n : ℕ) → (n == n) ≡ true
 same_number n = grind (arith, nat_tests)
 
--- a key of the station, whatever the IP address
+-- a key of the station, with any IP address
 pub about_station : (s : Station) (ip : Option Ip) → is_about s.vni s.mac (Mac s.vni s.mac ip) ≡ true
 about_station s ip = ap (λ b. b && (s.mac == s.mac)) (same_number s.vni) ∙ same_number s.mac
 
@@ -89,7 +89,7 @@ each_agree f h = record {
 -- ---- agreement on one station
 
 module _ (f : Fabric) (s : Station) (h : IsSound f) (agree : AgreesOn f s) where
-  -- what an edge has of the station is in the pool
+  -- each value of the station at an edge is in the pool
   pub station_from : (i : ℕ) (a : Edge) (r : Register) (v : Value) → IsEdge f i a → is_of s r ≡ true
       → value_at (table_of a) r ≡ Some v → Contains f.pool (update_of r v)
   station_from i a r v at of is = announced f h i a at r v is (λ mine in'. agree.quiet i a r at of in')
@@ -165,7 +165,7 @@ agreed_station f s h agree = record {
   present = station_present f s h agree;
 }
 
--- ---- the same where all agree on everything
+-- ---- consequences if all agree on everything
 
 pub one_of_all : OneOfAll
 one_of_all f h agree i j a b s = station_one f s h ((agree_on_each f agree).stations s) i j a b

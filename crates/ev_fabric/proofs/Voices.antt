@@ -1,4 +1,4 @@
--- What an edge says and the pool still know of each other when the edge says, hears or announces something.
+-- The pool still accounts for an edge's table when the edge makes, takes or announces an update.
 use Rattle.std.proofs.Common.{◌≡◌, ◌≢◌, ◌⊎◌, inl, inr, zero, suc, ◌+◌, ◌<◌, Bool, true, false, cond, Some, None}
 use Rattle.std.proofs.Common.{List, [], ◌∷◌, ◌++◌, refl, sym, ap, subst, ◌∙◌, arith}
 use Rattle.std.proofs.lemmas.List.Elements.{Contains-append_left, Contains-push, Contains-push_cases}
@@ -24,7 +24,7 @@ use Rattle.ev_claims.proofs.Numbers.{said_numbers}
 use Rattle.ev_claims.proofs.Hearing.{not_present, past_if_newest, refuted_is}
 use Rattle.ev_fabric.specs.Sound.{update_of, IsBehind, IsTold}
 
--- ---- the registers that wait
+-- ---- the pending registers
 pub marked_keeps : (rs : List Register) (r q : Register) → Contains rs q → Contains (marked rs r) q
 marked_keeps rs r q in' = go (list_any (eq_by_cmp register_cmp r) rs)
   where
@@ -48,7 +48,7 @@ marked_has rs r = go (list_any (eq_by_cmp register_cmp r) rs) refl
     go true e = found rs r e
     go false e = Contains-push rs r
 
--- ---- an own register says something
+-- ---- an own register changes
 said_behind : (e : Speaker) (k : Key) (c : Content) → KeepsNumbers e → (u : Fields) → u.register.originator ≡ e.address
     → IsBehind e.incarnation e.table u → IsBehind e.incarnation (after_originating e k c).table u
 said_behind e k c h u mine b = elim (same_or_other u.register (own_register e k)) as (λ _. IsBehind e.incarnation
@@ -100,7 +100,7 @@ said_told pool e k c h told = record {
       ];
 }
 
--- ---- an update of the pool is heard
+-- ---- an update of the pool is taken
 heard_cases : (t : Table) (u : Fields) (r : Register) (v : Value) → value_at (with_update t u) r ≡ Some v
     → (value_at t r ≡ Some v) ⊎ ((r ≡ u.register) × (v ≡ u.value))
 heard_cases t u r v is = elim (same_or_other r u.register) as (λ _. (value_at t r ≡ Some v)
@@ -147,7 +147,7 @@ heard_told pool e u in' other told = record {
       ];
 }
 
--- one under the edge's own name, of an earlier incarnation
+-- one under the edge's own address, of an earlier incarnation
 pub earlier_told : (pool : List Fields) (e : Speaker) (u : Fields) → Contains pool u → is_newest e u ≡ true
     → u.value.incarnation < e.incarnation → IsTold pool e → IsTold pool (after_importing e u)
 earlier_told pool e u in' newest past told = record {
@@ -174,7 +174,7 @@ earlier_told pool e u in' newest past told = record {
       ];
 }
 
--- where the update isn't news, nothing changes
+-- if the update isn't news, nothing changes
 pub known_told : (pool : List Fields) (e : Speaker) (u : Fields) → is_newest e u ≡ false → IsTold pool e
     → IsTold pool (after_importing e u)
 known_told pool e u known told = subst (λ t. IsTold pool (record e { table = t }))
@@ -209,7 +209,7 @@ grown_told pool u e other told = record {
       ];
 }
 
--- the edge itself announces: its first pending register, with what it says
+-- the edge itself announces: its first pending register, with its own value
 pub announced_told : (pool : List Fields) (e : Speaker) (r : Register) (rs : List Register) (v : Value)
     → e.pending ≡ r ∷ rs → value_at e.table r ≡ Some v → v.incarnation ≡ e.incarnation → IsTold pool e
     → IsTold (pool ++ update_of r v ∷ []) (record e { pending = rs })
@@ -242,7 +242,7 @@ announced_told pool e r rs v at is present told = record {
     first_gone q ne (zero, lt, is) = absurd (ne (sym is))
     first_gone q ne (suc i, lt, is) = (i, omega (arith, lt), is)
 
--- ---- what the edge says goes on by own words alone
+-- ---- own values change only by own updates
 
 -- a key with no IP address
 abbrev pub is_bare : Key → Bool
@@ -267,7 +267,7 @@ pub talks_further : (e v w : Speaker) → Talks e v → Talks v w → Talks e w
 talks_further e v _ t Quiet = t
 talks_further e v _ t (Says w k c bare s) = Says w k c bare (talks_further e v w t s)
 
--- who speaks, in which incarnation, and who is listened to
+-- the edge's address and incarnation, and the originators that it lists
 pub record AreOne (e v : Speaker) : Type 0 where
   pub address : v.address ≡ e.address
   pub incarnation : v.incarnation ≡ e.incarnation

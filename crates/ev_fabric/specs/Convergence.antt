@@ -1,4 +1,4 @@
--- A fabric that is left alone: announcements and deliveries, and nothing else.
+-- An undisturbed fabric: announcements and deliveries, and nothing else.
 use Rattle.std.specs.Prelude.{◌≡◌, ◌≢◌, ℕ, zero, suc, ◌+◌, ◌<◌, ◌≤◌, ◌^◌, Some, Result, Ok, Err, List, [], ◌∷◌, ◌++◌}
 use Rattle.std.specs.Prelude.{length, Contains, slice_get}
 use Rattle.std.specs.List.{sum_by}
@@ -34,7 +34,7 @@ Rests old [] new = new ≡ old
 Rests old (step ∷ steps) new = (mid : Fabric) × (result : Result Reply FabricRefusal) × IsQuiet step × IsGranted result
     × FabricSteps old step result mid × Rests mid steps new
 
--- the same, and each step changes the fabric
+-- a list of announcements and deliveries, with no growth refused, of which each step changes the fabric
 abbrev pub Works : Fabric → List Step → Fabric → Type 0
 Works old [] new = new ≡ old
 Works old (step ∷ steps) new = (mid : Fabric) × (result : Result Reply FabricRefusal) × IsQuiet step × IsGranted result
@@ -43,18 +43,18 @@ Works old (step ∷ steps) new = (mid : Fabric) × (result : Result Reply Fabric
 abbrev pub AllQuiet : List Step → Type 0
 AllQuiet steps = (step : Step) → Contains steps step → IsQuiet step
 
--- ---- what is still to be said
+-- ---- updates to come
 
--- how many announcements may come
+-- the number of announcements that may come
 abbrev pub to_come : Fabric → ℕ
 to_come f = sum_by (λ (a : Edge). unannounced f.pool a.routes) f.edges
 
--- how many updates the pool has and may still get
+-- the number of updates that the pool has and may still get
 abbrev pub full_pool : Fabric → ℕ
 full_pool f = length f.pool + to_come f
 
--- how many announcements may come, and how many deliveries that change an edge: of what it misses now, and of each
--- announcement to come
+-- the number of announcements that may come, and of deliveries that change an edge: of updates that it misses now, and
+-- of each announcement to come
 abbrev pub work : Fabric → ℕ
 work f = to_come f + sum_by (λ (a : Edge). missing f.pool a.routes.speaker + to_come f) f.edges
 

@@ -1,4 +1,4 @@
--- One edge of a fabric that is left alone: what it may still say, and what it hasn't heard yet.
+-- One edge of an undisturbed fabric: the updates that it may still make, and those that it hasn't received yet.
 use Rattle.std.specs.Prelude.{◌≡◌, ◌⊎◌, ℕ, ◌+◌, ◌==◌, ◌&&◌, Bool, false, not, None, is_some, List, length}
 use Rattle.std.specs.List.{count_by, list_any}
 use Rattle.std.specs.Ordering.{eq_by_cmp}
@@ -27,30 +27,31 @@ is_latest pool u = not (list_any (is_over u) pool)
 abbrev pub comes_back : Speaker → Fields → Bool
 comes_back e u = u.register.originator == e.address && is_returning e u
 
--- how many updates of the pool would come back and are the newest advert of their register
+-- the number of updates of the pool that would come back and are the newest advert of their register
 abbrev pub returning : List Fields → Speaker → ℕ
 returning pool e = count_by (λ (u : Fields). comes_back e u && is_latest pool u) pool
 
--- ---- what may still be said
+-- ---- updates that may still be made
 
--- how many withdrawals the edge may still say: of the stations that it has learnt, and of adverts that come back
+-- the number of withdrawals that the edge may still make: of the stations that it has learnt, and of adverts that come
+-- back
 abbrev pub unsaid : List Fields → LocalRoutes → ℕ
 unsaid pool c = entries c + returning pool c.speaker
 
--- how many updates it may still announce
+-- the number of updates that it may still announce
 abbrev pub unannounced : List Fields → LocalRoutes → ℕ
 unannounced pool c = length c.speaker.pending + unsaid pool c
 
--- ---- what hasn't been heard
+-- ---- updates that it hasn't received
 
--- how many updates of the pool are news to the edge
+-- the number of updates of the pool that are news to the edge
 abbrev pub missing : List Fields → Speaker → ℕ
 missing pool e = count_by (is_newest e) pool
 
 -- ---- the edge later on
 
--- What a fabric that is left alone makes of what an edge says: what was no news is none, and an own register is as it
--- was or advertises nothing.
+-- The change of an edge in an undisturbed fabric: a value that was no news is still no news, and an own register is
+-- unchanged or advertises nothing.
 pub record IsLater (a b : Speaker) : Type 0 where
   pub address : b.address ≡ a.address
   pub incarnation : b.incarnation ≡ a.incarnation

@@ -4,8 +4,8 @@ use Rattle.route_wire.specs.Fields.{Fields}
 use Rattle.ev_edge.specs.declared.config.EdgeConfig.{EdgeConfig}
 use Rattle.ev_edge.specs.Edge.{Edge}
 
--- The edges, what each was opened with last, and what was announced, the first update first. Edges and updates are
--- counted from 1.
+-- The edges, the configuration with which each was opened last, and the announced updates, the first one first. Edges
+-- and updates are counted from 1.
 pub record Fabric : Type 0 where
   pub edges : List Edge
   pub configs : List EdgeConfig

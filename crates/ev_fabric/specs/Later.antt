@@ -1,4 +1,4 @@
--- What a run makes of a fabric: edges stay, their lives rise, and the pool grows.
+-- The result of a run of a fabric: edges stay, their incarnations rise, and the pool grows.
 use Rattle.std.specs.Prelude.{◌≡◌, ℕ, ◌≤◌, Some, Ok, List, ◌++◌, IsSome, length}
 use Rattle.route_wire.specs.declared.update.Register.{Register}
 use Rattle.route_wire.specs.declared.update.Value.{Value}
@@ -16,7 +16,7 @@ use Rattle.ev_fabric.specs.Agreed.{AllAgree}
 use Rattle.ev_fabric.specs.Runs.{Runs}
 use Rattle.ev_fabric.specs.Convergence.{Rests}
 
--- the edge b has the name of the edge a, and leads its incarnation or a later one
+-- the edge b has the address of the edge a, and its incarnation or a later one
 pub record IsLaterEdge (a b : Edge) : Type 0 where
   pub address : address_of b ≡ address_of a
   pub life : incarnation_of a ≤ incarnation_of b
@@ -28,16 +28,16 @@ pub record IsLaterFabric (old new : Fabric) : Type 0 where
   pub more : List Fields
   pub pool : new.pool ≡ old.pool ++ more
 
--- whatever comes
+-- after any run
 abbrev pub RunsLead : Type 0
 RunsLead = (steps : List Step) (old new : Fabric) → IsSound old → Runs old steps new → IsLaterFabric old new
 
--- a fabric that is left alone goes by a run like any other
+-- a run of an undisturbed fabric is a run like any other
 abbrev pub RestsRun : Type 0
 RestsRun = (steps : List Step) (old new : Fabric) → Rests old steps new → Runs old steps new
 
--- Edge e was opened anew in the incarnation n, and then whatever came. Where all agree, each advert of it in any table
--- is of the incarnation n or a later one.
+-- Edge e was opened again in the incarnation n, and any run followed. If all agree, each advert of it in any table is
+-- of the incarnation n or a later one.
 abbrev pub AdvertsAreAnew : Type 0
 AdvertsAreAnew =
     (old mid new : Fabric) (e n : ℕ) (reply : Reply) (steps : List Step) → IsSound old

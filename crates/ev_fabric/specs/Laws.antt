@@ -1,4 +1,4 @@
--- What holds of every run of a fabric.
+-- Laws about every run of a fabric.
 use Rattle.std.specs.Prelude.{◌≡◌, ◌≢◌, ◌⊎◌, ◌↔◌, ℕ, ◌<◌, ◌^◌, true, false, Option, Some, None, IsSome, Result, Ok}
 use Rattle.std.specs.Prelude.{List, [], ◌∷◌, ◌++◌, Contains}
 use Rattle.ether_wire.specs.Ports.{has_port, no_ports}
@@ -39,13 +39,13 @@ use Rattle.ev_fabric.specs.Runs.{Runs}
 abbrev pub Starts : Type 0
 Starts = (cs : List EdgeConfig) (f : Fabric) → AreConfigs cs → IsStart cs f → IsSound f
 
--- and stays so whatever comes
+-- it stays sound in every run
 abbrev pub EveryRun : Type 0
 EveryRun = (steps : List Step) (old new : Fabric) → Runs old steps new → IsSound old → IsSound new
 
 -- ---- no table is ahead
 
--- the value is of an earlier incarnation of the edge b, or isn't newer than what b says of the register itself
+-- the value is of an earlier incarnation of the edge b, or isn't newer than b's own value of the register
 abbrev pub IsNotAhead : Edge → Register → Value → Type 0
 IsNotAhead b r v = (v.incarnation < incarnation_of b) ⊎ ((w : Value) × (value_at (table_of b) r ≡ Some w)
     × (is_newer v w ≡ false))
@@ -54,25 +54,25 @@ abbrev pub NoneAhead : Type 0
 NoneAhead = (f : Fabric) → IsSound f → (i j : ℕ) (a b : Edge) → IsEdge f i a → IsEdge f j b → (r : Register) (v : Value)
     → r.originator ≡ address_of b → value_at (table_of a) r ≡ Some v → IsNotAhead b r v
 
--- what the edge at place i has is in the pool, but for what it still has to announce
+-- each value of the edge at place i is in the pool, except for its own pending ones
 abbrev pub Announced : Type 0
 Announced = (f : Fabric) → IsSound f → (i : ℕ) (a : Edge) → IsEdge f i a → (r : Register) (v : Value)
     → value_at (table_of a) r ≡ Some v
     → (r.originator ≡ address_of a → Contains a.routes.speaker.pending r → ⊥) → Contains f.pool (update_of r v)
 
--- two updates of one register, incarnation and number are one
+-- two updates of one register, incarnation and number are equal
 abbrev pub SaidOnce : Type 0
 SaidOnce = (f : Fabric) → IsSound f → (u w : Fields) → Contains f.pool u → Contains f.pool w → u.register ≡ w.register
     → u.value.incarnation ≡ w.value.incarnation → u.value.counter ≡ w.value.counter → u ≡ w
 
 -- ---- equal tables
 
--- of two good edges with equal registers one advertises a station at most, whatever they have come through
+-- of two good edges with equal registers at most one advertises a station, after any history
 abbrev pub OneOfTwo : Type 0
 OneOfTwo = (a b : Edge) (s : Station) → IsGoodEdge a → IsGoodEdge b → (table_of a).registers ≡ (table_of b).registers
     → Advertises a s → Advertises b s → address_of a ≡ address_of b
 
--- ---- where all agree
+-- ---- if all agree
 
 abbrev pub AgreedTables : Type 0
 AgreedTables = (f : Fabric) → IsSound f → AllAgree f → (i : ℕ) (a : Edge) → IsEdge f i a → IsTableOf f.pool (table_of a)
@@ -81,12 +81,12 @@ abbrev pub AgreedReports : Type 0
 AgreedReports = (f : Fabric) → IsSound f → AllAgree f → (i j : ℕ) (a b : Edge) → IsEdge f i a → IsEdge f j b
     → report_of (table_of a) ≡ report_of (table_of b)
 
--- one edge advertises a station at most
+-- at most one edge advertises a station
 abbrev pub OneOfAll : Type 0
 OneOfAll = (f : Fabric) → IsSound f → AllAgree f → (i j : ℕ) (a b : Edge) (s : Station) → IsEdge f i a → IsEdge f j b
     → Advertises a s → Advertises b s → i ≡ j
 
--- it has learnt it, behind a port of the station's network
+-- the station is learnt, on a port of its VNI
 pub record IsBehindPort (a : Edge) (s : Station) (x : Entry) : Type 0 where
   pub learnt : entry_at a.routes.learned s ≡ Some x
   pub port : vni_at a.routes.ports x.port ≡ Some s.vni
@@ -94,7 +94,7 @@ pub record IsBehindPort (a : Edge) (s : Station) (x : Entry) : Type 0 where
 abbrev pub Learnt : Type 0
 Learnt = (a : Edge) (s : Station) → IsGoodEdge a → Advertises a s → (x : Entry) × IsBehindPort a s x
 
--- and every edge takes it for the owner
+-- every edge takes it for the owner
 abbrev pub OwnerOfAll : Type 0
 OwnerOfAll = (f : Fabric) → IsSound f → AllAgree f → (i j : ℕ) (a b : Edge) (s : Station) → IsEdge f i a → IsEdge f j b
     → Advertises a s → IsOwner (table_of b) s.vni s.mac (address_of a)
@@ -105,7 +105,7 @@ NoneBack = (f : Fabric) → IsSound f → AllAgree f → (i j : ℕ) (a b : Edge
     → (r : Register) (v : Value) → r.originator ≡ address_of b → value_at (table_of a) r ≡ Some v
     → IsSome (advert_in v.content) → v.incarnation ≡ incarnation_of b
 
--- ---- where frames go
+-- ---- destinations of frames
 
 -- the octets and the port of a frame that comes at a port
 abbrev pub frame_in : Event → Option (ℕ × List ℕ)
@@ -135,7 +135,7 @@ tunnel_frame_in (events.PortDown port) = None
 tunnel_frame_in (events.Mcheck port) = None
 tunnel_frame_in events.Announce = None
 
--- The event is a frame for the station in its network: it comes from another source address at a port that passes.
+-- The event is a frame for the station in its VNI: it comes from another source address at a port that passes.
 pub record IsFrameFor (a : Edge) (event : Event) (port : ℕ) (s : Station) : Type 0 where
   pub octets : List ℕ
   pub frame : frame_in event ≡ Some (port, octets)
@@ -152,42 +152,41 @@ pub record IsTunnelFrameFor (a : Edge) (event : Event) (s : Station) : Type 0 wh
   pub source : ℕ
   pub arrives : tunnel_arrival a from octets ≡ Ok (Data s.vni s.mac source)
 
--- the frame is given to the edge o alone
+-- the frame goes to the edge o only
 pub record GoesTo (o : ℕ) (reply : Reply) : Type 0 where
   pub decision : Decision
   pub there : reply.decision ≡ Some decision
   pub local : decision.local ≡ no_ports
   pub remote : decision.remote.items ≡ o ∷ []
 
--- the frame is given to port q alone, and to it exactly where it may be
+-- the frame goes to port q only, and to it exactly if it may
 pub record GoesOut (q : ℕ) (May : Type 0) (reply : Reply) : Type 0 where
   pub decision : Decision
   pub there : reply.decision ≡ Some decision
   pub local : (p : ℕ) → (has_port decision.local p ≡ true) ↔ ((p ≡ q) × May)
   pub remote : decision.remote.items ≡ []
 
--- where all agree, a frame for a station that another edge advertises goes to that edge alone
+-- if all agree, a frame for a station that another edge advertises goes to that edge only
 abbrev pub FramesGo : Type 0
 FramesGo = (f : Fabric) → IsSound f → AllAgree f → (i j : ℕ) (o a b : Edge) (s : Station) → IsEdge f i o → IsEdge f j a
     → i ≢ j → Advertises o s
     → (event : Event) (port : ℕ) (reply : Reply) → IsFrameFor a event port s → Steps a event (Ok reply) b
     → GoesTo (address_of o) reply
 
--- at the edge that advertises the station, it goes to the port behind which it is learnt
+-- at the edge that advertises the station, a frame for it goes to the port on which it is learnt
 abbrev pub FramesComeOut : Type 0
 FramesComeOut = (o b : Edge) (s : Station) → IsGoodEdge o → Advertises o s → (event : Event) (port : ℕ) (reply : Reply)
     → IsFrameFor o event port s → Steps o event (Ok reply) b
     → (x : Entry) × IsBehindPort o s x × GoesOut x.port (Passes o.tree x.port × (x.port ≢ port)) reply
 
--- and so does one that comes from another edge
+-- and so does a frame from another edge
 abbrev pub TunnelFramesComeOut : Type 0
 TunnelFramesComeOut = (o b : Edge) (s : Station) → IsGoodEdge o → Advertises o s → (event : Event) (reply : Reply)
     → IsTunnelFrameFor o event s → Steps o event (Ok reply) b
     → (x : Entry) × IsBehindPort o s x × GoesOut x.port (Passes o.tree x.port) reply
 
--- The datagram, entered at the edge o as one from this address, isn't refused, and its frame is given to the port
--- behind
--- which the station is alone, if that passes; else to nothing.
+-- The datagram, entered at the edge o as one from this address, isn't refused, and its frame goes only to the port on
+-- which the station is learnt, if that port passes; otherwise nowhere.
 pub record ComesOut (o : Edge) (from : ℕ) (datagram : List ℕ) (s : Station) : Type 0 where
   pub entry : Entry
   pub behind : IsBehindPort o s entry
@@ -195,9 +194,9 @@ pub record ComesOut (o : Edge) (from : ℕ) (datagram : List ℕ) (s : Station) 
       → tunnel_frame_in event ≡ Some (from, datagram) → Steps o event result after
       → (reply : Reply) × (result ≡ Ok reply) × GoesOut entry.port (Passes o.tree entry.port) reply
 
--- From port to port, where all agree: a frame at a port of edge a for a station that edge o advertises is given to o
--- alone; and the datagram of its network and octets, entered at o, comes out at the station's port. A network's number
--- has three octets, as each VNI has by its type.
+-- From port to port, if all agree: a frame at a port of edge a for a station that edge o advertises goes to o only; and
+-- the datagram of its VNI and octets, entered at o, comes out at the station's port. The VNI has three octets, as each
+-- VNI has by its type.
 abbrev pub FromPortToPort : Type 0
 FromPortToPort =
     (f : Fabric) → IsSound f → AllAgree f → (i j : ℕ) (o a b : Edge) (s : Station) → IsEdge f i o → IsEdge f j a → i ≢ j
@@ -212,7 +211,7 @@ FromPortToPort =
 abbrev pub joined : Edge → Edge → Table
 joined a b = join (table_of a) (table_of b)
 
--- which is joined to which makes no difference; nor does the order of three; nor joining twice
+-- the join is commutative, associative and idempotent
 pub record AreJoined (a b c : Edge) : Type 0 where
   pub commutes : (joined a b).registers ≡ (joined b a).registers
   pub associates : (join (joined a b) (table_of c)).registers ≡ (join (table_of a) (joined b c)).registers

@@ -5,7 +5,7 @@ use Rattle.ev_fabric.specs.declared.step.LocalEvent.{LocalEvent}
 use Rattle.ev_fabric.specs.declared.step.LocalEvent.TheVariants.{Frame, TunnelFrame, Pin, Unpin, Thaw, Second, PortUp}
 use Rattle.ev_fabric.specs.declared.step.LocalEvent.TheVariants.{PortDown, Mcheck}
 
--- the same as an event of an edge
+-- this event as an event of an edge
 abbrev pub event_of : LocalEvent → Event
 event_of (Frame port octets) = events.Frame port octets
 event_of (TunnelFrame from octets) = events.TunnelFrame from octets

@@ -1,4 +1,4 @@
--- What becomes of frames for a station between its move and the agreement on it.
+-- Destinations of frames for a station between its move and the agreement on it.
 use Rattle.std.specs.Prelude.{◌≡◌, ◌≢◌, ◌⊎◌, ℕ, Some, Ok, List}
 use Rattle.ether_wire.specs.Ports.{has_port}
 use Rattle.route_join.specs.Flood.{flood_of}
@@ -19,8 +19,8 @@ use Rattle.ev_fabric.specs.Sound.{IsSound}
 use Rattle.ev_fabric.specs.Laws.{IsBehindPort, IsFrameFor, GoesTo, GoesOut}
 use Rattle.ev_fabric.specs.Station.{StationComes, RunsBeside, NoneRestarts}
 
--- The frame is given away as one for an unknown station: to each port of the network that passes, but for its own,
--- and to each other edge that advertises the network's flood list.
+-- The frame is sent like one for an unknown station: to each port of the VNI that passes, except its own, and to each
+-- other edge that advertises the VNI's flood list.
 pub record IsFlooded (e : Edge) (s : Station) (port : ℕ) (reply : Reply) : Type 0 where
   pub decision : Decision
   pub there : reply.decision ≡ Some decision
@@ -31,13 +31,14 @@ pub record IsFlooded (e : Edge) (s : Station) (port : ℕ) (reply : Reply) : Typ
   pub local : decision.local ≡ open_ports (Port port) (record { members = members; passing = passing })
   pub remote : decision.remote.items ≡ others_of (address_of e) (flood_of (table_of e) s.vni)
 
--- the frame goes to the port behind which the edge has learnt the station itself
+-- the frame goes to the port on which the edge has learnt the station itself
 abbrev pub GoesHome : Edge → Station → ℕ → Reply → Type 0
 GoesHome a s port reply = (x : Entry) × IsBehindPort a s x
     × GoesOut x.port (Passes a.tree x.port × (x.port ≢ port)) reply
 
--- Whatever comes after a move, an edge gives a frame for the station to the old place alone, to the new place alone, or
--- to all; and only at one of the two places it goes to a port behind which the station is learnt.
+-- After a move and any steps of `RunsBeside` without a restart, an edge sends a frame for the station only to the old
+-- place, only to the new place, or to all; and only at one of the two places it goes to a port on which the station is
+-- learnt.
 abbrev pub FramesMeanwhile : Type 0
 FramesMeanwhile =
     (i j : ℕ) (s : Station) (old mid new : Fabric) (steps : List Step) → IsSound old → (m : StationComes old i j s mid)

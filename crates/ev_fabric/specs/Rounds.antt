@@ -1,4 +1,5 @@
--- Rounds of a station: what was pending is announced, what was in the pool is taken, and anything else comes between.
+-- Rounds of a station: the pending updates are announced, the updates of the pool are taken, and any other steps come
+-- in between.
 use Rattle.std.specs.Prelude.{◌≡◌, ℕ, zero, suc, ◌+◌, ◌*◌, ◌≤◌, false, true, Some, Ok, List, ◌++◌, Contains, slice_get}
 use Rattle.route_wire.specs.declared.update.Register.{Register}
 use Rattle.route_wire.specs.declared.update.Value.{Value}
@@ -38,19 +39,20 @@ AllTaken s old new = (i : ℕ) (b : Edge) (u : Fields) → IsEdge new i b → is
     → Contains old.pool u → (v : Value) × (value_at (table_of b) u.register ≡ Some v) × (is_newer u.value v ≡ false)
 
 -- An edge that has taken an update, at its place i and the update's place k, has it or a newer one of its register from
--- then on, whatever comes, while no edge restarts.
+-- then on, in any run in which no edge restarts.
 abbrev pub TakenStays : Type 0
 TakenStays = (i k : ℕ) (u : Fields) (reply : Reply) (steps : List Step) (old mid new : Fabric) → IsSound old
     → slice_get old.pool k ≡ Some u → FabricSteps old (Deliver (suc i) (suc k)) (Ok reply) mid → Runs mid steps new
     → NoneRestarts steps → (b : Edge) → IsEdge new i b
     → (v : Value) × (value_at (table_of b) u.register ≡ Some v) × (is_newer u.value v ≡ false)
 
--- what was pending at the beginning was announced, and what the pool had at the beginning was taken
+-- the updates that were pending at the beginning were announced, and those that the pool had at the beginning were
+-- taken
 pub record IsRound (s : Station) (old new : Fabric) : Type 0 where
   pub announced : AllAnnounced s old new
   pub taken : AllTaken s old new
 
--- n rounds, each by a list of steps that goes so
+-- n rounds, each by a list of steps of this kind
 abbrev pub Rounds : (Fabric → List Step → Fabric → Type 0) → Station → ℕ → Fabric → Fabric → Type 0
 Rounds Goes s zero old new = new ≡ old
 Rounds Goes s (suc n) old new = (mid : Fabric) × (steps : List Step) × Goes old steps mid × IsRound s old mid
@@ -58,13 +60,13 @@ Rounds Goes s (suc n) old new = (mid : Fabric) × (steps : List Step) × Goes ol
 
 -- ---- from anywhere
 
--- In any traffic that leaves the station alone, two rounds for each update of it that may still be announced, and one
--- more, lead to agreement on it.
+-- In any traffic that doesn't disturb the station, two rounds for each update of it that may still be announced, and
+-- one more, lead to agreement on it.
 abbrev pub StationAgrees : Type 0
 StationAgrees = (s : Station) (n : ℕ) (old new : Fabric) → IsSound old → Rounds (RunsAlone s) s n old new
     → 2 * to_come_on s old + 1 ≤ n → AgreesOn new s
 
--- who agree on it agree after each further round, even if edges restarted meanwhile that never advertised it
+-- edges that agree on it agree after each further round, even if edges restarted meanwhile that never advertised it
 abbrev pub StationAgreesStill : Type 0
 StationAgreesStill = (s : Station) (n : ℕ) (old new : Fabric) → IsSound old → AgreesOn old s
     → Rounds (RunsAlone s) s n old new → AgreesOn new s

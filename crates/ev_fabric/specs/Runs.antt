@@ -6,7 +6,7 @@ use Rattle.ev_fabric.specs.declared.step.Step.{Step}
 use Rattle.ev_fabric.specs.Fabric.{Fabric}
 use Rattle.ev_fabric.specs.Steps.{FabricSteps}
 
--- a list of steps, each from where the one before has led, with whatever answers
+-- a list of steps, each from the state to which the one before has led, with any results
 abbrev pub Runs : Fabric → List Step → Fabric → Type 0
 Runs old [] new = new ≡ old
 Runs old (step ∷ steps) new = (mid : Fabric) × (result : Result Reply FabricRefusal) × FabricSteps old step result mid

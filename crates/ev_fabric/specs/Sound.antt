@@ -1,5 +1,5 @@
--- What every fabric keeps: each edge is good, and edge and pool know of each other. Two edges are compared by their
--- addresses alone.
+-- The invariant of every fabric: each edge is good, and the pool accounts for the updates of each edge. Two edges are
+-- compared by their addresses only.
 use Rattle.std.specs.Prelude.{◌≡◌, ◌≢◌, ◌⊎◌, ℕ, ◌<◌, true, Some, List, length, slice_get, Contains}
 use Rattle.route_wire.specs.declared.update.Register.{Register}
 use Rattle.route_wire.specs.declared.update.Value.{Value}
@@ -14,8 +14,8 @@ use Rattle.ev_fabric.specs.Fabric.{Fabric, IsEdge, incarnation_of}
 abbrev pub update_of : Register → Value → Fields
 update_of r v = record { register = r; value = v }
 
--- It was said in the present incarnation n, and the table has it still, or something of that incarnation with a higher
--- number.
+-- The update is of the present incarnation n, and the table still has its value, or one of that incarnation with a
+-- higher number.
 pub record IsBehind (n : ℕ) (t : Table) (u : Fields) : Type 0 where
   pub present : u.value.incarnation ≡ n
   pub says : Value
@@ -23,8 +23,8 @@ pub record IsBehind (n : ℕ) (t : Table) (u : Fields) : Type 0 where
   pub alive : says.incarnation ≡ n
   pub order : (u.value ≡ says) ⊎ (u.value.counter < says.counter)
 
--- What the pool and what an edge says know of each other: what the edge has of others was announced; what it says
--- itself was announced or is pending; what it announced in this incarnation is what it says, or has a lower number.
+-- How the pool accounts for an edge's table: each value of another originator was announced; each own value was
+-- announced or is pending; each own update announced in this incarnation is the present value, or has a lower number.
 pub record IsTold (pool : List Fields) (e : Speaker) : Type 0 where
   pub foreign : (r : Register) (v : Value) → r.originator ≢ e.address → value_at e.table r ≡ Some v
       → Contains pool (update_of r v)

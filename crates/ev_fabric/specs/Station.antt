@@ -1,4 +1,4 @@
--- One station of a fabric: when all edges agree on it, and what becomes of it when it moves, whatever else is pending,
+-- One station of a fabric: when all edges agree on it, and the effects of its move, with any other updates pending,
 -- missing or under way.
 use Rattle.std.specs.Prelude.{◌≡◌, ◌≢◌, ◌⊎◌, ℕ, suc, ◌+◌, ◌^◌, ◌≤◌, ◌<◌, ◌==◌, ◌&&◌, Bool, true, false, if◌then◌else◌}
 use Rattle.std.specs.Prelude.{Option, Some, None, IsSome, is_some, Result, Ok, List, [], ◌∷◌, ◌++◌, length, Contains}
@@ -39,7 +39,7 @@ use Rattle.ev_fabric.specs.Convergence.{Rests, HasNumbers, announcing, each, two
 
 -- ---- registers
 
--- the register is of the station: of its MAC address in its network, whoever says it and whatever the IP address
+-- the register is of the station: of its MAC in its VNI, with any originator and any IP address
 abbrev pub is_of : Station → Register → Bool
 is_of s r = is_about s.vni s.mac r.key
 
@@ -47,14 +47,14 @@ abbrev pub is_flood_list : ℕ → Key → Bool
 is_flood_list vni (Flood v) = v == vni
 is_flood_list vni (Mac v m ip) = false
 
--- the register is of the flood list of the network
+-- the register is of the flood list of the VNI
 abbrev pub is_flood : ℕ → Register → Bool
 is_flood vni r = is_flood_list vni r.key
 
 -- ---- agreement
 
--- Of these registers none is pending at any edge, and each edge has each update of the pool, or a newer one of its
--- register. Nothing is asked of any other register.
+-- None of these registers is pending at any edge, and each edge has each update of the pool that has one of them, or a
+-- newer one of its register. There is no premise on any other register.
 pub record AgreesAbout (f : Fabric) (these : Register → Bool) : Type 0 where
   pub quiet : (i : ℕ) (a : Edge) (r : Register) → IsEdge f i a → these r ≡ true → Contains a.routes.speaker.pending r
       → ⊥
@@ -65,16 +65,16 @@ pub record AgreesAbout (f : Fabric) (these : Register → Bool) : Type 0 where
 abbrev pub AgreesOn : Fabric → Station → Type 0
 AgreesOn f s = AgreesAbout f (is_of s)
 
--- the edges agree on the flood list of a network
+-- the edges agree on the flood list of a VNI
 abbrev pub AgreesOnFlood : Fabric → ℕ → Type 0
 AgreesOnFlood f vni = AgreesAbout f (is_flood vni)
 
--- who agree on everything agree on each station and on each flood list
+-- edges that agree on everything agree on each station and on each flood list
 pub record AgreesOnEach (f : Fabric) : Type 0 where
   pub stations : (s : Station) → AgreesOn f s
   pub floods : (vni : ℕ) → AgreesOnFlood f vni
 
--- ---- what follows of a station on which the edges agree
+-- ---- consequences for a station on which the edges agree
 
 -- the originator is an edge of the fabric, and this is its present incarnation
 pub record IsOfPresentIncarnation (f : Fabric) (o life : ℕ) : Type 0 where
@@ -96,7 +96,7 @@ pub record IsAgreedStation (f : Fabric) (s : Station) : Type 0 where
       → Contains f.pool u → value_at (table_of a) u.register ≡ Some v → is_newer u.value v ≡ false
   -- at most one edge of all advertises the station
   pub one : (i j : ℕ) (a b : Edge) → IsEdge f i a → IsEdge f j b → Advertises a s → Advertises b s → i ≡ j
-  -- that edge has learnt it behind a port of its network
+  -- that edge has learnt it on a port of its VNI
   pub learnt : (i : ℕ) (a : Edge) → IsEdge f i a → Advertises a s → (x : Entry) × IsBehindPort a s x
   -- every edge takes it for the owner
   pub owner : (i j : ℕ) (a b : Edge) → IsEdge f i a → IsEdge f j b → Advertises a s
@@ -109,18 +109,16 @@ pub record IsAgreedStation (f : Fabric) (s : Station) : Type 0 where
 abbrev pub AgreedStation : Type 0
 AgreedStation = (f : Fabric) (s : Station) → IsSound f → AgreesOn f s → IsAgreedStation f s
 
--- where all agree on a station, a frame for it goes from another edge to the one that advertises it, and to it alone
+-- if all agree on a station, a frame for it goes from another edge to the one that advertises it, and only there
 abbrev pub StationFramesGo : Type 0
 StationFramesGo = (f : Fabric) (s : Station) → IsSound f → AgreesOn f s → (i j : ℕ) (o a b : Edge) → IsEdge f i o
     → IsEdge f j a → i ≢ j → Advertises o s
     → (event : Event) (port : ℕ) (reply : Reply) → IsFrameFor a event port s → Steps a event (Ok reply) b
     → GoesTo (address_of o) reply
 
--- From port to port, whatever else the fabric does: a frame at a port of edge a, for a station that edge o advertises,
--- is given to
--- o alone; and the datagram of its network and octets, entered at o, comes out at the station's port. A network's
--- number has
--- three octets, as each VNI has by its type.
+-- From port to port, in any other traffic of the fabric: a frame at a port of edge a, for a station that edge o
+-- advertises, goes to o only; and the datagram of its VNI and octets, entered at o, comes out at the station's port.
+-- The VNI has three octets, as each VNI has by its type.
 abbrev pub StationFromPortToPort : Type 0
 StationFromPortToPort =
     (f : Fabric) (s : Station) → IsSound f → AgreesOn f s → (i j : ℕ) (o a b : Edge) → IsEdge f i o → IsEdge f j a
@@ -148,7 +146,7 @@ pub record StationComes (old : Fabric) (i j : ℕ) (s : Station) (new : Fabric) 
   pub at_after : IsEdge new j after
   pub learnt : IsSome (entry_at after.routes.learned s)
 
--- what the edge says itself of the station stays: it isn't learnt there anew, nor aged, flushed, pinned or unpinned
+-- the edge's own registers of the station stay: it isn't learnt there again, nor aged, flushed, pinned or unpinned
 abbrev pub SaysTheSame : Station → Edge → Edge → Type 0
 SaysTheSame s a b = (ip : Option Ip) → own b.routes.speaker (Mac s.vni s.mac ip)
     ≡ own a.routes.speaker (Mac s.vni s.mac ip)
@@ -158,15 +156,15 @@ abbrev pub NeverAdvertised : List Fields → Station → ℕ → Type 0
 NeverAdvertised pool s o = (u : Fields) → Contains pool u → u.register.originator ≡ o → is_of s u.register ≡ true
     → advert_in u.value.content ≡ None
 
--- It is another edge than the two of the move that restarts, and it announced no advert of the station before.
+-- The edge that restarts is neither of the two of the move, and it announced no advert of the station before.
 pub record RestartsElsewhere (i j : ℕ) (s : Station) (old : Fabric) (x : ℕ) : Type 0 where
   pub not_from : x ≢ i
   pub not_to : x ≢ j
   pub never : (a : Edge) → IsEdge old x a → NeverAdvertised old.pool s (address_of a)
 
--- No event from outside changes what any edge says of the station; and who restarts is neither of the two edges of the
--- move, and has announced no advert of the station. Every announcement and delivery is allowed, and what changes
--- nothing.
+-- No event from outside changes an edge's own registers of the station; and an edge that restarts is neither of the two
+-- edges of the move, and has announced no advert of the station. Every announcement and delivery is allowed, and so is
+-- each restart that changes nothing.
 abbrev pub LeavesStation : ℕ → ℕ → Station → Fabric → Step → Fabric → Type 0
 LeavesStation i j s old (Local e event) new = (x : ℕ) (a b : Edge) → e ≡ suc x → IsEdge old x a → IsEdge new x b
     → SaysTheSame s a b
@@ -174,7 +172,7 @@ LeavesStation i j s old (Announce e) new = Unit {0}
 LeavesStation i j s old (Deliver e k) new = Unit {0}
 LeavesStation i j s old (Restart e n) new = (new ≡ old) ⊎ ((x : ℕ) → e ≡ suc x → RestartsElsewhere i j s old x)
 
--- any list of steps, with whatever answers, each of which leaves the station so
+-- any list of steps, with any results, each of which leaves the station so
 abbrev pub RunsBeside : ℕ → ℕ → Station → Fabric → List Step → Fabric → Type 0
 RunsBeside i j s old [] new = new ≡ old
 RunsBeside i j s old (step ∷ steps) new = (mid : Fabric) × (result : Result Reply FabricRefusal)
@@ -184,9 +182,8 @@ RunsBeside i j s old (step ∷ steps) new = (mid : Fabric) × (result : Result R
 abbrev pub updates_on : Station → List Fields → List Fields
 updates_on s us = filter (λ u. is_of s u.register) us
 
--- What becomes of a move: of the station's registers the pool has got two updates, an advert of the new place and then
--- a withdrawal of the old one; every edge takes the new place for the owner; the old one advertises the station no
--- more.
+-- The result of a move: of the station's registers the pool has got two updates, an advert of the new place and then a
+-- withdrawal of the old one; every edge takes the new place for the owner; the old one advertises the station no more.
 pub record StationMoved (old : Fabric) (i : ℕ) (s : Station) (from to : ℕ) (new : Fabric) : Type 0 where
   pub pool : IsMoved (updates_on s old.pool) s from to (updates_on s new.pool)
   pub owner : (x : ℕ) (c : Edge) → IsEdge new x c → IsOwner (table_of c) s.vni s.mac to
@@ -197,7 +194,7 @@ StationMoves = (i j : ℕ) (s : Station) (old mid new : Fabric) (steps : List St
     → (m : StationComes old i j s mid) → RunsBeside i j s mid steps new → AgreesOn new s
     → StationMoved old i s (address_of m.from) (address_of m.to) new
 
--- ---- a move, where the old place may lose the station by itself
+-- ---- a move during which the old place may lose the station by itself
 
 -- the edge at place i advertised the station and doesn't: it was aged, flushed or unpinned there
 abbrev pub LosesItself : ℕ → Station → ℕ → Edge → Edge → Type 0
@@ -245,9 +242,9 @@ StationMovesAnyhow = (i j : ℕ) (s : Station) (old mid new : Fabric) (steps : L
 abbrev pub all_take : ℕ → ℕ → List Step
 all_take m k = each (λ e. Deliver e k ∷ []) m
 
--- The new place announces what was pending there, and one update more; then there is an update that each edge takes;
--- then the old place announces what was pending there, and one update more; then there is another one, and once each
--- edge has taken it they agree on the station again.
+-- The new place announces its pending updates, and one more; then there is an update that each edge takes; then the old
+-- place announces its pending updates, and one more; then there is a second update, and once each edge has taken it
+-- they agree on the station again.
 abbrev pub StationArrives : Type 0
 StationArrives = (i j : ℕ) (s : Station) (old mid told : Fabric) → IsSound old → HasNumbers mid
     → (m : StationComes old i j s mid) → Rests mid (announcing (suc j) (length m.to.routes.speaker.pending + 1)) told
@@ -255,9 +252,10 @@ StationArrives = (i j : ℕ) (s : Station) (old mid told : Fabric) → IsSound o
     → Rests heard (announcing (suc i) (length m.from.routes.speaker.pending + 1)) left
     → (l : ℕ) × ((new : Fabric) → Rests left (all_take (length mid.edges) (suc l)) new → AgreesOn new s))
 
--- ---- a station that is left alone
+-- ---- an undisturbed station
 
--- No event from outside changes what any edge says of the station; and who restarts has announced no advert of it.
+-- No event from outside changes an edge's own registers of the station; and an edge that restarts has announced no
+-- advert of it.
 abbrev pub IsLeftAlone : Station → Fabric → Step → Fabric → Type 0
 IsLeftAlone s old (Local e event) new = (x : ℕ) (a b : Edge) → e ≡ suc x → IsEdge old x a → IsEdge new x b
     → SaysTheSame s a b
@@ -266,7 +264,7 @@ IsLeftAlone s old (Deliver e k) new = Unit {0}
 IsLeftAlone s old (Restart e n) new = (new ≡ old) ⊎ ((x : ℕ) (a : Edge) → e ≡ suc x → IsEdge old x a
     → NeverAdvertised old.pool s (address_of a))
 
--- any list of steps, with whatever answers, each of which leaves the station alone
+-- any list of steps, with any results, each of which leaves the station undisturbed
 abbrev pub RunsAlone : Station → Fabric → List Step → Fabric → Type 0
 RunsAlone s old [] new = new ≡ old
 RunsAlone s old (step ∷ steps) new = (mid : Fabric) × (result : Result Reply FabricRefusal)
@@ -281,22 +279,22 @@ NoneRestarts (Announce e ∷ steps) = NoneRestarts steps
 NoneRestarts (Deliver e k ∷ steps) = NoneRestarts steps
 NoneRestarts (Restart e n ∷ steps) = ⊥
 
--- who agree on a station that is left alone go on agreeing on it, and nothing more of it is announced
+-- edges that agree on an undisturbed station go on agreeing on it while no edge restarts, and nothing more of it is
+-- announced
 abbrev pub StationLasts : Type 0
 StationLasts = (s : Station) (steps : List Step) (old new : Fabric) → IsSound old → AgreesOn old s
     → RunsAlone s old steps new → NoneRestarts steps → AgreesOn new s × (updates_on s new.pool ≡ updates_on s old.pool)
 
--- an opened fabric comes so far by two rounds that all agree on each station, and go on agreeing on it while others
--- come
--- and go
+-- two rounds lead an opened fabric to a state in which all agree on each station, and go on agreeing on it while it is
+-- undisturbed and no edge restarts
 abbrev pub StationReached : Type 0
 StationReached = (configs : List EdgeConfig) (f : Fabric) → AreConfigs configs → IsStart configs f
     → (mid : Fabric) × Rests f (two_rounds f) mid × IsSound mid
     × ((s : Station) (steps : List Step) (new : Fabric) → RunsAlone s mid steps new → NoneRestarts steps
     → AgreesOn new s)
 
--- How many updates of the station the edge may still announce: those that wait, one if it advertises the station, and
--- one for each own advert of an earlier incarnation that would come back from the pool.
+-- The number of updates of the station that the edge may still announce: the pending ones, one if it advertises the
+-- station, and one for each own advert of an earlier incarnation that would come back from the pool.
 abbrev pub unannounced_on : Station → List Fields → Speaker → ℕ
 unannounced_on s pool e = length (filter (is_of s) e.pending) + (if is_some (own_advert e (key_of s)) then 1 else 0)
     + count_by (λ (u : Fields). is_of s u.register && comes_back e u) pool
@@ -304,7 +302,7 @@ unannounced_on s pool e = length (filter (is_of s) e.pending) + (if is_some (own
 abbrev pub to_come_on : Station → Fabric → ℕ
 to_come_on s f = sum_by (λ (a : Edge). unannounced_on s f.pool a.routes.speaker) f.edges
 
--- what the pool has of a station that is left alone, with what it may still get, never grows
+-- the number of an undisturbed station's updates in the pool, plus those that may still come, never grows
 abbrev pub StationSettles : Type 0
 StationSettles = (s : Station) (steps : List Step) (old new : Fabric) → IsSound old → RunsAlone s old steps new
     → length (updates_on s new.pool) + to_come_on s new ≤ length (updates_on s old.pool) + to_come_on s old

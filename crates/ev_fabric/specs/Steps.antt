@@ -47,16 +47,15 @@ pub record StepsAt (old : Fabric) (e : ℕ) (a : Edge) (event : Event) (result :
   pub result_is : result ≡ of_edge answer
   pub new_is : new ≡ with_edge old e after
 
--- The edge a at place e announces, and what it announces is put at the pool's end. Where something is pending, and
--- there is
--- no memory for that, it is still pending.
+-- The edge a at place e announces, and the announced update is put at the pool's end. If something is pending, and
+-- there is no memory for that, it is still pending.
 abbrev pub AnnouncesAt : Fabric → ℕ → Edge → Result Reply FabricRefusal → Fabric → Type 0
 AnnouncesAt old e a (Ok reply) new =
     (b : Edge) × Steps a events.Announce (Ok reply) b × (new
     ≡ record (with_edge old e b) { pool = with_announced old.pool reply.announced })
 AnnouncesAt old e a (Err why) new = ((why ≡ NoMemory) × (a.routes.speaker.pending ≢ [])) × (new ≡ old)
 
--- what an edge is opened with in the incarnation n
+-- the configuration in the incarnation n
 abbrev pub in_incarnation : EdgeConfig → ℕ → EdgeConfig
 in_incarnation c n = record c { incarnation = n }
 
@@ -64,8 +63,8 @@ in_incarnation c n = record c { incarnation = n }
 abbrev pub with_opened : Fabric → ℕ → Edge → EdgeConfig → Fabric
 with_opened f e b c = record (with_edge f e b) { configs = slice_set f.configs (e - 1) c }
 
--- The edge a at place e is opened anew in the incarnation n, which is a higher one, with all else that it was opened
--- with, and is good then, as its type says; all else stays.
+-- The edge a at place e is opened again in the incarnation n, which is a higher one, with an otherwise unchanged
+-- configuration, and is good then, as its type states; all else stays.
 pub record OpensAnew (old : Fabric) (e : ℕ) (a : Edge) (n : ℕ) (reply : Reply) (new : Fabric) : Type 0 where
   pub higher : incarnation_of a < n
   pub config : EdgeConfig
@@ -76,7 +75,7 @@ pub record OpensAnew (old : Fabric) (e : ℕ) (a : Edge) (n : ℕ) (reply : Repl
   pub reply_is : reply ≡ nothing
   pub new_is : new ≡ with_opened old e after (in_incarnation config n)
 
--- where there is no memory for a new edge, the old one stays
+-- if there is no memory for a new edge, the old one stays
 abbrev pub RestartsAt : Fabric → ℕ → Edge → ℕ → Result Reply FabricRefusal → Fabric → Type 0
 RestartsAt old e a n (Ok reply) new = OpensAnew old e a n reply new
 RestartsAt old e a n (Err why) new = (((why ≡ NoHigher) × (n ≤ incarnation_of a))

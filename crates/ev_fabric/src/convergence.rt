@@ -1,5 +1,6 @@
-//! What holds of a fabric that is left alone: only announcements and deliveries, and no growth
-//! refused. Nothing is said of time, or of what is delivered when.
+//! Laws about an undisturbed fabric, as functions that do nothing: the contract is the law. In an
+//! undisturbed fabric there are only announcements and deliveries, and no growth is refused. The
+//! laws make no statement about time, or about which update is delivered when.
 ghost use Rattle.std.specs.Prelude.{◌≡◌, ◌⊎◌, ◌+◌, ◌≤◌, ◌^◌, ℕ, List, [], ◌∷◌, length};
 ghost use Rattle.route_join.specs.Owner.{IsOwner};
 ghost use Rattle.mac_arena.specs.declared.station.Station.{Station};
@@ -15,7 +16,7 @@ ghost use Rattle.ev_fabric.specs.ConvergenceEdge.{IsLater, unsaid};
 ghost use Rattle.ev_fabric.specs.Convergence.{Rests, Works, AllQuiet, HasNumbers, two_rounds, AllGiven, AllSilent, full_pool, work};
 ghost use Rattle.ev_fabric.specs.ConvergenceMove.{StationMoves, IsMoved};
 
-/// A law, which does nothing: what the pool has and may still get never grows,
+/// States that the size of the pool plus the number of updates that it may still get never grows,
 /// so it bounds the pool.
 pub fn bounded()
     ensures left { (steps : List Step) (old new : State) → IsSound old → Rests old steps new →
@@ -24,8 +25,8 @@ pub fn bounded()
         length new.pool ≤ full_pool old }
 {}
 
-/// A law, which does nothing: each own register of an edge stays as it was or ends without an
-/// advert, and the numbers that this takes are bounded.
+/// States that each own register of an edge stays unchanged or ends without an advert, and that the
+/// numbers that this takes are bounded.
 pub fn fades()
     ensures { (steps : List Step) (old new : State) → IsSound old → Rests old steps new →
         (i : ℕ) (b : EdgeState) → IsEdge new i b →
@@ -34,8 +35,8 @@ pub fn fades()
         ≤ a.routes.speaker.counter + unsaid old.pool a.routes) }
 {}
 
-/// A law, which does nothing: two rounds, which are known beforehand, lead to agreement; and every
-/// list of announcements and deliveries can be gone through.
+/// States that two rounds, which are known beforehand, lead to agreement, and that every list of
+/// announcements and deliveries can be carried out.
 pub fn agrees()
     ensures ends { (old new : State) → IsSound old → HasNumbers old →
         Rests old (two_rounds old) new → AllAgree new }
@@ -46,15 +47,15 @@ pub fn agrees()
         (new : State) × Rests old steps new }
 {}
 
-/// A law, which does nothing: a run in which each edge took each update of the final pool, and at
-/// whose end nothing is pending, ends in agreement.
+/// States that a run ends in agreement if each edge took each update of the final pool during it
+/// and nothing is pending at its end.
 pub fn fair()
     ensures { (old : State) (steps : List Step) (new : State) → IsSound old →
         AllGiven old steps new → AllSilent new → AllAgree new }
 {}
 
-/// A law, which does nothing: whatever the order, the steps that change the fabric are bounded in
-/// number; until all agree one more can be made; and where all agree none changes anything.
+/// States that, in any order, the number of steps that change the fabric is bounded; that one more
+/// can be made until all edges agree; and that none changes anything once all agree.
 pub fn settles()
     ensures bound { (steps : List Step) (old new : State) → IsSound old → Works old steps new →
         length steps + work new ≤ work old }
@@ -64,10 +65,9 @@ pub fn settles()
         Rests old steps new → new ≡ old }
 {}
 
-/// A law, which does nothing: the premise on numbers, `HasNumbers`, holds of every fabric as
-/// it is opened, and while each counter, with what the learning table has room for and the
-/// length of the pool, is at 2^63 at most. So two rounds lead from every opened fabric to a
-/// sound one in which all agree.
+/// States that the premise on numbers, `HasNumbers`, holds for every fabric as it is opened, and as
+/// long as each counter plus the capacity of the learning table plus the length of the pool is at
+/// most 2^63. So two rounds lead from every opened fabric to a sound one in which all edges agree.
 pub fn reached()
     ensures start { (configs : List EdgeConfig) (f : State) → IsStart configs f → HasNumbers f }
     ensures few { (f : State) → IsSound f → ((i : ℕ) (a : EdgeState) → IsEdge f i a →
@@ -77,10 +77,10 @@ pub fn reached()
         (new : State) × Rests f (two_rounds f) new × AllAgree new × IsSound new }
 {}
 
-/// A law, which does nothing: a station of a fabric that agrees comes to another edge, which learns
-/// it by a frame or has it pinned. Two rounds later all agree again. Whenever they do, there were
-/// exactly two announcements, the new edge's advert and the old edge's withdrawal, and the new edge
-/// owns the station at every edge.
+/// States what happens if a station of a fabric that agrees comes to another edge, which learns it
+/// by a frame or has it pinned. Two rounds later all edges agree again. Whenever they do, there
+/// were exactly two announcements, the new edge's advert and the old edge's withdrawal, and the new
+/// edge owns the station at every edge.
 pub fn moves()
     ensures agrees { (i j : ℕ) (s : Station) (old mid new : State) → IsSound old →
         StationMoves old i j s mid → Rests mid (two_rounds mid) new → AllAgree new }

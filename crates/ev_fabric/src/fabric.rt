@@ -18,13 +18,13 @@ use std::marker::Model;
 
 /// Edges that share a pool of announced updates. Both are numbered from 1.
 ///
-/// Each edge is good, what an edge has of another was announced, and of one register, incarnation
-/// and number there is one update in the pool.
+/// Each edge is good, each value that an edge has from another edge was announced, and the pool has
+/// one update per register, incarnation and number.
 #[derive(Drop)]
 pub struct Fabric {
     alloc: Global,
     edges: Vec<Edge>,
-    // What each edge was opened with last.
+    // The configuration with which each edge was opened last.
     configs: Vec<EdgeConfig>,
     pool: Vec<Update>,
 }
@@ -44,7 +44,7 @@ impl Model for Fabric {
     ghost invariant = { λ f. IsSound (fabric_of f.edges.items f.configs.items f.pool.items) };
 }
 
-/// The list as it is.
+/// Returns a copy of the list.
 fn copy_of<T: Copy + Default>(list: &ArrayVec<T, 64>) -> ArrayVec<T, 64>
     ensures { result.items ≡ list.now.items }
 {
@@ -53,7 +53,7 @@ fn copy_of<T: Copy + Default>(list: &ArrayVec<T, 64>) -> ArrayVec<T, 64>
     copy
 }
 
-/// What an edge is opened with, in an incarnation.
+/// Returns the configuration with this incarnation.
 fn in_incarnation(config: &EdgeConfig, incarnation: u32) -> EdgeConfig
     ensures { result ≡ in_incarnation config.now incarnation }
 {
@@ -71,7 +71,7 @@ fn in_incarnation(config: &EdgeConfig, incarnation: u32) -> EdgeConfig
     }
 }
 
-/// Opens an edge for each of these, in their order.
+/// Opens an edge for each configuration, in their order.
 fn open_all(alloc: Global, configs: &[EdgeConfig]) -> Result<Vec<Edge>, AllocError>
     requires { AreConfigs configs.now }
     ensures { IfOk result (λ edges. AreOpened configs.now edges.items) }
@@ -85,7 +85,7 @@ fn open_all(alloc: Global, configs: &[EdgeConfig]) -> Result<Vec<Edge>, AllocErr
     Ok(edges)
 }
 
-/// Lets the edge at a place step, counted from 1.
+/// Steps the edge at place `e`, counted from 1.
 fn step_edge(edges: &mut Vec<Edge>, e: usize, event: &Event<'_>) -> Result<Reply, FabricRefusal>
     requires some { 0 < e }
     requires there { e ≤ length edges.old.items }
@@ -99,7 +99,7 @@ fn step_edge(edges: &mut Vec<Edge>, e: usize, event: &Event<'_>) -> Result<Reply
     }
 }
 
-/// Sees to it that the pool has room for one more, where that is wanted.
+/// Reserves room for one more update in the pool if `is_wanted`.
 fn make_room(pool: &mut Vec<Update>, is_wanted: bool) -> Result<(), AllocError>
     ensures items { pool.new.items ≡ pool.old.items }
     ensures room { OnOk result
@@ -112,7 +112,7 @@ fn make_room(pool: &mut Vec<Update>, is_wanted: bool) -> Result<(), AllocError>
     Ok(())
 }
 
-/// Puts an announced update at the pool's end, if there is one.
+/// Appends the announced update to the pool, if there is one.
 fn put(pool: &mut Vec<Update>, announced: &Option<Update>)
     requires { IsSome announced.now → vec_len pool.old < vec_capacity pool.old }
     ensures { pool.new.items ≡ with_announced pool.old.items announced.now }
@@ -123,11 +123,12 @@ fn put(pool: &mut Vec<Update>, announced: &Option<Update>)
 }
 
 impl Fabric {
-    /// Edges as they are opened with these configurations, in their order, and an empty pool.
+    /// Returns a fabric of edges opened with these configurations, in their order, with an empty
+    /// pool.
     ///
     /// # Errors
     ///
-    /// Where memory is refused.
+    /// `AllocError` if memory is refused.
     pub fn new(alloc: Global, configs: Vec<EdgeConfig>) -> Result<Self, AllocError>
         requires { AreConfigs configs.items }
         ensures { IfOk result (IsStart configs.items) }
@@ -141,13 +142,13 @@ impl Fabric {
         })
     }
 
-    /// One step: of the named edge, and of no other.
+    /// Steps the named edge, and no other.
     ///
     /// # Errors
     ///
-    /// `NoSuchEdge`, `NoSuchUpdate` and `NoHigher` exactly where their conditions hold, in this
-    /// order. `NoMemory` where memory is refused: then an announcement is still pending (where none
-    /// was there is no such answer), and at a restart the old edge stays. `Edge` where the edge
+    /// `NoSuchEdge`, `NoSuchUpdate` and `NoHigher` exactly if their conditions hold, in this order.
+    /// `NoMemory` if memory is refused: the announcement is then still pending (this error can't
+    /// come if nothing was pending), and a restart leaves the old edge in place. `Edge` if the edge
     /// refuses the event. Nothing changed then.
     pub fn step(&mut self, step: &Step<'_>) -> Result<Reply, FabricRefusal>
         ensures { FabricSteps self.old step.now result self.new }
@@ -160,21 +161,21 @@ impl Fabric {
         }
     }
 
-    /// A law, which does nothing: a fabric is always sound.
+    /// States that a fabric is always sound (a law, which does nothing).
     pub fn always_sound(&self)
         ensures { IsSound self.now }
     {
         let _ = &self.pool;
     }
 
-    /// How many edges there are.
+    /// Returns the number of edges.
     pub fn edges(&self) -> usize
         ensures { result ≡ length self.now.edges }
     {
         self.edges.len()
     }
 
-    /// The edge of this number.
+    /// Returns the edge of this number.
     pub fn edge(&self, e: usize) -> &Edge
         requires some { 0 < e }
         requires there { e ≤ length self.now.edges }
@@ -183,14 +184,14 @@ impl Fabric {
         &self.edges[e - 1]
     }
 
-    /// What was announced, the first update first.
+    /// Returns the announced updates, the first one first.
     pub fn pool(&self) -> &[Update]
         ensures { result.now ≡ self.now.pool }
     {
         self.pool.as_slice()
     }
 
-    /// Something comes to an edge from outside.
+    /// Passes an event from outside to an edge.
     fn local(&mut self, e: usize, event: &LocalEvent<'_>) -> Result<Reply, FabricRefusal>
         ensures { FabricSteps self.old (Local e event.now) result self.new }
     {
@@ -200,7 +201,8 @@ impl Fabric {
         step_edge(&mut self.edges, e, &event_of(event))
     }
 
-    /// An edge announces. Where it has something to announce, the pool has room first.
+    /// Announces the first pending register of an edge. If there is one, this reserves room in the
+    /// pool first.
     fn announce(&mut self, e: usize) -> Result<Reply, FabricRefusal>
         ensures { FabricSteps self.old (Announce e) result self.new }
     {
@@ -216,7 +218,7 @@ impl Fabric {
         Ok(reply)
     }
 
-    /// An edge takes an update of the pool.
+    /// Delivers an update of the pool to an edge.
     fn deliver(&mut self, e: usize, k: usize) -> Result<Reply, FabricRefusal>
         ensures { FabricSteps self.old (Deliver e k) result self.new }
     {
@@ -230,7 +232,7 @@ impl Fabric {
         step_edge(&mut self.edges, e, &Event::Take(update))
     }
 
-    /// An edge is opened anew in a higher incarnation.
+    /// Opens an edge again in a higher incarnation.
     fn restart(&mut self, e: usize, n: u32) -> Result<Reply, FabricRefusal>
         ensures { FabricSteps self.old (Restart e n) result self.new }
     {

@@ -1,4 +1,5 @@
-//! A fabric: edges that share a pool of announced updates, and what holds of it whatever comes.
+//! A fabric: edges that share a pool of announced updates, and the laws that hold in every run of
+//! it.
 #![tactic(auto)]
 
 mod convergence;

@@ -1,15 +1,15 @@
-//! Why a step is refused.
+//! The refusals of a step.
 ghost use Rattle.std.specs.Prelude.{◌≡◌};
 ghost use Rattle.ev_fabric.specs.Refusal.{refusal_number};
 
-/// Why a step is refused. Nothing changed then.
+/// The reason why a step is refused. Nothing changed then.
 #[derive(Clone, Copy, Debug, PartialEq, Eq)]
 pub enum FabricRefusal {
-    /// There is no memory for one more update of the pool, or for an edge that is opened anew.
+    /// There is no memory for one more update of the pool, or for an edge that is opened again.
     NoMemory,
-    /// There is no such edge.
+    /// No edge has this number.
     NoSuchEdge,
-    /// There is no such update in the pool.
+    /// No update of the pool has this number.
     NoSuchUpdate,
     /// The edge already leads this incarnation, or a later one.
     NoHigher,
@@ -18,7 +18,7 @@ pub enum FabricRefusal {
 }
 
 impl FabricRefusal {
-    /// The refusal's number among those of its part.
+    /// Returns the refusal's number among those of its part.
     pub fn number(self) -> u8
         ensures { result ≡ refusal_number self }
     {

@@ -1,75 +1,72 @@
-//! What holds of one station, as functions that do nothing: the contract is the law. Nothing is
-//! asked of other stations, nor of what else is pending or missing.
+//! Laws about one station, as functions that do nothing: the contract is the law. They have no
+//! premise on other stations, or on other pending or missing updates.
 ghost use Rattle.ev_fabric.specs.Fabric.{Fabric as State};
 ghost use Rattle.ev_fabric.specs.Agreed.{AllAgree};
 ghost use Rattle.ev_fabric.specs.Station.{AgreesOnEach, AgreedStation, StationFramesGo, StationFromPortToPort, StationMoves};
 ghost use Rattle.ev_fabric.specs.Station.{StationMovesAnyhow, StationArrives, StationLasts, StationReached, StationSettles};
 
-/// A law, which does nothing: all agree exactly where they agree on each station and on each flood
-/// list.
+/// States that all edges agree exactly if they agree on each station and on each flood list.
 pub fn agrees_on()
     ensures each { (f : State) → AllAgree f → AgreesOnEach f }
     ensures all { (f : State) → AgreesOnEach f → AllAgree f }
 {}
 
-/// A law, which does nothing: where the edges agree on a station, they have the same newest values
-/// of its registers, one of all advertises it at most, which has learnt it behind a port of its
-/// network, and every edge takes that one for the owner; no advert of an earlier incarnation is
-/// left.
+/// States that edges which agree on a station have the same newest values of its registers. At most
+/// one edge of all advertises the station, that edge has learnt it on a port of its VNI, every edge
+/// takes that one for the owner, and no advert of an earlier incarnation is left.
 pub fn agreed_station()
     ensures { AgreedStation }
 {}
 
-/// A law, which does nothing: where the edges agree on a station that one of them advertises, the
-/// next frame for it at another edge, from another source address on a port that passes, is given
-/// to the advertising edge alone.
+/// States that, if the edges agree on a station that one of them advertises, the next frame for it
+/// at another edge, from another source address on a port that passes, goes to the advertising edge
+/// only.
 pub fn station_frames_go()
     ensures { StationFramesGo }
 {}
 
-/// A law, which does nothing: the same from end to end. The datagram of the frame's network and
-/// octets, as `wrap` of `ev_tunnel` writes it, entered at the advertising edge as it is, isn't
-/// refused and goes to the port behind which the station is learnt alone, if that passes.
+/// States the end-to-end form of `station_frames_go`. The datagram of the frame's VNI and octets,
+/// as `wrap` of `ev_tunnel` writes it, entered unchanged at the advertising edge, isn't refused and
+/// goes only to the port on which the station is learnt, if that port passes.
 pub fn station_from_port_to_port()
     ensures { StationFromPortToPort }
 {}
 
-/// A law, which does nothing: a station on which the edges agree comes to another edge, which
-/// learns it by a frame or has it pinned, in the middle of all other traffic. Whenever they agree
-/// on it again, the pool has got exactly two updates of its registers, the new edge's advert and
-/// the old edge's withdrawal, the new edge owns it at every edge, and the old one advertises it
-/// no more.
+/// States what happens if a station on which the edges agree comes to another edge, which learns it
+/// by a frame or has it pinned, in the middle of all other traffic. Whenever they agree on it
+/// again, the pool has got exactly two updates of its registers, the new edge's advert and the old
+/// edge's withdrawal, the new edge owns it at every edge, and the old one advertises it no more.
 pub fn station_moves()
     ensures { StationMoves }
 {}
 
-/// States the same of a move during which the old edge may lose the station by itself: it ages, is
-/// flushed or unpinned there before the old edge takes the news. The pool gets the same two
-/// updates, in any order, and the new edge owns the station at every edge.
+/// States the same result for a move during which the old edge may lose the station by itself: the
+/// station ages out, or is flushed or unpinned there, before the old edge takes the new advert. The
+/// pool gets the same two updates, in any order, and the new edge owns the station at every edge.
 pub fn station_moves_anyhow()
     ensures { StationMovesAnyhow }
 {}
 
-/// A law, which does nothing: how far it is from a move to agreement on the station. The new edge
-/// announces what was pending there, and one update more; each edge takes one update; the old edge
-/// announces what was pending there, and one update more; each edge takes one update; then they
-/// agree, whatever else is pending and missing elsewhere.
+/// States how far it is from a move to agreement on the station. The new edge announces its pending
+/// updates, and one more; each edge takes one update; the old edge announces its pending updates,
+/// and one more; each edge takes one update. Then they agree, with any other updates pending and
+/// missing elsewhere.
 pub fn station_arrives()
     ensures { StationArrives }
 {}
 
-/// A law, which does nothing: who agree on a station go on agreeing on it, with nothing more of it
-/// announced, while anything else comes to any edge, is announced and delivered, as long as no
-/// event from outside changes its registers and no edge restarts. Every opened fabric comes so far
-/// by two rounds.
+/// States that edges which agree on a station go on agreeing on it, with nothing more of it
+/// announced. In the meantime any other events may come to any edge, and any updates be announced
+/// and delivered, if no event from outside changes the station's registers and no edge restarts.
+/// Two rounds lead every opened fabric to this agreement.
 pub fn station_lasts()
     ensures stays { StationLasts }
     ensures reached { StationReached }
 {}
 
-/// A law, which does nothing: left alone, a station is announced a bounded number of times: what
-/// the pool has of it, with what waits, what is advertised and what may still come back, never
-/// grows, whatever else goes on.
+/// States that an undisturbed station is announced a bounded number of times: its updates in the
+/// pool, plus those that are pending, the one for its advert, and those that may still come back,
+/// never grow in number, in any other traffic.
 pub fn station_settles()
     ensures { StationSettles }
 {}

@@ -1,4 +1,4 @@
-//! What may happen in a fabric.
+//! The steps of a fabric.
 ghost use Rattle.std.specs.Prelude.{◌≡◌};
 ghost use Rattle.ev_fabric.specs.Local.{event_of};
 
@@ -6,7 +6,7 @@ use ether_wire::Addr;
 use ev_edge::Event;
 use mac_arena::Station;
 
-/// What comes to an edge from outside the fabric. Ports are numbered from 1.
+/// An event that comes to an edge from outside the fabric. Ports are numbered from 1.
 #[derive(Clone, Copy)]
 pub enum LocalEvent<'a> {
     /// These octets come at the access port.
@@ -25,24 +25,24 @@ pub enum LocalEvent<'a> {
     PortUp(u8),
     /// The port goes down.
     PortDown(u8),
-    /// The administrator asks for the port's protocol to be found out anew.
+    /// The administrator requests that the port detect its protocol again.
     Mcheck(u8),
 }
 
 /// A step of a fabric. Edges and updates are numbered from 1.
 #[derive(Clone, Copy)]
 pub enum Step<'a> {
-    /// Something comes to an edge from outside.
+    /// An event comes to an edge from outside.
     Local(usize, LocalEvent<'a>),
-    /// The edge announces the own update that waits longest.
+    /// The edge announces the own update that has been pending longest.
     Announce(usize),
     /// The edge takes this update of the pool.
     Deliver(usize, usize),
-    /// The edge is opened anew in this incarnation.
+    /// The edge is opened again in this incarnation.
     Restart(usize, u32),
 }
 
-/// The same as an event of an edge.
+/// Returns the event as an event of an edge.
 pub(crate) fn event_of<'a>(local: &LocalEvent<'a>) -> Event<'a>
     ensures { result ≡ event_of local.now }
 {

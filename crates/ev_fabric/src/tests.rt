@@ -1,4 +1,4 @@
-//! Worked runs of two edges. Their octets and reports are those of the rules, not of this program.
+//! Worked runs of two edges. Their octets and reports come from the rules, not from this program.
 ghost use Rattle.std.specs.Prelude.{◌≡◌, ◌+◌, [], ◌∷◌, IfOk, Contains};
 ghost use Rattle.ev_edge.specs.Config.{IsConfig, vnis_of};
 ghost use Rattle.ev_fabric.specs.Opening.{AreConfigs};
@@ -17,7 +17,7 @@ use std::test::Fail;
 mod memory;
 mod runs;
 
-// Edges listen to 10.0.0.1, 10.0.0.2 and 10.0.0.3.
+// Edges accept updates from 10.0.0.1, 10.0.0.2 and 10.0.0.3.
 fn originators() -> ArrayVec<Addr, 64>
     ensures { result.items ≡ 0x0a00_0001 ∷ 0x0a00_0002 ∷ 0x0a00_0003 ∷ [] }
 {
@@ -36,7 +36,7 @@ fn one_network() -> ArrayVec<Vni, 64>
     vnis
 }
 
-// A port of this network that leads to no bridge.
+// A port of this VNI that leads to no bridge.
 fn port_of(vni: Vni) -> PortConfig
     ensures { result.vni ≡ vni }
 {
@@ -74,7 +74,7 @@ fn tree(identifier: BridgeId) -> Settings
     }
 }
 
-// One of the edges 10.0.0.1, 10.0.0.2 and 10.0.0.3, with two ports of network 5001.
+// One of the edges 10.0.0.1, 10.0.0.2 and 10.0.0.3, with two ports of VNI 5001.
 fn config(address: Addr, identifier: BridgeId) -> EdgeConfig
     requires { Contains (0x0a00_0001 ∷ 0x0a00_0002 ∷ 0x0a00_0003 ∷ []) address }
     ensures address { result.address ≡ address }
@@ -124,7 +124,7 @@ fn two(alloc: Global) -> Result<Fabric, AllocError> {
     Fabric::new(alloc, both(alloc)?)
 }
 
-// What a test has an edge do.
+// An act of a test.
 #[derive(Clone, Copy)]
 enum Act {
     /// The port comes up.
@@ -142,7 +142,7 @@ enum Act {
     Announce,
     /// This update of the pool comes.
     Take(usize),
-    /// It is opened anew in this incarnation.
+    /// The edge is opened again in this incarnation.
     Restart(u32),
 }
 
@@ -160,7 +160,7 @@ fn frame(to: u8, from: u8) -> [u8; 14] {
     ]
 }
 
-// A datagram of network 5001 with a frame for a station, from 02:00:00:00:00:ff.
+// A datagram of VNI 5001 with a frame for a station, from 02:00:00:00:00:ff.
 fn datagram(to: u8) -> [u8; 22] {
     [
         0x08, 0x00, 0x00, 0x00, 0x00, 0x13, 0x89, 0x00, 0x02, 0x00, 0x00, 0x00, 0x00, to, 0x02,
@@ -187,8 +187,8 @@ fn address(e: u8) -> Addr
     Addr::new(0x0a00_0000 + u32::from(e))
 }
 
-// Each step is made here: where a function makes one and names no `LocalEvent`, the borrow checker
-// isn't told of that type.
+// All steps are made here: if a function makes a step and doesn't name `LocalEvent`, the borrow
+// checker doesn't know that type.
 fn perform(fabric: &mut Fabric, e: usize, what: Act) -> Result<Reply, FabricRefusal> {
     match what {
         Act::Up(port) => fabric.step(&Step::Local(e, LocalEvent::PortUp(port))),
@@ -208,7 +208,7 @@ fn perform(fabric: &mut Fabric, e: usize, what: Act) -> Result<Reply, FabricRefu
     }
 }
 
-// What a table made of it, if an update came, or the refusal's number.
+// The outcome of the update in the table, if an update came, or the refusal's number.
 fn outcome(fabric: &mut Fabric, e: usize, what: Act) -> Result<Option<Taken>, u8> {
     match perform(fabric, e, what) {
         Ok(reply) => Ok(reply.taken),
@@ -216,17 +216,17 @@ fn outcome(fabric: &mut Fabric, e: usize, what: Act) -> Result<Option<Taken>, u8
     }
 }
 
-// Whether update k of the pool is newer than what edge e has.
+// Lets edge e take update k of the pool, and returns `true` if it is newer than the edge's value.
 fn is_newer(fabric: &mut Fabric, e: usize, k: usize) -> bool {
     outcome(fabric, e, Act::Take(k)) == Ok(Some(Taken::Newer))
 }
 
-// Whether edge e knows update k of the pool, or a newer one.
+// Lets edge e take update k of the pool, and returns `true` if the edge has it, or a newer one.
 fn is_known(fabric: &mut Fabric, e: usize, k: usize) -> bool {
     outcome(fabric, e, Act::Take(k)) == Ok(Some(Taken::Known))
 }
 
-// Whether something was announced.
+// Lets edge e announce, and returns `true` if it announced something.
 fn announces(fabric: &mut Fabric, e: usize) -> bool {
     match perform(fabric, e, Act::Announce) {
         Ok(reply) => reply.announced.is_some(),
@@ -234,8 +234,8 @@ fn announces(fabric: &mut Fabric, e: usize) -> bool {
     }
 }
 
-// Both edges are up, learn the same station and announce, and edge 2 hears of edge 1 and
-// announces its withdrawal.
+// Both edges are up, learn the same station and announce it; edge 2 takes edge 1's advert and
+// announces its own withdrawal.
 fn both_learn(fabric: &mut Fabric) -> bool {
     for e in 1..3usize {
         let _ = perform(fabric, e, Act::Up(1));
@@ -247,7 +247,7 @@ fn both_learn(fabric: &mut Fabric) -> bool {
     first && second && taken && announces(fabric, 2) && fabric.pool().len() == 5
 }
 
-// What an edge reports, nothing where there is no such edge.
+// Returns the report of an edge, empty if no edge has this number.
 fn report_of(fabric: &Fabric, e: usize) -> Page<1024> {
     let mut page = Page::new();
     if page.failures() == 0 && e != 0 && e <= fabric.edges() {
@@ -260,19 +260,19 @@ fn reports(fabric: &Fabric, e: usize, text: &str) -> bool {
     report_of(fabric, e).octets() == text.as_bytes()
 }
 
-/// Both report this where edge 1 has the station.
+/// The report of both edges while edge 1 has the station.
 const AGREED: &str = "flood 5001 10.0.0.1 1 up\nflood 5001 10.0.0.2 1 up\n\
     mac 5001 02:00:00:00:00:0a 10.0.0.1 2 dynamic 0\n\
     mac 5001 02:00:00:00:00:0a 10.0.0.2 3 withdrawn\n\
     owner 5001 02:00:00:00:00:0a 10.0.0.1\n";
 
-/// And this where it has moved to edge 2.
+/// The report after the station has moved to edge 2.
 const MOVED: &str = "flood 5001 10.0.0.1 1 up\nflood 5001 10.0.0.2 1 up\n\
     mac 5001 02:00:00:00:00:0a 10.0.0.1 3 withdrawn\n\
     mac 5001 02:00:00:00:00:0a 10.0.0.2 4 dynamic 1\n\
     owner 5001 02:00:00:00:00:0a 10.0.0.2\n";
 
-/// And this where edge 1 was opened anew, in incarnation 1.
+/// The report after edge 1 was opened again, in incarnation 1.
 const ANEW: &str = "flood 5001 10.0.0.1 1.1 up\nflood 5001 10.0.0.2 1 up\n\
     mac 5001 02:00:00:00:00:0a 10.0.0.1 1.2 withdrawn\n\
     mac 5001 02:00:00:00:00:0a 10.0.0.2 3 withdrawn\n\
@@ -318,7 +318,7 @@ fn edges_and_updates_are_numbered_from_one(rt: HostRuntime) -> Result<(), Fail> 
     Ok(())
 }
 
-// Where all agree, the station is heard at edge 2: two announcements, and all agree again.
+// After agreement the station comes to edge 2: there are two announcements, and all agree again.
 #[test]
 fn station_moves_by_two_announcements(rt: HostRuntime) -> Result<(), Fail> {
     let mut fabric = two(rt.alloc())?;
@@ -359,8 +359,8 @@ fn restarted_edge_withdraws_what_comes_back(rt: HostRuntime) -> Result<(), Fail>
     Ok(())
 }
 
-// With ample memory neither the pool's length nor what it holds is a reason to refuse memory: edge
-// 1 announces its flood list in each of 300 incarnations, one after another.
+// With ample memory no length or content of the pool is a reason to refuse memory: edge 1 announces
+// its flood list in each of 300 incarnations, one after another.
 #[test]
 fn long_pool_and_many_restarts_are_not_refused(rt: HostRuntime) -> Result<(), Fail> {
     let mut fabric = two(rt.alloc())?;

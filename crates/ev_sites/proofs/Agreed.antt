@@ -1,5 +1,5 @@
--- The two edges agree, the first one advertises the guest, and a frame for the guest that comes at the second one comes
--- out at the first.
+-- The two edges agree, the first one advertises the guest, and a frame for the guest that comes in at the second one
+-- comes out at the first.
 use Rattle.std.proofs.Common.{◌≡◌, ℕ, zero, suc, false, Some, None, List, [], ◌∷◌, ◌++◌, refl, sym, ap, subst, ◌∙◌}
 use Rattle.std.proofs.Common.{inl, arith, lit<, lit≤}
 use Rattle.std.specs.Prelude.{Ok, Contains, slice_get}
@@ -49,7 +49,7 @@ use Rattle.ev_sites.proofs.Risen.{runs_on, comes_up, decided, sending, decides, 
 use Rattle.ev_sites.proofs.Telling.{lent, update, announcing, taking, first_steps, first_announces, first_takes}
 use Rattle.ev_sites.proofs.Telling.{second_announces, second_takes, learns}
 
--- ---- the guest is heard at the first edge
+-- ---- the first edge learns the guest
 
 -- from the guest to all stations
 abbrev pub hello : List ℕ
@@ -60,7 +60,7 @@ pub hello_arrives : (v : Speaker) (l : Learning) (w : Windows)
 unfolding frame_of selected_ports selected_root best_path
 hello_arrives v l w = refl
 
--- the guest alone is learnt
+-- only the guest is learnt
 abbrev pub guest_learnt : Learning
 guest_learnt = after_learn nobody_learnt guest 1 0 New
 
@@ -269,7 +269,7 @@ module _ (lists : SettledByLists) (happens : RunsHappen) where
       subst (λ r. TunnelSteps r first_edge (Ok answered) first_edge) (sym letter_enters)
       (decides lists happens _ _ _ guest.mac Tunnel, refl, refl)
 
-  -- what the law says of them
+  -- the law for these edges and this frame
   pub carried : Starts → EveryRun → FromPortToPort
       → GoesTo here given × ComesOut first_edge there (datagram_of 5001 letter) guest
   carried starts every_run law =

@@ -1,4 +1,4 @@
--- A frame that left a bridge never comes in at it again: it would run in a circle, forwards or backwards.
+-- A frame that left a bridge never comes in at it again: otherwise it would run in a circle, forwards or backwards.
 use Rattle.std.proofs.Common.{◌≡◌, ◌≢◌, ℕ, zero, suc, ◌<◌, ◌≤◌, ◌⊎◌, inl, inr, Bool, true, false, eqb, List, [], ◌∷◌}
 use Rattle.std.proofs.Common.{length, refl, sym, ap, subst, ◌∙◌, arith}
 use Rattle.std.proofs.lemmas.Bool.{eq-eqb, eqb-true}
@@ -7,7 +7,7 @@ use Rattle.rstp_net.specs.Network.{Spot, Network, IsNetwork, IsAtRest, PassesAt,
 spot_same : (x y : Spot) → x.bridge ≡ y.bridge → x.place ≡ y.place → x ≡ y
 spot_same x y b p = λ i. record { bridge = b i; place = p i }
 
--- two ports are one, or not
+-- two ports are equal, or not
 same_spot : (x y : Spot) → (x ≡ y) ⊎ (x ≢ y)
 same_spot x y = bridges (eqb x.bridge y.bridge) refl
   where
@@ -58,7 +58,7 @@ ends_by net z (v ∷ later) x w way =
       long = ap suc rest.long;
     }
 
--- where a way ends frames pass
+-- frames pass at the end of a way
 pub passes_at_end : (net : Network) (ports : List Spot) (x w : Spot) → PassesAt net x → Travels net ports x w
     → PassesAt net w
 passes_at_end net [] x w passes way = subst (λ z. PassesAt net z) way passes

@@ -35,7 +35,7 @@ use Rattle.ev_sites.proofs.Risen.{everyone, nobody, both_ports, root_settings, f
 use Rattle.ev_sites.proofs.Risen.{risen, steps_up, runs_on, comes_up, decided, sending, decides, sends}
 use Rattle.ev_sites.proofs.Telling.{update, announcing, taking, second_announces, first_takes}
 
--- ---- a frame for everyone
+-- ---- a broadcast frame
 
 abbrev octets : List ℕ
 octets = 255 ∷ 255 ∷ 255 ∷ 255 ∷ 255 ∷ 255 ∷ 1 ∷ 0 ∷ 0 ∷ 0 ∷ 0 ∷ 1 ∷ 8 ∷ 0 ∷ []

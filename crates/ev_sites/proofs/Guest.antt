@@ -1,4 +1,4 @@
--- A station of network 5001, what two edges say of it, and what each makes of what the other says.
+-- A station of VNI 5001, the two edges' updates about it, and the effect of each of these updates on the other edge.
 use Rattle.std.proofs.Common.{◌≡◌, ◌+◌, ◌&&◌, ℕ, Bool, true, false, not, cond, List, [], ◌∷◌, ap, ◌∙◌}
 use Rattle.std.specs.Prelude.{is_some}
 use Rattle.route_wire.specs.declared.update.Key.TheVariants.{Flood}
@@ -15,7 +15,7 @@ use Rattle.ev_claims.specs.Speaker.{Speaker, is_at, is_beaten}
 use Rattle.ev_claims.specs.LocalRoutes.{LocalRoutes, key_of, moving, after_removal, after_losing_at, after_take}
 use Rattle.ev_sites.proofs.Tables.{Said, table_with, looked_up, found, taken, in_order, owned}
 
--- ---- what is said
+-- ---- updates
 
 abbrev pub guest : Station
 guest = record { vni = 5001; mac = 0x020000000001 }
@@ -26,15 +26,15 @@ flood_register address = record { originator = address; key = Flood 5001 }
 abbrev pub guest_register : ℕ → Register
 guest_register address = record { originator = address; key = key_of guest }
 
--- the first value that an edge says
+-- an edge's first own value
 abbrev pub said_first : Value
 said_first = record { incarnation = 0; counter = 1; content = Advertised flood_advert }
 
--- the second one, of a station that it has learnt
+-- the second one, for a station that it has learnt
 abbrev pub said_guest : ℕ → Value
 said_guest sequence = record { incarnation = 0; counter = 2; content = moving sequence }
 
--- the third one, of a station that it has lost
+-- the third one, for a station that it has lost
 abbrev pub said_gone : Value
 said_gone = record { incarnation = 0; counter = 3; content = Withdrawn }
 
@@ -53,7 +53,7 @@ routes_with speaker learned = record {
       ∷ [];
 }
 
--- ---- what another edge says of the guest
+-- ---- another edge's updates about the guest
 
 -- it has an advert of its own, and another's is better
 abbrev pub loses : ℕ → List Said → Bool
@@ -97,7 +97,7 @@ pub keeps : (address other : ℕ) (said : List Said) (counter : ℕ) (pending : 
 keeps address other said counter pending learned v news kept =
     heard address other said counter pending learned v news false kept
 
--- what it loses it withdraws
+-- it withdraws the station that it loses
 pub withdraws : (address other : ℕ) (said : List Said) (counter : ℕ) (pending : List Register) (learned : Learning)
     (v : Value)
     → is_news (looked_up said (guest_register other)) v ≡ true → loses address ((guest_register other, v) ∷ said) ≡ true
@@ -110,7 +110,7 @@ pub withdraws : (address other : ℕ) (said : List Said) (counter : ℕ) (pendin
 withdraws address other said counter pending learned v news lost =
     heard address other said counter pending learned v news true lost
 
--- a flood list is taken as it is
+-- a flood list is taken unchanged
 pub hears : (address other : ℕ) (said : List Said) (counter : ℕ) (pending : List Register) (learned : Learning)
     → is_news (looked_up said (flood_register other)) said_first ≡ true
     → after_take (routes_with (speaker_with address said counter pending) learned)
@@ -129,7 +129,7 @@ here = 0x0a000001
 abbrev pub there : ℕ
 there = 0x0a000002
 
--- the guest is learnt at the first edge, and all is heard
+-- the guest is learnt at the first edge, and all updates are taken
 abbrev pub first_said : List Said
 first_said = (guest_register here, said_guest 0) ∷ (flood_register here, said_first) ∷ []
 

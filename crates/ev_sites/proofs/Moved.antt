@@ -1,5 +1,4 @@
--- The guest moves: it is heard at the second edge, which announces it, the first one withdraws it, and the two agree
--- again.
+-- The guest moves: the second edge learns it and announces it, the first one withdraws it, and the two agree again.
 use Rattle.std.proofs.Common.{◌≡◌, inl, zero, suc, false, Some, None, List, [], ◌∷◌, ◌++◌, refl, sym, ap, subst, arith}
 use Rattle.std.specs.Prelude.{Ok, IsSome, Contains}
 use Rattle.std.specs.FinMap.{empty, get, insert, get-empty}
@@ -168,7 +167,7 @@ agree_again = all_agree first_moved second_moved 3 2 (gone guest_learnt guest) g
 
 -- ---- these are two rounds of the guest, in which the announcements come first
 
--- as the first round ends, but that the withdrawal is pending no more
+-- the state at the end of the first round, except that the withdrawal is pending no more
 told_once : AllAgree (fabric_with (first_with []) (second_with second_said []) (agreed_pool ++ guest_there ∷ []))
 told_once =
     all_agree first_moved second_said 3 2 (gone guest_learnt guest) guest_learnt empty one_move

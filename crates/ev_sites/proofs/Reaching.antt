@@ -55,7 +55,7 @@ use Rattle.ev_sites.specs.Fabrics.{BridgesCanBe, EveryRunCanBe, AreSitesOf, Site
 
 -- ---- one edge
 
--- what one bridge may come to, the other may too
+-- the second bridge may come from each start from which the first one may
 abbrev Goes : Edge → Edge → Type 0
 Goes a b = (settings : Settings) (ports : List PortSettings) → CanBe settings ports a.tree → CanBe settings ports b.tree
 

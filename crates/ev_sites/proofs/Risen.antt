@@ -1,4 +1,4 @@
--- Two edges of one network whose ports have come up: their bridges are roots that are settled, and both ports pass.
+-- Two edges of one VNI whose ports have come up: their bridges are roots that are settled, and both ports pass.
 use Rattle.std.proofs.Common.{◌≡◌, ◌≤◌, ◌<◌, ◌^◌, ◌==◌, ◌||◌, ◌⊎◌, ◌↔◌, ℕ, zero, suc, true, false, not, ◌&&◌, Some}
 use Rattle.std.proofs.Common.{None, List, [], ◌∷◌, ◌++◌, length, inl, inr, refl, sym, ap, subst, ◌∙◌, arith, lit≤, lit<}
 use Rattle.std.specs.Prelude.{Ok, IsTrue}
@@ -147,7 +147,7 @@ edge_with routes tree windows = record { routes = routes; clock = 0; ageing = 30
 abbrev pub fabric_with : Edge → Edge → List Fields → Fabric
 fabric_with a b pool = record { edges = a ∷ b ∷ []; configs = configs_of root_settings; pool = pool }
 
--- it has said its flood list, and hasn't announced it
+-- it has made its flood advert, and hasn't announced it
 abbrev pub opened_with : ℕ → Tree → Edge
 opened_with address tree =
     edge_with (routes_with
@@ -168,7 +168,7 @@ risen = fabric_up root_bridge root_bridge
 abbrev pub steps_up : List Step
 steps_up = Local 1 (PortUp 1) ∷ Local 1 (PortUp 2) ∷ Local 2 (PortUp 1) ∷ Local 2 (PortUp 2) ∷ []
 
--- ---- what an edge decides
+-- ---- an edge's decisions
 
 abbrev pub decided : Edge → ℕ → Source → Decision
 decided e destination from = record {

@@ -1,4 +1,4 @@
--- A table by the list of what it took, the newest first: what it holds is computed from that list.
+-- A table by the list of updates that it took, the newest first: its contents are computed from that list.
 use Rattle.std.proofs.Common.{◌≡◌, ℕ, zero, suc, true, false, cond, Some, None, Option, List, [], ◌∷◌, length, refl}
 use Rattle.std.proofs.Common.{sym, ap, subst, ◌∙◌, arith}
 use Rattle.std.specs.Prelude.{Contains, map}

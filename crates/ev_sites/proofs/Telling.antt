@@ -1,4 +1,5 @@
--- Steps of the two edges' fabric: what one of them announces, what the other takes, and the guest that is learnt.
+-- Steps of the two edges' fabric: the announcements of one of them, the deliveries to the other, and the learning of
+-- the guest.
 use Rattle.std.proofs.Common.{◌≡◌, ◌==◌, ℕ, true, false, cond, Some, None, List, [], ◌∷◌, ◌++◌, refl, sym, ap}
 use Rattle.std.proofs.Common.{subst, ◌∙◌}
 use Rattle.std.specs.Prelude.{Ok}
@@ -34,7 +35,7 @@ use Rattle.ev_sites.proofs.Tables.{Said, looked_up, found, in_order, next_among,
 use Rattle.ev_sites.proofs.Guest.{guest, here, there, speaker_with}
 use Rattle.ev_sites.proofs.Risen.{Windows, fabric_with, risen_edge}
 
--- octets behind a reference
+-- the octets of a reference
 abbrev pub lent : List ℕ → Bor (List ℕ)
 lent octets = record { ref_ptr = (0, 0); now = octets }
 
@@ -60,7 +61,7 @@ update r v = record { register = r; value = v }
 abbrev pub announcing : Fields → Reply
 announcing u = record nothing { announced = Some u }
 
--- it announces the register that waits longest
+-- it announces the register that has been pending longest
 announces : (address : ℕ) (said : List Said) (counter : ℕ) (r : Register) (rs : List Register) (l : Learning)
     (w : Windows) (v : Value) → looked_up said r ≡ Some v
     → Steps (risen_edge (speaker_with address said counter (r ∷ rs)) l w) events.Announce (Ok (announcing (update r v)))
@@ -139,11 +140,11 @@ second_takes a b pool k u c at other listed is =
 room : is_full nobody_learnt ≡ false
 room = ap (λ n. n == 1) (len-empty station_cmp Entry)
 
--- an edge that has said its flood list alone, and has learnt nothing
+-- an edge that has made only its flood advert, and has learnt nothing
 abbrev pub newcomer : ℕ → List Said → List Register → Edge
 newcomer address said pending = risen_edge (speaker_with address said 1 pending) nobody_learnt empty
 
--- it learns the guest with the number that is above all others'
+-- it learns the guest, with a number above all others
 pub learns : (address : ℕ) (said : List Said) (pending : List Register) (n : ℕ) (e' : Edge)
     → next_among address 5001 guest.mac (in_order said) ≡ Next n
     → Does (move_case None 0 n) (newcomer address said pending) guest 1 None e'

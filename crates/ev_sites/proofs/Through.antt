@@ -15,7 +15,7 @@ use Rattle.ev_sites.proofs.Leaving.{Sent, frame_sent, tunnel_passes, tunnel_othe
 some_same : {X : Type 0} (a b : X) → Some a ≡ Some b → a ≡ b
 some_same a b h = cc
 
--- ---- what a hop is
+-- ---- the form of a hop
 
 -- by an edge from a tunnel: not its own, and by ports that pass
 record Came (e : Edge) (from : ℕ) (d : Decision) : Type 0 where
@@ -27,7 +27,7 @@ passes_at : (s : Site) (e : Edge) (x : Spot) → IsEdgeOf s e → x.bridge ≡ s
     → PassesAt s.net x
 passes_at s e x edge here passes = (e.tree, subst (λ b. IsBridgeAt s.net b e.tree) (sym here) edge.bridge, passes)
 
--- what an edge does with a frame of its own site is what any bridge does
+-- an edge forwards a frame of its own site as any bridge does
 edge_crosses : (s : Site) (x y : Spot) (d : Decision) → DecidesAt s x d → Leaves s d y → Crosses s.net x y
 edge_crosses s x y d at leaves =
     let e = at.before in
@@ -125,7 +125,7 @@ module _ (law : NoCircle) (sites : List Site) (rest : AreAtRest sites) where
             arrives segment apart way back))
       ]
 
-  -- so a way that begins behind a tunnel stays in the site to which that leads
+  -- so a way that begins after a tunnel stays in the site to which that tunnel leads
   behind : (points : List Point) (x z w : Point) → ByTunnel sites x z → Goes sites points z w → w.site ≡ z.site
   behind points x z w h goes =
       let e = h.decides_far in

@@ -1,5 +1,5 @@
--- The sites of a fabric's edges, and what the fabric itself gives of them: whatever has come, each edge's bridge is one
--- that came from its start by events.
+-- The sites of a fabric's edges, and the property of them that the fabric itself provides: in every run, each edge's
+-- bridge is one that came from its start by events.
 use Rattle.std.specs.Prelude.{◌≡◌, ◌≢◌, ℕ, ◌<◌, ◌^◌, Some, List, [], slice_get, length}
 use Rattle.rstp_run.specs.RootPort.{CanBe}
 use Rattle.rstp_run.specs.Rules.{Tree}
@@ -14,13 +14,13 @@ use Rattle.ev_fabric.specs.Opening.{AreConfigs, IsStart}
 use Rattle.ev_fabric.specs.Runs.{Runs}
 use Rattle.ev_sites.specs.Sites.{Site, IsSiteAt, Point, IsEdgeOf, Goes}
 
--- each edge's bridge is one that the settings which it was opened with may come to
+-- each edge's bridge is one that may come from the settings with which the edge was opened
 abbrev pub BridgesCanBe : Fabric → Type 0
 BridgesCanBe f =
     (i : ℕ) (c : EdgeConfig) (a : Edge) → slice_get f.configs i ≡ Some c → IsEdge f i a
     → CanBe c.tree (settings_of c.ports.items) a.tree
 
--- whatever comes to a fabric after its opening
+-- any run of a fabric after its opening
 abbrev pub EveryRunCanBe : Type 0
 EveryRunCanBe =
     (cs : List EdgeConfig) (old new : Fabric) (steps : List Step) → IsStart cs old → Runs old steps new
@@ -30,8 +30,8 @@ EveryRunCanBe =
 abbrev pub AreSitesOf : Fabric → List Site → Type 0
 AreSitesOf f sites = (i : ℕ) (s : Site) → IsSiteAt sites i s → (a : Edge) × IsEdge f i a × IsEdgeOf s a
 
--- What the fabric doesn't give: the sites' other bridges came from their start by events, and their ports' numbers fit;
--- no two bridges of a site have one identifier; and each site's network is at rest.
+-- The premises that the fabric doesn't provide: the sites' other bridges came from their start by events, and their
+-- ports' numbers fit; no two bridges of a site have one identifier; and each site's network is at rest.
 pub record SitesRest (sites : List Site) : Type 0 where
   pub others : (i : ℕ) (s : Site) → IsSiteAt sites i s → (b : ℕ) (t : Tree) → b ≢ s.attached → IsBridgeAt s.net b t
       → IsReached t
@@ -41,7 +41,8 @@ pub record SitesRest (sites : List Site) : Type 0 where
       → IsBridgeAt s.net d u → t.settings.identifier ≡ u.settings.identifier → b ≡ d
   pub rest : (i : ℕ) (s : Site) → IsSiteAt sites i s → IsAtRest s.net
 
--- where the sites of a fabric's edges are at rest, whatever came before, no frame comes in where it came in before
+-- if the sites of a fabric's edges are at rest, after any history, no frame comes in at a port at which it came in
+-- before
 abbrev pub NoCircleInAFabric : Type 0
 NoCircleInAFabric =
     (cs : List EdgeConfig) (old new : Fabric) (steps : List Step) → AreConfigs cs → IsStart cs old → Runs old steps new

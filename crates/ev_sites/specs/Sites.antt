@@ -12,8 +12,8 @@ use Rattle.ev_edge.specs.Steps.{FrameSteps, TunnelSteps}
 
 -- ---- sites
 
--- A network, the place in it of the bridge that is the edge's, and the edge's address. Sites are networks of their
--- own, so no bridge and no segment is in two of them.
+-- A network, the place in it of the bridge that is the edge's, and the edge's address. Each site has its own network,
+-- so no bridge and no segment is in two sites.
 pub record Site : Type 0 where
   pub net : Network
   pub attached : ℕ
@@ -32,12 +32,12 @@ pub record Point : Type 0 where
   pub site : ℕ
   pub spot : Spot
 
--- the edge is the site's, whatever it has learnt and heard: its bridge is the one at that place
+-- the edge is the site's, with any learning table and any routes: its bridge is the one at that place
 pub record IsEdgeOf (s : Site) (e : Edge) : Type 0 where
   pub bridge : IsBridgeAt s.net s.attached e.tree
   pub address : address_of e ≡ s.address
 
--- ---- what an edge makes of a frame
+-- ---- an edge's decision about a frame
 
 -- the site's edge, in some state, answers octets that come in at x, a port of its own bridge, by this decision
 pub record DecidesAt (s : Site) (x : Spot) (d : Decision) : Type 0 where
@@ -60,8 +60,8 @@ pub record DecidesFrom (s : Site) (from : ℕ) (d : Decision) : Type 0 where
   pub step : TunnelSteps (tunnel_arrival before from octets) before result after
   pub decision : decision_in result ≡ Some d
 
--- A decision's frame leaves the edge's bridge by one of the decision's ports, crosses that port's segment, and comes
--- in at another port of the segment, y, where it passes.
+-- A decision's frame leaves the edge's bridge by one of the decision's ports, crosses that port's segment, and comes in
+-- at another port y of the segment, which passes.
 pub record Leaves (s : Site) (d : Decision) (y : Spot) : Type 0 where
   pub out : Spot
   pub bridge : out.bridge ≡ s.attached
@@ -89,7 +89,7 @@ pub record ByEdge (sites : List Site) (x y : Point) : Type 0 where
   pub decides : DecidesAt site x.spot decision
   pub leaves : Leaves site decision y.spot
 
--- From x to y by the edges of two sites and a tunnel. What the datagram holds may be anything.
+-- From x to y by the edges of two sites and a tunnel. The datagram may hold anything.
 pub record ByTunnel (sites : List Site) (x y : Point) : Type 0 where
   pub near : Site
   pub far : Site
@@ -120,7 +120,7 @@ NeverBackToItsBridge =
     → PassesAt net o → PassesAt net y → net.segment o ≡ net.segment y → o ≢ y
     → Travels net ports y w → w.bridge ≢ o.bridge
 
--- where all sites are at rest, a frame that comes in where it came in before has gone nowhere
+-- if all sites are at rest, a frame that comes in at a port at which it came in before has gone nowhere
 abbrev pub NoCircleThroughTunnels : Type 0
 NoCircleThroughTunnels =
     (sites : List Site) → AreAtRest sites → (x : Point) (points : List Point) → Goes sites points x x → points ≡ []

@@ -44,9 +44,9 @@ pub record SitesOfAFabric : Type 0 where
   pub by_edge : ByEdge sites x y
   pub by_tunnel : ByTunnel sites x z
 
--- All edges of a fabric agree, and one of them, `edge_out`, advertises a station. A frame for it comes at a port of
--- another, `edge_in`, and is given to `edge_out` alone. Its datagram, entered there as one from `edge_in`, is given to
--- the port behind which the station is, which passes, and to nothing else.
+-- All edges of a fabric agree, and one of them, `edge_out`, advertises a station. A frame for it comes in at a port of
+-- another, `edge_in`, and goes to `edge_out` only. Its datagram, entered there as one from `edge_in`, goes to the port
+-- on which the station is learnt, which passes, and to nothing else.
 pub record FrameOfAFabric : Type 0 where
   pub fabric : Fabric
   pub has_run : HasRun fabric

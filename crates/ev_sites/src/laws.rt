@@ -1,4 +1,4 @@
-//! What holds of sites at rest, each a function that does nothing and whose contract is the law.
+//! Laws about sites at rest, as functions that do nothing: the contract is the law.
 
 ghost use Rattle.ev_sites.specs.Sites.{
   NeverBackToItsBridge,
@@ -9,30 +9,30 @@ ghost use Rattle.ev_sites.specs.Sites.{
 
 use rstp_net::laws::{can_be_at_rest, no_circle};
 
-/// In a network at rest, a frame that a bridge sent onto a segment never comes in
-/// at that bridge again.
+/// States that, in a network at rest, a frame that a bridge sent onto a segment never comes in at
+/// that bridge again.
 pub fn never_back_to_its_bridge()
     ensures { NeverBackToItsBridge }
 {
     no_circle();
 }
 
-/// In a fabric whose sites are at rest, no frame comes back to a port at which it came in before,
-/// through bridges, edges and tunnels.
+/// States that, in a fabric whose sites are at rest, no frame comes back to a port at which it came
+/// in before, through bridges, edges and tunnels.
 pub fn no_circle_through_tunnels()
     ensures { NoCircleThroughTunnels }
 {
     no_circle();
 }
 
-/// Where the sites are at rest, a frame that came through a tunnel goes through none again.
+/// States that a frame that came through a tunnel goes through none again if the sites are at rest.
 pub fn one_tunnel_at_most()
     ensures { OneTunnelAtMost }
 {
     no_circle();
 }
 
-/// Sites can be at rest, with a frame that crosses to the edge's bridge.
+/// States that sites can be at rest, with a frame that crosses to the edge's bridge.
 pub fn sites_can_be_at_rest()
     ensures { SitesCanBeAtRest }
 {

@@ -1,5 +1,5 @@
 //! Fabrics that meet the premises of laws, here and in `ev_fabric`, as functions that do nothing:
-//! the contract says that there are such.
+//! the contract states that there is one.
 
 ghost use Rattle.ev_sites.specs.Witnesses.{FrameOfAFabric, MoveOfAFabric, SitesOfAFabric};
 
@@ -17,8 +17,8 @@ pub fn fabric_has_sites()
 }
 
 /// A witness of `from_port_to_port` of `ev_fabric`: two edges that agree after a run from their
-/// opening, and a station at one of them. A frame for it at a port of the other edge is given to
-/// the station's edge alone; and its datagram, entered there, to the station's port alone, which
+/// opening, and a station at one of them. A frame for it at a port of the other edge goes to the
+/// station's edge only; and its datagram, entered there, goes only to the station's port, which
 /// passes.
 pub fn fabric_carries_a_frame()
     ensures { FrameOfAFabric }

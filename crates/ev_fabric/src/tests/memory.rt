@@ -1,6 +1,5 @@
-//! What a fabric makes of refused memory: run with each allocation refused in turn, these
-//! tests pass too. A step that is refused memory leaves what was before, and does what it
-//! should when it comes again.
+//! A fabric under refused memory: these tests pass too if they run with each allocation refused in
+//! turn. A step that is refused memory changes nothing, and succeeds when it is repeated.
 
 use super::{Act, announces, outcome, perform, report_of, reports, two};
 use crate::Fabric;
@@ -8,7 +7,7 @@ use ether_wire::Page;
 use std::alloc::Global;
 use std::test::Fail;
 
-/// The number of the refusal that says that memory was refused.
+/// The number of the refusal `NoMemory`.
 const NO_MEMORY: u8 = 15;
 
 // Two edges, by the first try that isn't refused memory.
@@ -21,7 +20,7 @@ fn made(alloc: Global) -> Option<Fabric> {
     None
 }
 
-// What can be seen of two edges.
+// The visible state of two edges.
 #[derive(Drop)]
 struct Seen {
     first: Page<1024>,
@@ -37,7 +36,7 @@ fn look_at(fabric: &Fabric) -> Seen {
     }
 }
 
-// Whether two edges look as they did before.
+// Returns `true` if two edges are in the state seen before.
 fn are_as(fabric: &Fabric, before: &Seen) -> bool {
     let now = look_at(fabric);
     now.first.octets() == before.first.octets()
@@ -45,8 +44,8 @@ fn are_as(fabric: &Fabric, before: &Seen) -> bool {
         && now.pool == before.pool
 }
 
-// Whether it succeeds, by its second try where the first one was refused memory
-// and changed nothing.
+// Returns `true` if the act succeeds, at its second try if the first one was refused memory and
+// changed nothing.
 fn succeeds_at_last(fabric: &mut Fabric, e: usize, what: Act) -> bool {
     let before = look_at(fabric);
     match outcome(fabric, e, what) {
@@ -57,8 +56,8 @@ fn succeeds_at_last(fabric: &mut Fabric, e: usize, what: Act) -> bool {
     }
 }
 
-// Edge 1 hears eight stations, each twice: where memory is refused the first time, it is
-// learnt the second time.
+// Edge 1 receives a frame of each of eight stations, twice: if memory is refused the first time,
+// the station is learnt the second time.
 fn learn(fabric: &mut Fabric) {
     let _ = perform(fabric, 1, Act::Up(1));
     for n in 0..8u8 {
@@ -90,7 +89,7 @@ fn refused_announcement_is_still_pending(rt: HostRuntime) -> Result<(), Fail> {
     Ok(())
 }
 
-// Nothing that was learnt is left, and what is announced is of the new incarnation.
+// Nothing is learnt any more, and each announced update is of the new incarnation.
 #[test]
 fn refused_restart_is_made_up_for(rt: HostRuntime) -> Result<(), Fail> {
     let mut fabric = made(rt.alloc()).ok_or("no fabric")?;

@@ -1,6 +1,6 @@
-//! Random runs of three edges: what they hear is lost, comes again and in another order, and edges
-//! are opened anew. Two rounds later all agree, and again after stations have moved; what the laws
-//! say is looked at by plain loops over public calls.
+//! Random runs of three edges: deliveries are lost, repeated and reordered, and edges are opened
+//! again. Two rounds later all agree, and again after stations have moved; plain loops over public
+//! calls check the statements of the laws.
 ghost use Rattle.std.specs.Prelude.{◌≡◌, ◌<◌, [], ◌∷◌, IfOk};
 ghost use Rattle.ev_edge.specs.Config.{IsConfig};
 ghost use Rattle.ev_fabric.specs.Opening.{AreConfigs};
@@ -15,7 +15,7 @@ use route_wire::{Content, Key, Update};
 use std::alloc::{AllocError, Global};
 use std::test::Fail;
 
-/// Numbers that look random, the same in each run.
+/// Pseudo-random numbers, the same in each run.
 #[derive(Drop)]
 struct Dice {
     state: u64,
@@ -33,9 +33,9 @@ impl Dice {
         (self.state >> 33) % sides
     }
 
-    // Three stations are heard anywhere, updates announced, and taken in any order, again,
-    // or never; ports go down and come up; now and then an edge is opened anew, in an incarnation
-    // that none has led yet.
+    // Three stations appear at any edge, updates are announced, and taken in any order, again, or
+    // never; ports go down and come up; now and then an edge is opened again, in an incarnation
+    // that no edge has led yet.
     fn act(&mut self, step: u32) -> Act {
         let port = self.roll(2) as u8 + 1;
         let station = self.roll(3) as u8 + 10;
@@ -68,10 +68,10 @@ fn all(alloc: Global) -> Result<Vec<EdgeConfig>, AllocError>
     Ok(configs)
 }
 
-/// Station 16 + e is heard at port 1 of edge e alone.
+/// Station 16 + e appears only at port 1 of edge e.
 const HOME: u8 = 16;
 
-// All ports come up, and each edge hears the station that is its own.
+// All ports come up, and each edge receives a frame of its own station.
 fn wake(fabric: &mut Fabric) {
     for e in 1..4u8 {
         for port in 1..3u8 {
@@ -81,7 +81,7 @@ fn wake(fabric: &mut Fabric) {
     }
 }
 
-// Each edge announces what it has to, and then takes each update there is.
+// Each edge announces its pending updates, and then takes each update of the pool.
 fn round(fabric: &mut Fabric) {
     for e in 1..4usize {
         for _ in 0..8u8 {
@@ -95,7 +95,7 @@ fn round(fabric: &mut Fabric) {
     }
 }
 
-// Nothing is pending, and no update of the pool is news to an edge.
+// Returns `true` if nothing is pending and no update of the pool is news to an edge.
 fn all_agree(fabric: &mut Fabric) -> bool {
     for e in 1..4usize {
         if announces(fabric, e) {
@@ -117,8 +117,8 @@ fn edge_at(fabric: &Fabric, e: u8) -> Option<&Edge> {
     Some(fabric.edge(usize::from(e)))
 }
 
-// The update isn't edge e's, or is of an earlier incarnation than the edge's flood advert, which it
-// says first in each, or is no newer than what the edge says itself.
+// The update isn't edge e's, or is of an earlier incarnation than the edge's flood advert, which is
+// its first update in each incarnation, or isn't newer than the edge's own value.
 fn is_behind(edge: &Edge, e: u8, update: &Update) -> bool {
     let register = update.register();
     let Some(flood) = edge
@@ -168,7 +168,8 @@ fn said_once(pool: &[Update]) -> bool {
     true
 }
 
-// Sixty random steps, and what holds of each run holds after each of them.
+// Makes sixty random steps and checks after each of them that no table is ahead, and at the end
+// that two updates of one register, incarnation and number are equal.
 fn goes_on(fabric: &mut Fabric, dice: &mut Dice) -> bool {
     for step in 1..61u32 {
         let e = dice.roll(3) as u8 + 1;
@@ -180,7 +181,7 @@ fn goes_on(fabric: &mut Fabric, dice: &mut Dice) -> bool {
     said_once(fabric.pool())
 }
 
-// Whether edge e advertises station n.
+// Returns `true` if edge e advertises station n.
 fn advertises(fabric: &Fabric, e: u8, n: u8) -> bool {
     let Some(edge) = edge_at(fabric, e) else {
         return false
@@ -223,8 +224,9 @@ fn knows(fabric: &Fabric, e: u8, o: u8, n: u8) -> bool {
     edge.table().owner(Vni::new(5001), mac(n)) == Some(address(o))
 }
 
-// A frame for station n is given to edge o alone. There it comes out of the tunnel at one port of
-// two, since n is learnt there, and from the edge's own station, at port 1, at port 2 or nowhere.
+// A frame for station n goes to edge o only. There it comes out of the tunnel at one port of two,
+// since n is learnt there. A frame from the edge's own station, at port 1, comes out at port 2 or
+// nowhere.
 fn goes_to(fabric: &mut Fabric, e: u8, o: u8, n: u8) -> bool {
     let here = sent(fabric, e, Act::Send(1, n, HOME | e));
     let Some(decision) = here else { return false };
@@ -274,7 +276,8 @@ fn comes_to_agreement(fabric: &mut Fabric, seed: u64) -> bool {
         && first.octets() == report_of(fabric, 3).octets()
 }
 
-// Station n is found where it is, at one edge, or at none if it is no edge's own.
+// Returns `true` if station n is at one edge and all edges find it there, or at none if it is no
+// edge's own station.
 fn is_found(fabric: &mut Fabric, n: u8) -> bool {
     let Some(place) = place_of(fabric, n) else {
         return false
@@ -282,8 +285,8 @@ fn is_found(fabric: &mut Fabric, n: u8) -> bool {
     place == 0 && n < HOME || all_find(fabric, place, n)
 }
 
-// Station n, if it is no edge's own, is heard at the edge after the one that has it, or is pinned
-// there if it is the last one. That edge, if it learns the station.
+// Moves station n, unless it is an edge's own, to the edge after the one that has it, by a frame,
+// or by a pin if n is 12. Returns that edge, if it advertises the station then.
 fn comes_to(fabric: &mut Fabric, n: u8) -> Option<u8> {
     let place = place_of(fabric, n)?;
     if place == 0 || n > HOME {

@@ -10,7 +10,7 @@ use Rattle.ev_fabric.proofs.tests.both.Goals as goal
 abbrev addresses : List ℕ
 addresses = 0x0a00_0001 ∷ 0x0a00_0002 ∷ []
 
--- they listen to a third one, too
+-- they accept updates from a third one, too
 abbrev listeners : List ℕ
 listeners = 0x0a00_0001 ∷ 0x0a00_0002 ∷ 0x0a00_0003 ∷ []
 
@@ -23,13 +23,13 @@ both_listen o (zero, l, e) = (zero, lit< tt, e)
 both_listen o (suc zero, l, e) = (suc zero, lit< tt, e)
 both_listen o (suc (suc n), l, e) = absurd (omega (arith, l))
 
--- what holds of two holds of each in their list
+-- a property of two elements holds for each element of their list
 each : (P : EdgeConfig → Type 0) (x y : EdgeConfig) → P x → P y → (c : EdgeConfig) → Contains (x ∷ y ∷ []) c → P c
 each P x y h k c (zero, l, e) = subst P e h
 each P x y h k c (suc zero, l, e) = subst P e k
 each P x y h k c (suc (suc n), l, e) = absurd (omega (arith, l))
 
--- two edges of these addresses that listen to both
+-- two edges of these addresses that accept updates from both
 are_configs : (x y : EdgeConfig) → x.address ≡ 0x0a00_0001 → y.address ≡ 0x0a00_0002 → x.originators.items ≡ listeners
     → y.originators.items ≡ listeners → IsConfig x → IsConfig y → AreConfigs (x ∷ y ∷ [])
 are_configs x y p q os ps h k = record {

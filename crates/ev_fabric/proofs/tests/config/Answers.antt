@@ -18,11 +18,11 @@ differ : IsDistinct eqb network
 unfolding IsDistinct
 differ = (tt, tt)
 
--- there are as many ports as networks of ports
+-- there are as many ports as VNIs of ports
 counted : (ps : List PortConfig) → vnis_of ps ≡ 5001 ∷ network → 1 ≤ length ps
 counted ps h = subst (λ n. 1 ≤ n) (sym (ap length h) ∙ length-map ps (λ (p : PortConfig). p.vni)) (lit≤ tt)
 
--- each port's network is the one
+-- each port's VNI is the one
 served : (v : ℕ) → Contains (5001 ∷ network) v → Contains network v
 served v (zero, l, e) = (zero, lit< tt, e)
 served v (suc zero, l, e) = (zero, lit< tt, e)

@@ -14,7 +14,7 @@ differ : IsDistinct eqb addresses
 unfolding IsDistinct
 differ = ((refl, (refl, tt)), ((refl, tt), (tt, tt)))
 
--- what holds of three holds of each in their list
+-- a property of three elements holds for each element of their list
 each : (P : EdgeConfig → Type 0) (x y z : EdgeConfig) → P x → P y → P z → (c : EdgeConfig) → Contains (x ∷ y ∷ z ∷ []) c
     → P c
 each P x y z h k m c (zero, l, e) = subst P e h
@@ -22,7 +22,7 @@ each P x y z h k m c (suc zero, l, e) = subst P e k
 each P x y z h k m c (suc (suc zero), l, e) = subst P e m
 each P x y z h k m c (suc (suc (suc n)), l, e) = absurd (omega (arith, l))
 
--- three edges of these addresses that listen to all
+-- three edges of these addresses that accept updates from all
 are_configs : (x y z : EdgeConfig) → x.address ≡ 0x0a00_0001 → y.address ≡ 0x0a00_0002 → z.address ≡ 0x0a00_0003
     → x.originators.items ≡ addresses → y.originators.items ≡ addresses → z.originators.items ≡ addresses → IsConfig x
     → IsConfig y → IsConfig z → AreConfigs (x ∷ y ∷ z ∷ [])
