@@ -22,7 +22,7 @@ three_digits n least small =
     let e : n / 10 / 10 ≡ n / 100 = omega arith in
     rw (decimal_step n (omega arith) (omega arith), two_digits (n / 10) (omega arith) (omega arith), e)
 
--- the same, the last two of them at once
+-- like `three_digits`, with the last two digits at once
 pub three_by_pair : (n : ℕ) → 100 ≤ n → n < 1000 → decimal n ≡ (48 + n / 100 % 10) ∷ (48 + n % 100 / 10 % 10)
     ∷ (48 + n % 100 % 10) ∷ []
 three_by_pair n least small =
@@ -52,13 +52,13 @@ four_last n least small =
     let d : n % 10000 % 100 % 10 ≡ n % 10000 % 10 = omega arith in
     rw (decimal_four n least small, a, c, d)
 
--- the same behind other octets
+-- like the lemma before, after other octets
 pub four_behind : (xs : List ℕ) (n : ℕ) → 10000 ≤ n → n < 2 ^ 64
     → (xs ++ decimal (n / 10000)) ++ four_digits (n % 10000) ≡ xs ++ decimal n
 four_behind xs n least small =
     append_assoc xs (decimal (n / 10000)) (four_digits (n % 10000)) ∙ ap (λ x. xs ++ x) (sym (four_last n least small))
 
--- the same but for the last eight digits
+-- a longer number: its digits without the last eight, and these
 pub eight_behind : (xs : List ℕ) (n : ℕ) → 100000000 ≤ n → n < 2 ^ 64
     → ((xs ++ decimal (n / 100000000)) ++ four_digits (n / 10000 % 10000)) ++ four_digits (n % 10000) ≡ xs ++ decimal n
 eight_behind xs n least small =

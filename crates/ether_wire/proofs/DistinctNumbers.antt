@@ -27,7 +27,7 @@ same_tests y [] = refl
 same_tests y (x ∷ xs) = ap (λ b. b || list_any (λ z. eqb z y) xs) (eqb_equiv.symm x y)
     ∙ ap (λ b. eqb y x || b) (same_tests y xs)
 
--- one more that stands in none before it
+-- one more number that differs from all numbers before it
 pub distinct_more : (xs : List ℕ) (y : ℕ) → IsDistinct eqb xs → list_any (λ x. eqb x y) xs ≡ false
     → IsDistinct eqb (xs ++ y ∷ [])
 distinct_more xs y d n = IsDistinct-push eqb_equiv xs y d (sym (same_tests y xs) ∙ n)

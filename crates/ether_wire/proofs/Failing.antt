@@ -1,10 +1,10 @@
--- An end's calls, seen with failures of another one beside its own.
+-- The calls of an end, counted with failures of another end besides its own.
 use Rattle.std.proofs.Common.{◌≡◌, ℕ, ◌+◌, ◌^◌, ◌<◌, List, Result, Ok, Err, refl, ap, arith}
 use Rattle.ether_wire.specs.declared.ends.Device.{Device}
 use Rattle.ether_wire.specs.Ends.{End, Source, IsOpen, Allows, Puts, Gets}
 use Rattle.ether_wire.specs.FailAt.{failures_of, writer_beside, reader_beside}
 
--- ---- what may still be called
+-- ---- calls that are still allowed
 
 pub open_inner : (e : End) (own : ℕ) → IsOpen (writer_beside e own) → IsOpen e
 open_inner e own h = omega (arith, h)

@@ -52,7 +52,7 @@ has_port-common set other zero = refl
 has_port-common set other (suc bit) = ap (λ b. b == 1) (bit_at_and set other bit)
     ∙ min_is (bit_at set bit) (bit_at other bit) (bit_at-lt set bit) (bit_at-lt other bit)
 
--- the bit of one port alone
+-- a number with only the bit of one port
 only_bit : (p bit : ℕ) → 1 ≤ p → (bit_at (2 ^ (p - 1)) bit == 1) ≡ (p == suc bit)
 only_bit p bit least = elim (eqb_tells bit (p - 1)) [
   | inl same ↦ ap (λ k. bit_at (2 ^ (p - 1)) k == 1) same.1 ∙ ap (λ b. b == 1) (bit_at-pow_same (p - 1))
@@ -199,7 +199,7 @@ next_is set after small low some =
           (range_with_len (after + 1 + zeros + 1) (size i)));
     }
 
--- what `1 << (p - 1)` computes
+-- the value of `1 << (p - 1)`
 pub shifted_one : (p : ℕ) → IsPort p → 1 * 2 ^ (p - 1) % 2 ^ 64 ≡ 2 ^ (p - 1)
 shifted_one p h =
     let one : 1 * 2 ^ (p - 1) ≡ 2 ^ (p - 1) = omega arith in
@@ -263,7 +263,7 @@ pub are_ports : (set : ℕ) → ArePortsOf set (ports_of set)
 unfolding ports_after
 are_ports set = are_from set 1 64 refl refl
 
--- what a set of 64 bits has is a port
+-- each member of a set of 64 bits is a port
 pub is_port : (set p : ℕ) → set < 2 ^ 64 → has_port set p ≡ true → IsPort p
 unfolding has_port
 is_port set zero small there = absurd (true≢false (sym there))
@@ -275,7 +275,7 @@ is_port set (suc bit) small there = record {
   ];
 }
 
--- what is left of a set was in it
+-- each port of the set without a port is in the set
 pub has_port-less : (set p q : ℕ) → has_port (without_port set p) q ≡ true → has_port set q ≡ true
 unfolding has_port without_port
 has_port-less set p zero there = there

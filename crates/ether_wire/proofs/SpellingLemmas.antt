@@ -1,4 +1,4 @@
--- Text that is printed is read back, and what is read was printed so.
+-- Printed text is read back, and each text that is read is printed in the same form.
 use Rattle.std.proofs.Common.{◌≡◌, ℕ, ◌+◌, ◌*◌, ◌/◌, ◌%◌, ◌^◌, ◌<◌, ◌≤◌, zero, suc, true, false, ◌&&◌, List, [], ◌∷◌}
 use Rattle.std.proofs.Common.{◌++◌, length, take, drop, get_or, Option, Some, None, option_map, IfSome, MatchResult}
 use Rattle.std.proofs.Common.{Result, Ok, Err, refl, sym, ◌∙◌, ap, subst, append_assoc, take-append-drop, drop-cons}
@@ -42,7 +42,7 @@ place_joined b x y h =
     let long : nat_lt (length x) (length (x ++ b ∷ y)) ≡ true = simp length-append (grind (arith, nat_tests)) in
     rw (at, long) refl
 
--- what is joined by an octet that the first part lacks is parted there
+-- two texts joined by an octet that the first one lacks are parted there
 pub parted-joined : (b : ℕ) (x y : List ℕ) → Lacks b x → parted b (x ++ b ∷ y) ≡ Some (x, y)
 unfolding parted
 parted-joined b x y h =
@@ -367,7 +367,7 @@ addr_of_text-spelt s n is =
     let r_joined = joined-parted 46 q.1 r r_is in
     rw (p_joined, a_octet.0, q_joined, b_octet.0, r_joined, c_octet.0, d_octet.0) text
 
--- ---- what an answer says
+-- ---- the meaning of an answer
 
 pub IfSome-from : {X : Type 0} (o : Option X) (p : Option X) (P : X → Type 0) → o ≡ p → ((x : X) → p ≡ Some x → P x)
     → IfSome o P

@@ -1,4 +1,4 @@
--- What the adapters of std's readers and writers hold, and tell: no octets.
+-- The members of the adapters of std's readers and writers; the octets of these ends are unknown.
 use Rattle.std.specs.Prelude.{None}
 use Rattle.ether_wire.specs.declared.adapters.Reader.{Reader}
 use Rattle.ether_wire.specs.declared.adapters.Writer.{Writer}

@@ -1,4 +1,4 @@
--- Ends of which one call fails.
+-- Ends with one call that fails.
 use Rattle.std.specs.Prelude.{ℕ, ◌+◌, ◌-◌, ◌^◌, min}
 use Rattle.ether_wire.specs.declared.fail_at.FailAt.{FailAt}
 use Rattle.ether_wire.specs.Ends.{End, Source, end_of, source_of}
@@ -7,18 +7,18 @@ use Rattle.ether_wire.specs.Ends.{End, Source, end_of, source_of}
 abbrev pub inner_end : {E : Type 0} → FailAt E → E
 inner_end f = f.inner
 
--- how many calls there were, and the number of the one that fails
+-- the number of calls so far, and the number of the call that fails
 abbrev pub calls_of : {E : Type 0} → FailAt E → ℕ
 calls_of f = f.calls
 
 abbrev pub fails_at : {E : Type 0} → FailAt E → ℕ
 fails_at f = f.at
 
--- an end's failures and its own, as far as a number of 64 bits counts
+-- the failures of the other end plus its own, at most the largest number of 64 bits
 abbrev pub failures_of : ℕ → ℕ → ℕ
 failures_of inner own = min (inner + own) (2 ^ 64 - 1)
 
--- an end's octets, with so many failures more
+-- the octets of the other end, with `own` more failures
 abbrev pub writer_beside : End → ℕ → End
 writer_beside e own = end_of e.octets (failures_of e.failures own)
 

@@ -10,7 +10,7 @@ use Rattle.ether_wire.specs.declared.frame.FrameRefusal.TheVariants.{Short, Long
 use Rattle.ether_wire.specs.declared.frame.Kind.{Kind}
 use Rattle.ether_wire.specs.declared.frame.Kind.TheVariants.{Length, EtherType}
 
--- the first of the answers whose test is met
+-- the first answer whose test is met
 abbrev pub first_of : {X : Type 0} → List (Bool × X) → Option X
 first_of [] = None
 first_of (test ∷ tests) = if test.0 then Some test.1 else first_of tests
@@ -32,7 +32,7 @@ has_length octets = nat_le (type_or_length octets) MOST_LENGTH
 abbrev pub kind_of : List ℕ → Kind
 kind_of octets = if has_length octets then Length (type_or_length octets) else EtherType (type_or_length octets)
 
--- as many octets as the length says, after which comes padding; or all that follows a type
+-- after a length, that number of octets, which padding may follow; after a type, all octets
 abbrev pub payload_of : List ℕ → List ℕ
 payload_of octets = if has_length octets then take (type_or_length octets) (drop PAYLOAD_PLACE octets) else drop
     PAYLOAD_PLACE octets
@@ -48,11 +48,11 @@ abbrev pub read_as : {X E : Type 0} → X → Option E → Result X E
 read_as x None = Ok x
 read_as x (Some e) = Err e
 
--- the frame that octets are, or why they are none
+-- the frame of these octets, or the refusal
 unfoldable pub frame_of : List ℕ → Result (List ℕ) FrameRefusal
 frame_of octets = read_as octets (first_of (refusal_tests octets))
 
--- what a frame's octets are
+-- the octets of a frame
 pub record IsFrame (octets : List ℕ) : Type 0 where
   pub least : PAYLOAD_PLACE ≤ length octets
   pub most : length octets ≤ MOST_OCTETS

@@ -15,7 +15,7 @@ PAYLOAD_PLACE = 14
 abbrev pub MOST_OCTETS : ℕ
 MOST_OCTETS = 9018
 
--- the greatest length; above it stands a type (IEEE 802.3, section 3.2.6)
+-- the greatest length; a greater value is a type (IEEE 802.3, section 3.2.6)
 abbrev pub MOST_LENGTH : ℕ
 MOST_LENGTH = 1500
 

@@ -7,12 +7,12 @@ use Rattle.std.specs.List.{list_all}
 use Rattle.std.specs.Str.Parse.{digits_value}
 use Rattle.byteorder.specs.Endian.{big_number}
 
--- in a `do` block, what Rust's `?` does to an `Option`
+-- in a `do` block, the effect of Rust's `?` on an `Option`
 infixl 10 ◌>>=◌
 abbrev pub ◌>>=◌ : {X Y : Type 0} → Option X → (X → Option Y) → Option Y
 o >>= f = option_and_then f o
 
--- what stands before the first octet b, and what after it
+-- the octets before the first octet b, and those after it
 unfoldable pub parted : ℕ → List ℕ → Option (List ℕ × List ℕ)
 parted b s = option_map (λ i. (take i s, drop (i + 1) s)) (position (λ x. x == b) s)
 

@@ -10,7 +10,7 @@ pub record IsPort (p : ℕ) : Type 0 where
   pub least : 1 ≤ p
   pub most : p ≤ 64
 
--- where a port stands among all ports in ascending order, port 1 first
+-- the place of a port among all ports in ascending order, port 1 first
 abbrev pub place_of_port : ℕ → ℕ
 place_of_port p = p - 1
 

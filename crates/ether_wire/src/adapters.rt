@@ -8,8 +8,9 @@ use std::io::{Read, Write};
 
 /// A reader over one of std's. Each error of the inner one is a failed call.
 ///
-/// A reader of std may be a file or a terminal, so this one tells no octets. Where the
-/// inner reader tells them, `read` says that it gave the next ones.
+/// A reader of std may be a file or a terminal, so the octets of this end are unknown. If the
+/// octets of the inner reader are known, the contract of `read` states that it returned the next
+/// ones.
 #[derive(Drop)]
 pub struct Reader<R> {
     inner: R,
@@ -20,7 +21,7 @@ pub struct Reader<R> {
 impl<R: Read> Reader<R> {
     ghost use Rattle.ether_wire.specs.Adapters.{inner_reader, reader_end};
 
-    /// A reader that was asked for nothing yet.
+    /// Returns a reader that hasn't been read yet.
     pub fn new(inner: R) -> Self
         ensures inner { inner_reader result ≡ inner }
         ensures end { reader_end result ≡ source_of None 0 0 }
@@ -61,7 +62,8 @@ impl<R: Read> In for Reader<R> {
 
 /// A writer over one of std's. Each error of the inner one is a failed call.
 ///
-/// It tells no octets. Where the inner writer tells them, `put` says that all went out.
+/// The octets of this end are unknown. If the octets of the inner writer are known, the contract of
+/// `put` states that all of them went out.
 #[derive(Drop)]
 pub struct Writer<W> {
     inner: W,
@@ -71,7 +73,7 @@ pub struct Writer<W> {
 impl<W: Write> Writer<W> {
     ghost use Rattle.ether_wire.specs.Adapters.{inner_writer, writer_end};
 
-    /// A writer that hasn't failed.
+    /// Returns a writer that hasn't failed.
     pub fn new(inner: W) -> Self
         ensures inner { inner_writer result ≡ inner }
         ensures end { writer_end result ≡ end_of None 0 }

@@ -25,7 +25,7 @@ impl Model for Mac {
 }
 
 impl Mac {
-    /// The address with this number.
+    /// Returns the address with this number.
     pub fn new(number: u64) -> Self
         requires { number < 2 ^ 48 }
         ensures { result ≡ number }
@@ -33,7 +33,7 @@ impl Mac {
         Mac { number }
     }
 
-    /// The address whose six octets stand first in the slice.
+    /// Returns the address whose six octets are at the front of the slice.
     pub fn from_octets(octets: &[u8]) -> Self
         requires { 6 ≤ length octets.now }
         ensures { result ≡ big_number 6 octets.now }
@@ -43,7 +43,7 @@ impl Mac {
         }
     }
 
-    /// The number of the six octets.
+    /// Returns the number of the six octets.
     pub fn number(self) -> u64
         ensures value { result ≡ self }
         ensures small { result < 2 ^ 48 }
@@ -51,7 +51,7 @@ impl Mac {
         self.number
     }
 
-    /// The six octets, in the order in which they are sent.
+    /// Returns the six octets, in the order in which they are sent.
     pub fn octets(self) -> [u8; 6]
         ensures { result ≡ big_bytes 6 self }
     {
@@ -59,23 +59,23 @@ impl Mac {
         [a, b, c, d, e, f]
     }
 
-    /// Whether it is a group address: the lowest bit of the first octet is set.
+    /// Returns `true` if it is a group address: the lowest bit of the first octet is set.
     pub fn is_group(self) -> bool
         ensures { result ≡ is_group self }
     {
         self.number / 0x100_0000_0000 % 2 == 1
     }
 
-    /// Whether it is one of 01-80-C2-00-00-00 to 01-80-C2-00-00-0F, which bridges don't forward
-    /// (IEEE 802.1D-2004, section 7.12).
+    /// Returns `true` if it is one of 01-80-C2-00-00-00 to 01-80-C2-00-00-0F, which bridges don't
+    /// forward (IEEE 802.1D-2004, section 7.12).
     pub fn is_reserved(self) -> bool
         ensures { result ≡ is_reserved self }
     {
         0x0180_c200_0000 <= self.number && self.number <= 0x0180_c200_000f
     }
 
-    /// The Bridge Group Address 01-80-C2-00-00-00, which BPDUs are sent to (IEEE 802.1D-2004,
-    /// section 7.12).
+    /// Returns the Bridge Group Address 01-80-C2-00-00-00, which BPDUs are sent to (IEEE
+    /// 802.1D-2004, section 7.12).
     pub fn bridge_group() -> Self
         ensures { result ≡ bridge_group }
     {
@@ -111,7 +111,7 @@ impl Model for Vni {
 }
 
 impl Vni {
-    /// The identifier with this number.
+    /// Returns the identifier with this number.
     pub fn new(number: u32) -> Self
         requires { number < 2 ^ 24 }
         ensures { result ≡ number }
@@ -119,7 +119,7 @@ impl Vni {
         Vni { number }
     }
 
-    /// The identifier whose three octets stand first in the slice.
+    /// Returns the identifier whose three octets are at the front of the slice.
     pub fn from_octets(octets: &[u8]) -> Self
         requires { 3 ≤ length octets.now }
         ensures { result ≡ big_number 3 octets.now }
@@ -129,7 +129,7 @@ impl Vni {
         }
     }
 
-    /// The number, below 16,777,216.
+    /// Returns the number, below 16,777,216.
     pub fn number(self) -> u32
         ensures value { result ≡ self }
         ensures small { result < 2 ^ 24 }
@@ -137,7 +137,7 @@ impl Vni {
         self.number
     }
 
-    /// The three octets, the highest first.
+    /// Returns the three octets, the highest first.
     pub fn octets(self) -> [u8; 3]
         ensures { result ≡ big_bytes 3 self }
     {
@@ -175,14 +175,14 @@ impl Model for Addr {
 }
 
 impl Addr {
-    /// The address with this number.
+    /// Returns the address with this number.
     pub fn new(number: u32) -> Self
         ensures { result ≡ number }
     {
         Addr { number }
     }
 
-    /// The address whose four octets stand first in the slice.
+    /// Returns the address whose four octets are at the front of the slice.
     pub fn from_octets(octets: &[u8]) -> Self
         requires { 4 ≤ length octets.now }
         ensures { result ≡ big_number 4 octets.now }
@@ -192,14 +192,14 @@ impl Addr {
         }
     }
 
-    /// The number of the four octets.
+    /// Returns the number of the four octets.
     pub fn number(self) -> u32
         ensures { result ≡ self }
     {
         self.number
     }
 
-    /// The four octets, in the order in which they are sent.
+    /// Returns the four octets, in the order in which they are sent.
     pub fn octets(self) -> [u8; 4]
         ensures { result ≡ big_bytes 4 self }
     {

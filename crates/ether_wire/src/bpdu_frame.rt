@@ -16,7 +16,7 @@ use crate::addr::Mac;
 /// The LLC header in front of a BPDU (IEEE 802.1D-2004, section 9.2).
 pub const BPDU_LLC: [u8; 3] = [0x42, 0x42, 0x03];
 
-/// What stands in front of a BPDU of this size.
+/// Returns the octets before a BPDU of this size.
 fn header(source: Mac, size: u8) -> [u8; 17]
     requires { size ≤ 43 }
     ensures { result ≡ bpdu_header source size }

@@ -1,19 +1,19 @@
-//! A writer that gives its octets to another one in large pieces.
+//! A writer that passes its octets to another writer in large pieces.
 ghost use Rattle.std.specs.Prelude.{◌≡◌, []};
 ghost use Rattle.ether_wire.specs.Ends.{End, IsOpen, Puts};
 
 use crate::ends::{Device, Out};
 use crate::piece::Piece;
 
-/// How many octets a buffered writer holds at most.
+/// The maximum number of octets in the buffer of a buffered writer.
 const HELD: usize = 16_384;
 
-/// A writer that holds up to 16,384 octets for another one, so that many small calls make few of
-/// the other's. It takes no memory.
+/// A writer that buffers up to 16,384 octets for another writer, so that many small calls make few
+/// calls of the other writer. It takes no memory.
 ///
-/// As written it tells what the other one holds and, behind that, what it holds itself: `finish`
-/// passes the latter on. Its failures are those of the other one. What it holds when a call fails
-/// is lost, so that nothing is given twice.
+/// The octets of its end are those of the other writer, followed by those in the buffer: `finish`
+/// passes the latter on. Its failures are those of the other writer. If a call fails, the octets in
+/// the buffer are lost, so that nothing is written twice.
 pub struct Buffered<W> {
     inner: W,
     held: Piece<HELD>,
@@ -22,7 +22,7 @@ pub struct Buffered<W> {
 impl<W: Out> Buffered<W> {
     ghost use Rattle.ether_wire.specs.Buffered.{buffered_end};
 
-    /// A writer that holds nothing yet.
+    /// Returns a writer with an empty buffer.
     pub fn new(inner: W) -> Self
         ensures { buffered_end W.end result ≡ W.end inner }
     {
@@ -32,7 +32,8 @@ impl<W: Out> Buffered<W> {
         }
     }
 
-    /// Passes on what it holds, in one call if it is any, and gives the other writer back.
+    /// Passes the octets in the buffer on, in one call if there are any, and returns the other
+    /// writer.
     pub fn finish(mut self) -> (W, Result<(), Device>)
         requires { IsOpen (buffered_end W.end self) }
         ensures { Puts (buffered_end W.end self) (W.end result.0) [] result.1 }
@@ -42,7 +43,7 @@ impl<W: Out> Buffered<W> {
         (inner, result)
     }
 
-    /// Gives the other writer back, and lets go what it holds.
+    /// Returns the other writer, and discards the octets in the buffer.
     pub fn abandon(self) -> W
         ensures { (W.end result).failures ≡ (buffered_end W.end self).failures }
     {
@@ -51,7 +52,7 @@ impl<W: Out> Buffered<W> {
     }
 
     #[tactic(auto, using(crate::proofs::Appending::with_text_none))]
-    /// Passes on what it holds. It holds nothing afterwards, whether that failed or not.
+    /// Passes the octets in the buffer on. The buffer is empty afterwards, even if that failed.
     fn pass_on(&mut self) -> Result<(), Device>
         requires { IsOpen (W.end self.old.inner) }
         ensures passes { Puts (W.end self.old.inner)
@@ -67,9 +68,9 @@ impl<W: Out> Buffered<W> {
     }
 
     #[tactic(auto, using(crate::proofs::Appending::with_text_twice, crate::proofs::Appending::with_text_none))]
-    /// Passes on what it holds, and then holds the octets, or passes on these too where they are
-    /// more than it holds at most.
-    // Apart from `put`, so that the calls that only hold a few octets more are made in place.
+    /// Passes the octets in the buffer on. Then it buffers the new octets, or passes them on too if
+    /// they are more than the buffer can hold.
+    // Separate from `put`, so that calls that only buffer a few more octets are inlined.
     #[inline(never)]
     fn put_anew(&mut self, octets: &[u8]) -> Result<(), Device>
         requires { IsOpen (W.end self.old.inner) }
@@ -103,7 +104,7 @@ impl<W: Out> Out for Buffered<W> {
     }
 
     #[tactic(auto, using(crate::proofs::Appending::with_text_none))]
-    /// Passes on what it holds. It holds nothing afterwards, whether that failed or not.
+    /// Passes the octets in the buffer on. The buffer is empty afterwards, even if that failed.
     fn flush(&mut self) -> Result<(), Device>
         requires { IsOpen (buffered_end W.end self.old) }
         ensures puts { Puts (buffered_end W.end self.old) (buffered_end W.end self.new) [] result }

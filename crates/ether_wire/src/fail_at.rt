@@ -1,11 +1,12 @@
-//! An end of which one call fails, so that it can be seen what becomes of a device's failure.
+//! An end with one call that fails, to test how callers handle a failure of a device.
 ghost use Rattle.std.specs.Prelude.{◌≡◌, ◌≢◌, ℕ, ◌+◌, true, false, is_err, []};
 ghost use Rattle.ether_wire.specs.Ends.{IsOpen, Allows, Puts, Gets};
 
 use crate::ends::{Device, In, Out};
 
-/// An end over another one. Its call of one number, counted from 1 on, fails and goes no further;
-/// all other calls are the other end's. With the number 0 none fails so.
+/// An end over another end. The call with one number, counted from 1, fails without a call of the
+/// other end; all other calls go to the other end. With the number 0 none of its calls fails in
+/// this way.
 #[derive(Drop)]
 pub struct FailAt<E> {
     inner: E,
@@ -18,7 +19,7 @@ impl<R: In> FailAt<R> {
     ghost use Rattle.ether_wire.specs.FailAt.{inner_end, calls_of, fails_at, failing_reader};
 
     #[tactic(auto, using(crate::proofs::Failing::allows_new))]
-    /// A reader that wasn't called yet, and whose read of this number will fail.
+    /// Returns a reader that hasn't been called yet, and whose read with this number will fail.
     pub fn reader(inner: R, at: u64) -> Self
         ensures inner { inner_end result ≡ inner }
         ensures calls { calls_of result ≡ 0 }
@@ -39,7 +40,7 @@ impl<W: Out> FailAt<W> {
     ghost use Rattle.ether_wire.specs.FailAt.{inner_end, calls_of, fails_at, failing_writer};
 
     #[tactic(auto, using(crate::proofs::Failing::open_new))]
-    /// A writer that wasn't called yet, and whose call of this number will fail.
+    /// Returns a writer that hasn't been called yet, and whose call with this number will fail.
     pub fn writer(inner: W, at: u64) -> Self
         ensures inner { inner_end result ≡ inner }
         ensures calls { calls_of result ≡ 0 }
@@ -58,14 +59,14 @@ impl<W: Out> FailAt<W> {
 impl<E> FailAt<E> {
     ghost use Rattle.ether_wire.specs.FailAt.{inner_end, calls_of};
 
-    /// The other end.
+    /// Returns the other end.
     pub fn inner(&self) -> &E
         ensures { result.now ≡ inner_end self.now }
     {
         &self.inner
     }
 
-    /// How many calls there were; those of `failures` don't count.
+    /// Returns the number of calls so far; calls of `failures` don't count.
     pub fn calls(&self) -> u64
         ensures { result ≡ calls_of self.now }
     {
@@ -73,7 +74,7 @@ impl<E> FailAt<E> {
     }
 }
 
-/// Counts a call: whether it is the one with this number.
+/// Counts a call, and returns `true` if it is the one that fails.
 fn is_due(calls: &mut u64, at: u64) -> bool
     ensures yes { calls.old + 1 ≡ at → result ≡ true }
     ensures no { calls.old + 1 ≢ at → result ≡ false }

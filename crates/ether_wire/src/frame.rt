@@ -5,7 +5,7 @@
 //! | 6 | destination |
 //! | 6 | source |
 //! | 2 | type or length: at most 1500 is a length, any other value a type |
-//! | the rest | the payload; after as many octets as a length says, padding |
+//! | the rest | the payload; after a payload with a length, padding |
 ghost use Rattle.std.specs.Prelude.{◌≡◌, ◌≤◌, nat_lt, length, take};
 ghost use Rattle.ether_wire.specs.declared.frame.TheConstants.{MOST_OCTETS};
 ghost use Rattle.ether_wire.specs.Frame.{frame_of, IsFrame, destination_of, source_of, type_or_length, kind_of, payload_of, refusal_number};
@@ -14,37 +14,37 @@ use crate::addr::Mac;
 use byteorder::{BigEndian, ByteOrder};
 use std::marker::Model;
 
-/// Where the source stands, behind the destination.
+/// The place of the source, after the destination.
 pub(crate) const SOURCE_PLACE: usize = 6;
-/// Where type or length stands.
+/// The place of the type or length.
 pub(crate) const TYPE_PLACE: usize = 12;
-/// Where the payload begins; a frame has as many octets at least.
+/// The place of the payload, and the minimum number of octets of a frame.
 pub(crate) const PAYLOAD_PLACE: usize = 14;
-/// How many octets a frame has at most.
+/// The maximum number of octets of a frame.
 pub(crate) const MOST_OCTETS: usize = 9018;
 /// The greatest value that is a length; any above it is a type.
 pub(crate) const MOST_LENGTH: u16 = 1500;
 
-/// There are fewer octets than stand in front of a payload: asked first.
+/// There are fewer octets than a frame has before its payload: checked first.
 pub const TOO_SHORT: u8 = 1;
-/// Then: there are more than a frame has at most.
+/// Checked second: there are more octets than the maximum of a frame.
 pub const TOO_LONG: u8 = 2;
-/// Last: the length field says more than the octets after it.
+/// Checked last: the length field is greater than the number of octets after it.
 pub const LENGTH_BEYOND: u8 = 3;
 
-/// Why octets are no frame.
+/// Why octets are not a frame.
 #[derive(Clone, Copy, Debug, PartialEq, Eq)]
 pub enum FrameRefusal {
     /// Below 14 octets.
     Short,
     /// Above 9,018 octets.
     Long,
-    /// The length field says more than the octets after it.
+    /// The length field is greater than the number of octets after it.
     BadLength,
 }
 
 impl FrameRefusal {
-    /// The number by which it is told.
+    /// Returns the number of the refusal.
     pub fn number(self) -> u8
         ensures { result ≡ refusal_number self }
     {
@@ -56,7 +56,7 @@ impl FrameRefusal {
     }
 }
 
-/// What the two octets after the addresses are.
+/// The meaning of the two octets after the addresses.
 #[derive(Clone, Copy, Debug, PartialEq, Eq)]
 pub enum Kind {
     /// The payload's length in octets, at most 1500 (IEEE 802.3).
@@ -65,7 +65,7 @@ pub enum Kind {
     EtherType(u16),
 }
 
-/// Octets that are a frame. Its parts are lent from them.
+/// A frame. Its parts are borrowed from its octets.
 #[derive(Drop)]
 pub struct Frame<'a> {
     octets: &'a [u8],
@@ -83,7 +83,7 @@ impl<'a> Model for Frame<'a> {
     ghost invariant = { λ f. IsFrame f.octets.now };
 }
 
-/// The two octets after the addresses.
+/// Returns the two octets after the addresses.
 fn type_or_length(octets: &[u8]) -> u16
     requires { 14 ≤ length octets.now }
     ensures { result ≡ type_or_length octets.now }
@@ -92,14 +92,15 @@ fn type_or_length(octets: &[u8]) -> u16
     BigEndian::read_u16(rest)
 }
 
-/// Whether these are more octets than a frame has at most.
+/// Returns `true` if there are more octets than the maximum of a frame.
 fn is_too_long(octets: &[u8]) -> bool
     ensures { result ≡ nat_lt MOST_OCTETS (length octets.now) }
 {
     octets.len() > MOST_OCTETS
 }
 
-/// The first octets behind the header, as many as a length says: what comes after is padding.
+/// Returns the first octets after the header, as many as the length field states: the octets after
+/// them are padding.
 fn counted(rest: &[u8], number: u16) -> &[u8]
     requires { number ≤ length rest.now }
     ensures { result.now ≡ take number rest.now }
@@ -109,7 +110,7 @@ fn counted(rest: &[u8], number: u16) -> &[u8]
 }
 
 impl<'a> Frame<'a> {
-    /// The frame that these octets are.
+    /// Returns the frame of these octets.
     #[tactic(auto, unfolding(crate::specs::Frame::frame_of))]
     pub fn read(octets: &'a [u8]) -> Result<Frame<'a>, FrameRefusal>
         ensures { result ≡ frame_of octets.now }
@@ -127,7 +128,7 @@ impl<'a> Frame<'a> {
         Ok(Frame { octets })
     }
 
-    /// All octets, padding among them.
+    /// Returns all octets, including padding.
     pub fn octets(&self) -> &'a [u8]
         ensures value { result.now ≡ self.now }
         ensures frame { IsFrame self.now }
@@ -135,14 +136,14 @@ impl<'a> Frame<'a> {
         self.octets
     }
 
-    /// The address that it is for.
+    /// Returns the destination address.
     pub fn destination(&self) -> Mac
         ensures { result ≡ destination_of self.now }
     {
         Mac::from_octets(self.octets)
     }
 
-    /// The address that it is from.
+    /// Returns the source address.
     pub fn source(&self) -> Mac
         ensures { result ≡ source_of self.now }
     {
@@ -150,7 +151,7 @@ impl<'a> Frame<'a> {
         Mac::from_octets(rest)
     }
 
-    /// Whether the payload has a length or a type, and which.
+    /// Returns the length or the type of the payload.
     pub fn kind(&self) -> Kind
         ensures { result ≡ kind_of self.now }
     {
@@ -162,7 +163,7 @@ impl<'a> Frame<'a> {
         }
     }
 
-    /// As many octets as the length says, or all that follows a type.
+    /// Returns the payload: after a length, that number of octets; after a type, all octets.
     pub fn payload(&self) -> &'a [u8]
         ensures { result.now ≡ payload_of self.now }
     {

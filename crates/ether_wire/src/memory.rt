@@ -1,4 +1,4 @@
-//! Ends over memory, which tell their octets.
+//! Ends over memory, with known octets.
 ghost use Rattle.std.specs.Prelude.{◌≡◌, ◌+◌, ◌≤◌, ◌↔◌, [], length, Some, IsOk, OnErr};
 ghost use Rattle.ether_wire.specs.Ends.{IsOpen, Puts, end_of, source_of};
 
@@ -15,7 +15,7 @@ pub struct Octets<'a> {
 impl<'a> Octets<'a> {
     ghost use Rattle.ether_wire.specs.Memory.{octets_end};
 
-    /// A reader with all of the slice before it.
+    /// Returns a reader with all of the slice left.
     pub fn new(octets: &'a [u8]) -> Self
         ensures { octets_end result ≡ source_of (Some octets.now) 0 0 }
     {
@@ -45,8 +45,8 @@ impl In for Octets<'_> {
     }
 }
 
-/// A writer with room for N octets. It fails where what is put has no room, and then keeps what it
-/// holds.
+/// A writer with room for N octets. It fails if the octets of a put do not fit, and then its octets
+/// stay.
 #[derive(Drop)]
 pub struct Page<const N: usize> {
     octets: ArrayVec<u8, N>,
@@ -56,7 +56,7 @@ pub struct Page<const N: usize> {
 impl<const N: usize> Page<N> {
     ghost use Rattle.ether_wire.specs.Memory.{page_octets, page_end};
 
-    /// An empty page.
+    /// Returns an empty page.
     pub fn new() -> Self
         ensures { page_end result ≡ end_of (Some []) 0 }
     {
@@ -66,7 +66,7 @@ impl<const N: usize> Page<N> {
         }
     }
 
-    /// What was written.
+    /// Returns the octets that were written.
     pub fn octets(&self) -> &[u8]
         ensures { result.now ≡ page_octets self.now }
     {

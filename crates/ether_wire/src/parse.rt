@@ -1,4 +1,4 @@
-//! Numbers and addresses read back from text, each in the one spelling in which it is printed.
+//! Numbers and addresses read from text. Each has exactly one text, the one that is printed.
 ghost use Rattle.std.specs.Prelude.{◌≡◌, ◌<◌, ◌≤◌, ◌^◌, ℕ, length, option_map, IfSome, SomeIff, Some, position, ◌==◌, true};
 ghost use Rattle.std.specs.Fmt.{decimal};
 ghost use Rattle.std.specs.Char.{is_ascii_digit};
@@ -9,7 +9,7 @@ ghost use Rattle.ether_wire.specs.Parse.{parted, is_decimal, decimal_of_text, he
 
 use crate::addr::{Addr, Mac, Vni};
 
-/// Where such an octet stands first.
+/// Returns the place of the first occurrence of the octet, or `None` if it doesn't occur.
 fn place_of(octet: u8, text: &[u8]) -> Option<usize>
     ensures value { result ≡ position (λ x. x == octet) text.now }
     ensures within { IfSome result (λ at. at < length text.now) }
@@ -17,7 +17,8 @@ fn place_of(octet: u8, text: &[u8]) -> Option<usize>
     text.iter().position(|x| *x == octet)
 }
 
-/// What stands before the first such octet, and what after it; none where it isn't there.
+/// Returns the octets before the first occurrence of the octet and those after it, or `None` if it
+/// doesn't occur.
 #[tactic(auto, unfolding(crate::specs::Parse::parted))]
 pub fn parted(octet: u8, text: &[u8]) -> Option<(&[u8], &[u8])>
     ensures { option_map (λ p. (p.0.now, p.1.now)) result ≡ parted octet text.now }
@@ -28,14 +29,14 @@ pub fn parted(octet: u8, text: &[u8]) -> Option<(&[u8], &[u8])>
     }
 }
 
-/// Whether all octets are decimal digits.
+/// Returns `true` if all octets are decimal digits.
 fn are_digits(text: &[u8]) -> bool
     ensures { result ≡ list_all is_ascii_digit text.now }
 {
     text.iter().all(|octet| octet.is_ascii_digit())
 }
 
-/// Whether the text is decimal digits, at least one, with no zero in front of others.
+/// Returns `true` if the text is decimal digits, at least one, without leading zeros.
 #[tactic(auto, unfolding(crate::specs::Parse::is_decimal))]
 fn is_decimal(text: &[u8]) -> bool
     ensures { result ≡ is_decimal text.now }
@@ -43,7 +44,7 @@ fn is_decimal(text: &[u8]) -> bool
     are_digits(text) && !text.is_empty() && (text.len() <= 1 || text[0] != b'0')
 }
 
-/// The number of decimal digits; none where it is 2^64 or more.
+/// Returns the number of the decimal digits, or `None` if it is 2^64 or more.
 fn parsed(text: &[u8]) -> Option<u64>
     requires { is_decimal text.now ≡ true }
     ensures { SomeIff result (digits_value 10 text.now < 2 ^ 64) (digits_value 10 text.now) }
@@ -51,7 +52,8 @@ fn parsed(text: &[u8]) -> Option<u64>
     std::str::from_utf8(text).ok()?.parse().ok()
 }
 
-/// The number that the text spells in decimal; none where it spells none of at most `max`.
+/// Returns the number that the text spells in decimal, or `None` if it spells no number of at most
+/// `max`.
 #[tactic(auto, unfolding(crate::specs::Parse::decimal_of_text))]
 fn decimal_of_text(text: &[u8], max: u64) -> Option<u64>
     ensures { result ≡ decimal_of_text max text.now }
@@ -63,8 +65,8 @@ fn decimal_of_text(text: &[u8], max: u64) -> Option<u64>
     if number <= max { Some(number) } else { None }
 }
 
-/// The number that the text spells in decimal, without leading zeros; none where it spells none of
-/// at most `max`.
+/// Returns the number that the text spells in decimal, without leading zeros, or `None` if it
+/// spells no number of at most `max`.
 pub fn read_decimal(text: &[u8], max: u64) -> Option<u64>
     ensures value { result ≡ decimal_of_text max text.now }
     ensures spelt { IfSome result (λ n. (text.now ≡ decimal n) × (n ≤ max)) }
@@ -73,7 +75,7 @@ pub fn read_decimal(text: &[u8], max: u64) -> Option<u64>
     decimal_of_text(text, max)
 }
 
-/// The octet that the text spells in decimal.
+/// Returns the octet that the text spells in decimal.
 fn read_octet(text: &[u8]) -> Option<u8>
     ensures { result ≡ decimal_of_text 255 text.now }
 {
@@ -81,7 +83,7 @@ fn read_octet(text: &[u8]) -> Option<u8>
     Some(number as u8)
 }
 
-/// The value of a lower case hexadecimal digit, none of another octet.
+/// Returns the value of a lower case hexadecimal digit, or `None` for any other octet.
 pub fn hex_value(octet: u8) -> Option<u8>
     ensures value { result ≡ hex_value octet }
     ensures small { IfSome result (λ value. value < 16) }
@@ -93,7 +95,7 @@ pub fn hex_value(octet: u8) -> Option<u8>
     }
 }
 
-/// The octet that two lower case hexadecimal digits spell.
+/// Returns the octet that two lower case hexadecimal digits spell.
 #[tactic(auto, unfolding(crate::specs::Parse::pair_of_text))]
 fn read_pair(text: &[u8]) -> Option<u8>
     ensures { result ≡ pair_of_text text.now }
@@ -109,7 +111,7 @@ fn read_pair(text: &[u8]) -> Option<u8>
 }
 
 impl Vni {
-    /// The identifier that the text spells in decimal, without leading zeros.
+    /// Returns the identifier that the text spells in decimal, without leading zeros.
     pub fn read_text(text: &[u8]) -> Option<Vni>
         ensures value { result ≡ vni_of_text text.now }
         ensures spelt { IfSome result (λ v. text.now ≡ decimal v) }
@@ -120,7 +122,7 @@ impl Vni {
     }
 }
 
-/// The address that six pairs of digits with colons spell.
+/// Returns the address that six pairs of digits with colons spell.
 #[tactic(auto, unfolding(crate::specs::Parse::mac_of_text))]
 fn mac_of_text(text: &[u8]) -> Option<Mac>
     ensures { result ≡ mac_of_text text.now }
@@ -140,7 +142,8 @@ fn mac_of_text(text: &[u8]) -> Option<Mac>
 }
 
 impl Mac {
-    /// The address that the text spells: six pairs of lower case hexadecimal digits with colons.
+    /// Returns the address that the text spells: six pairs of lower case hexadecimal digits with
+    /// colons.
     pub fn read_text(text: &[u8]) -> Option<Mac>
         ensures value { result ≡ mac_of_text text.now }
         ensures spelt { IfSome result (λ m. text.now ≡ mac_text m) }
@@ -150,7 +153,7 @@ impl Mac {
     }
 }
 
-/// The address that four decimal numbers with dots spell.
+/// Returns the address that four decimal numbers with dots spell.
 #[tactic(auto, unfolding(crate::specs::Parse::addr_of_text))]
 fn addr_of_text(text: &[u8]) -> Option<Addr>
     ensures { result ≡ addr_of_text text.now }
@@ -166,7 +169,8 @@ fn addr_of_text(text: &[u8]) -> Option<Addr>
 }
 
 impl Addr {
-    /// The address that the text spells: four decimal numbers with dots, without leading zeros.
+    /// Returns the address that the text spells: four decimal numbers with dots, without leading
+    /// zeros.
     pub fn read_text(text: &[u8]) -> Option<Addr>
         ensures value { result ≡ addr_of_text text.now }
         ensures spelt { IfSome result (λ a. text.now ≡ addr_text a) }

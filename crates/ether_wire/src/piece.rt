@@ -79,8 +79,8 @@ impl<const N: usize> Piece<N> {
         Piece { octets, len }
     }
 
-    /// Writes the octets into a line from a place on, and returns the place after them. All of the
-    /// array is copied, whose length is known where it is compiled.
+    /// Writes the octets into a line from a place on, and returns the place after them. It copies
+    /// the whole array, because its length is known at compile time.
     #[tactic(auto, using(crate::proofs::Appending::part_behind))]
     #[inline(always)]
     pub fn write_at(&self, line: &mut [u8], at: usize) -> usize

@@ -7,7 +7,7 @@ ghost use Rattle.ether_wire.specs.Ports.{IsPort, IsNextPort, place_of_port, has_
 use crate::ends::{Device, Out};
 use crate::text::put_decimal;
 
-/// Where the port stands in a list that has something for each port, port 1 first.
+/// Returns the place of the port in a list that has an element for each port, port 1 first.
 pub fn place_of_port(port: u8) -> usize
     requires { 0 < port }
     ensures { result ≡ place_of_port port }
@@ -15,10 +15,10 @@ pub fn place_of_port(port: u8) -> usize
     port as usize - 1
 }
 
-/// The set of no port.
+/// The empty set of ports.
 pub const NO_PORTS: u64 = 0;
 
-/// Whether the port is in the set.
+/// Returns `true` if the port is in the set.
 pub fn has_port(set: u64, port: u8) -> bool
     requires { IsPort port }
     ensures { result ≡ has_port set port }
@@ -26,7 +26,7 @@ pub fn has_port(set: u64, port: u8) -> bool
     set >> (port - 1) & 1 == 1
 }
 
-/// The set and this port.
+/// Returns the set with this port.
 pub fn with_port(set: u64, port: u8) -> u64
     requires { IsPort port }
     ensures value { result ≡ with_port set port }
@@ -35,7 +35,7 @@ pub fn with_port(set: u64, port: u8) -> u64
     set | 1 << (port - 1)
 }
 
-/// The set but for this port.
+/// Returns the set without this port.
 pub fn without_port(set: u64, port: u8) -> u64
     requires { IsPort port }
     ensures value { result ≡ without_port set port }
@@ -44,7 +44,7 @@ pub fn without_port(set: u64, port: u8) -> u64
     set & !(1 << (port - 1))
 }
 
-/// The ports that are in both sets.
+/// Returns the ports that are in both sets.
 pub fn common_ports(set: u64, other: u64) -> u64
     ensures value { result ≡ common_ports set other }
     ensures ports { (p : ℕ) → has_port result p ≡ (has_port set p && has_port other p) }
@@ -52,8 +52,9 @@ pub fn common_ports(set: u64, other: u64) -> u64
     set & other
 }
 
-/// The first port of the set after this number: after 0 the first of all. So a walk from 0 that
-/// goes on after each port that it was given meets each port of the set once, in ascending order.
+/// Returns the first port of the set after this number: after 0, the first port of the set. A walk
+/// that starts at 0 and continues after each returned port visits each port of the set once, in
+/// ascending order.
 pub fn next_port(set: u64, after: u8) -> Option<u8>
     ensures some { IfSome result (IsNextPort set after) }
     ensures none { IfNone result (ports_after set after ≡ []) }
@@ -68,8 +69,8 @@ pub fn next_port(set: u64, after: u8) -> Option<u8>
     Some(after + 1 + later.trailing_zeros() as u8)
 }
 
-/// Writes the numbers of the ports, ascending and with commas between, or a dash
-/// where there is none.
+/// Writes the numbers of the ports, ascending and with commas between them, or a dash if there is
+/// none.
 pub fn put_ports<O: Out>(out: &mut O, set: u64) -> Result<(), Device>
     requires { IsOpen (O.end out.old) }
     ensures { Puts (O.end out.old) (O.end out.new) (ports_text set) result }
@@ -81,7 +82,7 @@ pub fn put_ports<O: Out>(out: &mut O, set: u64) -> Result<(), Device>
     put_later(out, set, first)
 }
 
-/// Writes the numbers of the ports after one, a comma before each.
+/// Writes the numbers of the ports after `first`, each with a comma before it.
 fn put_later<O: Out>(out: &mut O, set: u64, first: u8) -> Result<(), Device>
     requires { IsOpen (O.end out.old) }
     ensures { Puts (O.end out.old) (O.end out.new) (comma_text (ports_after set first)) result }
@@ -104,9 +105,8 @@ fn put_behind_comma<O: Out>(out: &mut O, port: u8) -> Result<(), Device>
     put_decimal(out, u64::from(port))
 }
 
-/// Laws: a set is told by its ports (two sets with the same ports are one, and no port
-/// is in `NO_PORTS`), and a walk from 0 meets each port of the set once, in ascending
-/// order, and no other.
+/// Laws: two sets with the same ports are equal, and no port is in `NO_PORTS`. A walk from 0 visits
+/// each port of the set once, in ascending order, and no other port.
 pub fn same_ports(set: u64, other: u64)
     ensures same { ((p : ℕ) → IsPort p → has_port set p ≡ has_port other p) → set ≡ other }
     ensures none { (p : ℕ) → has_port no_ports p ≡ false }

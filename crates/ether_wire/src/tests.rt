@@ -1,4 +1,4 @@
-//! Tests of the layer below all others, a file a thing.
+//! Tests of the lowest layer, one file for each subject.
 mod buffered;
 mod ends;
 mod frames;

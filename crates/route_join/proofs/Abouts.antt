@@ -1,4 +1,4 @@
--- A table's updates, and those of an address: what is in them, and where groups keep them.
+-- The updates of a table and those of an address: their registers and values, and the groups that hold them.
 use Rattle.std.proofs.Common.{◌≡◌, ℕ, zero, suc, ◌<◌, Bool, true, false, cond, Option, Some, None, List, [], ◌∷◌}
 use Rattle.std.proofs.Common.{◌++◌, map, length, Contains, refl, sym, ap, ◌∙◌, arith}
 use Rattle.std.specs.Prelude.{slice_get, slice_index_or}
@@ -105,7 +105,7 @@ module _ (t : Table) (vni mac : ℕ) where
     ordered = ordered_about;
   }
 
--- ---- where groups keep them
+-- ---- the groups that hold them
 module _ (vni mac : ℕ) where
   all_about : (es : Entries) → AreAbout (address vni mac) es → about vni mac es ≡ es
   all_about [] k = refl

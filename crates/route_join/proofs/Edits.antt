@@ -1,4 +1,4 @@
--- What a table makes of an edit of its updates.
+-- The effect of an edit of a table's updates on the table.
 use Rattle.std.proofs.Common.{◌≡◌, Some, inl, inr, ℕ, Bool, true, false, cond, List, [], length, eqb, ◌↔◌, Result, Ok}
 use Rattle.std.proofs.Common.{Err, None, get_or, refl, sym, ap, subst, ◌∙◌}
 use Rattle.std.specs.List.{list_any}
@@ -18,7 +18,7 @@ use Rattle.route_join.proofs.Orders.{to_T, from_T}
 use Rattle.route_join.proofs.Tables.{same_or_other, at_same, at_other}
 use Rattle.route_join.proofs.Places.{IsPlace, IsGap, placed, gapped}
 
--- what a table finds among its updates
+-- a look-up in the table is one among its updates
 pub found : (os : List ℕ) (us : List Fields) (q : Register) → IsOrdered us
     → value_at (table_from os us) q ≡ find register_cmp q (entries_of us)
 found os us q s = map.get-from_sorted register_cmp (entries_of us) q (to_T _ s)
@@ -74,7 +74,7 @@ kept_put os us new u f k e h = record {
   formed = subst AreWellFormed (sym (table_put os us new u k.ordered e)) (formed_put (table_from os us) u f k.formed);
 }
 
--- ---- what a call of `place` tells
+-- ---- the result of a call of `place`
 pub found_at : (us ds : List Fields) (q r : Register) (at : ℕ) → ds ≡ us → r ≡ q → Ok at ≡ place_of ds r
     → IsPlace us q at
 found_at us ds q r at d e h = placed us q at (ap (λ x. place_of x q) (sym d) ∙ ap (place_of ds) (sym e) ∙ sym h)
@@ -83,7 +83,7 @@ pub gap_at : (us ds : List Fields) (q r : Register) (at : ℕ) → IsOrdered us 
     → IsGap us q at
 gap_at us ds q r at s d e h = gapped us q at s (ap (λ x. place_of x q) (sym d) ∙ ap (place_of ds) (sym e) ∙ sym h)
 
--- the same of a group that is seen as `now`
+-- likewise for a group with the view `now`
 module _ (us ds now : List Fields) (view : us ≡ now) (q r : Register) (at : ℕ) (d : ds ≡ us) (e : r ≡ q) where
   pub told_at : (v : Fields) → Ok at ≡ place_of ds r → v ≡ get_or us at v
       → find register_cmp q (entries_of now) ≡ Some v.value

@@ -33,7 +33,7 @@ is_flood_is : (vni : ℕ) (k : Key) → is_flood vni k ≡ true → k ≡ Flood 
 is_flood_is vni (Flood v) e = let same : v ≡ vni = grind (arith, nat_tests) in ap Flood same
 is_flood_is vni (Mac v m ip) e = cc
 
--- a register that floods is of the network's flood list
+-- a register that floods is in the network's flood list
 floods_is : (vni : ℕ) (r : Register) (v : Value) → floods vni r v ≡ true
     → (r ≡ register_of r.originator (Flood vni)) × (is_some (advert_in v.content) ≡ true)
 floods_is vni r v e =
@@ -41,7 +41,7 @@ floods_is vni r v e =
     let k = is_flood_is vni r.key t.0 in
     (λ i. register_of r.originator (k i), t.1)
 
--- two of them stand in the order of their originators
+-- two of them are in the order of their originators
 then_equal : (o : Ordering) → ordering_then o Equal ≡ o
 then_equal Less = refl
 then_equal Equal = refl
@@ -93,7 +93,7 @@ apart x y ne = go (eqb x y) refl
     go true e = absurd (ne (eqb-true x y e))
     go false e = e
 
--- an originator is on the walk's list exactly where it advertises
+-- an originator is on the walk's list exactly if it advertises
 member : (vni o : ℕ) (es : List (Register × Value)) → is_sorted register_cmp es ≡ true
     → is_member eqb (flooding vni es) o ≡ is_some (in_list es (register_of o (Flood vni)))
 member vni o [] s = refl

@@ -113,7 +113,7 @@ abbrev pub entries_if : Option (List Fields) → Entries
 entries_if None = []
 entries_if (Some us) = entries_of us
 
--- groups in which the subject's group, if there is one, is another one now, or else a new one
+-- groups in which the subject's group, if there is one, is replaced, or else a new one is added
 abbrev pub edited : Option (List Fields) → Subject → Groups → List Fields → Groups
 edited None s gs new = insert_entry subject_cmp gs s new
 edited (Some us) s gs new = set_value (is_at (subject_cmp s)) gs new
@@ -202,7 +202,8 @@ pub some_there : (s : Subject) (gs : Groups) (us : List Fields) → AreGroups gs
     → IsSome (entries_of us)
 some_there s gs us k h = (around s gs k (Some us) h).kept.1
 
--- what is made of entries one after another, and nothing of those of other subjects, is made of the subject's group
+-- if a list is made entry by entry, and entries of other subjects add nothing, it is the list made of the subject's
+-- group
 pub made_there : {X : Type 0} (f : Entries → List X) → ((es fs : Entries) → f (es ++ fs) ≡ f es ++ f fs)
     → (s : Subject) → ((o : Ordering) (es : Entries) → is_eq o ≡ false → AllAre s o es → f es ≡ [])
     → (gs : Groups) (o : Option (List Fields)) → AreGroups gs → group_at s gs ≡ o → f (entries_in gs) ≡ f (entries_if o)
@@ -231,13 +232,13 @@ put_there r v gs o new k h p =
     ∙ sym (ap (put register_cmp r v) a.all ∙ put_after r v a.lower (entries_if o ++ a.higher) a.below
     ∙ ap (λ es. a.lower ++ es) (put_before r v (entries_if o) a.higher a.above))
 
--- a group that is written back as it was changes nothing
+-- a group that is written back unchanged changes nothing
 pub same_there : (s : Subject) (gs : Groups) (us new : List Fields) → AreGroups gs → group_at s gs ≡ Some us
     → entries_of new ≡ entries_of us → entries_in (set_value (is_at (subject_cmp s)) gs new) ≡ entries_in gs
 same_there s gs us new k h p = let a = around s gs k (Some us) h in
     a.written new ∙ ap (λ es. a.lower ++ (es ++ a.higher)) p ∙ sym a.all
 
--- ---- what an edit keeps
+-- ---- the invariant after an edit
 pub about_put : (s : Subject) (r : Register) (v : Value) (es : Entries) → AreAbout s es → subject_of r.key ≡ s
     → AreAbout s (put register_cmp r v es)
 about_put s r v [] k h = (h, tt)

@@ -1,9 +1,9 @@
--- Four groups of hexadecimal digits behind other octets.
+-- Four groups of hexadecimal digits after other octets.
 use Rattle.std.proofs.Common.{◌≡◌, ℕ, ◌+◌, ◌/◌, ◌%◌, ◌^◌, List, [], ◌∷◌, ◌++◌, ap, ◌∙◌, append_assoc}
 use Rattle.ether_wire.specs.Addr.{hex_group}
 use Rattle.route_wire.specs.Text.{groups_text}
 
--- one text more behind another one
+-- one more text after another one
 more : (x a b y : List ℕ) → y ≡ x ++ a → y ++ b ≡ x ++ (a ++ b)
 more x a b y h = ap (λ z. z ++ b) h ∙ append_assoc x a b
 

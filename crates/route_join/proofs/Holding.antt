@@ -1,4 +1,4 @@
--- What a table of groups tells: a register's value, the owner of an address and a flood list are each read in one
+-- The results of a table of groups: a register's value, the owner of an address and a flood list are each read in one
 -- group.
 use Rattle.std.proofs.Common.{◌≡◌, ◌≢◌, ℕ, Bool, true, false, cond, ◌&&◌, Option, Some, None, MatchOption, List, []}
 use Rattle.std.proofs.Common.{◌∷◌, ◌++◌, refl, sym, ap, subst, ◌∙◌, arith}
@@ -64,7 +64,7 @@ module _ (os : List ℕ) (gs : Groups) (k : IsGrouped os gs) where
   update_nowhere q h = ap (option_map (λ (v : Value). record { register = q; value = v })) (sym (value_nowhere q h))
 
 -- ---- owners
--- what is told in a group is about its subject
+-- an advert in a group is about the group's subject
 told_about : (s : Subject) (es : Entries) (q : Register) (a : Advert) → AreAbout s es
     → advert_of (find register_cmp q es) ≡ Some a → subject_of q.key ≡ s
 told_about s [] q a k h = cc
@@ -81,7 +81,7 @@ Owned t vni mac o = MatchOption o (IsUnowned t vni mac) (IsOwner t vni mac)
 not_both : (t : Table) (vni mac o : ℕ) → IsUnowned t vni mac → IsOwner t vni mac o → ⊥
 not_both t vni mac o none own = let n = none o own.ip in let s = own.own in cc
 
--- what says who owns an address is its owner
+-- the owner by the predicate `Owned` is the owner by the function `owner`
 pub owner_only : (t : Table) (vni mac : ℕ) (o : Option ℕ) → Owned t vni mac o → o ≡ owner t vni mac
 owner_only t vni mac o h = go o (owner t vni mac) h (owner_is t vni mac)
   where
@@ -91,7 +91,7 @@ owner_only t vni mac o h = go o (owner t vni mac) h (owner_is t vni mac)
     go (Some o) None h k = absurd (not_both t vni mac o k h)
     go (Some o) (Some p) h k = ap Some (one_owner t vni mac o p h k)
 
--- tables in which the same is advertised of an address have the same owner
+-- tables with the same adverts of an address have the same owner
 pub same_owner : SameOwner
 same_owner s t vni mac same = owner_only t vni mac (owner s vni mac) (go (owner s vni mac) (owner_is s vni mac))
   where
@@ -99,7 +99,7 @@ same_owner s t vni mac same = owner_only t vni mac (owner s vni mac) (go (owner 
     go None h = λ o ip. sym (same o ip) ∙ h o ip
     go (Some o) h = owner_along s t vni mac o same h
 
--- what advertises best among the updates about an address owns it
+-- the originator of the best advert among the updates about an address owns the address
 module _ (t : Table) (vni mac : ℕ) (us : List Fields) (about : AreAbout (address vni mac) (entries_of us))
     (there : (o : ℕ) (ip : Option Ip) → advert_at t o (Mac vni mac ip) ≡ told us (register_of o (Mac vni mac ip))) where
   leads : (o : ℕ) → IsLeader us o → IsOwner t vni mac o
@@ -213,6 +213,6 @@ pub taken_is : (os : List ℕ) (us : List Fields) (u : Fields) → IsKept os us
     → taken_in (entries_of us) u ≡ taken_of (table_from os us) u
 taken_is os us u k = ap (λ o. cond (is_news o u.value) Newer Known) (sym (found os us u.register k.ordered))
 
--- what was taken was of a known originator
+-- the originator of an update that was taken is known
 pub taken_known : (t : Taken) → ◌≡◌ {A = Result Taken TakeError} (Ok t) (Err UnknownOriginator) → ⊥
 taken_known t h = cc

@@ -1,5 +1,5 @@
--- Groups behind an index are groups in the order of their subjects: a look-up, a change and
--- a new group there are the same here.
+-- Groups in an index are groups in the order of their subjects: a look-up, a change and a new group are the same in
+-- both.
 use Rattle.std.proofs.Common.{◌≡◌, Bool, true, false, cond, is_some, Option, Some, None, IsSome}
 use Rattle.std.proofs.Common.{List, [], ◌∷◌, ◌||◌, refl, sym, ap, subst, ◌∙◌}
 use Rattle.std.specs.declared.cmp.Ordering.TheVariants.{Less, Equal, Greater}
@@ -57,7 +57,7 @@ pub same_along : (ss : List Subject) (gs hs : Groups) → ((q : Subject) → gro
 same_along [] gs hs h = refl
 same_along (t ∷ ss) gs hs h = λ i. (t, unwrap_or (h t i) []) ∷ same_along ss gs hs h i
 
--- ---- the subject has another group now
+-- ---- the subject has a different group now
 module _ (s : Subject) (w : List Fields) (gs hs : Groups) (h : (q : Subject)
     → group_in hs q ≡ cond (subject_eq s q) (Some w) (group_in gs q)) where
   has_it : (t : Subject) → is_at (subject_cmp s) t ≡ true → group_in hs t ≡ Some w
@@ -111,7 +111,7 @@ module _ (s : Subject) (w : List Fields) (gs hs : Groups) (h : (q : Subject)
             λ i. (t, unwrap_or (keeps_it t parts.0 i) []) ∷ entered ss parts.1 i
       ] refl
 
--- ---- what an index keeps
+-- ---- the invariant of an index
 pub same_indexed : (ss : List Subject) (gs hs : Groups) → ((q : Subject) → group_in hs q ≡ group_in gs q)
     → AreIndexed ss gs → AreIndexed ss hs
 same_indexed ss gs hs h k = record { ascend = k.ascend; same = λ q. k.same q ∙ ap is_some (sym (h q)) }
@@ -143,12 +143,12 @@ module _ (s : Subject) (w : List Fields) (gs hs : Groups) (h : (q : Subject)
         ] refl;
   }
 
--- ---- seen from the groups in their order
+-- ---- in terms of the groups in their order
 module _ (ss : List Subject) (gs now : Groups) (k : AreIndexed ss gs) (is : groups_along ss gs ≡ now) where
   pub found_as : (s t : Subject) (o : Option (List Fields)) → s ≡ t → o ≡ group_in gs s → group_at t now ≡ o
   found_as s t o same at = ap (group_at t) (sym is) ∙ sym (found t ss gs k) ∙ ap (group_in gs) (sym same) ∙ sym at
 
-  -- where the subject is that of a register
+  -- if the subject is that of a register
   pub found_of : (s : Subject) (r q : Register) (o : Option (List Fields)) → s ≡ subject_of r.key → r ≡ q
       → o ≡ group_in gs s → group_at (subject_of q.key) now ≡ o
   found_of s r q o named same at = found_as s (subject_of q.key) o (named

@@ -97,7 +97,7 @@ newer_of-cases (Some a) (Some b) v e = go (is_newer b a) e
     go true e = inr e
     go false e = inl e
 
--- what is not newer than the first is not newer than it
+-- if a value is not newer than the first, it is not newer than the newer of both
 newer_of-above : (v : Value) (y : Option Value) (w : Value) → is_newer w v ≡ false
     → (z : Value) × (newer_of (Some v) y ≡ Some z) × (is_newer w z ≡ false)
 newer_of-above v None w h = (v, refl, h)
@@ -134,7 +134,7 @@ update_other t r v q ne = go (is_news (value_at t r) v)
     go true = at_other t r v q ne
     go false = refl
 
--- the same of an update that isn't spelt out
+-- likewise for an update as one variable
 pub newer_stands : NewerStands
 newer_stands t u = update_same t u.register u.value
 

@@ -1,4 +1,4 @@
--- The winner of a group: how it is found among some updates, and what an edit makes of it.
+-- The winner of a group: how it is found among some updates, and the winner after an edit.
 use Rattle.std.proofs.Common.{◌≡◌, ◌≢◌, inl, inr, ℕ, suc, zero, ◌+◌, ◌<◌, ◌≤◌, ◌^◌, Bool, true, false, cond, Option}
 use Rattle.std.proofs.Common.{Some, None, List, [], ◌∷◌, ◌++◌, length, get_or, set, take, drop, refl, sym, ap, subst}
 use Rattle.std.proofs.Common.{◌∙◌, arith, add-one, length-set}
@@ -168,14 +168,14 @@ module _ (us : List Fields) (at : ℕ) (s : IsOrdered us) (h : at < length us) (
       ) q not_yet ne)
       w k (ap advert_of not_yet)
 
--- ---- updates in order stand at different places
+-- ---- updates in order have different places
 pub one_place : (us : List Fields) (i j : ℕ) (x y : Fields) → IsOrdered us → slice_get us i ≡ Some x
     → slice_get us j ≡ Some y → x.register ≡ y.register → i ≡ j
 one_place us i j x y s p q same = exact_unsigned i j (by_place us i j x y s p q
     ∙ ap (register_cmp x.register) (sym same)
     ∙ tied_itself register_total x.register)
 
--- ---- what is told after a put
+-- ---- the adverts after a put
 module _ (us new : List Fields) (u : Fields) (e : entries_of new
     ≡ put register_cmp u.register u.value (entries_of us)) where
   pub told_same : told new u.register ≡ advert_in u.value.content
@@ -225,7 +225,7 @@ winner_set us at u w s p h ne =
     (λ i l is same. ne (is ∙ ap Some (one_place new i at l.update u (ordered_put [] us new u s e) l.stands
     (stands_set us at u p.within) same)))
 
--- ---- a newer update at the winner's place that says nothing worse
+-- ---- a newer update at the winner's place with an advert that is no worse
 was_at : (us : List Fields) (at : ℕ) (v x : Fields) → slice_get us at ≡ Some x → v ≡ get_or us at v → v ≡ x
 was_at us at v x s e = e ∙ get_or_from_slice_get us at x v s
 
@@ -330,20 +330,20 @@ among_there us q at v p e =
 pub among_none : (us : List Fields) (q : Register) (at : ℕ) → IsGap us q at → None ≡ update_among us q
 among_none us q at p = sym (ap (option_map (λ (w : Value). record { register = q; value = w })) p.value)
 
--- a winner among so few updates can be moved
+-- a winner among this few updates can be moved
 pub winner_movable : (us : List Fields) (says : Register → Option Advert) (w : Option ℕ) → HasWinner us says w
     → length us < 2 ^ 63 → IfSome w (λ i. i + 1 < 2 ^ 64)
 winner_movable us says None h l = tt
 winner_movable us says (Some i) k l = let w = slice_get_within us i k.update k.stands in omega arith
 
--- some update, where one has to be named
+-- some update, for definitions that need one
 pub some_update : Fields
 some_update = record {
   register = record { originator = 0; key = Flood 0 };
   value = record { incarnation = 0; counter = 0; content = Withdrawn };
 }
 
--- ---- what a group makes of an update
+-- ---- the effect of an update on a group
 module _ (us : List Fields) (u : Fields) (v : Value) (there : find register_cmp u.register (entries_of us) ≡ Some v)
     (b : Bool) (n : b ≡ is_newer u.value v) (held : ℕ) where
   news_at : is_news (find register_cmp u.register (entries_of us)) u.value ≡ b
@@ -403,7 +403,7 @@ module _ (es : List (Register × Value)) (u : Fields) (none : find register_cmp 
   refused_by (Ok t) x new h = absurd h
   refused_by (Err y) x new h = refused_takes y new
 
--- what holds where a call succeeded
+-- a fact that holds if a call succeeded
 pub on_ok : {X E : Type 0} (r : Result X E) (P : Type 0) → OnOk r P → is_err r ≡ false → P
 on_ok (Ok x) P p e = p
 on_ok (Err x) P p e = cc

@@ -31,7 +31,7 @@ have_text s [] k = tt
 have_text s (e ∷ es) k = (ap subject_text k.0, have_text s es k.1)
 
 module _ (f : ℕ → ℕ → Option ℕ) where
-  -- no owner is told behind a register of a flood list
+  -- no owner's line follows a register of a flood list
   none_told : (v : ℕ) (k : Key) (rest : Entries) → subject_of k ≡ record { vni = v; mac = None }
       → after_register f k rest ≡ []
   none_told v k rest h = ap (λ x. after_register f x rest) (flood_only v k h)
@@ -44,7 +44,7 @@ module _ (f : ℕ → ℕ → Option ℕ) where
       ∙ ap (λ x. x ++ lines_of f es) (append-nil (register_line e.0 e.1))
       ∙ ap (λ x. register_line e.0 e.1 ++ x) (flood_lines v es k.1)
 
-  -- the owner is told where the address ends, and only there
+  -- the owner's line follows the last register of the address, and no other register
   told_last : (v m : ℕ) (k : Key) → subject_of k ≡ address v m → after_register f k [] ≡ owner_line v m (f v m)
   told_last v m k h = ap (λ x. after_register f x []) (address_key v m k h).1
 
@@ -98,9 +98,9 @@ same_lines f g s (Some m) es is k i h =
     address_lines f s.vni m es about i ∙ ap (λ o. register_lines es ++ owner_line s.vni m o) (h s.vni m is)
     ∙ sym (address_lines g s.vni m es about i)
 
--- ---- where another subject begins
+-- ---- entries at which another subject begins
 
--- what doesn't begin with the subject's address
+-- entries that don't begin with the subject's address
 abbrev EndsAt : Subject → Entries → Type 0
 EndsAt s fs = (v m : ℕ) → s ≡ address v m → goes_on v m fs ≡ false
 

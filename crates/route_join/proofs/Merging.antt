@@ -69,7 +69,7 @@ pub listed_still : (t : Table) (us : List Fields) (now : Table) (o : ℕ) → no
 listed_still t us now o e h = ap (λ os. list_any (λ x. eqb x o) os) (ap (λ (s : Table). s.originators) e
     ∙ same_listeners_all t us) ∙ h
 
--- what holds where a call failed
+-- a fact that holds if a call failed
 pub on_err : {X E : Type 0} (r : Result X E) (P : Type 0) → OnErr r P → is_err r ≡ true → P
 on_err (Ok x) P p e = cc
 on_err (Err x) P p e = p
@@ -90,7 +90,7 @@ get_before [] qs k u h = cc
 get_before (x ∷ us) qs zero u h = h
 get_before (x ∷ us) qs (suc k) u h = get_before us qs k u h
 
--- what stands at a place in order is found
+-- a look-up of the register of the update at a place finds that update
 pub find_at : (us : List Fields) (i : ℕ) (u : Fields) → IsOrdered us → slice_get us i ≡ Some u
     → find register_cmp u.register (entries_of us) ≡ Some u.value
 find_at [] i u s h = cc
@@ -208,7 +208,7 @@ sorted_front (suc k) (e ∷ es) h =
     let parts = both (below_all register_cmp e.0 es) (is_sorted register_cmp es) h in
     ap (λ b. b && is_sorted register_cmp (take k es)) (below_front e.0 k es parts.0) ∙ sorted_front k es parts.1
 
--- what the first entries have, all of them have
+-- a register's value among the first entries is its value among all
 front_known : (r : Register) (k : ℕ) (es : List (Register × Value))
     → newer_of (find register_cmp r (take k es)) (find register_cmp r es) ≡ find register_cmp r es
 front_known r zero es = refl

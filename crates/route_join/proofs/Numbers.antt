@@ -41,7 +41,7 @@ by_place None (Some n) = sym (nat_cmp_is 0 (n + 1) Less (omega arith))
 by_place (Some m) None = sym (nat_cmp_is (m + 1) 0 Greater (omega arith))
 by_place (Some m) (Some n) = by_one m n (nat_cmp m n) refl
 
--- a number of 64 bits behind another one
+-- a number of 64 bits after another one
 by_both : (a b p q : ℕ) → p < 2 ^ 64 → q < 2 ^ 64 → nat_cmp (a * 2 ^ 64 + p) (b * 2 ^ 64 + q)
     ≡ ordering_then (nat_cmp a b) (nat_cmp p q)
 by_both a b p q s t = sym (nat_cmp_is (a * 2 ^ 64 + p) (b * 2 ^ 64 + q) (ordering_then (nat_cmp a b) (nat_cmp p q))

@@ -115,7 +115,8 @@ not_better_is a r b q ne e = (is_first b q a r).1 (go (advert_cmp (r, a) (q, b))
         (tied_last (bool_cmp b.is_static a.is_static) _ t))))
     go Greater t = advert_total.antisymm (q, b) (r, a) ∙ ap ordering_reverse t
 
--- what is no worse than an advert of the same register is better than all that this is better than
+-- if an advert is no worse than another advert of the same register, it is better than each advert that the other one
+-- is better than
 pub as_good : (a now : Advert) (r : Register) (b : Advert) (q : Register) → is_better a r now r ≡ false
     → IsBetter a r b q → IsBetter now r b q
 as_good a now r b q e h = (is_first now r b q).1 (go (advert_cmp (r, a) (r, now)) refl)
@@ -168,13 +169,13 @@ pub at_before : (es : List (Register × Value)) (e : Register × Value) (q : Reg
 at_before es e q absent ne = ap advert_of (find-append register_cmp register_total es e.0 e.1 q absent
     ∙ ap (λ b. cond b (Some e.1) (find register_cmp q es)) (other_register q e.0 ne))
 
--- r says a of the address, and that is better than what each other register says
+-- r advertises the address by a, which is better than the advert of each other register
 record IsBestAmong (vni mac : ℕ) (es : List (Register × Value)) (r : Register) (a : Advert) : Type 0 where
   about : IsAbout vni mac r.key
   own : in_list es r ≡ Some a
   best : (q : Register) (b : Advert) → IsAbout vni mac q.key → q ≢ r → in_list es q ≡ Some b → IsBetter a r b q
 
--- no register says anything of the address
+-- no register advertises the address
 abbrev AllSilent : ℕ → ℕ → List (Register × Value) → Type 0
 AllSilent vni mac es = (q : Register) → IsAbout vni mac q.key → in_list es q ≡ None
 
@@ -185,7 +186,7 @@ IsBest vni mac es (Some best) = IsBestAmong vni mac es best.0 best.1
 
 module _ (vni mac : ℕ) (es : List (Register × Value)) (e : Register × Value)
     (absent : find register_cmp e.0 es ≡ None) where
-  -- what the list has is not at the new register
+  -- an entry of the list is not at the new register
   not_last : (r : Register) (a : Advert) → in_list es r ≡ Some a → r ≢ e.0
   not_last r a is same =
       let none : in_list es e.0 ≡ None = ap advert_of absent in
@@ -294,7 +295,7 @@ walk vni mac ps (e ∷ es) best s h =
 pub in_table : (t : Table) (r : Register) → in_list (entries t.registers) r ≡ advert_of (value_at t r)
 in_table t r = ap advert_of (sym (get-entries t.registers r))
 
--- the walk answers the owner, none where nobody advertises the address
+-- the walk returns the owner, or `None` if no originator advertises the address
 pub owner_is : (t : Table) (vni mac : ℕ) → MatchOption (owner t vni mac) (IsUnowned t vni mac) (IsOwner t vni mac)
 owner_is t vni mac = go (best_among vni mac (entries t.registers) None)
     (walk vni mac [] (entries t.registers) None (from_T _ (entries_sorted t.registers)) (λ q about. refl))

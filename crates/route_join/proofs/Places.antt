@@ -1,4 +1,4 @@
--- What the place of a register says of updates in the order of their registers, and what an edit there does.
+-- Updates in the order of their registers: the meaning of a register's place, and the effect of an edit there.
 use Rattle.std.proofs.Common.{◌≡◌, ℕ, zero, suc, ◌+◌, ◌<◌, ◌≤◌, true, cond, List, [], ◌∷◌, length}
 use Rattle.std.proofs.Common.{get_or, set, Some, None, Result, Ok, Err, refl, sym, ap, subst, ◌∙◌, arith}
 use Rattle.std.specs.List.{insert}
@@ -16,9 +16,9 @@ use Rattle.route_join.specs.Group.{AreAbout}
 use Rattle.route_join.specs.Inner.Place.{place_of, later_by}
 use Rattle.route_join.proofs.Orders.{less, both}
 
--- ---- a register that stands at a place
+-- ---- a register with an update at a place
 
--- what `later_by 1` came from
+-- the result that `later_by 1` was applied to
 came_ok : (r : Result ℕ ℕ) (at : ℕ) → later_by 1 r ≡ Ok at → (n : ℕ) × (r ≡ Ok n) × (at ≡ 1 + n)
 came_ok (Ok n) at h = (n, refl, cc)
 came_ok (Err n) at h = cc
@@ -71,7 +71,7 @@ placed (v ∷ us) q at h =
       | Greater ↦ λ e p. let m = came_ok (place_of us q) at p in at_next v us q m.0 at m.2 e (placed us q m.0 m.1)
     ] refl h
 
--- ---- a register that stands at no place
+-- ---- a register without an update
 
 -- the place is a gap, the register has no update, and an insertion there is a put
 pub record IsGap (us : List Fields) (q : Register) (at : ℕ) : Type 0 where

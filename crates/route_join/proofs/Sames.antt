@@ -1,4 +1,4 @@
--- Updates that `==` finds equal are the same one.
+-- Updates that are equal by `==` are identical.
 use Rattle.std.proofs.Common.{◌≡◌, ℕ, ◌==◌, ◌&&◌, Bool, true, false, Option, Some, None, refl, sym, ap, ◌∙◌}
 use Rattle.std.specs.Option.{option_eq}
 use Rattle.std.proofs.lemmas.Map.Views.{exact_unsigned_eq}

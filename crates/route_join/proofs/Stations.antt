@@ -21,7 +21,7 @@ pub none_append : (v m : ℕ) (es fs : Entries) → NoneAbout v m es → NoneAbo
 none_append v m [] fs h k = k
 none_append v m (e ∷ es) fs h k = (h.0, none_append v m es fs h.1 k)
 
--- what is about another subject
+-- entries about another subject
 pub none_apart : (v m : ℕ) (s : Subject) (es : Entries) → AreAbout s es → s ≢ address v m → NoneAbout v m es
 none_apart v m s [] k ne = tt
 none_apart v m s (e ∷ es) k ne = (
@@ -30,7 +30,7 @@ none_apart v m s (e ∷ es) k ne = (
   none_apart v m s es k.1 ne,
 )
 
--- groups behind the address
+-- groups after the address
 pub none_behind : (v m : ℕ) (gs : Groups) → IsBefore (address v m) gs → AreGroups gs → NoneAbout v m (entries_in gs)
 none_behind v m [] b k = tt
 none_behind v m (g ∷ gs) b k = none_append v m (entries_of g.1) (entries_in gs)

@@ -48,7 +48,7 @@ pub at_other : (t : Table) (r : Register) (v : Value) (q : Register) → q ≢ r
 at_other t r v q ne = get-insert register_total t.registers r v q
     ∙ ap (λ b. cond b (Some v) (get t.registers q)) (other_register q r ne)
 
--- what a look-up of a register told
+-- the result of a look-up of a register
 pub update_told : (t : Table) (r : Register) (u : Fields) → update_at t r ≡ Some u
     → (u.register ≡ r) × (value_at t r ≡ Some u.value)
 update_told t r u e = go (value_at t r) refl e

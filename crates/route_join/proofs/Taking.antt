@@ -1,4 +1,4 @@
--- What all groups make of an update is what the update's group makes of it.
+-- The effect of an update on all groups is its effect on its subject's group.
 use Rattle.std.proofs.Common.{◌≡◌, ℕ, ◌+◌, ◌<◌, ◌^◌, is_some, Bool, true, false, cond, Option, Some, None}
 use Rattle.std.proofs.Common.{length, Result, Ok}
 use Rattle.std.proofs.Common.{Err, List, [], ◌∷◌, OnErr, refl, sym, ap, subst, ◌∙◌, arith}
@@ -65,7 +65,7 @@ module _ (gs : Groups) (u : Fields) (us new : List Fields) (k : AreGroups gs)
     pub unchanged_in : new ≡ us → after ≡ gs
     unchanged_in e = w ∙ set_value_same (is_at (subject_cmp (subject_of u.register.key))) gs new (h ∙ ap Some (sym e))
 
-    -- what the call of the group's `take` told, of all groups
+    -- the result of the call of the group's `take`, for all groups
     pub groups_after : (r : Result Taken AllocError) (held more : ℕ)
         → Takes (entries_of us) u held r (entries_of new) more → OnErr r (new ≡ us) → AreGroups after
     groups_after (Ok t) held more took n = subst AreGroups (sym w) (groups_set (subject_of u.register.key) new
@@ -147,7 +147,7 @@ length_with es u s = go (find register_cmp u.register es) refl
         stays true h = h
         stays false h = refl
 
--- those held are counted still
+-- the held registers are still counted
 pub counted_with : (us new : List Fields) (u : Fields) (held more : ℕ) → IsOrdered us
     → entries_of new ≡ entries_with (entries_of us) u → held ≡ length us → more ≡ held + added (entries_of us) u
     → more ≡ length new

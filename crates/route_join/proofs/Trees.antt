@@ -48,7 +48,7 @@ Places = List (Register × ℕ)
 pub same_updates : (us vs : List Fields) → entries_of us ≡ entries_of vs → us ≡ vs
 same_updates us vs e = sym (updates_back us) ∙ ap (map update_from) e ∙ updates_back vs
 
--- ---- an update behind all others
+-- ---- an update after all others
 below_last : (k : Register) (es fs : Entries) (e : Register × Value) → below_all register_cmp k (es ++ e ∷ fs) ≡ true
     → register_cmp k e.0 ≡ Less
 below_last k [] fs e h = less (register_cmp k e.0) (both (is_lt (register_cmp k e.0)) (below_all register_cmp k fs) h).0
@@ -75,7 +75,7 @@ filled_more us at s h d =
     ∙ sym (first_more us at s h d)
 
 -- ---- look-ups
--- an update stands at the place of its register
+-- an update is at the place of its register
 pub at_place : (us : List Fields) (q : Register) (p : ℕ) → register_at us p ≡ Some q → slice_get us p
     ≡ Some (update_at us (q, p))
 at_place us q p h = go (slice_get us p) refl h
@@ -118,14 +118,14 @@ module _ (us : List Fields) where
         ∙ sym (ap (option_map (λ (v : Value). record { register = q; value = v })) (found_along es q
         ∙ ap (option_map (λ p. value_in (slice_get us p))) e))
 
-    -- what a walk meets
+    -- the entries that a walk visits
     pub all_placed : (fs : Places) → All (λ (e : Register × ℕ). place_at es e.0 ≡ Some e.1) fs → ArePlaced us fs
     all_placed [] a = tt
     all_placed (f ∷ fs) a =
         let later = all_placed fs (λ k d l. a (suc k) d (omega (arith, l))) in
         (placed f.0 f.1 (a 0 f (omega arith)), later)
 
--- what isn't told of has no place
+-- a register without a value has no place
 pub absent_place : (es : Places) (bs : List WinnerNode) (q : Register)
     → find register_cmp q (entries_of (large_updates es bs)) ≡ None → place_at es q ≡ None
 absent_place es bs q none = go (place_at es q) refl (sym (found_along (owns bs) es q) ∙ none)
@@ -135,7 +135,7 @@ absent_place es bs q none = go (place_at es q) refl (sym (found_along (owns bs) 
     go None e h = e
     go (Some p) e h = cc
 
--- what a group that is seen as `now` has at a register's place
+-- the value of a register in a group with the view `now`, by the register's place
 module _ (es : Places) (bs : List WinnerNode) (now : List Fields) (m : IsLargeGroup es bs)
     (view : large_updates es bs ≡ now) (q r : Register) (same : r ≡ q) where
   pub found_now : (o : Option ℕ) → o ≡ place_at es r
@@ -284,9 +284,9 @@ module _ (es : Places) (bs cs : List WinnerNode) (u : Fields) (m : IsLargeGroup 
         other q (Some n) e = let there = at_place us q n (m.placed q n e) in
             ap (λ x. Some (value_in x)) (own_before n (update_at us (q, n)) there ∙ sym there)
 
--- ---- who is best at the places is the owner
+-- ---- the originator of the best advert at the places is the owner
 module _ (es : Places) (bs : List WinnerNode) (m : IsLargeGroup es bs) where
-  -- what is told of a register stands at a place
+  -- the advert of a register is that of an update at a place
   record IsToldAt (q : Register) (b : Advert) : Type 0 where
     update : Fields
     place : ℕ

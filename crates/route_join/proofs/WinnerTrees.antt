@@ -1,4 +1,4 @@
--- A winner tree: who is the best at the first place is the best of all places.
+-- A winner tree: the best update of the first place is the best of all places.
 use Rattle.std.proofs.Common.{◌≡◌, ◌≢◌, ◌⊎◌, inl, inr, ℕ, zero, suc, ◌+◌, ◌-◌, ◌*◌, ◌/◌, ◌<◌, ◌≤◌, Bool, true, false}
 use Rattle.std.proofs.Common.{cond}
 use Rattle.std.proofs.Common.{Option, Some, None, List, [], ◌∷◌, ◌++◌, length, set, refl, sym, ap, subst, ◌∙◌}
@@ -52,7 +52,7 @@ nat_same i j = go (i == j) refl
     go true e = inl (grind (arith, nat_tests))
     go false e = inr (λ h. grind (arith, nat_tests))
 
--- the same, before or behind
+-- two numbers are equal, or one is less than the other
 ranked : (i j : ℕ) → (i ≡ j) ⊎ ((i < j) ⊎ (j < i))
 ranked i j = go (nat_lt i j) refl
   where
@@ -63,7 +63,8 @@ ranked i j = go (nat_lt i j) refl
 pub half : (n : ℕ) → n ≢ 0 → (n ≡ 2 * ((n - 1) / 2) + 1) ⊎ (n ≡ 2 * ((n - 1) / 2) + 2)
 half n h = ⊎_elim inl (λ ne. inr (omega (arith, h, ne))) (nat_same n (2 * ((n - 1) / 2) + 1))
 
--- ---- what doesn't win against one that doesn't win doesn't win either
+-- ---- if one doesn't win against a second, and the second not against a third, then the first doesn't win against the
+-- third
 abbrev Candidate : Type 0
 Candidate = Option (Register × Advert)
 
@@ -86,7 +87,7 @@ not_itself c = go (wins c c) refl
     go true e = not_back c c e
     go false e = e
 
--- ---- the better one of two
+-- ---- the better of two
 module _ (us : List Fields) where
   abbrev said : Option ℕ → Candidate
   said w = candidate_in (said_at us w)
@@ -161,7 +162,7 @@ module _ (bs : List WinnerNode) (p : ℕ) where
       win o w h = subst (λ y. wins (said us y) (said us w) ≡ true) h.0 h.1
 
 -- ---- the first place
--- each place but the first stands below another one
+-- each place except the first is below another one
 above : (m : ℕ) → (q : ℕ) × ((suc m ≡ 2 * q + 1) ⊎ (suc m ≡ 2 * q + 2))
 above zero = (0, inl refl)
 above (suc m) = let h = above m in
@@ -171,7 +172,7 @@ module _ (bs : List WinnerNode) (s : AreSettled bs) where
   abbrev best : ℕ → Candidate
   best p = said (owns bs) (best_below bs p)
 
-  -- what loses at a place loses against the best of that place
+  -- a candidate that does not win against the computed best of a place does not win against its stored best
   at_best : (c : Candidate) (p : ℕ) → wins c (said (owns bs) (best_at bs p)) ≡ false → wins c (best p) ≡ false
   at_best c p h = subst (λ w. wins c (said (owns bs) w) ≡ false) (sym (s p)) h
 
@@ -195,7 +196,7 @@ module _ (bs : List WinnerNode) (s : AreSettled bs) where
       (not_beaten (best 0) (best p) (said (owns bs) (Some p)) (all_lose (suc p) p (omega arith))
       (at_best (said (owns bs) (Some p)) p (own_loses bs p)))
 
-  -- what wins advertises
+  -- a winner advertises
   record Says (o : Option Fields) : Type 0 where
     update : Fields
     is : o ≡ Some update
@@ -254,7 +255,7 @@ module _ (bs cs : List WinnerNode) (x : ℕ) (s : AreSettled bs)
     λ e. ⊎_elim (λ h. b h.0) a (chosen (owns bs) w o x e),
   )
 
-  -- a contest in which the update has no part has the same winner
+  -- a contest without the update has the same winner
   same_at : (p : ℕ) → p ≢ x → best_below bs (2 * p + 1) ≢ Some x → best_below bs (2 * p + 2) ≢ Some x
       → best_at cs p ≡ best_at bs p
   same_at p ne l r =
@@ -267,7 +268,7 @@ module _ (bs cs : List WinnerNode) (x : ℕ) (s : AreSettled bs)
   stays : (p : ℕ) → p ≢ x → best_below bs (2 * p + 1) ≢ Some x → best_below bs (2 * p + 2) ≢ Some x → IsSettledAt cs p
   stays p ne l r = bests p ∙ s p ∙ sym (same_at p ne l r)
 
-  -- the best of a place stands there or behind it
+  -- the best of a place is at that place or at a later one
   upward : (n p : ℕ) → length bs ≤ p + n → best_below bs p ≡ Some x → p ≤ x
   upward zero p l e = let none = ap best_in (slice_get_past bs p (omega (arith, l))) in cc
   upward (suc n) p l e = ⊎_elim (λ same. omega (arith, same))
@@ -290,7 +291,7 @@ module _ (bs cs : List WinnerNode) (x : ℕ) (s : AreSettled bs)
     beside = λ p l m e. not_behind p l (sym (bests p) ∙ e);
   }
 
--- ---- a place is found anew
+-- ---- the best of a place is computed again
 module _ (bs cs : List WinnerNode) (x at : ℕ) (k : IsSettledBut bs x at) (own : owns cs ≡ owns bs)
     (others : (p : ℕ) → p ≢ at → best_below cs p ≡ best_below bs p) (found : best_below cs at ≡ best_at bs at) where
   same_by : (p : ℕ) → best_below cs (2 * p + 1) ≡ best_below bs (2 * p + 1) → best_below cs (2 * p + 2)
@@ -335,7 +336,7 @@ module _ (bs cs : List WinnerNode) (x at : ℕ) (k : IsSettledBut bs x at) (own 
             (k.beside (2 * p + 2) (omega (arith, l, high)) (omega (arith, m, low))) (told p (omega (arith, m, low)) e);
       }
 
-  -- the best that is found is the one that was there, and not the update that changed
+  -- the best that is computed is the stored one, and not the update that changed
   module _ (same : best_below bs at ≡ best_at bs at) (ne : best_below bs at ≢ Some x) where
     told_nowhere : (n p : ℕ) → p ≤ 2 * at → 2 * at < p + n → best_below bs p ≢ Some x
     told_nowhere zero p l m e = absurd (omega (arith, l, m))
@@ -360,7 +361,7 @@ module _ (bs cs : List WinnerNode) (x at : ℕ) (k : IsSettledBut bs x at) (own 
 
 -- ---- nodes as they are written
 module _ (bs : List WinnerNode) (at : ℕ) (b : WinnerNode) (is : slice_get bs at ≡ Some b) where
-  -- the best alone
+  -- only the best
   pub found_owns : (best : Option ℕ) → owns (set bs at (record { own = b.own; best = best })) ≡ owns bs
   found_owns best = map-set_same (λ (x : WinnerNode). x.own) bs at (record { own = b.own; best = best }) b
       (ap (λ (x : WinnerNode). x.own) (sym (get_or_from_slice_get bs at b b is)))
@@ -388,7 +389,7 @@ module _ (bs : List WinnerNode) (at : ℕ) (b : WinnerNode) (is : slice_get bs a
         (best_there (record { own = b.own; best = best })) (best_here (record { own = b.own; best = best }) ∙ found)
         (sym same ∙ found) (λ e. ne (same ∙ e))
 
-  -- the update alone
+  -- only the update
   pub replaced : (u : Fields) → AreSettled bs → IsSettledBut (set bs at (record { own = u; best = b.best })) at at
   replaced u s =
       let c : WinnerNode = record { own = u; best = b.best } in

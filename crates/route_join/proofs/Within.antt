@@ -104,7 +104,7 @@ both_say r q None b o e = refl
 both_say r q (Some a) None o e = refl
 both_say r q (Some a) (Some b) o e = ap (is_better_by a.is_static b.is_static a.sequence b.sequence) e
 
--- against nobody
+-- against no update
 pub wins_alone : (us : List Fields) (at : ℕ) (o : Ordering)
     → wins_by (said_at us at) None o ≡ wins (candidate_at us at) None
 wins_alone us at o = go (slice_get us at)

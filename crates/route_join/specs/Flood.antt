@@ -14,7 +14,7 @@ pub record IsFloodList (t : Table) (vni : ℕ) (originators : List ℕ) : Type 0
   pub ascending : IsStrictlyIncreasing originators
   pub exact : (o : ℕ) → Contains originators o ↔ IsSome (advert_at t o (Flood vni))
 
--- ---- the same by a walk over the registers
+-- ---- the flood list by a walk over the registers
 abbrev pub is_flood : ℕ → Key → Bool
 is_flood vni (Flood v) = v == vni
 is_flood vni (Mac v m ip) = false

@@ -34,12 +34,12 @@ abbrev pub updates_in : List (Subject × List Fields) → List Fields
 updates_in [] = []
 updates_in (g ∷ gs) = g.1 ++ updates_in gs
 
--- what a table of groups keeps
+-- the invariant of a table of groups
 pub record IsGrouped (originators : List ℕ) (gs : List (Subject × List Fields)) : Type 0 where
   pub kept : IsKept originators (updates_in gs)
   pub groups : AreGroups gs
 
--- and counts
+-- the invariant with the number of registers
 pub record IsCounted (originators : List ℕ) (gs : List (Subject × List Fields)) (held : ℕ) : Type 0 where
   pub grouped : IsGrouped originators gs
   pub counted : held ≡ length (updates_in gs)

@@ -7,17 +7,17 @@ use Rattle.route_wire.specs.declared.update.Value.{Value}
 use Rattle.route_wire.specs.Order.{is_newer}
 use Rattle.route_join.specs.Table.{Table, value_at, with_update}
 
--- the newer of two values, where there are any
+-- the newer of two values, if there are any
 abbrev pub newer_of : Option Value → Option Value → Option Value
 newer_of None b = b
 newer_of (Some a) None = Some a
 newer_of (Some a) (Some b) = if is_newer b a then Some b else Some a
 
--- t has at each register the newer of what a and b have
+-- t has at each register the newer of the values in a and b
 abbrev pub IsJoin : Table → Table → Table → Type 0
 IsJoin a b t = (r : Register) → value_at t r ≡ newer_of (value_at a r) (value_at b r)
 
--- the table with the values of these entries, where they are news, one after another
+-- the table with the values of these entries, if they are news, one after another
 abbrev pub with_entries : Table → List (Register × Value) → Table
 with_entries t [] = t
 with_entries t (e ∷ es) = with_entries (with_update t (record { register = e.0; value = e.1 })) es

@@ -2,7 +2,7 @@
 use Rattle.std.specs.Prelude.{Option, Some, None, List, []}
 use Rattle.route_wire.specs.Fields.{Fields}
 
--- the updates that a walk through a tree has left, where there is one
+-- the updates that a walk through a tree has left, if there is a walk
 abbrev pub left_in_tree : Option (List Fields) → List Fields
 left_in_tree None = []
 left_in_tree (Some us) = us

@@ -11,17 +11,17 @@ use Rattle.route_join.specs.Updates.{all_updates, updates_of, AreAllUpdates, Are
 use Rattle.route_join.specs.Joins.{newer_of, IsJoin, IsPartJoin, join}
 use Rattle.route_join.specs.Report.{report_of}
 
--- two lists have the same updates, in whatever order and however often
+-- two lists have the same updates, regardless of order and repetition
 pub record HaveSame (us vs : List Fields) : Type 0 where
   pub there : (w : Fields) → Contains us w → Contains vs w
   pub back : (w : Fields) → Contains vs w → Contains us w
 
--- a set of updates has one table, in whatever order they came and however often
+-- a set of updates has one table, regardless of the order in which the updates came and of repetition
 abbrev pub OneTable : Type 0
 OneTable = (us vs : List Fields) (s t : Table) → HaveSame us vs → IsTableOf us s → IsTableOf vs t
     → s.registers ≡ t.registers
 
--- a set of updates has one report, in whatever order they came and however often
+-- a set of updates has one report, regardless of the order in which the updates came and of repetition
 abbrev pub EqualReports : Type 0
 EqualReports = (us vs : List Fields) (s t : Table) → HaveSame us vs → IsTableOf us s → IsTableOf vs t
     → report_of s ≡ report_of t
@@ -66,7 +66,7 @@ MergeCompletes = (s t j : Table) (k : ℕ) → IsPartJoin s t k j → (join j t)
 abbrev pub OneOwner : Type 0
 OneOwner = (t : Table) (vni mac o p : ℕ) → IsOwner t vni mac o → IsOwner t vni mac p → o ≡ p
 
--- the walk over the registers answers who owns the address, none where nobody advertises it
+-- the walk over the registers returns the owner of the address, or `None` if no originator advertises it
 abbrev pub OwnerIs : Type 0
 OwnerIs = (t : Table) (vni mac : ℕ) → MatchOption (owner t vni mac) (IsUnowned t vni mac) (IsOwner t vni mac)
 
@@ -74,14 +74,14 @@ OwnerIs = (t : Table) (vni mac : ℕ) → MatchOption (owner t vni mac) (IsUnown
 abbrev pub HaveSameAdverts : Table → Table → ℕ → ℕ → Type 0
 HaveSameAdverts s t vni mac = (o : ℕ) (ip : Option Ip) → advert_at s o (Mac vni mac ip) ≡ advert_at t o (Mac vni mac ip)
 
--- who owns an address depends on what is advertised of it alone
+-- the owner of an address depends only on its adverts
 abbrev pub OwnerAlong : Type 0
 OwnerAlong = (s t : Table) (vni mac o : ℕ) → HaveSameAdverts s t vni mac → IsOwner s vni mac o → IsOwner t vni mac o
 
 abbrev pub SameOwner : Type 0
 SameOwner = (s t : Table) (vni mac : ℕ) → HaveSameAdverts s t vni mac → owner s vni mac ≡ owner t vni mac
 
--- the walk over the registers answers the network's flood list
+-- the walk over the registers returns the network's flood list
 abbrev pub FloodIs : Type 0
 FloodIs = (t : Table) (vni : ℕ) → IsFloodList t vni (flood_of t vni)
 

@@ -1,5 +1,5 @@
--- Who owns a MAC address of a network: the best of those that advertise it (RFC 7432, sections 15 and 15.2, for static
--- addresses, sequence numbers and the lowest address; the IP address that the route has decides last).
+-- The owner of a MAC address of a network: the best of those that advertise it (RFC 7432, sections 15 and 15.2, for
+-- static addresses, sequence numbers and the lowest address; the IP address that the route has decides last).
 use Rattle.std.specs.Prelude.{◌≡◌, ◌≢◌, ℕ, ◌≤◌, Bool, true, false, Option, Some, None, List, [], ◌∷◌, nat_lt, ◌==◌}
 use Rattle.std.specs.Prelude.{◌&&◌, ◌||◌, if◌then◌else◌}
 use Rattle.std.specs.declared.cmp.Ordering.{Ordering}
@@ -26,7 +26,7 @@ abbrev pub advert_of : Option Value → Option Advert
 advert_of None = None
 advert_of (Some v) = advert_in v.content
 
--- what the originator advertises for the key
+-- the advert of the originator for the key
 abbrev pub advert_at : Table → ℕ → Key → Option Advert
 advert_at t o k = advert_of (value_at t (register_of o k))
 
@@ -37,8 +37,9 @@ IsBetterBy false true m n o = ⊥
 IsBetterBy true true m n o = (n ≤ m) × (m ≡ n → o ≡ Less)
 IsBetterBy false false m n o = (n ≤ m) × (m ≡ n → o ≡ Less)
 
--- The advert a of the register r is better than the advert b of q. Of two registers of one MAC address in one network
--- the one that comes first has the lower originator, or the same and the lower IP address: none, then IPv4, then IPv6.
+-- The advert a of the register r is better than the advert b of q. Of two registers of one MAC address in one network,
+-- the one that comes first has the lower originator, or an equal originator and the lower IP address: none, then IPv4,
+-- then IPv6.
 abbrev pub IsBetter : Advert → Register → Advert → Register → Type 0
 IsBetter a r b q = IsBetterBy a.is_static b.is_static a.sequence b.sequence (register_cmp r q)
 
@@ -52,11 +53,11 @@ pub record IsOwner (t : Table) (vni mac o : ℕ) : Type 0 where
       → advert_at t p (Mac vni mac j) ≡ Some b
       → IsBetter advert (register_of o (Mac vni mac ip)) b (register_of p (Mac vni mac j))
 
--- nobody advertises the address
+-- no originator advertises the address
 abbrev pub IsUnowned : Table → ℕ → ℕ → Type 0
 IsUnowned t vni mac = (o : ℕ) (ip : Option Ip) → advert_at t o (Mac vni mac ip) ≡ None
 
--- ---- the same by a walk over the registers
+-- ---- the owner by a walk over the registers
 abbrev pub is_better_by : Bool → Bool → ℕ → ℕ → Ordering → Bool
 is_better_by true false m n o = true
 is_better_by false true m n o = false
@@ -71,11 +72,11 @@ abbrev pub is_about : ℕ → ℕ → Key → Bool
 is_about vni mac (Flood v) = false
 is_about vni mac (Mac v m ip) = v == vni && m == mac
 
--- what the register says of the address
+-- the advert of the register for the address
 abbrev pub said_of : ℕ → ℕ → Register → Value → Option Advert
 said_of vni mac r v = if is_about vni mac r.key then advert_in v.content else None
 
--- the better of what r says, if anything, and the best so far
+-- the better of the advert of r, if any, and the best so far
 abbrev pub better_of : Register → Option Advert → Option (Register × Advert) → Option (Register × Advert)
 better_of r None best = best
 better_of r (Some a) None = Some (r, a)
@@ -88,6 +89,6 @@ best_among vni mac (e ∷ es) best = best_among vni mac es (better_of e.0 (said_
 abbrev pub owner_among : ℕ → ℕ → List (Register × Value) → Option ℕ
 owner_among vni mac es = option_map (λ (best : Register × Advert). best.0.originator) (best_among vni mac es None)
 
--- the owner of the address, if anyone advertises it
+-- the owner of the address, if it is advertised
 abbrev pub owner : Table → ℕ → ℕ → Option ℕ
 owner t vni mac = owner_among vni mac (entries t.registers)

@@ -21,7 +21,7 @@ use Rattle.route_join.specs.Owner.{is_about, owner}
 abbrev pub spaced : List ℕ → List ℕ
 spaced word = codes " " ++ word
 
--- the counter, behind the incarnation and a dot where that isn't 0
+-- the counter, after the incarnation and a dot if the incarnation isn't 0
 abbrev pub counter_text : Value → List ℕ
 counter_text v = if v.incarnation == 0 then decimal v.counter else decimal v.incarnation ++ codes "."
     ++ decimal v.counter
@@ -45,18 +45,18 @@ station_text vni mac = decimal vni ++ spaced (mac_text mac)
 abbrev pub origin_text : ℕ → Value → List ℕ
 origin_text originator v = addr_text originator ++ spaced (counter_text v)
 
--- what is said of a MAC address, with the IP address of its key and the second label
+-- the state of a MAC address, with the IP address of its key and the second label
 abbrev pub mac_words : Option Ip → Content → List ℕ
 mac_words ip content = spaced (mac_state content) ++ ip_words ip ++ label2_words (label2_of content)
 
 -- ---- lines
 
--- `flood VNI ORIGINATOR COUNTER up`, or `withdrawn` in the place of `up`
+-- `flood VNI ORIGINATOR COUNTER up`, or `withdrawn` instead of `up`
 abbrev pub flood_line : ℕ → ℕ → Value → List ℕ
 flood_line vni originator v = codes "flood " ++ decimal vni ++ spaced (origin_text originator v)
     ++ spaced (flood_state v.content) ++ codes "\n"
 
--- `mac VNI MAC ORIGINATOR COUNTER STATE`, then ` ip IP` and ` label2 LABEL` where there are such
+-- `mac VNI MAC ORIGINATOR COUNTER STATE`, then ` ip IP` and ` label2 LABEL` if the register has them
 abbrev pub mac_line : ℕ → ℕ → Option Ip → ℕ → Value → List ℕ
 mac_line vni mac ip originator v =
     codes "mac " ++ station_text vni mac ++ spaced (origin_text originator v) ++ mac_words ip v.content ++ codes "\n"
@@ -73,7 +73,7 @@ abbrev pub owner_name : Option ℕ → List ℕ
 owner_name None = codes "none"
 owner_name (Some originator) = addr_text originator
 
--- `owner VNI MAC ORIGINATOR`, or `none` in the place of the originator
+-- `owner VNI MAC ORIGINATOR`, or `none` instead of the originator
 abbrev pub owner_line : ℕ → ℕ → Option ℕ → List ℕ
 owner_line vni mac owner = codes "owner " ++ station_text vni mac ++ spaced (owner_name owner) ++ codes "\n"
 
@@ -90,7 +90,7 @@ after_register owner_of (Flood vni) rest = []
 after_register owner_of (Mac vni mac ip) rest = if goes_on vni mac rest then [] else owner_line vni mac
     (owner_of vni mac)
 
--- the lines of these registers, in their order, where the owners of stations are these
+-- the lines of these registers, in their order, with these owners of stations
 abbrev pub lines_of : (ℕ → ℕ → Option ℕ) → List (Register × Value) → List ℕ
 lines_of owner_of [] = []
 lines_of owner_of (e ∷ rest) = register_line e.0 e.1 ++ after_register owner_of e.0.key rest ++ lines_of owner_of rest

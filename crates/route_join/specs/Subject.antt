@@ -1,4 +1,4 @@
--- What routes are about, and its order.
+-- The subjects of routes, and their order.
 use Rattle.std.specs.Prelude.{ℕ, Option, Some, None}
 use Rattle.std.specs.declared.cmp.Ordering.{Ordering}
 use Rattle.std.specs.Option.{option_cmp}
@@ -11,7 +11,7 @@ pub record Subject : Type 0 where
   pub vni : ℕ
   pub mac : Option ℕ
 
--- by network, the flood list before the addresses, then by MAC
+-- by VNI, the flood list before the addresses, then by MAC
 abbrev pub subject_cmp : Subject → Subject → Ordering
 subject_cmp a b = ordering_then (nat_cmp a.vni b.vni) (option_cmp nat_cmp a.mac b.mac)
 

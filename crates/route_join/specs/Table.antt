@@ -14,7 +14,7 @@ use Rattle.route_wire.specs.Order.{register_cmp, is_newer}
 abbrev pub Registers : Type 0
 Registers = FinMap register_cmp Value
 
--- a table: the originators that it listens to, and what is said of each register
+-- a table: the originators that it listens to, and the value of each register
 pub record Table : Type 0 where
   pub originators : List ℕ
   pub registers : Registers
@@ -22,11 +22,11 @@ pub record Table : Type 0 where
 abbrev pub register_of : ℕ → Key → Register
 register_of o k = record { originator = o; key = k }
 
--- what the table has at a register
+-- the value of the table at a register
 abbrev pub value_at : Table → Register → Option Value
 value_at t r = get t.registers r
 
--- the same as an update
+-- that value as an update
 abbrev pub update_at : Table → Register → Option Fields
 update_at t r = option_map (λ v. record { register = r; value = v }) (value_at t r)
 
@@ -50,16 +50,16 @@ AreWellFormed t = (r : Register) (v : Value) → value_at t r ≡ Some v → IsU
 
 -- ---- one update more
 
--- the update is at a new register, or newer than what is there
+-- the update is at a new register, or newer than the value there
 abbrev pub is_news : Option Value → Value → Bool
 is_news None w = true
 is_news (Some v) w = is_newer w v
 
--- the table with this value at this register, and all else as it was
+-- the table with this value at this register, otherwise unchanged
 abbrev pub with_value : Table → Register → Value → Table
 with_value t r v = record { originators = t.originators; registers = insert t.registers r v }
 
--- the table with this update, where it is news
+-- the table with this update, if it is news
 abbrev pub with_update : Table → Fields → Table
 with_update t u = if is_news (value_at t u.register) u.value then with_value t u.register u.value else t
 
@@ -78,7 +78,7 @@ pub record IsTableOf (updates : List Fields) (t : Table) : Type 0 where
 
 -- ---- a table as a list of updates in the order of a report
 
--- each update's value behind its register
+-- each update's register, with its value
 abbrev pub entries_of : List Fields → List (Register × Value)
 entries_of us = map (λ u. (u.register, u.value)) us
 
@@ -89,7 +89,7 @@ IsOrdered us = is_sorted register_cmp (entries_of us) ≡ true
 abbrev pub table_from : List ℕ → List Fields → Table
 table_from originators us = record { originators = originators; registers = from_sorted (entries_of us) }
 
--- what a table keeps
+-- the invariant of a table
 pub record IsKept (originators : List ℕ) (updates : List Fields) : Type 0 where
   pub listeners : AreOriginators originators
   pub ordered : IsOrdered updates

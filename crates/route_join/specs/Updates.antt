@@ -16,7 +16,7 @@ update_from e = record { register = e.0; value = e.1 }
 abbrev pub all_updates : Table → List Fields
 all_updates t = map update_from (entries t.registers)
 
--- the registers of an address, whatever their originator and IP address
+-- the registers of an address, with any originator and IP address
 abbrev pub about : ℕ → ℕ → List (Register × Value) → List (Register × Value)
 about vni mac es = filter (λ (e : Register × Value). is_about vni mac e.0.key) es
 
@@ -31,7 +31,7 @@ pub record AreAllUpdates (t : Table) (us : List Fields) : Type 0 where
   pub all : (r : Register) (v : Value) → value_at t r ≡ Some v → Contains us (record { register = r; value = v })
   pub ordered : IsOrdered us
 
--- the same of the registers of the address
+-- likewise for the registers of the address
 pub record AreUpdatesOf (t : Table) (vni mac : ℕ) (us : List Fields) : Type 0 where
   pub about : (u : Fields) → Contains us u → is_about vni mac u.register.key ≡ true
   pub own : (u : Fields) → Contains us u → value_at t u.register ≡ Some u.value

@@ -9,7 +9,7 @@ use arrayvec::ArrayVec;
 use ether_wire::{Addr, Vni};
 use route_wire::{Key, Update};
 
-/// Whether a key is that of a network's flood list.
+/// Returns `true` if a key is that of a network's flood list.
 fn is_flood(key: &Key, vni: Vni) -> bool
     ensures { result ≡ is_flood vni key.now }
 {
@@ -19,7 +19,7 @@ fn is_flood(key: &Key, vni: Vni) -> bool
     }
 }
 
-/// Whether an update advertises a network's flood list.
+/// Returns `true` if an update advertises a network's flood list.
 fn floods(update: &Update, vni: Vni) -> bool
     ensures { result ≡ floods vni update.now.register update.now.value }
 {

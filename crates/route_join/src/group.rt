@@ -1,4 +1,5 @@
-//! The updates of one subject: a few are walked through, and more of them are kept in a tree.
+//! The updates of one subject: few updates are searched by a walk, and more of them are stored in a
+//! tree.
 ghost use Rattle.std.specs.Prelude.{◌≡◌, ℕ, Ok, ◌∷◌, [], ◌<◌, None, IfOk, OnErr, IfSome, IfNone, MatchOption};
 ghost use Rattle.std.specs.FinMap.Entries.{find};
 ghost use Rattle.route_wire.specs.Order.{register_cmp};
@@ -18,10 +19,10 @@ use std::alloc::{AllocError, Global};
 use std::marker::Model;
 use std::slice;
 
-/// How updates are kept.
+/// The storage of updates.
 #[derive(Drop)]
 enum Storage {
-    /// One alone, without memory of its own.
+    /// A single update, without memory of its own.
     One(Update),
     /// In one list.
     SmallGroup(SmallGroup),
@@ -29,7 +30,7 @@ enum Storage {
     LargeGroup(Box<LargeGroup>),
 }
 
-/// The same updates in a tree, where there is memory for it.
+/// Returns the same updates in a tree, if there is memory for it.
 fn spread(alloc: Global, few: &SmallGroup) -> Result<Box<LargeGroup>, AllocError>
     ensures { IfOk result (λ many. many.value ≡ few.now) }
 {
@@ -40,7 +41,7 @@ fn spread(alloc: Global, few: &SmallGroup) -> Result<Box<LargeGroup>, AllocError
     }
 }
 
-/// Takes an update of the only register, which has then the newer one. None where the update
+/// Takes an update of the only register, which then has the newer one. Returns `None` if the update
 /// is of another register.
 fn take_one(own: &mut Update, update: &Update) -> Option<Taken>
     requires { AreAbout (subject_of update.now.register.key) (entries_of (own.old ∷ [])) }
@@ -81,7 +82,7 @@ impl Model for Group {
 }
 
 impl Group {
-    /// A group of one update. It takes no memory.
+    /// Returns a group of one update. It takes no memory.
     pub(crate) fn new(update: &Update) -> Self
         ensures { result ≡ update.now ∷ [] }
     {
@@ -90,7 +91,7 @@ impl Group {
         }
     }
 
-    /// The updates, in the order of their registers.
+    /// Returns the updates, in the order of their registers.
     pub(crate) fn updates(&self) -> UpdatesOf<'_>
         ensures value { result ≡ self.now }
         ensures ordered { IsOrdered self.now }
@@ -102,7 +103,7 @@ impl Group {
         }
     }
 
-    /// The update of a register, if there is one.
+    /// Returns the update of a register, if there is one.
     pub(crate) fn register(&self, register: &Register) -> Option<Update>
         requires { AreAbout (subject_of register.now.key) (entries_of self.now) }
         ensures { result ≡ update_among self.now register.now }
@@ -117,7 +118,7 @@ impl Group {
         }
     }
 
-    /// The originator of the best advert, none where nothing is advertised.
+    /// Returns the originator of the best advert, or `None` if nothing is advertised.
     pub(crate) fn owner(&self) -> Option<Addr>
         ensures { MatchOption result (IsSilent self.now) (IsLeader self.now) }
     {
@@ -128,7 +129,7 @@ impl Group {
         }
     }
 
-    /// Puts the updates into a tree once they are many. Where there is no memory for it
+    /// Puts the updates into a tree if there are too many for a list. If there is no memory for it,
     /// they stay in their list.
     fn settle(&mut self, alloc: Global)
         ensures { self.new ≡ self.old }
@@ -142,7 +143,7 @@ impl Group {
         }
     }
 
-    /// Takes an update as it is kept.
+    /// Takes an update into the current storage.
     fn take_stored(
         &mut self,
         alloc: Global,
@@ -169,8 +170,8 @@ impl Group {
         }
     }
 
-    /// Takes an update: its register has then the newer of the update and its value so far. A
-    /// register that is there already takes no memory, and a new one is one more of those held.
+    /// Takes an update: its register then has the newer of the update and its value so far. A known
+    /// register takes no memory, and a new one is one more held register.
     pub(crate) fn take(
         &mut self,
         alloc: Global,

@@ -1,4 +1,4 @@
-//! A table's groups behind an index: an update comes into the group of its subject, and groups are
+//! A table's groups in an index: an update goes into the group of its subject, and groups are
 //! reported one after the other in the order of their subjects.
 ghost use Rattle.std.specs.Prelude.{◌≡◌, ◌<◌, ◌∷◌, [], OnOk, OnErr, None};
 ghost use Rattle.std.specs.Option.{option_copied};
@@ -24,8 +24,8 @@ use std::alloc::{AllocError, Global};
 use std::collections::{BTreeSet, HashMap, btree_set};
 use std::marker::Model;
 
-/// Groups by their subjects, and the subjects in the order of a report: a look-up asks the hash
-/// map alone, and only a new subject changes the order. Contracts see the groups in that order.
+/// Groups by their subjects, and the subjects in the order of a report: a look-up needs only the
+/// hash map, and only a new subject changes the order. Contracts see the groups in that order.
 #[derive(Drop)]
 pub(crate) struct Groups {
     alloc: Global,
@@ -50,7 +50,8 @@ impl Model for Groups {
 }
 
 impl Groups {
-    /// No groups, whose subjects are to be hashed under this salt. It takes no memory.
+    /// Returns an empty list of groups, whose subjects will be hashed with this salt. It takes no
+    /// memory.
     pub(crate) fn new(alloc: Global, salt: u64) -> Self
         ensures { result ≡ [] }
     {
@@ -61,14 +62,14 @@ impl Groups {
         }
     }
 
-    /// The group of a subject, if there is one.
+    /// Returns the group of a subject, if there is one.
     pub(crate) fn get(&self, subject: &Subject) -> Option<&Group>
         ensures { option_copied result ≡ group_at subject.now self.now }
     {
         self.index.get(subject)
     }
 
-    /// The groups, in the order of their subjects.
+    /// Returns the groups, in the order of their subjects.
     pub(crate) fn iter(&self) -> GroupsIter<'_>
         ensures { result ≡ self.now }
     {
@@ -78,7 +79,8 @@ impl Groups {
         }
     }
 
-    /// Makes the group of a new subject. Each growth is asked for before anything changes.
+    /// Makes the group of a new subject. It reserves the memory for each growth before anything
+    /// changes.
     fn enter(&mut self, subject: &Subject, update: &Update) -> Result<(), AllocError>
         requires { group_at subject.now self.old ≡ None }
         ensures ok { OnOk result (self.new
@@ -89,15 +91,15 @@ impl Groups {
         if self.order.insert(*subject).is_err() {
             return Err(AllocError);
         }
-        // there is room for it
+        // the map has room for the group
         match self.index.insert(*subject, Group::new(update)) {
             Ok(_) => Ok(()),
             Err(_) => Err(AllocError),
         }
     }
 
-    /// Takes an update into the group of its subject, which is made where there is none yet. A new
-    /// register is one more of those held. Where memory is refused, all stays as it was.
+    /// Takes an update into the group of its subject, and makes the group if there is none yet. A
+    /// new register is one more held register. If memory is refused, nothing changes.
     pub(crate) fn take(&mut self, held: &mut usize, update: &Update) -> Result<Taken, AllocError>
         requires { AreGroups self.old }
         ensures takes { Takes (entries_of (updates_in self.old)) update.now held.old result
@@ -155,8 +157,8 @@ impl<'a> Iterator for GroupsIter<'a> {
     }
 }
 
-/// Writes the report of a group: the lines of its registers, and behind them, where they are about
-/// an address, that of its owner.
+/// Writes the report of a group: the lines of its registers, followed, if they are about an
+/// address, by the line of its owner.
 #[tactic(auto, using(ether_wire::proofs::Appending::with_text_twice))]
 fn put_group<O: Out>(
     out: &mut O,

@@ -1,5 +1,5 @@
-//! The updates of one subject, however many: in the order in which they came, found by a tree of
-//! their registers, and the best advert among them.
+//! The updates of one subject, for any number of updates: in the order in which they came, found by
+//! a tree of their registers, and the best advert among them.
 ghost use Rattle.std.specs.Prelude.{◌≡◌, ◌<◌, Some, None, IfOk, IfSome, OnOk, OnErr, MatchOption, if◌then◌else◌};
 ghost use Rattle.std.specs.FinMap.Entries.{put};
 ghost use Rattle.std.specs.List.{slice_get};
@@ -19,7 +19,7 @@ use std::alloc::{AllocError, Global};
 use std::collections::{BTreeMap, btree_map};
 use std::marker::Model;
 
-/// The place of a register, if it has one.
+/// Returns the place of a register, if it has one.
 fn place_at(tree: &BTreeMap<RegisterKey, u32>, register: &Register) -> Option<u32>
     ensures { result ≡ place_at tree.now.entries register.now }
 {
@@ -29,7 +29,8 @@ fn place_at(tree: &BTreeMap<RegisterKey, u32>, register: &Register) -> Option<u3
     }
 }
 
-/// Enters the first update of a register. Each growth is asked for before anything changes.
+/// Enters the first update of a register. It reserves the memory for each growth before anything
+/// changes.
 fn enter(
     tree: &mut BTreeMap<RegisterKey, u32>,
     nodes: &mut Vec<WinnerNode>,
@@ -55,7 +56,7 @@ fn enter(
     Ok(())
 }
 
-/// Whether an update is newer than the one at the place of its register.
+/// Returns `true` if an update is newer than the one at the place of its register.
 fn is_newer_there(nodes: &[WinnerNode], place: u32, update: &Update) -> bool
     ensures { IfSome (slice_get (owns nodes.now) place)
         (λ was. result ≡ is_newer update.now.value was.value) }
@@ -66,8 +67,8 @@ fn is_newer_there(nodes: &[WinnerNode], place: u32, update: &Update) -> bool
     }
 }
 
-/// The updates of one subject, each once: in a winner tree for the best advert, at places
-/// that a tree tells by their registers.
+/// The updates of one subject, each once: in a winner tree for the best advert. A second tree has
+/// the place of each register.
 #[derive(Drop)]
 pub(crate) struct LargeGroup {
     tree: BTreeMap<RegisterKey, u32>,
@@ -90,7 +91,7 @@ impl Model for LargeGroup {
 }
 
 impl LargeGroup {
-    /// The same updates in a tree.
+    /// Returns the same updates in a tree.
     pub(crate) fn of(alloc: Global, updates: &[Update]) -> Result<Self, AllocError>
         requires { IsOrdered updates.now }
         ensures { IfOk result (λ m. m ≡ updates.now) }
@@ -103,7 +104,7 @@ impl LargeGroup {
         Ok(LargeGroup { tree, nodes })
     }
 
-    /// The updates, in the order of their registers.
+    /// Returns the updates, in the order of their registers.
     pub(crate) fn updates(&self) -> LargeUpdates<'_>
         ensures value { result ≡ self.now }
         ensures ordered { IsOrdered self.now }
@@ -114,7 +115,7 @@ impl LargeGroup {
         }
     }
 
-    /// The update of a register, if there is one.
+    /// Returns the update of a register, if there is one.
     pub(crate) fn register(&self, register: &Register) -> Option<Update>
         ensures { result ≡ update_among self.now register.now }
     {
@@ -124,7 +125,7 @@ impl LargeGroup {
         }
     }
 
-    /// The originator of the best advert, none where nothing is advertised.
+    /// Returns the originator of the best advert, or `None` if nothing is advertised.
     pub(crate) fn owner(&self) -> Option<Addr>
         ensures { MatchOption result (IsSilent self.now) (IsLeader self.now) }
     {
@@ -134,8 +135,8 @@ impl LargeGroup {
         }
     }
 
-    /// Takes an update: its register has then the newer of the update and its value so far. A
-    /// register that is there already takes no memory, and a new one is one more of those held.
+    /// Takes an update: its register then has the newer of the update and its value so far. A known
+    /// register takes no memory, and a new one is one more held register.
     pub(crate) fn take(&mut self, held: &mut usize, update: &Update) -> Result<Taken, AllocError>
         ensures takes { Takes (entries_of self.old) update.now held.old result
             (entries_of self.new) held.new }

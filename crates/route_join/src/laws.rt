@@ -1,8 +1,8 @@
 //! Laws on tables, as functions that do nothing: the contract is the law.
 ghost use Rattle.route_join.specs.Laws.{OneTable, EqualReports, NoneTaken, OneTaken, AllTaken, OneJoined, JoinIs, JoinCommutes, JoinAssociates, JoinRepeats, JoinOfTables, MergeCompletes, OneOwner, OwnerIs, OwnerAlong, SameOwner, FloodIs, AllUpdatesAre, UpdatesOfAre, OthersStay, NewerStands};
 
-/// A set of updates has one table: tables of lists with the same updates have equal registers, in
-/// whatever order the updates came and however often.
+/// A set of updates has one table: tables of lists with the same updates have equal registers,
+/// regardless of the order in which the updates came and of repetition.
 pub fn one_table()
     ensures { OneTable }
 {}
@@ -22,7 +22,7 @@ pub fn one_taken()
     ensures { OneTaken }
 {}
 
-/// The same for a list of updates, one after another: with [`one_table`], a table is that of the
+/// Likewise for a list of updates, one after another: with [`one_table`], a table is that of the
 /// set of updates that it took.
 pub fn all_taken()
     ensures { AllTaken }
@@ -33,7 +33,7 @@ pub fn one_joined()
     ensures { OneJoined }
 {}
 
-/// A join has at each register the newer of what both tables have.
+/// A join has at each register the newer of the values in both tables.
 pub fn join_is()
     ensures { JoinIs }
 {}
@@ -68,23 +68,24 @@ pub fn one_owner()
     ensures { OneOwner }
 {}
 
-/// The walk over a table's registers answers who owns an address, none where nobody advertises it.
+/// The walk over a table's registers returns the owner of an address, or `None` if no originator
+/// advertises it.
 pub fn owner_is()
     ensures { OwnerIs }
 {}
 
-/// Who owns an address depends on what is advertised of it alone.
+/// The owner of an address depends only on its adverts.
 pub fn owner_along()
     ensures { OwnerAlong }
 {}
 
-/// The same of the walk: tables in which the same is advertised of an address
-/// answer the same owner.
+/// The walk has this property too: for tables with the same adverts of an address it returns the
+/// same owner.
 pub fn same_owner()
     ensures { SameOwner }
 {}
 
-/// The walk over a table's registers answers a network's flood list.
+/// The walk over a table's registers returns a network's flood list.
 pub fn flood_is()
     ensures { FloodIs }
 {}

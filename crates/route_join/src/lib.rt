@@ -1,4 +1,4 @@
-//! Tables of route updates: each register's newest value, and who owns a MAC address.
+//! Tables of route updates: each register's newest value, and the owner of a MAC address.
 #![tactic(auto)]
 
 mod flood;

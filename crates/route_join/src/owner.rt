@@ -1,11 +1,12 @@
-//! What is advertised, and which of two adverts of an address is better (RFC 7432, section 15).
+//! The advert of an update, and which of two adverts of an address is better (RFC 7432, section
+//! 15).
 ghost use Rattle.std.specs.Prelude.{◌≡◌};
 ghost use Rattle.route_join.specs.Owner.{advert_in, is_better_by};
 
 use route_wire::{Advert, Content};
 use std::cmp::Ordering;
 
-/// What is advertised, if anything.
+/// Returns the advert, if the content is one.
 pub fn advert_in(content: &Content) -> Option<Advert>
     ensures { result ≡ advert_in content.now }
 {
@@ -15,9 +16,9 @@ pub fn advert_in(content: &Content) -> Option<Advert>
     }
 }
 
-/// Whether the first of two adverts of an address is better, told the order of their registers:
-/// static first, then the higher sequence number, then the register that comes first in a report,
-/// whose originator is the lower one, or else its IP address.
+/// Returns `true` if the first of two adverts of an address is better, given the order of their
+/// registers: static first, then the higher sequence number, then the register that comes first in
+/// a report, with the lower originator, or else the lower IP address.
 pub fn is_better(one: &Advert, other: &Advert, order: Ordering) -> bool
     ensures { result ≡ is_better_by one.now.is_static other.now.is_static
         one.now.sequence other.now.sequence order }

@@ -1,4 +1,4 @@
-//! Where a register stands in a group.
+//! The place of a register in a group.
 ghost use Rattle.std.specs.Prelude.{◌≡◌};
 ghost use Rattle.route_wire.specs.Order.{ip_cmp, register_cmp};
 ghost use Rattle.route_join.specs.Group.{AreAbout};
@@ -9,7 +9,7 @@ ghost use Rattle.route_join.specs.Table.{entries_of};
 use route_wire::{Ip, Register, Update};
 use std::cmp::Ordering;
 
-/// The order of two IP addresses, none first.
+/// Returns the order of two IP addresses, none first.
 #[tactic(auto, using(crate::proofs::Within::none_first, crate::proofs::Within::none_last))]
 fn cmp_ips(one: Option<Ip>, other: Option<Ip>) -> Ordering
     ensures { result ≡ ip_cmp one other }
@@ -22,8 +22,9 @@ fn cmp_ips(one: Option<Ip>, other: Option<Ip>) -> Ordering
     }
 }
 
-/// The order of two registers of one subject. Mostly their originators tell it, and in a walk that
-/// seeks the first register most are of lower ones: so these are told first.
+/// Returns the order of two registers of one subject. In most cases their originators decide. In a
+/// walk to the first register most other registers have lower originators, so this case is checked
+/// first.
 #[tactic(auto, using(crate::proofs::Within::within, crate::proofs::Within::behind_lower))]
 fn cmp_within(one: &Register, other: &Register) -> Ordering
     requires { subject_of one.now.key ≡ subject_of other.now.key }
@@ -38,8 +39,8 @@ fn cmp_within(one: &Register, other: &Register) -> Ordering
     }
 }
 
-/// Where a register stands among updates of its subject in the order of their registers, or
-/// where it would stand.
+/// Returns the place of a register among updates of its subject in the order of their registers, or
+/// as `Err` the place at which it would be inserted.
 #[inline(always)]
 pub(crate) fn place(updates: &[Update], register: &Register) -> Result<usize, usize>
     requires { AreAbout (subject_of register.now.key) (entries_of updates.now) }

@@ -1,11 +1,11 @@
-//! A register as lists and maps keep it: contracts see the register itself.
+//! A register as it is stored in lists and maps: contracts see the register itself.
 ghost use Rattle.std.specs.Prelude.{◌≡◌, refl, Some};
 
 use route_wire::Register;
 use std::cmp::Ordering;
 use std::marker::Model;
 
-/// A register that is kept in lists and maps.
+/// A register that is stored in lists and maps.
 #[derive(Clone, Copy, PartialEq, Eq, Hash)]
 pub struct RegisterKey {
     register: Register,
@@ -22,14 +22,14 @@ impl Model for RegisterKey {
 }
 
 impl RegisterKey {
-    /// The register, to be kept.
+    /// Returns the register as a key.
     pub fn new(register: Register) -> Self
         ensures { result ≡ register }
     {
         RegisterKey { register }
     }
 
-    /// The register that is kept.
+    /// Returns the stored register.
     pub fn register(&self) -> Register
         ensures { result ≡ self.now }
     {

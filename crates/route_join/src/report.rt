@@ -21,7 +21,7 @@ use route_wire::{Addr6, Advert, Content, Ip, Key, Register, Update, Value};
 /// for a counter, 33 for a state, 43 for an IP address, 32 for a second label and 3 between them.
 pub(crate) const LINE: usize = 256;
 
-/// The octets of a subject's text, and what is copied with it.
+/// The size of the array with a subject's text, which is copied as a whole.
 const SUBJECT: usize = 48;
 
 /// Writes two groups of four hexadecimal digits with a colon.
@@ -114,7 +114,7 @@ fn label2_words_at(line: &mut [u8], at: usize, label2: Option<Vni>) -> usize
     }
 }
 
-/// The text of a subject, which each line of its group has.
+/// Returns the text of a subject, which each line of its group has.
 pub(crate) fn subject_text(subject: &Subject) -> Piece<SUBJECT>
     ensures { result ≡ subject_text subject.now }
 {
@@ -127,7 +127,7 @@ pub(crate) fn subject_text(subject: &Subject) -> Piece<SUBJECT>
     Piece::of(text, end)
 }
 
-/// Writes a counter, behind its incarnation where that isn't 0.
+/// Writes a counter, after its incarnation if the incarnation isn't 0.
 fn counter_at(line: &mut [u8], at: usize, value: &Value) -> usize
     requires { at + 49 ≤ length line.old }
     ensures text { take result line.new ≡ take at line.old ++ counter_text value.now }
@@ -156,7 +156,7 @@ fn origin_at(line: &mut [u8], at: usize, originator: Addr, value: &Value) -> usi
     counter_at(line, at, value)
 }
 
-/// Writes what is said of a flood list.
+/// Writes the state of a flood list.
 fn flood_state_at(line: &mut [u8], at: usize, content: &Content) -> usize
     requires { at + 9 ≤ length line.old }
     ensures text { take result line.new ≡ take at line.old ++ flood_state content.now }
@@ -169,7 +169,7 @@ fn flood_state_at(line: &mut [u8], at: usize, content: &Content) -> usize
     }
 }
 
-/// Writes what is said of a MAC address.
+/// Writes the state of a MAC address.
 fn mac_state_at(line: &mut [u8], at: usize, content: &Content) -> usize
     requires { at + 32 ≤ length line.old }
     ensures text { take result line.new ≡ take at line.old ++ mac_state content.now }
@@ -189,7 +189,7 @@ fn mac_state_at(line: &mut [u8], at: usize, content: &Content) -> usize
     }
 }
 
-/// The second label of an advert that has one.
+/// Returns the second label of an advert that has one.
 fn label2(content: &Content) -> Option<Vni>
     ensures { result ≡ label2_of content.now }
 {
@@ -199,7 +199,7 @@ fn label2(content: &Content) -> Option<Vni>
     }
 }
 
-/// Writes what is said of a MAC address, with the IP address of its key and the second label.
+/// Writes the state of a MAC address, with the IP address of its key and the second label.
 fn mac_words_at(line: &mut [u8], at: usize, ip: Option<Ip>, content: &Content) -> usize
     requires { at + 108 ≤ length line.old }
     ensures text { take result line.new ≡ take at line.old ++ mac_words ip content.now }
@@ -273,7 +273,7 @@ pub(crate) fn put_update<O: Out>(
     out.put(&line[..end])
 }
 
-/// Writes the address of an owner, or that there is none.
+/// Writes the address of an owner, or `none`.
 fn owner_name_at(line: &mut [u8], at: usize, owner: Option<Addr>) -> usize
     requires { at + 19 ≤ length line.old }
     ensures text { take result line.new ≡ take at line.old ++ owner_name owner }

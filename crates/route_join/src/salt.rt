@@ -1,16 +1,16 @@
-//! How subjects are hashed. Whoever may send updates chooses subjects: under a hash that is the
-//! same in each table, he could choose many of one place.
+//! The hashing of subjects. A peer that sends updates chooses subjects: if each table used the same
+//! hash, the peer could choose many subjects with one place.
 
 use std::hash::{BuildHasher, FoldHasher, Hasher};
 
-/// Makes the hasher of each subject or register: one that has read the table's salt already.
+/// Makes the hasher of each subject or register, which has already read the table's salt.
 #[derive(Clone, Copy, Drop)]
 pub struct Salted {
     start: FoldHasher,
 }
 
 impl Salted {
-    /// Hashes under this salt.
+    /// Returns a `Salted` that hashes with this salt.
     pub fn new(salt: u64) -> Self {
         let mut start = FoldHasher::default();
         start.write(&salt.to_le_bytes());

@@ -18,7 +18,7 @@ use std::alloc::{AllocError, Global};
 use std::cmp::Ordering;
 use std::marker::Model;
 
-/// What the update at a place advertises.
+/// Returns the advert of the update at a place.
 fn said_at(updates: &[Update], at: usize) -> Option<Advert>
     ensures { result ≡ said_at updates.now at }
 {
@@ -26,7 +26,7 @@ fn said_at(updates: &[Update], at: usize) -> Option<Advert>
     advert_in(&update.value().content)
 }
 
-/// Whether what one update says wins against what the other one says, told the order of their
+/// Returns `true` if the first advert wins against the second one, given the order of their
 /// registers.
 pub(crate) fn wins(one: &Option<Advert>, other: &Option<Advert>, order: Ordering) -> bool
     ensures { result ≡ wins_by one.now other.now order }
@@ -38,7 +38,7 @@ pub(crate) fn wins(one: &Option<Advert>, other: &Option<Advert>, order: Ordering
     }
 }
 
-/// The winner's place, once the update at a place may win too. The order of registers is
+/// Returns the winner's place, once the update at a place may win too. The order of registers is
 /// that of their places.
 #[tactic(auto, using(crate::proofs::Within::wins_alone, crate::proofs::Within::wins_at))]
 fn better_place(updates: &[Update], at: usize, winner: Option<usize>) -> Option<usize>
@@ -56,7 +56,7 @@ fn better_place(updates: &[Update], at: usize, winner: Option<usize>) -> Option<
     }
 }
 
-/// The place of the best advert among updates in the order of their registers.
+/// Returns the place of the best advert among updates in the order of their registers.
 pub(crate) fn best_place(updates: &[Update]) -> Option<usize>
     requires { IsOrdered updates.now }
     ensures { HasWinner updates.now (told updates.now) result }
@@ -68,7 +68,7 @@ pub(crate) fn best_place(updates: &[Update]) -> Option<usize>
     winner
 }
 
-/// The originator of the winner, if there is one.
+/// Returns the originator of the winner, if there is one.
 pub(crate) fn owner_at(updates: &[Update], winner: Option<usize>) -> Option<Addr>
     requires { HasWinner updates.now (told updates.now) winner }
     ensures { MatchOption result (IsSilent updates.now) (IsLeader updates.now) }
@@ -79,7 +79,8 @@ pub(crate) fn owner_at(updates: &[Update], winner: Option<usize>) -> Option<Addr
     }
 }
 
-/// Whether a winner that says something else now is the best still, since it says nothing worse.
+/// Returns `true` if a winner with a new content is still the best, because its new advert is no
+/// worse.
 fn stays_best(was: &Option<Advert>, now: &Option<Advert>) -> bool
     ensures { result ≡ stays_best was.now now.now }
 {
@@ -89,8 +90,8 @@ fn stays_best(was: &Option<Advert>, now: &Option<Advert>) -> bool
     }
 }
 
-/// The winner's place, once the update at a place was replaced. The winner is found anew only where
-/// it was the one replaced, and says something worse than before.
+/// Returns the winner's place after the update at a place was replaced. It searches for the winner
+/// again only if the winner's update was replaced and the new one is worse.
 fn winner_after(updates: &[Update], at: usize, winner: Option<usize>, stays: bool) -> Option<usize>
     requires ordered { IsOrdered updates.now }
     requires other { winner ≢ Some at
@@ -108,7 +109,7 @@ fn winner_after(updates: &[Update], at: usize, winner: Option<usize>, stays: boo
     }
 }
 
-/// Where a winner stands once an update was inserted at a place.
+/// Returns the place of a winner after an update was inserted at a place.
 fn moved(at: usize, winner: Option<usize>) -> Option<usize>
     requires { IfSome winner (λ i. i + 1 < 2 ^ 64) }
     ensures { result ≡ moved at winner }
@@ -120,7 +121,7 @@ fn moved(at: usize, winner: Option<usize>) -> Option<usize>
 }
 
 /// Inserts an update at a place. A full group grows by a sixteenth: groups are small and many, and
-/// to double each would leave a third of a large table's memory unused.
+/// doubling each would leave a third of a large table's memory unused.
 fn insert_at(updates: &mut Vec<Update>, at: usize, update: &Update) -> Result<(), AllocError>
     requires { at ≤ vec_len updates.old }
     ensures { updates.new.items
@@ -136,8 +137,8 @@ fn insert_at(updates: &mut Vec<Update>, at: usize, update: &Update) -> Result<()
     }
 }
 
-/// As many updates are walked through: the next ones are on their way from memory while one is
-/// compared. More of them are kept in a tree.
+/// The maximum number of updates that are searched by a walk: the next updates are on their way
+/// from memory while one is compared. More updates are stored in a tree.
 const SMALL_GROUP: usize = 32;
 
 /// A few updates of one subject in the order of their registers, with the place of the best advert
@@ -164,7 +165,7 @@ impl Model for SmallGroup {
 }
 
 impl SmallGroup {
-    /// The update alone, with room for a second one.
+    /// Returns a group of this update only, with room for a second one.
     pub(crate) fn new(alloc: Global, update: &Update) -> Result<Self, AllocError>
         ensures { IfOk result (λ g. g ≡ update.now ∷ []) }
     {
@@ -175,7 +176,7 @@ impl SmallGroup {
         Ok(SmallGroup { updates, winner })
     }
 
-    /// The updates, in the order of their registers.
+    /// Returns the updates, in the order of their registers.
     pub(crate) fn updates(&self) -> &[Update]
         ensures value { result.now ≡ self.now }
         ensures ordered { IsOrdered self.now }
@@ -183,12 +184,12 @@ impl SmallGroup {
         &self.updates
     }
 
-    /// Whether they are too many to be walked through.
+    /// Returns `true` if there are too many updates for a walk.
     pub(crate) fn is_large(&self) -> bool {
         self.updates.len() > SMALL_GROUP
     }
 
-    /// The update of a register, if there is one.
+    /// Returns the update of a register, if there is one.
     pub(crate) fn register(&self, register: &Register) -> Option<Update>
         requires { AreAbout (subject_of register.now.key) (entries_of self.now) }
         ensures { result ≡ update_among self.now register.now }
@@ -199,14 +200,14 @@ impl SmallGroup {
         }
     }
 
-    /// The originator of the best advert, none where nothing is advertised.
+    /// Returns the originator of the best advert, or `None` if nothing is advertised.
     pub(crate) fn owner(&self) -> Option<Addr>
         ensures { MatchOption result (IsSilent self.now) (IsLeader self.now) }
     {
         owner_at(&self.updates, self.winner)
     }
 
-    /// A newer update comes to the place of its register.
+    /// Writes a newer update at the place of its register.
     fn replace(&mut self, at: usize, update: &Update)
         requires { place_of self.old update.now.register ≡ Ok at }
         ensures { entries_of self.new ≡ put register_cmp update.now.register update.now.value
@@ -219,7 +220,7 @@ impl SmallGroup {
         self.winner = winner_after(&self.updates, at, self.winner, stays);
     }
 
-    /// The first update of its register comes to the gap where it belongs.
+    /// Inserts the first update of a register at its place.
     fn insert(&mut self, at: usize, update: &Update) -> Result<(), AllocError>
         requires { place_of self.old update.now.register ≡ Err at }
         ensures ok { OnOk result
@@ -234,8 +235,8 @@ impl SmallGroup {
         Ok(())
     }
 
-    /// Takes an update: its register has then the newer of the update and its value so far. A
-    /// register that is there already takes no memory, and a new one is one more of those held.
+    /// Takes an update: its register then has the newer of the update and its value so far. A known
+    /// register takes no memory, and a new one is one more held register.
     pub(crate) fn take(&mut self, held: &mut usize, update: &Update) -> Result<Taken, AllocError>
         requires { AreAbout (subject_of update.now.register.key) (entries_of self.old) }
         ensures takes { Takes (entries_of self.old) update.now held.old result

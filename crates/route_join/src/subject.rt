@@ -1,4 +1,4 @@
-//! What routes are about: a network's flood list, or a MAC address in it.
+//! The subjects of routes: a network's flood list, or a MAC address in it.
 ghost use Rattle.std.specs.Prelude.{◌≡◌, ◌<◌, ◌^◌, None, Some, refl};
 ghost use Rattle.route_join.specs.Subject.{subject_of};
 ghost use Rattle.route_join.specs.Inner.Subject.{subject_number, mac_place};
@@ -9,9 +9,8 @@ use std::cmp::Ordering;
 use std::hash::{Hash, Hasher};
 use std::marker::Model;
 
-/// What routes are about: a network's flood list, or an address in a network, whatever IP address
-/// it goes with. The order is that of a report: by network, the flood list before the addresses,
-/// then by MAC.
+/// The subject of a route: a network's flood list, or an address in a network, with any IP address.
+/// The order is that of a report: by VNI, the flood list before the addresses, then by MAC.
 // Both parts are numbers, so that two subjects are compared as one number each.
 #[derive(Clone, Copy, PartialEq, Eq)]
 pub(crate) struct Subject {
@@ -38,14 +37,14 @@ impl Model for Subject {
 }
 
 impl Subject {
-    /// A network's flood list.
+    /// Returns a network's flood list.
     pub(crate) fn flood(vni: Vni) -> Self
         ensures { result ≡ record { vni = vni; mac = None } }
     {
         Subject { vni, place: 0 }
     }
 
-    /// A MAC address in a network.
+    /// Returns a MAC address in a network.
     #[tactic(auto, using(crate::proofs::Numbers::at_next))]
     pub(crate) fn address(vni: Vni, mac: Mac) -> Self
         ensures { result ≡ record { vni = vni; mac = Some mac } }
@@ -56,14 +55,14 @@ impl Subject {
         }
     }
 
-    /// The network.
+    /// Returns the VNI.
     pub(crate) fn vni(&self) -> Vni
         ensures { result ≡ self.now.vni }
     {
         self.vni
     }
 
-    /// The address, none for a flood list.
+    /// Returns the address, or `None` for a flood list.
     #[tactic(auto, using(crate::proofs::Numbers::none_at, crate::proofs::Numbers::some_at))]
     pub(crate) fn mac(&self) -> Option<Mac>
         ensures { result ≡ self.now.mac }
@@ -75,7 +74,7 @@ impl Subject {
         }
     }
 
-    /// The whole subject as one number.
+    /// Returns the whole subject as one number.
     #[tactic(auto, using(crate::specs::Inner::Ranks::place_back, crate::proofs::Numbers::small_place))]
     fn number(&self) -> u128
         ensures value { result ≡ subject_number self.now }
@@ -85,7 +84,7 @@ impl Subject {
     }
 }
 
-// One write, where a derived one would make two.
+// One write; a derived implementation would make two.
 impl Hash for Subject {
     ghost use Rattle.std.specs.Hash as fed;
     ghost use Rattle.route_join.specs.Inner.Hashes.{same_hashes};
@@ -111,7 +110,7 @@ impl Ord for Subject {
 
     ghost matches_eq = { tied_subjects };
 
-    // A search in the ordered set passes lower ones mostly: so these are told first.
+    // A search in the ordered set mostly passes lower subjects, so this case is checked first.
     #[tactic(auto, using(crate::proofs::Numbers::by_number, crate::proofs::Numbers::behind_lower))]
     fn cmp(&self, other: &Subject) -> Ordering {
         let (one, two) = (self.number(), other.number());
@@ -136,7 +135,7 @@ impl PartialOrd for Subject {
     }
 }
 
-/// What a key is about.
+/// Returns the subject of a key.
 pub(crate) fn subject_of(key: &Key) -> Subject
     ensures { result ≡ subject_of key.now }
 {

@@ -22,17 +22,17 @@ use route_wire::{Key, NO_MEMORY, Register, UNKNOWN_ORIGINATOR, Update};
 use std::alloc::Global;
 use std::marker::Model;
 
-/// What a table made of an update that it took.
+/// The result of an update that a table took.
 #[derive(Clone, Copy, Debug, PartialEq, Eq)]
 pub enum Taken {
-    /// It is its register's value now: the register is new, or the update is
-    /// newer than its value was.
+    /// The update is now its register's value: the register is new, or the update is newer than the
+    /// former value.
     Newer,
-    /// The register's value is this update or a newer one, and stays.
+    /// The register's value is this update or a newer one, and is unchanged.
     Known,
 }
 
-/// Why a table took no update. The table is as it was.
+/// Why a table refused an update. The table is unchanged.
 #[derive(Clone, Copy, Debug, PartialEq, Eq)]
 pub enum TakeError {
     /// The update's originator isn't one that the table listens to.
@@ -44,12 +44,13 @@ pub enum TakeError {
 /// A merge that stopped at a register for which there was no memory.
 #[derive(Clone, Copy, Debug, PartialEq, Eq)]
 pub struct Unmerged {
-    /// How many registers of the other table, the first in the order of a report, were joined.
+    /// The number of registers of the other table that were joined, the first in the order of a
+    /// report.
     pub joined: usize,
 }
 
 impl Unmerged {
-    /// The refusal's number, as notes give it: that of refused memory.
+    /// Returns the refusal's number in notes: that of refused memory.
     pub fn number(self) -> u8
         ensures { result ≡ number_of TakeError.NoMemory }
     {
@@ -58,7 +59,7 @@ impl Unmerged {
 }
 
 impl TakeError {
-    /// The refusal's number, as notes give it.
+    /// Returns the refusal's number in notes.
     pub fn number(self) -> u8
         ensures { result ≡ number_of self }
     {
@@ -74,7 +75,7 @@ impl TakeError {
 pub struct Table {
     originators: ArrayVec<Addr, 64>,
     groups: Groups,
-    // How many registers all groups hold: a merge can count as many.
+    // The number of registers that all groups hold: a merge can count that many.
     held: usize,
 }
 
@@ -94,8 +95,8 @@ impl Model for Table {
 }
 
 impl Table {
-    /// A table that listens to these originators (1 to 64 that all differ) and has taken nothing.
-    /// It takes no memory; `take` gets what it needs from `alloc`.
+    /// Returns a table that listens to these originators (1 to 64 that all differ) and has taken
+    /// nothing. It takes no memory; `take` allocates from `alloc`.
     pub fn new(alloc: Global, originators: ArrayVec<Addr, 64>) -> Self
         requires { AreOriginators originators.items }
         ensures { result ≡ record { originators = originators.items; registers = empty } }
@@ -103,8 +104,8 @@ impl Table {
         Table::with_salt(alloc, originators, 0)
     }
 
-    /// The same, whose registers are sought by a hash under this salt. Who may send updates and
-    /// knows the salt can make look-ups slow; what they answer doesn't depend on it.
+    /// Returns a table as `new` does, which finds its registers by a hash with this salt. A sender
+    /// of updates that knows the salt can make look-ups slow; their results don't depend on it.
     pub fn with_salt(alloc: Global, originators: ArrayVec<Addr, 64>, salt: u64) -> Self
         requires { AreOriginators originators.items }
         ensures { result ≡ record { originators = originators.items; registers = empty } }
@@ -116,8 +117,8 @@ impl Table {
         }
     }
 
-    /// The originators that the table listens to, as they were given. Each
-    /// register is of one of them.
+    /// Returns the originators that the table listens to, in the given order. Each register is of
+    /// one of them.
     pub fn originators(&self) -> &[Addr]
         ensures value { result.now ≡ self.now.originators }
         ensures listeners { AreOriginators result.now }
@@ -133,7 +134,7 @@ impl Table {
         let _ = &self.held;
     }
 
-    /// The newest update of a register, if one was taken.
+    /// Returns the newest update of a register, if one was taken.
     pub fn register(&self, originator: Addr, key: Key) -> Option<Update>
         ensures { result ≡ update_at self.now (register_of originator key) }
     {
@@ -143,13 +144,12 @@ impl Table {
         }
     }
 
-    /// Takes an update: its register has then the newer of the update and its value so far.
+    /// Takes an update: its register then has the newer of the update and its value so far.
     ///
     /// # Errors
     ///
-    /// `UnknownOriginator` exactly where the update's originator isn't listed. `NoMemory`
-    /// where the register is new and the memory for it was refused; a register that is
-    /// there already takes none.
+    /// `UnknownOriginator` exactly if the update's originator isn't listed. `NoMemory` if the
+    /// register is new and the memory for it was refused; a known register takes none.
     pub fn take(&mut self, update: &Update) -> Result<Taken, TakeError>
         ensures taken { IfOk result (λ taken. taken ≡ taken_of self.old update.now) }
         ensures table { OnOk result (self.new ≡ with_update self.old update.now) }
@@ -174,13 +174,13 @@ impl Table {
         Ok(taken)
     }
 
-    /// Joins another table to this one, register by register in the order of a report:
-    /// each register of either has then the newer of its values. Each originator of the
-    /// other has to be listed.
+    /// Joins another table to this one, register by register in the order of a report: each
+    /// register of either then has the newer of its values. Each originator of the other table has
+    /// to be listed.
     ///
     /// # Errors
     ///
-    /// `Unmerged` where there was no memory for a register: those before it were joined. A second
+    /// `Unmerged` if there was no memory for a register: those before it were joined. A second
     /// merge completes the first.
     pub fn merge(&mut self, other: &Table) -> Result<(), Unmerged>
         requires { (o : ℕ) → is_listed other.now o ≡ true → is_listed self.old o ≡ true }
@@ -200,9 +200,10 @@ impl Table {
         Ok(())
     }
 
-    /// The owner of a MAC address in a network, none exactly where nobody advertises it: of those
-    /// that do, by whatever IP address or none, a static one first, then the one with the higher
-    /// sequence number, then the one with the lower address (RFC 7432, section 15).
+    /// Returns the owner of a MAC address in a network, `None` exactly if no originator advertises
+    /// it. Of the originators that advertise it, with any IP address or none, a static one comes
+    /// first, then the one with the higher sequence number, then the one with the lower address
+    /// (RFC 7432, section 15).
     pub fn owner(&self, vni: Vni, mac: Mac) -> Option<Addr>
         ensures value { result ≡ owner self.now vni mac }
         ensures best { MatchOption result (IsUnowned self.now vni mac) (IsOwner self.now vni mac) }
@@ -213,8 +214,8 @@ impl Table {
         }
     }
 
-    /// The updates of a MAC address in a network, of every originator and by whatever IP address or
-    /// none, in the order of a report. It takes no memory.
+    /// Returns the updates of a MAC address in a network, of every originator and with any IP
+    /// address or none, in the order of a report. It takes no memory.
     pub fn updates_of(&self, vni: Vni, mac: Mac) -> UpdatesOf<'_>
         ensures value { result ≡ updates_of self.now vni mac }
         ensures exact { AreUpdatesOf self.now vni mac result }
@@ -225,7 +226,7 @@ impl Table {
         }
     }
 
-    /// The updates of all registers, in the order of a report. It takes no memory.
+    /// Returns the updates of all registers, in the order of a report. It takes no memory.
     pub fn updates(&self) -> Updates<'_>
         ensures value { result ≡ all_updates self.now }
         ensures exact { AreAllUpdates self.now result }
@@ -233,7 +234,8 @@ impl Table {
         Updates::of(&self.groups)
     }
 
-    /// The originators that advertise a network's flood list (RFC 7432, section 7.3), ascending.
+    /// Returns the originators that advertise a network's flood list (RFC 7432, section 7.3),
+    /// ascending.
     pub fn flood(&self, vni: Vni) -> ArrayVec<Addr, 64>
         ensures value { result.items ≡ flood_of self.now vni }
         ensures list { IsFloodList self.now vni result.items }
@@ -243,8 +245,8 @@ impl Table {
         flood
     }
 
-    /// Writes the same list where another one stood: a caller that keeps one place for it spares
-    /// the copies of a whole list.
+    /// Writes the flood list into an existing list: a caller that reuses one list avoids the copies
+    /// of a whole list.
     pub fn flood_into(&self, vni: Vni, flood: &mut ArrayVec<Addr, 64>)
         ensures value { flood.new.items ≡ flood_of self.now vni }
         ensures list { IsFloodList self.now vni flood.new.items }
@@ -257,11 +259,11 @@ impl Table {
     }
 
     /// Writes the report of the table: a line for each register, and one for the owner of each MAC
-    /// address behind its last register. It takes no memory.
+    /// address after its last register. It takes no memory.
     ///
     /// # Errors
     ///
-    /// `Device` exactly where a call of the writer failed; then no further call is made.
+    /// `Device` exactly if a call of the writer failed; then no further call is made.
     pub fn write_report<W: Out>(&self, out: &mut W) -> Result<(), Device>
         requires { IsOpen (W.end out.old) }
         ensures { Puts (W.end out.old) (W.end out.new) (report_of self.now) result }

@@ -66,7 +66,7 @@ fn valued(counter: u64, content: Content) -> Value
     }
 }
 
-// What 10.0.0.N says of the address, with no IP address.
+// Returns an update of the address by 10.0.0.N, with no IP address.
 fn said(n: u8, value: Value) -> Update
     requires { 0 < value.counter }
 {
@@ -79,7 +79,7 @@ fn said(n: u8, value: Value) -> Update
     )
 }
 
-// A dynamic advert of 10.0.0.N.
+// Returns a dynamic advert of 10.0.0.N.
 fn dynamic(n: u8, counter: u64, sequence: u32) -> Update
     requires { 0 < counter }
 {
@@ -92,7 +92,7 @@ fn withdrawn(n: u8, counter: u64) -> Update
     said(n, valued(counter, Content::Withdrawn))
 }
 
-// What 10.0.0.N says of the network's flood list.
+// Returns an update of the network's flood list by 10.0.0.N.
 fn floods(n: u8, counter: u64, content: Content) -> Update
     requires counted { 0 < counter }
     requires fits { FitsKey (Key.Flood 5001) content }
@@ -106,7 +106,7 @@ fn floods(n: u8, counter: u64, content: Content) -> Update
     )
 }
 
-// Whether the table's value of the address at 10.0.0.N is this one.
+// Returns `true` if the table's value of the address at 10.0.0.N is this one.
 fn has(table: &Table, n: u8, value: Value) -> bool {
     match table.register(addr(n), plain()) {
         Some(update) => update.value() == value,
@@ -118,7 +118,7 @@ fn owner(table: &Table) -> Option<Addr> {
     table.owner(vni(), mac())
 }
 
-// Whether these octets are the table's report.
+// Returns `true` if these octets are the table's report.
 fn reports(table: &Table, report: &[u8]) -> bool {
     let mut page = Page::<1024>::new();
     page.failures() == 0 && table.write_report(&mut page).is_ok() && page.octets() == report
@@ -287,8 +287,8 @@ fn updates_come_in_the_order_of_a_report(rt: HostRuntime) -> Result<(), Fail> {
     Ok(())
 }
 
-// Run with each growth refused in turn: a refused update leaves the table, and is
-// newer the second time.
+// Run with each growth refused in turn: a refused update leaves the table unchanged, and is newer
+// the second time.
 #[test]
 fn refused_growth_is_made_up_for(rt: HostRuntime) -> Result<(), Fail> {
     let mut table = new_table(rt.alloc());
@@ -308,7 +308,7 @@ fn refused_growth_is_made_up_for(rt: HostRuntime) -> Result<(), Fail> {
     Ok(())
 }
 
-// Whether an update was taken.
+// Returns `true` if an update was taken.
 fn is_taken(table: &mut Table, update: &Update) -> bool
     ensures { table.new.originators ≡ table.old.originators }
 {

@@ -27,14 +27,14 @@ impl<'a> Model for UpdatesOf<'a> {
 }
 
 impl<'a> UpdatesOf<'a> {
-    /// No update.
+    /// Returns an empty iterator.
     pub(crate) fn none() -> Self
         ensures { result ≡ [] }
     {
         UpdatesOf::few(&[])
     }
 
-    /// Those of a list.
+    /// Returns the updates of a list.
     pub(crate) fn few(updates: &'a [Update]) -> Self
         ensures { result ≡ updates.now }
     {
@@ -44,7 +44,7 @@ impl<'a> UpdatesOf<'a> {
         }
     }
 
-    /// Those of a tree.
+    /// Returns the updates of a tree.
     pub(crate) fn many(updates: LargeUpdates<'a>) -> Self
         ensures { result ≡ updates.entry }
     {
@@ -99,7 +99,7 @@ impl<'a> Model for Updates<'a> {
 }
 
 impl<'a> Updates<'a> {
-    /// The updates of these groups.
+    /// Returns the updates of these groups.
     pub(crate) fn of(groups: &'a Groups) -> Self
         requires { AreGroups groups.now }
         ensures { result ≡ updates_in groups.now }

@@ -1,6 +1,6 @@
-//! Updates at places, and the place of the best advert among them: each place knows the best one
-//! of its own update and of those below it. Below place n stand the places 2 n + 1 and 2 n + 2, as
-//! in a heap.
+//! Updates at places, and the place of the best advert among them: each place knows the best one of
+//! its own update and of those below it. Below place n are the places 2 n + 1 and 2 n + 2, as in a
+//! heap.
 ghost use Rattle.std.specs.Prelude.{◌≡◌, ◌≢◌, ◌+◌, ◌*◌, ◌<◌, ◌^◌, ◌++◌, ◌∷◌, ◌⊎◌, [], ℕ, None, Some, true, set, vec_len, vec_capacity, IfOk, OnOk};
 ghost use Rattle.std.specs.List.{slice_get};
 ghost use Rattle.std.specs.Option.{option_copied};
@@ -22,7 +22,8 @@ pub(crate) struct WinnerNode {
     best: Option<u32>,
 }
 
-/// Whether two adverts are equally good, so that the order of their registers tells the better one.
+/// Returns `true` if two adverts are equally good, so that the order of their registers decides
+/// which one is better.
 fn are_level(one: &Option<Advert>, other: &Option<Advert>) -> bool
     ensures { result ≡ are_level one.now other.now }
 {
@@ -34,8 +35,8 @@ fn are_level(one: &Option<Advert>, other: &Option<Advert>) -> bool
     }
 }
 
-/// Whether what an update says wins against what another one says. Registers are compared
-/// only where they decide.
+/// Returns `true` if the advert of an update wins against that of another one. It compares
+/// registers only if they decide.
 fn wins_against(one: &Update, other: &Update) -> bool
     ensures { result ≡ against (candidate_in (Some one.now)) (candidate_in (Some other.now)) }
 {
@@ -48,7 +49,7 @@ fn wins_against(one: &Update, other: &Update) -> bool
     }
 }
 
-/// The update at a place, none where there is no such place.
+/// Returns the update at a place, or `None` if the place doesn't exist.
 pub(crate) fn own_at(nodes: &[WinnerNode], place: u32) -> Option<&Update>
     ensures { option_copied result ≡ slice_get (owns nodes.now) place }
 {
@@ -58,7 +59,7 @@ pub(crate) fn own_at(nodes: &[WinnerNode], place: u32) -> Option<&Update>
     }
 }
 
-/// The update at the place of a best one, if there is one.
+/// Returns the update at the place of a best one, if there is one.
 pub(crate) fn said_at(nodes: &[WinnerNode], best: Option<u32>) -> Option<&Update>
     ensures { option_copied result ≡ said_at (owns nodes.now) best }
 {
@@ -68,7 +69,7 @@ pub(crate) fn said_at(nodes: &[WinnerNode], best: Option<u32>) -> Option<&Update
     }
 }
 
-/// Whether an update wins against another one, if there is one.
+/// Returns `true` if an update wins against another one, if there is one.
 fn beats(update: &Update, other: Option<&Update>) -> bool
     ensures { result
         ≡ against (candidate_in (Some update.now)) (candidate_in (option_copied other.entry)) }
@@ -79,7 +80,7 @@ fn beats(update: &Update, other: Option<&Update>) -> bool
     }
 }
 
-/// The place of the better one of the best so far and another best.
+/// Returns the place of the better one of the best so far and another best.
 fn better_of(nodes: &[WinnerNode], best: Option<u32>, other: Option<u32>) -> Option<u32>
     ensures { result ≡ better_of (owns nodes.now) best other }
 {
@@ -95,7 +96,7 @@ fn better_of(nodes: &[WinnerNode], best: Option<u32>, other: Option<u32>) -> Opt
     }
 }
 
-/// The best of a place and of those below it, none where there is no such place.
+/// Returns the best stored at a place, or `None` if the place doesn't exist.
 fn best_below(nodes: &[WinnerNode], place: usize) -> Option<u32>
     ensures { result ≡ best_below nodes.now place }
 {
@@ -105,7 +106,7 @@ fn best_below(nodes: &[WinnerNode], place: usize) -> Option<u32>
     }
 }
 
-/// The best one of a place's own update and of the bests of the two places below.
+/// Returns the best one of a place's own update and of the bests of the two places below.
 fn best_at(nodes: &[WinnerNode], place: u32) -> Option<u32>
     ensures { result ≡ best_at nodes.now place }
 {
@@ -115,7 +116,8 @@ fn best_at(nodes: &[WinnerNode], place: u32) -> Option<u32>
     better_of(nodes, best, best_below(nodes, below + 2))
 }
 
-/// Whether a best one is as it was, and not the update that changed: then those above are right.
+/// Returns `true` if a best one is unchanged, and is not the update that changed: then those above
+/// are right.
 fn is_as_before(best: Option<u32>, was: Option<u32>, changed: u32) -> bool
     ensures same { result ≡ true → best ≡ was }
     ensures other { result ≡ true → best ≢ Some changed }
@@ -123,8 +125,8 @@ fn is_as_before(best: Option<u32>, was: Option<u32>, changed: u32) -> bool
     best == was && best != Some(changed)
 }
 
-/// Finds the best of a place anew, on the way up from the place whose update is another one.
-/// Answers whether all are right then.
+/// Computes the best of a place again, on the way up from the place whose update was replaced. If
+/// it returns `true`, the bests of all places are right.
 fn renew(nodes: &mut Vec<WinnerNode>, at: u32, changed: u32) -> bool
     requires within { at < vec_len nodes.old }
     requires others { IsSettledBut nodes.old.items changed at }
@@ -141,8 +143,8 @@ fn renew(nodes: &mut Vec<WinnerNode>, at: u32, changed: u32) -> bool
     is_as_before(best, was, changed)
 }
 
-/// Finds the bests anew from the place up whose update is another one, as far as they change
-/// or are that update.
+/// Computes the bests again from the place whose update was replaced upwards, as long as they
+/// change or are that update.
 fn settle(nodes: &mut Vec<WinnerNode>, changed: u32)
     requires within { changed < vec_len nodes.old }
     requires others { IsSettledBut nodes.old.items changed changed }
@@ -161,7 +163,7 @@ fn settle(nodes: &mut Vec<WinnerNode>, changed: u32)
     }
 }
 
-/// Puts another update to a place.
+/// Writes another update at a place.
 pub(crate) fn replace(nodes: &mut Vec<WinnerNode>, place: u32, update: &Update)
     requires within { place < vec_len nodes.old }
     requires settled { AreSettled nodes.old.items }
@@ -172,7 +174,7 @@ pub(crate) fn replace(nodes: &mut Vec<WinnerNode>, place: u32, update: &Update)
     settle(nodes, place);
 }
 
-/// Makes room for one more update, and answers its place. There are 2^32 of them.
+/// Makes room for one more update, and returns its place. There are 2^32 places.
 pub(crate) fn reserve(nodes: &mut Vec<WinnerNode>) -> Result<u32, AllocError>
     ensures items { nodes.new.items ≡ nodes.old.items }
     ensures place { IfOk result (λ place. place ≡ vec_len nodes.new) }
@@ -188,7 +190,7 @@ pub(crate) fn reserve(nodes: &mut Vec<WinnerNode>) -> Result<u32, AllocError>
     Ok(place)
 }
 
-/// Puts an update to the next place, for which there is room.
+/// Writes an update at the next place, for which there is room.
 pub(crate) fn push(nodes: &mut Vec<WinnerNode>, place: u32, update: &Update)
     requires next { place ≡ vec_len nodes.old }
     requires room { vec_len nodes.old < vec_capacity nodes.old }
@@ -203,7 +205,7 @@ pub(crate) fn push(nodes: &mut Vec<WinnerNode>, place: u32, update: &Update)
     settle(nodes, place);
 }
 
-/// The update with the best advert of all places, none where nothing is advertised.
+/// Returns the update with the best advert of all places, or `None` if nothing is advertised.
 pub(crate) fn best(nodes: &[WinnerNode]) -> Option<&Update>
     requires { AreSettled nodes.now }
     ensures { IsBestOf (owns nodes.now) (option_copied result) }

@@ -1,4 +1,4 @@
--- However a stream is cut, a feed reads it once.
+-- However a stream is cut, a feed reads each record once.
 use Rattle.std.proofs.Common.{◌≡◌, ℕ, true, false, List, ◌++◌, append-nil, Result, refl, sym, ap, subst, ◌∙◌}
 use Rattle.route_wire.specs.declared.stream.Whole.{Whole}
 use Rattle.route_wire.specs.declared.stream.Whole.TheVariants.{Rest, Fault, Length}
@@ -18,7 +18,7 @@ module _ (h : Held) (stream : List ℕ) (answers : List (Result Fields ℕ)) (r 
   nothing_skipped : is_fault (shown h) ≡ false → h.rest ++ r.skipped ≡ h.rest
   nothing_skipped e = ap (λ (t : List ℕ). h.rest ++ t) (r.faulty e) ∙ append-nil h.rest
 
-  -- what was skipped after a fault shows nothing else
+  -- octets that were skipped after a fault show nothing else
   same_shown : whole_up_to h.newest (h.rest ++ r.skipped) ≡ shown h
   same_shown = go (shown h) refl
     where

@@ -4,7 +4,7 @@ use Rattle.std.specs.Fmt.{padded_integral, format_spec, digits}
 use Rattle.std.proofs.lemmas.Fmt.{hex_byte}
 use Rattle.ether_wire.specs.Addr.{hex_group}
 
--- what `{:02x}` writes
+-- the text that `{:02x}` writes
 abbrev lower : ℕ → List ℕ
 lower octet = padded_integral (format_spec 32 0 4 2 (2 ^ 64 - 1)) false [] (digits 16 false octet)
 

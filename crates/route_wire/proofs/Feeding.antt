@@ -1,4 +1,4 @@
--- Octets that are taken from a piece, and the answers of a stream that goes on.
+-- Octets that are taken from a piece, and the answers of a stream that continues.
 use Rattle.std.proofs.Common.{◌≡◌, ℕ, ◌+◌, ◌-◌, ◌<◌, ◌≤◌, Bool, true, false, nat_lt, List, [], ◌∷◌, ◌++◌, length, take}
 use Rattle.std.proofs.Common.{drop, slice_index, Result, refl, sym, ap, subst, ◌∙◌, arith, length-append, append_assoc}
 use Rattle.std.proofs.Common.{append-nil, add-one, min, Ok, Err}
@@ -30,7 +30,7 @@ pub take_both : (held piece : List ℕ) (a b : ℕ) → (held ++ take a piece) +
 take_both held piece a b = append_assoc held (take a piece) (take b (drop a piece))
     ∙ ap (λ (t : List ℕ). held ++ t) (sym (take-add a b piece))
 
--- a fact of the octets below i, and of the one at i
+-- a fact about the octets below i, and about the one at i
 pub one_more : (P : ℕ → Type 0) (i : ℕ) → ((k : ℕ) → k < i → P k) → P i → (k : ℕ) → k < i + 1 → P k
 one_more P i below here k less = go (nat_lt k i) refl
   where
@@ -38,7 +38,7 @@ one_more P i below here k less = go (nat_lt k i) refl
     go true e = below k (grind (arith, nat_tests))
     go false e = let same : i ≡ k = (let le : i ≤ k = grind (arith, nat_tests) in omega arith) in subst P same here
 
--- a fact of the octets below a, and of those from there on
+-- a fact about the octets below a, and about those from a on
 pub first_then : (P : ℕ → Type 0) (a b : ℕ) → ((k : ℕ) → k < a → P k) → ((j : ℕ) → j < b → P (a + j)) → (k : ℕ)
     → k < a + b → P k
 first_then P a b first later k less = go (nat_lt k a) refl
@@ -56,7 +56,7 @@ unfinished_both newest held piece a b first later =
     first_then (λ k. is_rest (whole_up_to newest (held ++ take k piece)) ≡ true) a b first
     (λ j less. subst (λ (s : List ℕ). is_rest (whole_up_to newest s) ≡ true) (take_both held piece a j) (later j less))
 
--- what is held after octets were taken
+-- the octets that are held after octets were taken
 pub held_more : (newest : ℕ) (held piece : List ℕ) (n : ℕ) → n ≤ length piece → IsHeld newest held
     → ((k : ℕ) → k < n → is_rest (whole_up_to newest (held ++ take k piece)) ≡ true)
     → IsHeld newest (held ++ take n piece)
@@ -128,7 +128,7 @@ read_taking newest rest more stream answers f r = record {
     whole = ap (λ (t : List ℕ). (rest ++ t) ++ more) (r.faulty f) ∙ ap (λ (t : List ℕ). t ++ more) (append-nil rest)
         ∙ sym (append-nil (rest ++ more))
 
--- the answer of a whole record that was held
+-- the answer to a whole record that was held
 pub read_answer : (newest : ℕ) (rest stream : List ℕ) (answers : List (Result Fields ℕ))
     → whole_up_to newest rest ≡ Length (length rest) → HasRead (record { newest = newest; rest = rest }) stream answers
     → HasRead (record { newest = newest; rest = [] }) stream (answers ++ reading rest ∷ [])
@@ -210,7 +210,7 @@ module _ (h : Held) (newest : ℕ) (rest piece : List ℕ) (w : Whole) (view : h
       read_answer newest rest stream answers (found ∙ ap Length (held_whole newest rest n held found))
       (subst (λ (g : Held). HasRead g stream answers) view r)
 
--- what is held whole is a whole record
+-- held octets that are whole are one whole record
 pub is_one : (newest n : ℕ) (rest : List ℕ) → newest ≤ 3 → IsHeld newest rest → whole_up_to newest rest ≡ Length n
     → IsWhole rest
 is_one newest n rest le held e = whole_of_all newest rest n le e ∙ ap Length (held_whole newest rest n held e)

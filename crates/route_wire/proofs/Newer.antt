@@ -1,4 +1,4 @@
--- Which of two values is newer by their numbers, and that keys can be told apart.
+-- Which of two values is newer by their numbers, and that two keys are equal or not.
 use Rattle.std.proofs.Common.{◌≡◌, ◌≢◌, ◌⊎◌, inl, inr, ℕ, ◌≤◌, ◌<◌, Bool, true, false, nat_lt, nat_cmp, refl, sym, ap}
 use Rattle.std.proofs.Common.{subst, ◌∙◌, arith}
 use Rattle.std.proofs.lemmas.Bool.Decides.{nat_tests}

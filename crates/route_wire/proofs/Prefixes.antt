@@ -1,4 +1,4 @@
--- What stands behind a record changes nothing of it.
+-- The octets after a record do not change how it is read.
 use Rattle.std.proofs.Common.{◌≡◌, ℕ, ◌+◌, ◌<◌, ◌≤◌, false, nat_lt, cond, List, length, take, slice_index, None, sym}
 use Rattle.std.proofs.Common.{ap, ◌∙◌, arith, lit<}
 use Rattle.std.proofs.lemmas.Bool.{lt-ltb}
@@ -65,6 +65,6 @@ finds s (Length n) h =
     let l = found_long 3 s n h in
     (omega arith, l.3, whole_front 3 s n h ∙ ap Length (sym (length-take-le n s l.3)))
 
--- what is found lies at the front of the stream
+-- a whole record that is found is at the front of the stream
 pub finds_whole : (s : List ℕ) (w : Whole) → w ≡ whole_of s → FindsWhole s w
 finds_whole s w h = finds s w (sym h)

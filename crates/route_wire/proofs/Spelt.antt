@@ -1,4 +1,4 @@
--- What is written is read again.
+-- Each record that is written is read as its update.
 use Rattle.std.proofs.Common.{◌≡◌, ℕ, ◌%◌, ◌<◌, ◌^◌, Bool, true, false, not, ◌||◌, ◌==◌, cond, List, [], ◌∷◌, ◌++◌}
 use Rattle.std.proofs.Common.{Option, Some, None, Ok, refl, sym, ap, subst, ◌∙◌, eq-eqb, arith, length, length-append}
 use Rattle.std.proofs.Math.Seq.{take-append_seam, drop-append_seam}
@@ -33,7 +33,7 @@ pub none_of : (tests : List (Bool × ℕ)) → AllUnmet tests → first_of tests
 none_of [] u = refl
 none_of (test ∷ tests) u = ap (λ b. cond b (Some test.1) (first_of tests)) u.0 ∙ none_of tests u.1
 
--- what follows the route of an advert: a community, or nothing
+-- the octets after the route of an advert: a community, or nothing
 abbrev after : Bool → Bool → ℕ → List ℕ
 after true s n = 6 ∷ 0 ∷ cond s 1 0 ∷ 0 ∷ big_bytes 4 n
 after false s n = []

@@ -52,7 +52,7 @@ next_holds_none m = go (shown m) refl
     go (Fault f) e = ap is_length e
     go (Length n) e = refl
 
--- what comes next is what is shown, and all stays
+-- if no whole record is held, `next` changes nothing
 pub same_after : (h : Held) → is_length (shown h) ≡ false → after_next h ≡ h
 same_after h e = ap (λ (r : List ℕ). record { newest = h.newest; rest = r }) (go (shown h) e)
   where

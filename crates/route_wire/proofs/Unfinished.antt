@@ -1,4 +1,4 @@
--- What the beginning of a stream shows stays, whatever follows it.
+-- The result for the beginning of a stream does not change with the octets after it.
 use Rattle.std.proofs.Common.{◌≡◌, ℕ, ◌+◌, ◌<◌, ◌≤◌, Bool, true, false, not, ◌&&◌, ◌||◌, ◌==◌, nat_lt, cond, List, ◌++◌}
 use Rattle.std.proofs.Common.{length, slice_index, Option, Some, None, refl, sym, ap, ◌∙◌, arith, length-append}
 use Rattle.std.proofs.Math.ListN.{get_or-append}
@@ -103,7 +103,7 @@ module _ (newest : ℕ) where
     fault_stays = step 0 (length s) (length t) le (c0 s) (c0 t) (λ less. let e = at 0 less in
         cc) 1 f (from1 s) (from1 t) (λ less e. stays1 e) (λ end. none1 s (omega arith))
 
--- ---- what is shown
+-- ---- the result for a stream
 late : (a b : Bool) (m : ℕ) → is_fault (cond a Rest (cond b Rest (Length m))) ≡ false
 late true b m = refl
 late false true m = refl
@@ -129,7 +129,7 @@ at_end : (a b : Bool) (m : ℕ) → a ≡ false → b ≡ true → is_rest (cond
 at_end a b m ea eb = ap (λ (x : Bool). is_rest (cond x Rest (cond b Rest (Length m)))) ea
     ∙ ap (λ (y : Bool). is_rest (cond y Rest (Length m))) eb
 
--- a record goes on after its first octets until its length is reached
+-- a record continues after its first octets until its length is reached
 module _ (newest : ℕ) (s t : List ℕ) (six : 6 ≤ length s) (rest : is_rest (whole_up_to newest s) ≡ true) where
   no_fault : fault_of newest (s ++ t) ≡ None
   no_fault =
@@ -157,8 +157,8 @@ module _ (newest : ℕ) (s t : List ℕ) (six : 6 ≤ length s) (rest : is_rest 
       let f = follows in
       ap is_rest (is_whole newest (s ++ t) no_fault (omega arith) (omega arith))
 
--- ---- what is held
--- a record that is held whole is all that is held
+-- ---- held records
+-- if a record is held whole, no other octets are held
 pub held_whole : (newest : ℕ) (s : List ℕ) (n : ℕ) → IsHeld newest s → whole_up_to newest s ≡ Length n → n ≡ length s
 held_whole newest s n held h = go (nat_lt n (length s)) refl
   where
@@ -179,7 +179,7 @@ newer_version true false old new imp h = go new refl
     go false e = e
 newer_version false zero old new imp h = refl
 
--- what is whole of records up to a version is whole of records of all versions
+-- a record that is whole for versions up to `newest` is whole for all versions
 pub whole_of_all : (newest : ℕ) (s : List ℕ) (n : ℕ) → newest ≤ 3 → whole_up_to newest s ≡ Length n
     → whole_up_to 3 s ≡ Length n
 whole_of_all newest s n le h =

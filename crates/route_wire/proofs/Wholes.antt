@@ -7,7 +7,7 @@ use Rattle.ether_wire.specs.Frame.{first_of}
 use Rattle.route_wire.specs.Stream.{follow_of, least_of, fault_tests, fault_of, whole_or_rest, whole_up_to, IsWhole}
 use Rattle.route_wire.specs.Record.{route_place}
 
--- where no test is met
+-- no test is met
 abbrev pub AllUnmet : List (Bool × ℕ) → Type 0
 AllUnmet [] = Unit {0}
 AllUnmet (test ∷ tests) = (test.0 ≡ false) × AllUnmet tests
@@ -32,7 +32,7 @@ ends_whole s (Some f) n h = cc
 ends_whole s None n h = let e = ends_at (nat_lt (length s) 6) (nat_lt (length s) (6 + follow_of s)) (6 + follow_of s) n
     h in (refl, e.0, e.1, e.2)
 
--- where neither the length is short nor the test met, the number is large
+-- if the length isn't short and the test isn't met, the number is large
 last_test : (l follow least : ℕ) → nat_lt l 6 ≡ false → nat_lt 5 l && (nat_lt follow least || nat_lt 512 follow) ≡ false
     → (least ≤ follow) × (follow ≤ 512)
 last_test l follow least a b = grind (arith, nat_tests)

@@ -43,18 +43,18 @@ mac_route o vni mac ip label2 =
 abbrev pub flood_route : ℕ → List ℕ
 flood_route o = FLOOD_ROUTE ∷ FLOOD_LEN ∷ (distinguisher o ++ (0 ∷ 0 ∷ 0 ∷ 0 ∷ BITS_OF_ROUTER ∷ big_bytes 4 o))
 
--- a MAC Mobility community, where there is something to tell
+-- a MAC Mobility community, if the MAC is static or the sequence number isn't 0
 abbrev pub community : Bool → ℕ → List ℕ
 community is_static sequence =
     if is_static || not (sequence == 0) then COMMUNITY_TYPE ∷ 0 ∷ (if is_static then 1 else 0) ∷ 0
     ∷ big_bytes 4 sequence else []
 
--- what stands after the route of a MAC: a withdrawal has no community
+-- the octets after the route of a MAC: a withdrawal has no community
 abbrev pub mobility : Content → List ℕ
 mobility Withdrawn = []
 mobility (Advertised a) = community a.is_static a.sequence
 
--- the route and what stands after it
+-- the route and the octets after it
 abbrev pub route_octets : ℕ → Key → Content → List ℕ
 route_octets o (Flood vni) content = flood_route o
 route_octets o (Mac vni mac ip) content = mac_route o vni mac ip (label2_of content) ++ mobility content

@@ -1,4 +1,4 @@
--- A feed: what it holds of a stream that comes in pieces.
+-- A feed: the octets that it holds of a stream that comes in pieces.
 use Rattle.std.specs.Prelude.{◌≡◌, ℕ, ◌<◌, ◌≤◌, Bool, true, false, ◌==◌, if◌then◌else◌, List, [], ◌∷◌, ◌++◌, length}
 use Rattle.std.specs.Prelude.{take, Result, Ok, Err}
 use Rattle.std.specs.Bool.{OnTrue, OnFalse}
@@ -26,7 +26,7 @@ is_fault Rest = false
 is_fault (Fault fault) = true
 is_fault (Length n) = false
 
--- what the octets that are held show
+-- the result for the held octets
 abbrev pub shown : Held → Whole
 shown h = whole_up_to h.newest h.rest
 
@@ -51,7 +51,7 @@ abbrev pub Feeds : Held → Held → List ℕ → ℕ → Type 0
 Feeds old new piece n = OnTrue (is_fault (shown old)) (Skips old new piece n)
     × OnFalse (is_fault (shown old)) (Takes old new piece n)
 
--- what comes next: nothing yet, the answer of a whole record, or the fault
+-- the answer of `next`: nothing yet, the answer to a whole record, or the fault
 abbrev pub answer_of : Result Fields ℕ → Next
 answer_of (Ok u) = Record u
 answer_of (Err refusal) = Refused refusal
@@ -64,7 +64,7 @@ next_by (Length n) rest = answer_of (reading rest)
 abbrev pub next_of : Held → Next
 next_of h = next_by (shown h) h.rest
 
--- a whole record is given once
+-- `next` returns a whole record once
 abbrev pub rest_by : Whole → List ℕ → List ℕ
 rest_by Rest rest = rest
 rest_by (Fault fault) rest = rest
@@ -73,14 +73,14 @@ rest_by (Length n) rest = []
 abbrev pub after_next : Held → Held
 after_next h = record { newest = h.newest; rest = rest_by (shown h) h.rest }
 
--- Octets of a piece are taken, and then it is told what comes next.
+-- Octets of a piece are taken, and then the next answer is returned.
 pub record TakesNext (old new : Held) (piece : List ℕ) (n : ℕ) (told : Next) : Type 0 where
   pub mid : Held
   pub feeds : Feeds old mid piece n
   pub next : told ≡ next_of mid
   pub after : new ≡ after_next mid
 
--- where the stream ends
+-- the end of the stream
 abbrev pub end_of : Held → Result (Unit {0}) Truncated
 end_of h = if length h.rest == 0 then Ok tt else Err (record { octets = length h.rest })
 
@@ -92,8 +92,7 @@ added (Record u) = Ok u ∷ []
 added (Refused refusal) = Err refusal ∷ []
 added (Faulty fault) = []
 
--- Of the stream that was taken so far these answers were given, and the rest is held; of what came after a fault
--- nothing is.
+-- These answers were given for the stream taken so far, and the rest is held. Octets after a fault are not held.
 pub record HasRead (h : Held) (stream : List ℕ) (answers : List (Result Fields ℕ)) : Type 0 where
   pub skipped : List ℕ
   pub reads : ReadsUpTo h.newest stream answers (h.rest ++ skipped)

@@ -1,4 +1,4 @@
--- What an update says (RFC 7432, sections 7.2, 7.3 and 15).
+-- The content of an update (RFC 7432, sections 7.2, 7.3 and 15).
 use Rattle.std.specs.Prelude.{◌≡◌, ◌<◌, Bool, true, false, not, None}
 use Rattle.ether_wire.specs.Addr.{is_group}
 use Rattle.route_wire.specs.declared.update.Key.{Key}
@@ -19,17 +19,17 @@ abbrev pub is_individual : Key → Bool
 is_individual (Flood vni) = true
 is_individual (Mac vni mac ip) = not (is_group mac)
 
--- all that an advert of a flood list says
+-- the only advert of a flood list
 abbrev pub flood_advert : Advert
 flood_advert = record { is_static = false; sequence = 0; label2 = None }
 
--- what may be said of the key
+-- the contents that the key may have
 abbrev pub FitsKey : Key → Content → Type 0
 FitsKey (Flood vni) Withdrawn = Unit {0}
 FitsKey (Flood vni) (Advertised a) = a ≡ flood_advert
 FitsKey (Mac vni mac ip) content = Unit {0}
 
--- what makes an update well formed
+-- the conditions of a well formed update
 pub record IsUpdate (u : Fields) : Type 0 where
   pub counted : 0 < u.value.counter
   pub individual : is_individual u.register.key ≡ true

@@ -1,4 +1,4 @@
--- What is promised of newer and older updates, and of records that follow each other.
+-- The laws on newer and older updates, and on consecutive records.
 use Rattle.std.specs.Prelude.{◌≡◌, ◌≢◌, ◌⊎◌, ℕ, ◌≤◌, ◌<◌, true, false, List, [], ◌++◌, Result}
 use Rattle.std.specs.Cmp.{IsTotalOrder}
 use Rattle.std.specs.FinMap.{IsAntisymmetric}
@@ -15,7 +15,7 @@ abbrev pub NeverEquallyNew : Type 0
 NeverEquallyNew = (u v : Fields) → u.register ≡ v.register → is_newer u.value v.value ≡ false
     → is_newer v.value u.value ≡ false → u ≡ v
 
--- values are totally ordered, and equal in that order only where they are the same
+-- values are totally ordered, and equal in that order only if they are the same
 abbrev pub NewestFirst : Type 0
 NewestFirst = IsTotalOrder value_cmp × IsAntisymmetric value_cmp
 
@@ -33,7 +33,7 @@ NotNewerLower = (low high : Value) → low.incarnation ≡ high.incarnation → 
 abbrev pub NotNewerEarlier : Type 0
 NotNewerEarlier = (early late : Value) → early.incarnation < late.incarnation → is_newer early late ≡ false
 
--- so what is newer is of no earlier incarnation
+-- so a newer value is of no earlier incarnation
 abbrev pub NewerNotEarlier : Type 0
 NewerNotEarlier = (new old : Value) → is_newer new old ≡ true → old.incarnation ≤ new.incarnation
 
@@ -45,7 +45,7 @@ NotNewerItself = (v : Value) → is_newer v v ≡ false
 abbrev pub KeyOrOther : Type 0
 KeyOrOther = (k j : Key) → (k ≡ j) ⊎ (k ≢ j)
 
--- the registers of one originator stand in the order of their keys
+-- the registers of one originator are in the order of their keys
 abbrev pub KeysInOrder : Type 0
 KeysInOrder = (originator : ℕ) (k j : Key) → register_cmp (record { originator = originator; key = k })
     (record { originator = originator; key = j }) ≡ key_cmp k j
@@ -60,7 +60,7 @@ OneReading = (newest : ℕ) (stream : List ℕ) (answers others : List (Result F
     → AnswersUpTo newest stream answers rest → AnswersUpTo newest stream others last
     → (answers ≡ others) × (rest ≡ last)
 
--- Where a feed that was given a stream in any pieces holds no whole record, it gave the stream's answers, and shows how
+-- If a feed that was given a stream in any pieces holds no whole record, it gave the stream's answers, and shows how
 -- the stream ends.
 abbrev pub EveryCutting : Type 0
 EveryCutting = (h : Held) (stream : List ℕ) (answers : List (Result Fields ℕ)) → HasRead h stream answers
@@ -68,7 +68,7 @@ EveryCutting = (h : Held) (stream : List ℕ) (answers : List (Result Fields ℕ
     → (rest : List ℕ) × AnswersUpTo h.newest stream answers rest × (whole_up_to h.newest rest ≡ shown h)
     × (is_rest (shown h) ≡ true → rest ≡ h.rest)
 
--- two feeds that were given one stream in any pieces gave the same answers, and show the same
+-- two feeds that were given one stream in any pieces gave the same answers, and have the same result
 abbrev pub CuttingsAgree : Type 0
 CuttingsAgree = (h g : Held) (stream : List ℕ) (answers others : List (Result Fields ℕ)) → h.newest ≡ g.newest
     → HasRead h stream answers → HasRead g stream others

@@ -1,7 +1,7 @@
 -- The numbers of a record and of its route, each with the section that it is from.
 use Rattle.std.specs.Prelude.{ℕ}
 
--- a record begins with `EV`, version, kind and a length of two octets, after which as many octets follow
+-- a record begins with `EV`, version, kind and a length of two octets, the number of octets after it
 abbrev pub MAGIC_FIRST : ℕ
 MAGIC_FIRST = 0x45
 
@@ -36,7 +36,7 @@ ADVERTISES = 1
 abbrev pub WITHDRAWS : ℕ
 WITHDRAWS = 2
 
--- how many octets follow the length: at least in version 1, at least in later ones, and at most
+-- the number of octets after the length: the minimum in version 1, the minimum in later versions, and the maximum
 abbrev pub LEAST_FIRST : ℕ
 LEAST_FIRST = 15
 
@@ -197,7 +197,7 @@ BAD_MAC = 11
 abbrev pub COUNTER_ZERO : ℕ
 COUNTER_ZERO = 14
 
--- the refusals of an update by whoever takes it
+-- the refusals of an update by its receiver
 abbrev pub UNKNOWN_ORIGINATOR : ℕ
 UNKNOWN_ORIGINATOR = 12
 

@@ -1,4 +1,4 @@
--- The sixteen octets of an IPv6 address, and that they are as good as its number.
+-- The sixteen octets of an IPv6 address, and that they represent its number exactly.
 use Rattle.std.proofs.Common.{ℕ, ◌/◌, ◌^◌, List, ◌∷◌}
 use Rattle.byteorder.specs.Endian.{big_bytes}
 

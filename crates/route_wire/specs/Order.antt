@@ -46,7 +46,7 @@ abbrev pub ip_of : Key → Option Ip
 ip_of (Flood vni) = None
 ip_of (Mac vni mac ip) = ip
 
--- of keys, and so of the registers of one originator: the same without the originator
+-- the order of keys, and so of the registers of one originator: report order without the originator
 abbrev pub key_cmp : Key → Key → Ordering
 key_cmp a b = ordering_then (nat_cmp (vni_of a) (vni_of b))
     (ordering_then (nat_cmp (place_of a) (place_of b)) (ip_cmp (ip_of a) (ip_of b)))
@@ -57,7 +57,7 @@ register_cmp a b =
     (ordering_then (nat_cmp a.originator b.originator) (ip_cmp (ip_of a.key) (ip_of b.key))))
 
 -- ---- newer: incarnation, then counter, then content
--- withdrawn is lowest, then what is dynamic, then what is static
+-- withdrawn is lowest, then dynamic, then static
 abbrev pub rank_of : Content → ℕ
 rank_of Withdrawn = 0
 rank_of (Advertised a) = if a.is_static then 2 else 1

@@ -65,7 +65,7 @@ key_in h r = if is_mac_route r then Mac h.vni (big_number 6 (drop MAC_PLACE r))
 abbrev pub is_flagged : ℕ → Bool
 is_flagged flags = flags % 2 == 1
 
--- where no community follows, each of its octets counts as 0
+-- if no community follows, each of its octets counts as 0
 abbrev pub advert_in : List ℕ → Advert
 advert_in r = record {
   is_static = is_flagged (slice_index (tail_of r) FLAGS_PLACE);
@@ -87,7 +87,7 @@ abbrev pub unless_refused : Option ℕ → Fields → Result Fields ℕ
 unless_refused None u = Ok u
 unless_refused (Some refusal) u = Err refusal
 
--- what a whole record says: its update, or its refusal
+-- the result for a whole record: its update, or its refusal
 unfoldable pub reading : List ℕ → Result Fields ℕ
 reading bytes = unless_refused (refusal_of (header_in bytes) (route_of bytes))
     (update_in (header_in bytes) (route_of bytes))
@@ -97,13 +97,13 @@ abbrev pub Spells : List ℕ → Fields → Type 0
 Spells bytes u = IsWhole bytes × (reading bytes ≡ Ok u)
 
 -- ---- streams
--- a stream of records up to a version begins with whole records of these answers, and goes on with the rest
+-- a stream of records up to a version begins with whole records of these answers, and continues with the rest
 abbrev pub ReadsUpTo : ℕ → List ℕ → List (Result Fields ℕ) → List ℕ → Type 0
 ReadsUpTo newest s [] rest = s ≡ rest
 ReadsUpTo newest s (answer ∷ answers) rest = (n : ℕ) × (whole_up_to newest s ≡ Length n) × (reading (take n s) ≡ answer)
     × ReadsUpTo newest (drop n s) answers rest
 
--- a whole record stands at the front
+-- a whole record is at the front
 abbrev pub is_length : Whole → Bool
 is_length (Length n) = true
 is_length Rest = false
@@ -114,7 +114,7 @@ pub record AnswersUpTo (newest : ℕ) (s : List ℕ) (answers : List (Result Fie
   pub reads : ReadsUpTo newest s answers rest
   pub ended : is_length (whole_up_to newest rest) ≡ false
 
--- the same of records of all versions
+-- likewise for records of all versions
 abbrev pub Reads : List ℕ → List (Result Fields ℕ) → List ℕ → Type 0
 Reads s answers rest = ReadsUpTo NEWEST s answers rest
 

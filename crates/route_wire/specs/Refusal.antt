@@ -1,4 +1,4 @@
--- The refusals of a whole record: the first test that is met tells it.
+-- The refusals of a whole record: the first test that is met decides.
 use Rattle.std.specs.Prelude.{ℕ, ◌+◌, Bool, not, ◌&&◌, ◌||◌, ◌==◌, nat_lt, if◌then◌else◌}
 use Rattle.std.specs.Prelude.{List, [], ◌∷◌, length, take, drop, slice_index, Option}
 use Rattle.std.specs.List.{list_any}
@@ -24,7 +24,7 @@ abbrev pub is_community : List ℕ → Bool
 is_community after = length after == COMMUNITY_LEN && (slice_index after 0 == COMMUNITY_TYPE
     && slice_index after 1 == 0)
 
--- after the route stands nothing, or one community after an advertised MAC
+-- nothing follows the route, or one community follows an advertised MAC
 abbrev pub is_followed_well : Header → List ℕ → Bool
 is_followed_well h r = length (tail_of r) == 0 || (is_mac_route r && (not h.is_withdrawal && is_community (tail_of r)))
 

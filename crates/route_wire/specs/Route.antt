@@ -18,7 +18,7 @@ route_len r = slice_index r 1
 abbrev pub is_mac_route : List ℕ → Bool
 is_mac_route r = route_type r == MAC_ROUTE
 
--- the length of a route of type 2 tells how many octets of IP address and whether a second label it has
+-- the length of a route of type 2 determines the number of octets of its IP address and whether it has a second label
 abbrev pub ip_len : List ℕ → ℕ
 ip_len r = if nat_lt (route_len r) MAC_LEN_V4 then 0 else if nat_lt (route_len r) MAC_LEN_V6 then 4 else 16
 
@@ -31,11 +31,11 @@ is_listed_len r =
     if is_mac_route r then route_len r == MAC_LEN + ip_len r || has_label2 r
     else route_len r == FLOOD_LEN
 
--- what stands after the route
+-- the octets after the route
 abbrev pub tail_of : List ℕ → List ℕ
 tail_of r = drop (2 + route_len r) r
 
--- the IP length octet, in bits, and what it has to be
+-- the IP length octet, in bits, and the value that it must have
 abbrev pub ip_bits : List ℕ → ℕ
 ip_bits r = slice_index r (if is_mac_route r then IP_BITS_PLACE else ROUTER_BITS_PLACE)
 

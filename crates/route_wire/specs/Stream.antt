@@ -1,4 +1,4 @@
--- Streams of records: what one begins with.
+-- Streams of records: the result for the front of a stream.
 use Rattle.std.specs.Prelude.{◌≡◌, ℕ, ◌+◌, ◌<◌, ◌≤◌, Bool, not, ◌&&◌, ◌||◌, ◌==◌, nat_lt, if◌then◌else◌, List, [], ◌∷◌}
 use Rattle.std.specs.Prelude.{length, take, drop, slice_index, Option, Some, None}
 use Rattle.byteorder.specs.Endian.{big_number}
@@ -10,7 +10,7 @@ use Rattle.route_wire.specs.Numbers.{ADVERTISES, WITHDRAWS, LEAST_FIRST, LEAST_L
 use Rattle.route_wire.specs.declared.stream.Whole.{Whole}
 use Rattle.route_wire.specs.declared.stream.Whole.TheVariants.{Rest, Fault, Length}
 
--- how many octets follow the length field, and the least number that may
+-- the number of octets after the length field, and its minimum
 abbrev pub follow_of : List ℕ → ℕ
 follow_of s = big_number 2 (drop LENGTH_PLACE s)
 
@@ -38,7 +38,7 @@ fault_tests newest s =
 abbrev pub fault_of : ℕ → List ℕ → Option ℕ
 fault_of newest s = first_of (fault_tests newest s)
 
--- with no fault, a record is whole where all octets that its length tells are there
+-- if there is no fault, a record is whole if all octets that its length counts are there
 abbrev pub whole_or_rest : List ℕ → Option ℕ → Whole
 whole_or_rest s (Some fault) = Fault fault
 whole_or_rest s None = if nat_lt (length s) HEAD then Rest else if nat_lt (length s)
@@ -47,7 +47,7 @@ whole_or_rest s None = if nat_lt (length s) HEAD then Rest else if nat_lt (lengt
 abbrev pub whole_up_to : ℕ → List ℕ → Whole
 whole_up_to newest s = whole_or_rest s (fault_of newest s)
 
--- what a stream of records of all versions begins with
+-- the result for the front of a stream of records of all versions
 abbrev pub whole_of : List ℕ → Whole
 whole_of s = whole_up_to NEWEST s
 
@@ -55,7 +55,7 @@ whole_of s = whole_up_to NEWEST s
 abbrev pub IsWhole : List ℕ → Type 0
 IsWhole bytes = whole_of bytes ≡ Length (length bytes)
 
--- a whole record that was found lies at the front of the stream
+-- a whole record that was found is at the front of the stream
 abbrev pub FindsWhole : List ℕ → Whole → Type 0
 FindsWhole s Rest = Unit {0}
 FindsWhole s (Fault fault) = Unit {0}

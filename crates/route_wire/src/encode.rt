@@ -50,7 +50,7 @@ fn put_addr6(out: &mut Octets, address: Addr6)
     put(out, &address.number().to_be_bytes());
 }
 
-/// Appends the three octets of a network.
+/// Appends the three octets of a VNI.
 fn put_vni(out: &mut Octets, vni: Vni)
     requires { array_vec_len out.old + 3 ≤ LONGEST }
     ensures items { out.new.items ≡ out.old.items ++ big_bytes 3 vni }
@@ -82,7 +82,7 @@ fn put_distinguisher(out: &mut Octets, originator: Addr)
     put(out, &[0, 1]);
 }
 
-/// How many octets an IP address has.
+/// Returns the number of octets of an IP address.
 fn ip_octets_len(ip: Option<Ip>) -> u8
     ensures value { result ≡ length (ip_octets ip) }
     ensures small { result ≤ 16 }
@@ -107,7 +107,7 @@ fn put_ip(out: &mut Octets, ip: Option<Ip>)
     }
 }
 
-/// How many octets a second label has.
+/// Returns the number of octets of a second label.
 fn label2_octets_len(label2: Option<Vni>) -> u8
     ensures value { result ≡ length (label2_octets label2) }
     ensures small { result ≤ 3 }
@@ -171,7 +171,7 @@ fn put_flood_route(out: &mut Octets, originator: Addr)
     put_addr(out, originator);
 }
 
-/// Appends a community where there is something to tell.
+/// Appends a community if the MAC is static or the sequence number isn't 0.
 fn put_community(out: &mut Octets, is_static: bool, sequence: u32)
     requires { array_vec_len out.old + 8 ≤ LONGEST }
     ensures items { out.new.items ≡ out.old.items ++ community is_static sequence }
@@ -183,7 +183,7 @@ fn put_community(out: &mut Octets, is_static: bool, sequence: u32)
     }
 }
 
-/// The second label that is written: a withdrawal has none.
+/// Returns the second label that is written: a withdrawal has none.
 fn label2_of(content: &Content) -> Option<Vni>
     ensures { result ≡ label2_of content.now }
 {
@@ -193,7 +193,7 @@ fn label2_of(content: &Content) -> Option<Vni>
     }
 }
 
-/// Appends what stands after the route of a MAC.
+/// Appends the octets after the route of a MAC.
 fn put_mobility(out: &mut Octets, content: &Content)
     requires { array_vec_len out.old + 8 ≤ LONGEST }
     ensures items { out.new.items ≡ out.old.items ++ mobility content.now }
@@ -205,7 +205,7 @@ fn put_mobility(out: &mut Octets, content: &Content)
     }
 }
 
-/// The route of a register, and what stands after it.
+/// Returns the route of a register, and the octets after it.
 fn route(register: &Register, content: &Content) -> Octets
     ensures items { result.items
         ≡ route_octets register.now.originator register.now.key content.now }
@@ -230,7 +230,7 @@ fn route(register: &Register, content: &Content) -> Octets
     out
 }
 
-/// 1 advertises, 2 withdraws.
+/// Returns 1 for an advert, 2 for a withdrawal.
 fn kind_of(content: &Content) -> u8
     ensures { result ≡ kind_of content.now }
 {
@@ -240,7 +240,7 @@ fn kind_of(content: &Content) -> u8
     }
 }
 
-/// The record of a register and a value, with this route.
+/// Returns the record of a register and a value, with this route.
 fn record(register: &Register, value: &Value, route: &[u8]) -> Octets
     requires { length route.now ≤ 62 }
     ensures fits { vni_of register.now.key < 2 ^ 24 }
@@ -263,8 +263,8 @@ fn record(register: &Register, value: &Value, route: &[u8]) -> Octets
     out
 }
 
-/// The record of version 3 that spells the update, of at most 87 octets. It has a community only
-/// where there is a sequence number or a static flag to tell. A withdrawal has its key's IP
+/// Returns the record of version 3 that spells the update, of at most 87 octets. It has a community
+/// only if the sequence number isn't 0 or the static flag is set. A withdrawal has its key's IP
 /// address and no second label.
 pub fn write(update: &Update) -> ArrayVec<u8, LONGEST>
     ensures octets { result.items ≡ spelling_of update.now }

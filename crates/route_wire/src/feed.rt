@@ -33,14 +33,15 @@ impl Model for Feed {
     ghost invariant = { λ f. (f.newest ≤ 3) × IsHeld f.newest f.held.items };
 }
 
-/// Whether the octets are a proper beginning of a record.
+/// Returns `true` if the octets are a proper beginning of a record.
 fn is_unfinished(newest: u8, octets: &[u8]) -> bool
     ensures { result ≡ is_rest (whole_up_to newest octets.now) }
 {
     matches!(whole_up_to(newest, octets), Whole::Rest)
 }
 
-/// Moves octets from the piece until six are held or they show a fault. How many it moves.
+/// Moves octets from the piece until six are held or they show a fault. Returns the number of
+/// octets moved.
 fn take_head(newest: u8, held: &mut ArrayVec<u8, LONGEST>, piece: &[u8]) -> usize
     requires { is_rest (whole_up_to newest held.old.items) ≡ true }
     ensures fits { result ≤ length piece.now }
@@ -59,7 +60,7 @@ fn take_head(newest: u8, held: &mut ArrayVec<u8, LONGEST>, piece: &[u8]) -> usiz
     piece.len()
 }
 
-/// Moves octets of a record whose length is known from the piece. How many it moves.
+/// Moves octets of a record with a known length from the piece. Returns the number of octets moved.
 fn take_body(newest: u8, held: &mut ArrayVec<u8, LONGEST>, piece: &[u8]) -> usize
     requires six { 6 ≤ length held.old.items }
     requires rest { is_rest (whole_up_to newest held.old.items) ≡ true }
@@ -78,7 +79,8 @@ fn take_body(newest: u8, held: &mut ArrayVec<u8, LONGEST>, piece: &[u8]) -> usiz
     }
 }
 
-/// Moves octets from the piece until a record or a fault is whole. How many it moves.
+/// Moves octets from the piece until a record or a fault is whole. Returns the number of octets
+/// moved.
 fn take_octets(newest: u8, held: &mut ArrayVec<u8, LONGEST>, piece: &[u8]) -> usize
     requires { is_rest (whole_up_to newest held.old.items) ≡ true }
     ensures fits { result ≤ length piece.now }
@@ -95,7 +97,7 @@ fn take_octets(newest: u8, held: &mut ArrayVec<u8, LONGEST>, piece: &[u8]) -> us
     head + take_body(newest, held, rest)
 }
 
-/// What a whole record says.
+/// Returns the answer to a whole record.
 fn answer(reading: Result<Update, u8>) -> Next
     ensures { result ≡ answer_of reading }
 {
@@ -109,7 +111,7 @@ impl Feed {
     ghost use Rattle.route_wire.specs.declared.stream.Next.TheVariants.{More};
     ghost use Rattle.route_wire.specs.Feed.{shown, Feeds, TakesNext, next_of, after_next, end_of, added, HasRead};
 
-    /// A feed of records of all versions.
+    /// Returns a feed of records of all versions.
     pub fn new() -> Self
         ensures value { result ≡ record { newest = 3; rest = [] } }
         ensures read { HasRead result [] [] }
@@ -120,7 +122,7 @@ impl Feed {
         }
     }
 
-    /// A feed of records of versions 1 and 2 alone: version 3 is fault 2.
+    /// Returns a feed of records of versions 1 and 2 only: version 3 is fault 2.
     pub fn old() -> Self
         ensures value { result ≡ record { newest = 2; rest = [] } }
         ensures read { HasRead result [] [] }
@@ -131,8 +133,9 @@ impl Feed {
         }
     }
 
-    /// Takes octets from the piece until a record or a fault is whole or the piece ends, and tells
-    /// how many. After a fault it takes all. While a whole record is held it takes none.
+    /// Takes octets from the piece until a record or a fault is whole or the piece ends, and
+    /// returns their number. After a fault it takes all. While a whole record is held it takes
+    /// none.
     pub fn feed(&mut self, piece: &[u8]) -> usize
         ensures fits { result ≤ length piece.now }
         ensures feeds { Feeds self.old self.new piece.now result }
@@ -147,8 +150,8 @@ impl Feed {
         }
     }
 
-    /// What comes next: the answer of the record that is held whole, which is then let go, or the
-    /// fault, or nothing yet.
+    /// Returns the answer to the record that is held whole, and discards the record; or the fault;
+    /// or `More` if there is neither.
     pub fn next(&mut self) -> Next
         ensures value { result ≡ next_of self.old }
         ensures after { self.new ≡ after_next self.old }
@@ -168,9 +171,9 @@ impl Feed {
         }
     }
 
-    /// Takes octets from the piece as `feed` does, and tells what comes next as `next` does:
-    /// how many octets, and what. A record that lies whole in the piece is read there; only one
-    /// that is cut is copied.
+    /// Takes octets from the piece as `feed` does, and returns their number and the answer that
+    /// `next` returns. It reads a record in place if the whole record is in the piece, and copies
+    /// only a record that is cut.
     pub fn take(&mut self, piece: &[u8]) -> (usize, Next)
         ensures fits { result.0 ≤ length piece.now }
         ensures takes { TakesNext self.old self.new piece.now result.0 result.1 }
@@ -189,7 +192,8 @@ impl Feed {
         (n, self.next())
     }
 
-    /// Whether the stream may end here, where `next` would tell `More`.
+    /// Returns `Ok` if the stream may end here, or the number of octets of an unfinished record.
+    /// The condition is that `next` would return `More`.
     pub fn end(&self) -> Result<(), Truncated>
         requires { is_rest (shown self.now) ≡ true }
         ensures { result ≡ end_of self.now }

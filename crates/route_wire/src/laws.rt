@@ -1,4 +1,4 @@
-//! Laws: functions that do nothing, whose contracts are what holds.
+//! Laws: functions that do nothing; their contracts are the laws.
 ghost use Rattle.route_wire.specs.Laws.{NeverEquallyNew, NewestFirst, NextNewer, NotNewerLower, NotNewerEarlier, NewerNotEarlier, NotNewerItself, KeyOrOther, KeysInOrder, NoRecordBeginsAnother, OneReading, EveryCutting, CuttingsAgree};
 
 /// Of two different updates of a register one is newer than the other.
@@ -6,7 +6,7 @@ pub fn never_equally_new()
     ensures { NeverEquallyNew }
 {}
 
-/// Values of a register are totally ordered, and equal in that order only where they are the same.
+/// Values of a register are totally ordered, and equal in that order only if they are the same.
 pub fn newest_first()
     ensures { NewestFirst }
 {}
@@ -36,12 +36,12 @@ pub fn not_newer_itself()
     ensures { NotNewerItself }
 {}
 
-/// Two keys are the same, or they aren't: a proof can ask which.
+/// Two keys are the same, or they aren't: a proof can distinguish the two cases.
 pub fn key_or_other()
     ensures { KeyOrOther }
 {}
 
-/// The registers of one originator stand in the order of their keys.
+/// The registers of one originator are in the order of their keys.
 pub fn keys_in_order()
     ensures { KeysInOrder }
 {}

@@ -6,8 +6,8 @@
 //! | 4 | originator |
 //! | 4 | incarnation, from the second version on |
 //! | 8 | counter |
-//! | 3 | network |
-//! | the rest | the route, as `route` has it, and what stands after it |
+//! | 3 | VNI |
+//! | the rest | the route, as `route` has it, and the octets after it |
 ghost use Rattle.std.specs.Prelude.{◌≡◌, ◌+◌, ◌≤◌, ◌⊎◌, if◌then◌else◌, length};
 ghost use Rattle.route_wire.specs.Stream.{IsWhole};
 ghost use Rattle.route_wire.specs.Route.{ip_len, has_label2, ip_in, label2_in, route_type, tail_of};
@@ -28,7 +28,7 @@ use ether_wire::{Addr, Mac, Vni};
 pub(crate) const ORIGINATOR_PLACE: usize = 6;
 /// The place of the counter in the first version.
 pub(crate) const FIRST_COUNTER_PLACE: usize = 10;
-/// The place of the network in the first version.
+/// The place of the VNI in the first version.
 pub(crate) const FIRST_VNI_PLACE: usize = 18;
 /// The place of the route in the first version.
 pub(crate) const FIRST_ROUTE_PLACE: usize = 21;
@@ -36,30 +36,30 @@ pub(crate) const FIRST_ROUTE_PLACE: usize = 21;
 pub(crate) const INCARNATION_PLACE: usize = 10;
 /// The place of the counter in later versions.
 pub(crate) const COUNTER_PLACE: usize = 14;
-/// The place of the network in later versions.
+/// The place of the VNI in later versions.
 pub(crate) const VNI_PLACE: usize = 22;
 /// The place of the route in later versions.
 pub(crate) const ROUTE_PLACE: usize = 25;
 
-/// What stands before the route of a record. A record of version 1 has no incarnation, which then
-/// is 0.
+/// The fields before the route of a record. A record of version 1 has no incarnation; its
+/// incarnation counts as 0.
 #[derive(Clone, Copy, Debug, PartialEq, Eq)]
 pub(crate) struct Header {
     /// 1, 2 or 3.
     pub version: u8,
-    /// Whether it withdraws.
+    /// `true` for a withdrawal.
     pub is_withdrawal: bool,
-    /// Who says it.
+    /// The originator of the update.
     pub originator: Addr,
-    /// In which of its lives.
+    /// The incarnation of the originator.
     pub incarnation: u32,
     /// The number of the update in that incarnation.
     pub counter: u64,
-    /// The network that it is about.
+    /// The VNI of the update.
     pub vni: Vni,
 }
 
-/// How many octets stand before the route.
+/// Returns the number of octets before the route.
 fn route_place(bytes: &[u8]) -> usize
     requires { FIRST_ROUTE_PLACE ≤ length bytes.now }
     ensures { result ≡ route_place bytes.now }
@@ -71,7 +71,7 @@ fn route_place(bytes: &[u8]) -> usize
     }
 }
 
-/// The header of a record of the first version.
+/// Returns the header of a record of the first version.
 fn first_header_in(bytes: &[u8]) -> Header
     requires { FIRST_ROUTE_PLACE ≤ length bytes.now }
     ensures { result ≡ first_header_in bytes.now }
@@ -86,7 +86,7 @@ fn first_header_in(bytes: &[u8]) -> Header
     }
 }
 
-/// The header of a record of a later version.
+/// Returns the header of a record of a later version.
 fn later_header_in(bytes: &[u8]) -> Header
     requires { ROUTE_PLACE ≤ length bytes.now }
     ensures { result ≡ later_header_in bytes.now }
@@ -101,7 +101,7 @@ fn later_header_in(bytes: &[u8]) -> Header
     }
 }
 
-/// What stands before the route.
+/// Returns the fields before the route.
 fn header_in(bytes: &[u8]) -> Header
     requires least { FIRST_ROUTE_PLACE ≤ length bytes.now }
     requires fits { route_place bytes.now ≤ length bytes.now }
@@ -114,7 +114,7 @@ fn header_in(bytes: &[u8]) -> Header
     }
 }
 
-/// The IP address of a MAC's route.
+/// Returns the IP address of a MAC's route.
 fn ip_in(route: &[u8]) -> Option<Ip>
     requires { LABEL2_PLACE + ip_len route.now ≤ length route.now }
     ensures { result ≡ ip_in route.now }
@@ -126,7 +126,7 @@ fn ip_in(route: &[u8]) -> Option<Ip>
     }
 }
 
-/// The second label of a MAC's route.
+/// Returns the second label of a MAC's route.
 fn label2_in(route: &[u8]) -> Option<Vni>
     requires { LABEL2_PLACE + ip_len route.now
         + (if has_label2 route.now then 3 else 0) ≤ length route.now }
@@ -139,14 +139,14 @@ fn label2_in(route: &[u8]) -> Option<Vni>
     }
 }
 
-/// The lowest bit tells that the address can't move.
+/// Returns `true` if the lowest bit is set: the address can't move.
 fn is_flagged(flags: u8) -> bool
     ensures { result ≡ is_flagged flags }
 {
     flags % 2 == 1
 }
 
-/// What is advertised by a MAC's route and what stands after it.
+/// Returns the advert of a MAC's route and the octets after it.
 fn advert_in(route: &[u8]) -> Advert
     requires fits { HasRoute route.now }
     requires mac { route_type route.now ≡ MAC_ROUTE }
@@ -169,14 +169,14 @@ fn advert_in(route: &[u8]) -> Advert
     }
 }
 
-/// Whether it is a withdrawal of an earlier version than the newest.
+/// Returns `true` if the record is a withdrawal of an earlier version than the newest.
 fn names_no_ip(header: &Header) -> bool
     ensures { result ≡ names_no_ip header.now }
 {
     header.is_withdrawal && header.version != NEWEST
 }
 
-/// What the route is about.
+/// Returns the key of the route.
 fn key_in(header: &Header, route: &[u8]) -> Key
     requires { HasRoute route.now }
     ensures { result ≡ key_in header.now route.now }
@@ -192,7 +192,7 @@ fn key_in(header: &Header, route: &[u8]) -> Key
     Key::Mac(header.vni, Mac::from_octets(&route[MAC_PLACE..]), ip)
 }
 
-/// What is said of it.
+/// Returns the content of the update.
 fn content_in(header: &Header, route: &[u8]) -> Content
     requires { IsReadable header.now route.now }
     ensures { result ≡ content_in header.now route.now }
@@ -210,7 +210,7 @@ fn content_in(header: &Header, route: &[u8]) -> Content
     })
 }
 
-/// The update of a record that isn't refused.
+/// Returns the update of a record that isn't refused.
 fn update_in(header: &Header, route: &[u8]) -> Update
     requires { IsReadable header.now route.now }
     ensures { result ≡ update_in header.now route.now }
@@ -227,9 +227,9 @@ fn update_in(header: &Header, route: &[u8]) -> Update
     Update::new(register, value)
 }
 
-/// The update that a whole record spells, or its refusal, the first that applies: UnknownType (5),
-/// BadRoute (6), RdMismatch (7), Multihomed (8), TagUnsupported (9), LabelMismatch (10), BadMac
-/// (11) or CounterZero (14).
+/// Returns the update that a whole record spells, or its refusal, the first that applies:
+/// UnknownType (5), BadRoute (6), RdMismatch (7), Multihomed (8), TagUnsupported (9), LabelMismatch
+/// (10), BadMac (11) or CounterZero (14).
 #[tactic(auto, using(crate::proofs::Wholes::whole_long))]
 pub fn read_one(bytes: &[u8]) -> Result<Update, u8>
     requires { IsWhole bytes.now }

@@ -21,21 +21,21 @@ use crate::route::{
 use byteorder::{BigEndian, ByteOrder};
 use ether_wire::{Mac, Vni};
 
-/// There is a route type, and it is neither a MAC's nor a flood list's.
+/// Returns `true` if there is a route type, and it is neither a MAC's nor a flood list's.
 fn is_unknown_type(route: &[u8]) -> bool
     ensures { result ≡ is_unknown_type route.now }
 {
     !route.is_empty() && route[0] != MAC_ROUTE && route[0] != FLOOD_ROUTE
 }
 
-/// A MAC Mobility community.
+/// Returns `true` if the octets are a MAC Mobility community.
 fn is_community(after: &[u8]) -> bool
     ensures { result ≡ is_community after.now }
 {
     after.len() == COMMUNITY_LEN && after[0] == COMMUNITY_TYPE && after[1] == 0
 }
 
-/// After the route stands nothing, or one community after an advertised MAC.
+/// Returns `true` if nothing follows the route, or one community follows an advertised MAC.
 fn is_followed_well(header: &Header, route: &[u8]) -> bool
     requires short { 2 ≤ length route.now }
     ensures { result ≡ is_followed_well header.now route.now }
@@ -49,7 +49,8 @@ fn is_followed_well(header: &Header, route: &[u8]) -> bool
     after.is_empty() || route[0] == MAC_ROUTE && !header.is_withdrawal && is_community(after)
 }
 
-/// The route's lengths don't fit each other or the record, or something else follows it.
+/// Returns `true` if the route's lengths don't fit each other or the record, or something else
+/// follows it.
 fn is_bad_route(header: &Header, route: &[u8]) -> bool
     requires { is_unknown_type route.now ≡ false }
     ensures value { result ≡ is_bad_route header.now route.now }
@@ -68,8 +69,8 @@ fn is_bad_route(header: &Header, route: &[u8]) -> bool
     !is_right || !is_followed_well(header, route)
 }
 
-/// The distinguisher isn't of type 1 with the originator's address, or the router of a flood list
-/// is another one.
+/// Returns `true` if the distinguisher isn't of type 1 with the originator's address, or the router
+/// of a flood list isn't the originator.
 fn has_other_distinguisher(header: &Header, route: &[u8]) -> bool
     requires { HasRoute route.now }
     ensures { result ≡ has_other_distinguisher header.now route.now }
@@ -81,14 +82,14 @@ fn has_other_distinguisher(header: &Header, route: &[u8]) -> bool
             && BigEndian::read_u32(&route[ROUTER_PLACE..]) != header.originator.number()
 }
 
-/// Some octet isn't 0.
+/// Returns `true` if some octet isn't 0.
 fn has_any(octets: &[u8]) -> bool
     ensures { result ≡ list_any (λ x. not (x == 0)) octets.now }
 {
     octets.iter().any(|x| *x != 0)
 }
 
-/// An advertised MAC with an Ethernet segment identifier that isn't 0.
+/// Returns `true` for an advertised MAC with an Ethernet segment identifier that isn't 0.
 fn is_multihomed(header: &Header, route: &[u8]) -> bool
     requires { HasRoute route.now }
     ensures { result ≡ is_multihomed header.now route.now }
@@ -98,7 +99,7 @@ fn is_multihomed(header: &Header, route: &[u8]) -> bool
         && has_any(&route[SEGMENT_PLACE..SEGMENT_PLACE + SEGMENT_LEN])
 }
 
-/// The Ethernet Tag isn't 0.
+/// Returns `true` if the Ethernet Tag isn't 0.
 fn is_tagged(route: &[u8]) -> bool
     requires { HasRoute route.now }
     ensures { result ≡ is_tagged route.now }
@@ -111,7 +112,7 @@ fn is_tagged(route: &[u8]) -> bool
     tag != 0
 }
 
-/// An advertised MAC whose first label isn't the record's network.
+/// Returns `true` for an advertised MAC whose first label isn't the record's VNI.
 fn has_other_label(header: &Header, route: &[u8]) -> bool
     requires { HasRoute route.now }
     ensures { result ≡ has_other_label header.now route.now }
@@ -121,7 +122,7 @@ fn has_other_label(header: &Header, route: &[u8]) -> bool
         && Vni::from_octets(&route[IP_PLACE + ip_len(route)..]) != header.vni
 }
 
-/// The length of a MAC isn't 48 bits, or it is a group address.
+/// Returns `true` if the length of a MAC isn't 48 bits, or it is a group address.
 fn has_bad_mac(route: &[u8]) -> bool
     requires { HasRoute route.now }
     ensures { result ≡ has_bad_mac route.now }
@@ -131,7 +132,7 @@ fn has_bad_mac(route: &[u8]) -> bool
             || Mac::from_octets(&route[MAC_PLACE..]).is_group())
 }
 
-/// The refusal of a whole record, the first that applies.
+/// Returns the first refusal of a whole record that applies.
 pub(crate) fn refusal(header: &Header, route: &[u8]) -> Option<u8>
     ensures value { result ≡ refusal_of header.now route.now }
     ensures accepted { IfNone result (IsReadable header.now route.now) }

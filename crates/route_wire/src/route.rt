@@ -15,7 +15,7 @@
 //! | 31 | length of the IP address in bits, 1 | |
 //! | 32 | the IP address, 0, 4 or 16; then the first label, 3; then the second, 0 or 3 | |
 //!
-//! After an advertised MAC's may stand a MAC Mobility community: type 6, subtype 0, flags, a
+//! A MAC Mobility community may follow the route of an advertised MAC: type 6, subtype 0, flags, a
 //! reserved octet, a sequence number of 4 octets.
 ghost use Rattle.std.specs.Prelude.{◌≡◌, ◌≤◌, length};
 ghost use Rattle.route_wire.specs.Route.{ip_len, has_label2, is_listed_len};
@@ -31,7 +31,7 @@ pub(crate) const RD_TYPE_PLACE: usize = 3;
 pub(crate) const RD_ADDR_PLACE: usize = 4;
 /// The place of the Ethernet segment identifier.
 pub(crate) const SEGMENT_PLACE: usize = 10;
-/// How many octets it has.
+/// The number of its octets.
 pub(crate) const SEGMENT_LEN: usize = 10;
 /// The place of the Ethernet Tag in a MAC's route.
 pub(crate) const MAC_TAG_PLACE: usize = 20;
@@ -41,9 +41,9 @@ pub(crate) const MAC_BITS_PLACE: usize = 24;
 pub(crate) const MAC_PLACE: usize = 25;
 /// The place of the length of its IP address.
 pub(crate) const IP_BITS_PLACE: usize = 31;
-/// The place of its IP address, and of the first label where there is none.
+/// The place of its IP address, or of the first label if there is no IP address.
 pub(crate) const IP_PLACE: usize = 32;
-/// The place of the second label where there is no IP address.
+/// The place of the second label if there is no IP address.
 pub(crate) const LABEL2_PLACE: usize = 35;
 /// The place of the Ethernet Tag in a flood list's route.
 pub(crate) const FLOOD_TAG_PLACE: usize = 10;
@@ -56,16 +56,16 @@ pub(crate) const ROUTER_PLACE: usize = 15;
 pub(crate) const FLOOD_LEN: u8 = 17;
 /// The length of a MAC's route without an IP address and a second label.
 pub(crate) const MAC_LEN: u8 = 33;
-/// The same with a second label.
+/// The length of a MAC's route without an IP address and with a second label.
 pub(crate) const MAC_LEN_LABEL2: u8 = 36;
 /// The least length of a MAC's route with an IPv4 address.
 pub(crate) const MAC_LEN_V4: u8 = 37;
 /// The least length of a MAC's route with an IPv6 address.
 pub(crate) const MAC_LEN_V6: u8 = 49;
 
-/// How many bits a MAC has.
+/// The number of bits of a MAC.
 pub(crate) const BITS_OF_MAC: u8 = 48;
-/// How many bits a router's address has.
+/// The number of bits of a router's address.
 pub(crate) const BITS_OF_ROUTER: u8 = 32;
 
 /// The octets of a community.
@@ -77,7 +77,7 @@ pub(crate) const FLAGS_PLACE: usize = 2;
 /// The place of its sequence number.
 pub(crate) const SEQUENCE_PLACE: usize = 4;
 
-/// How many octets of IP address a route of this length has.
+/// Returns the number of octets of the IP address in a route of this length.
 pub(crate) fn ip_len(route: &[u8]) -> usize
     requires { 2 ≤ length route.now }
     ensures { result ≡ ip_len route.now }
@@ -91,7 +91,7 @@ pub(crate) fn ip_len(route: &[u8]) -> usize
     }
 }
 
-/// Whether a route of this length has a second label.
+/// Returns `true` if a route of this length has a second label.
 pub(crate) fn has_label2(route: &[u8]) -> bool
     requires { 2 ≤ length route.now }
     ensures { result ≡ has_label2 route.now }
@@ -99,7 +99,7 @@ pub(crate) fn has_label2(route: &[u8]) -> bool
     usize::from(route[1]) == usize::from(MAC_LEN_LABEL2) + ip_len(route)
 }
 
-/// Whether a route of this type may have this length.
+/// Returns `true` if a route of this type may have this length.
 pub(crate) fn is_listed_len(route: &[u8]) -> bool
     requires { 2 ≤ length route.now }
     ensures { result ≡ is_listed_len route.now }

@@ -1,4 +1,4 @@
-//! What a stream of records begins with, by the octets that stand in front of each record:
+//! The front of a stream of records, by the octets before the body of each record:
 //!
 //! | Octets | Field |
 //! |---|---|
@@ -26,14 +26,14 @@ pub(crate) const KIND_PLACE: usize = 3;
 pub(crate) const LENGTH_PLACE: usize = 4;
 /// The place of its second octet.
 pub(crate) const LENGTH_END: usize = 5;
-/// How many octets stand before those that the length counts.
+/// The number of octets before those that the length counts.
 pub(crate) const HEAD: usize = 6;
 
 /// The first version, without an incarnation.
 pub(crate) const FIRST_VERSION: u8 = 1;
 /// The second version, in which a withdrawal names no IP address.
 pub(crate) const SECOND_VERSION: u8 = 2;
-/// The newest version, which is the one that is written.
+/// The newest version, the one that `write` writes.
 pub(crate) const NEWEST: u8 = 3;
 
 /// The kind of a record that advertises.
@@ -50,18 +50,18 @@ pub(crate) const MOST: u16 = 512;
 /// The octets of the longest record.
 pub(crate) const LONGEST: usize = 518;
 
-/// What the beginning of a stream shows.
+/// The result for the front of a stream.
 #[derive(Clone, Copy, Debug, PartialEq, Eq)]
 pub enum Whole {
     /// It is a proper beginning of a record.
     Rest,
     /// It shows a fault: BadMagic (1), BadVersion (2), BadKind (3) or BadLength (4).
     Fault(u8),
-    /// Its first octets, this many, are a whole record.
+    /// The first octets, this many, are a whole record.
     Length(usize),
 }
 
-/// What a feed has next.
+/// The next answer of a feed.
 #[derive(Clone, Copy, Debug, PartialEq, Eq)]
 pub enum Next {
     /// Nothing, until it is fed more.
@@ -77,11 +77,12 @@ pub enum Next {
 /// The stream ended within a record, of which there are this many octets.
 #[derive(Clone, Copy, Debug, PartialEq, Eq)]
 pub struct Truncated {
-    /// How many octets of the record there are, at least 1.
+    /// The number of octets of the record, at least 1.
     pub octets: usize,
 }
 
-/// The fault that a stream of records up to a version shows, at the first octet that shows it.
+/// Returns the fault that a stream of records up to a version shows, at the first octet that shows
+/// it.
 fn fault_of(newest: u8, stream: &[u8]) -> Option<u8>
     ensures { result ≡ fault_of newest stream.now }
 {
@@ -109,7 +110,7 @@ fn fault_of(newest: u8, stream: &[u8]) -> Option<u8>
     None
 }
 
-/// What a stream of records up to a version begins with.
+/// Returns the result for the front of a stream of records up to a version.
 pub(crate) fn whole_up_to(newest: u8, stream: &[u8]) -> Whole
     ensures { result ≡ whole_up_to newest stream.now }
 {
@@ -127,9 +128,9 @@ pub(crate) fn whole_up_to(newest: u8, stream: &[u8]) -> Whole
     }
 }
 
-/// Whether the stream begins with a whole record, shows a fault, or is a proper beginning of a
-/// record. A fault shows at the first octet that tells it, and one of the length when both octets
-/// of the length are there.
+/// Returns whether the stream begins with a whole record, shows a fault, or is a proper beginning
+/// of a record. A fault is returned from the first octet that shows it, and one of the length if
+/// both octets of the length are there.
 pub fn whole_of(stream: &[u8]) -> Whole
     ensures value { result ≡ whole_of stream.now }
     ensures found { FindsWhole stream.now result }

@@ -6,7 +6,7 @@ use std::test::Fail;
 
 mod feeding;
 
-/// What the beginning of a stream is told to be.
+/// The result for the front of a stream.
 #[derive(Clone, Copy, Debug, PartialEq, Eq)]
 enum Said {
     Rest,
@@ -52,7 +52,8 @@ fn set<const N: usize>(mut record: [u8; N], place: usize, octet: u8) -> [u8; N] 
     record
 }
 
-/// Whether the first record is of a register whose second value is newer, and not the other way.
+/// Returns `true` if the first record is of a register whose second value is newer, and the reverse
+/// doesn't hold.
 fn replaces(first: &[u8], second: &[u8]) -> bool {
     let Said::Read(old) = told(first) else {
         return false;
@@ -63,7 +64,7 @@ fn replaces(first: &[u8], second: &[u8]) -> bool {
     old.register() == new.register() && new.is_newer(&old) && !old.is_newer(&new)
 }
 
-/// Whether the update that is read is written as these octets.
+/// Returns `true` if the update that is read is written as these octets.
 fn is_written_as(stream: &[u8], octets: &[u8]) -> bool {
     match told(stream) {
         Said::Read(update) => write(&update).as_slice() == octets,
@@ -141,12 +142,12 @@ fn flood() -> Register {
     }
 }
 
-/// The address that goes with 192.0.2.10.
+/// Returns the address that goes with 192.0.2.10.
 fn address_v4() -> Register {
     address(Some(Ip::V4(Addr::new(0xc000_020a))))
 }
 
-/// The address that goes with 2001:db8::1.
+/// Returns the address that goes with 2001:db8::1.
 fn address_v6() -> Register {
     address(Some(Ip::V6(Addr6::new(0x2001_0db8_0000_0000_0000_0000_0000_0001))))
 }
@@ -378,8 +379,8 @@ fn each_cut_of_a_record_is_a_rest(rt: HostRuntime) {
     assert!(rt; is_faulty(&[0x45, 0x57], 1));
 }
 
-/// What the first record says with the octet at a place set to 00 or to ff: 0 where it is read, a
-/// fault as 100 and its number, 200 for a rest, else the refusal.
+/// Returns the result for the first record with the octet at a place set to 00 or to ff: 0 if it is
+/// read, 100 plus the number of a fault, 200 for a rest, else the refusal.
 fn outcome(place: usize, is_high: bool) -> u8 {
     match (place, is_high) {
         (0 | 1, _) => 101,

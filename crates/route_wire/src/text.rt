@@ -61,7 +61,7 @@ impl fmt::Display for Ip {
     }
 }
 
-/// `flood VNI`, or `mac VNI MAC` and then ` ip IP` where there is one.
+/// Writes `flood VNI`, or `mac VNI MAC` and then ` ip IP` if the key has an IP address.
 impl fmt::Display for Key {
     ghost output = { λ k. Some (key_text k) };
 

@@ -6,8 +6,8 @@ use std::cmp::Ordering;
 use std::marker::Model;
 
 /// An IPv6 address, as the number of its sixteen octets, the first one highest.
-// Octets in the place of one number of 128 bits, which the machine would keep at multiples of 16
-// octets, or of two of 64, at multiples of 8: an update is smaller by 56 octets, or by 8.
+// Octets instead of one number of 128 bits, which the machine would align to 16 octets, or of two
+// of 64, aligned to 8: an update is smaller by 56 octets, or by 8.
 #[derive(Clone, Copy, Debug, PartialEq, Eq, Hash)]
 pub struct Addr6 {
     octets: [u8; 16],
@@ -30,7 +30,7 @@ impl Model for Addr6 {
 }
 
 impl Addr6 {
-    /// The address of a number: each number of 128 bits is one.
+    /// Returns the address of a number: each number of 128 bits is one.
     pub fn new(number: u128) -> Self
         ensures { result ≡ number }
     {
@@ -39,7 +39,7 @@ impl Addr6 {
         }
     }
 
-    /// The number of the sixteen octets.
+    /// Returns the number of the sixteen octets.
     pub fn number(self) -> u128
         ensures { result ≡ self }
     {
@@ -93,7 +93,7 @@ pub enum Ip {
 impl Ip {
     ghost use Rattle.route_wire.specs.Order.{ip_version, ip_number};
 
-    /// 4 or 6.
+    /// Returns 4 or 6.
     pub fn version(self) -> u8
         ensures { result ≡ ip_version (Some self) }
     {
@@ -103,7 +103,7 @@ impl Ip {
         }
     }
 
-    /// The number of the address's octets.
+    /// Returns the number of the address's octets.
     pub fn number(self) -> u128
         ensures { result ≡ ip_number (Some self) }
     {
@@ -149,9 +149,9 @@ impl PartialOrd for Ip {
     }
 }
 
-/// What a route is about (RFC 7432, section 7): the flood list of a network, or an address in it,
-/// with or without the IP address that it goes with. The order is that of a report: by network, the
-/// flood list before the addresses, then by MAC and by IP address, none first.
+/// The subject of a route (RFC 7432, section 7): the flood list of a network, or an address in it,
+/// with or without an IP address. The order is that of a report: by VNI, the flood list before the
+/// addresses, then by MAC and by IP address, none first.
 #[derive(Clone, Copy, Debug, PartialEq, Eq, Hash)]
 pub enum Key {
     /// The flood list of a network: a route of type 3.
@@ -163,7 +163,7 @@ pub enum Key {
 impl Key {
     ghost use Rattle.route_wire.specs.Order.{vni_of, place_of, ip_of, ip_version, ip_number};
 
-    /// The network that the key is in.
+    /// Returns the VNI of the key.
     pub(crate) fn vni(&self) -> Vni
         ensures { result ≡ vni_of self.now }
     {
@@ -173,7 +173,7 @@ impl Key {
         }
     }
 
-    /// The IP address of the key, if it has one.
+    /// Returns the IP address of the key, if it has one.
     pub fn ip(&self) -> Option<Ip>
         ensures { result ≡ ip_of self.now }
     {
@@ -183,7 +183,8 @@ impl Key {
         }
     }
 
-    /// Where the key stands among those of its network: the flood list first, then the addresses.
+    /// Returns the place of the key among those of its network: the flood list first, then the
+    /// addresses.
     fn place(&self) -> u64
         ensures { result ≡ place_of self.now }
     {
@@ -193,7 +194,7 @@ impl Key {
         }
     }
 
-    /// The version of the key's IP address, 0 for none.
+    /// Returns the version of the key's IP address, 0 for none.
     fn ip_version(&self) -> u8
         ensures { result ≡ ip_version (ip_of self.now) }
     {
@@ -203,7 +204,7 @@ impl Key {
         }
     }
 
-    /// The number of the key's IP address, 0 for none.
+    /// Returns the number of the key's IP address, 0 for none.
     fn ip_number(&self) -> u128
         ensures { result ≡ ip_number (ip_of self.now) }
     {
@@ -251,14 +252,14 @@ impl PartialOrd for Key {
     }
 }
 
-/// The place of an update in a table: who says it, and about what. The order is that of a report:
-/// by network, the flood list before the addresses, then by MAC, by originator, and by IP address,
-/// none first.
+/// The place of an update in a table: its originator and its key. The order is that of a report: by
+/// VNI, the flood list before the addresses, then by MAC, by originator, and by IP address, none
+/// first.
 #[derive(Clone, Copy, Debug, PartialEq, Eq, Hash)]
 pub struct Register {
-    /// The edge that says it.
+    /// The edge that sends the update.
     pub originator: Addr,
-    /// What it is about.
+    /// The subject of the update.
     pub key: Key,
 }
 
@@ -301,19 +302,19 @@ impl PartialOrd for Register {
     }
 }
 
-/// What is advertised (RFC 7432, sections 7.2 and 7.7). Of two adverts the static one is greater,
-/// then the one of the higher sequence number, then the one of the higher second label.
+/// An advert (RFC 7432, sections 7.2 and 7.7). Of two adverts the static one is greater, then the
+/// one with the higher sequence number, then the one with the higher second label.
 #[derive(Clone, Copy, Debug, PartialEq, Eq, PartialOrd, Ord)]
 pub struct Advert {
-    /// Whether the address can't move.
+    /// `true` if the address can't move.
     pub is_static: bool,
-    /// How often the address has moved.
+    /// The number of moves of the address.
     pub sequence: u32,
-    /// The second label, which is kept and not used.
+    /// The second label, which is stored and not used.
     pub label2: Option<Vni>,
 }
 
-/// What is said of a key. Withdrawn comes before each advert.
+/// The content of an update of a key. Withdrawn comes before each advert.
 #[derive(Clone, Copy, Debug, PartialEq, Eq, PartialOrd, Ord)]
 pub enum Content {
     /// The key is no longer advertised.
@@ -322,24 +323,24 @@ pub enum Content {
     Advert(Advert),
 }
 
-/// What is said of a register, and when: the incarnation of its originator, the number of the
-/// update in that incarnation, and the content.
-// The counter stands first, so that a value has 32 octets and not 40.
+/// The value of a register: the incarnation of its originator, the number of the update in that
+/// incarnation, and the content.
+// The counter is the first field, so that a value has 32 octets and not 40.
 #[derive(Clone, Copy, Debug, PartialEq, Eq)]
 pub struct Value {
     /// The number of the update in the originator's incarnation, from 1.
     pub counter: u64,
     /// The incarnation of the originator, from 0.
     pub incarnation: u32,
-    /// What is said.
+    /// The content of the update.
     pub content: Content,
 }
 
 impl Value {
     ghost use Rattle.route_wire.specs.Order.{is_newer};
 
-    /// Whether this value of a register replaces the other one: by its incarnation, then its
-    /// counter, then its content.
+    /// Returns `true` if this value of a register replaces the other one: by its incarnation, then
+    /// its counter, then its content.
     pub fn is_newer(&self, other: &Value) -> bool
         ensures { result ≡ is_newer self.now other.now }
     {
@@ -353,8 +354,8 @@ impl Value {
     }
 }
 
-/// A route update. Its counter is at least 1, its key's MAC is individual, and an advert of a
-/// flood list says nothing more.
+/// A route update. Its counter is at least 1, its key's MAC is individual, and an advert of a flood
+/// list has no further content.
 #[derive(Clone, Copy, Debug, PartialEq, Eq)]
 pub struct Update {
     register: Register,
@@ -377,8 +378,8 @@ impl Update {
     ghost use Rattle.route_wire.specs.Fields.{IsUpdate};
     ghost use Rattle.route_wire.specs.Order.{is_newer};
 
-    /// The update of a register and a value that go together: the counter is at least 1, the MAC no
-    /// group address, and an advert of a flood list says nothing more.
+    /// Returns the update of a register and a value that fit together: the counter is at least 1,
+    /// the MAC no group address, and an advert of a flood list has no further content.
     pub fn new(register: Register, value: Value) -> Self
         requires { IsUpdate record { register = register; value = value } }
         ensures { result ≡ record { register = register; value = value } }
@@ -386,14 +387,14 @@ impl Update {
         Update { register, value }
     }
 
-    /// Who says it, and about what.
+    /// Returns the register: the originator and the key.
     pub fn register(&self) -> Register
         ensures { result ≡ self.now.register }
     {
         self.register
     }
 
-    /// What is said, and when.
+    /// Returns the value: incarnation, counter and content.
     pub fn value(&self) -> Value
         ensures { result ≡ self.now.value }
     {
@@ -407,7 +408,7 @@ impl Update {
         let _ = &self.register;
     }
 
-    /// Whether this update of a register is newer than the other one of that register.
+    /// Returns `true` if this update of a register is newer than the other one of that register.
     pub fn is_newer(&self, other: &Update) -> bool
         ensures { result ≡ is_newer self.now.value other.now.value }
     {

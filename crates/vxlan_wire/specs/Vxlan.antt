@@ -7,7 +7,7 @@ use Rattle.vxlan_wire.specs.Numbers.{HEADER_LEN, VNI_PLACE, INSTANCE_FLAG, TOO_S
 use Rattle.vxlan_wire.specs.declared.vxlan.VxlanRefusal.{VxlanRefusal}
 use Rattle.vxlan_wire.specs.declared.vxlan.VxlanRefusal.TheVariants.{Short, NoInstance}
 
--- flags with I alone, and the identifier
+-- flags with only the I flag set, and the identifier
 abbrev pub header_of : ℕ → List ℕ
 header_of vni = INSTANCE_FLAG ∷ 0 ∷ 0 ∷ 0 ∷ (big_bytes 3 vni ++ (0 ∷ []))
 
@@ -21,7 +21,7 @@ vni_of octets = big_number 3 (drop VNI_PLACE octets)
 abbrev pub refusal_tests : List ℕ → List (Bool × VxlanRefusal)
 refusal_tests octets = (nat_lt (length octets) HEADER_LEN, Short) ∷ (not (has_instance octets), NoInstance) ∷ []
 
--- the identifier and the octets after the header, or why octets begin with none
+-- the identifier and the octets after the header, or why the octets begin with no header
 unfoldable pub instance_of : List ℕ → Result (ℕ × List ℕ) VxlanRefusal
 instance_of octets = read_as (vni_of octets, drop HEADER_LEN octets) (first_of (refusal_tests octets))
 

@@ -1,4 +1,4 @@
-//! The VXLAN header (RFC 7348, section 5), which stands in front of a frame.
+//! The VXLAN header (RFC 7348, section 5), which precedes a frame.
 #![tactic(auto)]
 
 mod vxlan;

@@ -1,4 +1,4 @@
-//! The header both ways, and each refusal.
+//! Tests of the header, written and read, and of each refusal.
 use crate::{VxlanRefusal, header, read};
 use ether_wire::Vni;
 

@@ -12,31 +12,31 @@ ghost use Rattle.vxlan_wire.specs.Vxlan.{header_of, instance_of, refusal_number}
 
 use ether_wire::Vni;
 
-/// How long the header is, in octets.
+/// The length of the header in octets.
 const HEADER_LEN: usize = 8;
-/// Where the identifier stands, behind the flags and the first reserved octets.
+/// The place of the identifier, after the flags and the first reserved octets.
 const VNI_PLACE: usize = 4;
-/// The I flag: there is an identifier.
+/// The I flag: the header has an identifier.
 const INSTANCE_FLAG: u8 = 0x08;
 
-// ---- the numbers by which it is told that octets begin with no header: of both the first applies
+// ---- the numbers of the refusals: if both apply, the first one is returned
 
 /// There are fewer octets than a header has.
 pub const TOO_SHORT: u8 = 1;
-/// Then: the I flag isn't set.
+/// Checked second: the I flag isn't set.
 pub const NO_INSTANCE: u8 = 2;
 
 /// Why octets begin with no VXLAN header.
 #[derive(Clone, Copy, Debug, PartialEq, Eq)]
 pub enum VxlanRefusal {
-    /// Below 8 octets: asked first.
+    /// Below 8 octets: checked first.
     Short,
     /// The I flag isn't set, so there is no identifier.
     NoInstance,
 }
 
 impl VxlanRefusal {
-    /// The number by which it is told.
+    /// Returns the number of the refusal.
     pub fn number(self) -> u8
         ensures { result ≡ refusal_number self }
     {
@@ -47,7 +47,7 @@ impl VxlanRefusal {
     }
 }
 
-/// The identifier in the header, and the octets after it.
+/// Returns the identifier in the header, and the octets after it.
 #[tactic(auto, unfolding(crate::specs::Vxlan::instance_of))]
 pub fn read(octets: &[u8]) -> Result<(Vni, &[u8]), VxlanRefusal>
     ensures { result_map_both (λ p. (p.0, p.1.now)) (λ e. e) result ≡ instance_of octets.now }
@@ -63,7 +63,7 @@ pub fn read(octets: &[u8]) -> Result<(Vni, &[u8]), VxlanRefusal>
     Ok((Vni::from_octets(vni), frame))
 }
 
-/// The header for an identifier.
+/// Returns the header for an identifier.
 pub fn header(vni: Vni) -> [u8; 8]
     ensures { result ≡ header_of vni }
 {
@@ -71,7 +71,7 @@ pub fn header(vni: Vni) -> [u8; 8]
     [INSTANCE_FLAG, 0, 0, 0, a, b, c, 0]
 }
 
-/// A header that was written is read again, whatever follows it.
+/// A law: a written header is read as its identifier, regardless of the octets after it.
 pub fn written_header_is_read(vni: Vni, frame: &[u8])
     ensures { instance_of (header_of vni ++ frame.now) ≡ Ok (vni, frame.now) }
 {

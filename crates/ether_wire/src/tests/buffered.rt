@@ -1,4 +1,4 @@
-//! A writer that gives its octets to another one in large pieces.
+//! A writer that passes its octets to another writer in large pieces.
 ghost use Rattle.std.specs.Prelude.{◌≡◌, ◌++◌, None, false, if◌then◌else◌};
 ghost use Rattle.ether_wire.specs.Ends.{IsOpen, Puts, end_of};
 
@@ -44,7 +44,7 @@ impl Out for Calls {
     }
 }
 
-/// Puts one after the other.
+/// Puts the texts one after the other.
 #[tactic(auto, using(crate::proofs::Appending::with_text_twice))]
 fn put_both<O: Out>(out: &mut O, first: &[u8], second: &[u8]) -> Result<(), Device>
     requires { IsOpen (O.end out.old) }

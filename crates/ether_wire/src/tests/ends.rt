@@ -1,9 +1,9 @@
-//! Ends over memory and over readers and writers of the library, that fail and that don't.
+//! Ends over memory and over readers and writers of std, with and without failures.
 use crate::{Device, In, Octets, Out, Page, Reader, Writer};
 use std::io;
 use std::io::{Read, Write};
 
-/// A reader that gives octets until its call `fails_at`, which fails once.
+/// A reader that returns octets until its call `fails_at`, which fails once.
 #[derive(Drop)]
 struct Failing {
     calls: u8,

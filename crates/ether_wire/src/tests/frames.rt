@@ -1,7 +1,7 @@
 //! Frames at the bounds of their lengths, and the frame of a BPDU.
 use crate::{Frame, FrameRefusal, Kind, Mac, write_bpdu_frame};
 
-// A frame from 02:00:00:00:00:0b to all, with this type or length and no more.
+// Returns a frame from 02:00:00:00:00:0b to all, with this type or length and no payload.
 fn header(number: u16) -> [u8; 14] {
     let [high, low] = number.to_be_bytes();
     [

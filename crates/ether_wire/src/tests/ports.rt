@@ -2,7 +2,7 @@
 use crate::{NO_PORTS, has_port, next_port, with_port, without_port};
 use std::test::Fail;
 
-// How many ports of the set a walk from 0 meets, at most 64.
+// Returns the number of ports of the set that a walk from 0 visits, at most 64.
 fn count(set: u64) -> u8 {
     let mut met = 0;
     let mut port = 0;

@@ -1,4 +1,4 @@
-//! Addresses and numbers as text, both ways.
+//! Addresses and numbers as text, written and read.
 ghost use Rattle.std.specs.Prelude.{◌≡◌};
 
 use crate::{
@@ -134,7 +134,7 @@ fn text_is_parted_at_the_first_such_octet(rt: HostRuntime) {
     assert!(rt; parted(b',', b"10.0.0.1").is_none());
 }
 
-/// Whether a number is put so.
+/// Returns `true` if the number is put as this text.
 fn is_put(number: u64, text: &[u8]) -> bool {
     let mut page: Page<64> = Page::new();
     put_decimal(&mut page, number).is_ok() && page.octets() == text

@@ -17,25 +17,25 @@ use Rattle.route_join.specs.declared.table.Taken.TheVariants.{Newer, Known}
 use Rattle.route_join.specs.Table.{entries_of, IsOrdered, is_news}
 use Rattle.route_join.specs.Owner.{advert_in, advert_of, IsBetter, is_better, is_better_by}
 
--- what the register advertises
+-- the advert of the register
 abbrev pub told : List Fields → Register → Option Advert
 told us q = advert_of (find register_cmp q (entries_of us))
 
--- the entries with the update's, where it is news
+-- the entries with the update's value, if the update is news
 abbrev pub entries_with : List (Register × Value) → Fields → List (Register × Value)
 entries_with es u = if is_news (find register_cmp u.register es) u.value then put register_cmp u.register u.value
     es else es
 
--- how many registers the update adds to the entries
+-- the number of registers that the update adds to the entries
 abbrev pub added : List (Register × Value) → Fields → ℕ
 added es u = if is_some (find register_cmp u.register es) then 0 else 1
 
--- what is answered where entries take an update
+-- the result if entries take an update
 abbrev pub taken_in : List (Register × Value) → Fields → Taken
 taken_in es u = if is_news (find register_cmp u.register es) u.value then Newer else Known
 
--- Entries es take an update, and are then new ones; of held registers there are then more. Memory may be refused where
--- the update's register is a new one.
+-- The entries `es` take an update and become `new`; the number of held registers becomes `more`. Memory may be refused
+-- if the update's register is a new one.
 pub record Takes (es : List (Register × Value)) (u : Fields) (held : ℕ) (r : Result Taken AllocError)
     (new : List (Register × Value)) (more : ℕ) : Type 0 where
   pub taken : IfOk r (λ taken. taken ≡ taken_in es u)
@@ -49,7 +49,7 @@ pub record Takes (es : List (Register × Value)) (u : Fields) (held : ℕ) (r : 
 abbrev pub update_among : List Fields → Register → Option Fields
 update_among us r = option_map (λ (v : Value). record { register = r; value = v }) (find register_cmp r (entries_of us))
 
--- The update at place i advertises, and what it says is better than each other advert of `says`.
+-- The update at place i advertises, and its advert is better than each other advert of `says`.
 pub record Leads (us : List Fields) (says : Register → Option Advert) (i : ℕ) : Type 0 where
   pub update : Fields
   pub stands : slice_get us i ≡ Some update
@@ -58,17 +58,17 @@ pub record Leads (us : List Fields) (says : Register → Option Advert) (i : ℕ
   pub own : says update.register ≡ Some advert
   pub best : (q : Register) (b : Advert) → q ≢ update.register → says q ≡ Some b → IsBetter advert update.register b q
 
--- the winner's place, none where nothing is advertised
+-- the winner's place, `None` if nothing is advertised
 abbrev pub HasWinner : List Fields → (Register → Option Advert) → Option ℕ → Type 0
 HasWinner us says None = (q : Register) → says q ≡ None
 HasWinner us says (Some i) = Leads us says i
 
--- what a group keeps: its updates are in the order of their registers, and the winner is the best of them
+-- the invariant of a group: its updates are in the order of their registers, and the winner is the best of them
 pub record IsGroup (us : List Fields) (place : Option ℕ) : Type 0 where
   pub ordered : IsOrdered us
   pub winner : HasWinner us (told us) place
 
--- o advertises best among the updates
+-- o has the best advert among the updates
 pub record IsLeader (us : List Fields) (o : ℕ) : Type 0 where
   pub register : Register
   pub advert : Advert
@@ -80,7 +80,7 @@ pub record IsLeader (us : List Fields) (o : ℕ) : Type 0 where
 abbrev pub IsSilent : List Fields → Type 0
 IsSilent us = (q : Register) → told us q ≡ None
 
--- what an update advertises, with its register
+-- the advert of an update, with its register
 abbrev pub candidate_in : Option Fields → Option (Register × Advert)
 candidate_in None = None
 candidate_in (Some u) = option_map (λ (a : Advert). (u.register, a)) (advert_in u.value.content)
@@ -115,13 +115,13 @@ wins_by None d o = false
 wins_by (Some c) None o = true
 wins_by (Some c) (Some d) o = is_better_by c.is_static d.is_static c.sequence d.sequence o
 
--- of a register that says something else now: it says something, as it did, and nothing worse
+-- for a register with a new content: it advertises, as before, and the advert is no worse
 abbrev pub stays_best : Option Advert → Option Advert → Bool
 stays_best None now = false
 stays_best (Some was) None = false
 stays_best (Some was) (Some now) = not (is_better_by was.is_static now.is_static was.sequence now.sequence Equal)
 
--- where a winner stands after an insertion
+-- the place of a winner after an insertion
 abbrev pub moved : ℕ → Option ℕ → Option ℕ
 moved at None = None
 moved at (Some i) = Some (if nat_le at i then i + 1 else i)

@@ -1,4 +1,4 @@
--- Groups behind an index: found by their subjects, which stand in the order of a report.
+-- Groups in an index: found by their subjects, which are in the order of a report.
 use Rattle.std.specs.Prelude.{◌≡◌, Bool, true, Option, is_some, List, [], ◌∷◌}
 use Rattle.std.specs.List.{list_any}
 use Rattle.std.specs.List.Sorted.{IsStrictlySortedBy}
@@ -13,7 +13,7 @@ use Rattle.route_join.specs.Inner.Subject.{subject_eq}
 abbrev pub group_at : Subject → List (Subject × List Fields) → Option (List Fields)
 group_at s gs = lookup (is_at (subject_cmp s)) gs
 
--- the same among groups in whatever order
+-- the group of a subject, among groups in any order
 abbrev pub group_in : List (Subject × List Fields) → Subject → Option (List Fields)
 group_in gs s = lookup (subject_eq s) gs
 

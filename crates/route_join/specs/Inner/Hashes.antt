@@ -1,4 +1,4 @@
--- Equal subjects are hashed alike.
+-- Equal subjects have equal hashes.
 use Rattle.std.proofs.Common.{◌≡◌, true, ap}
 use Rattle.std.specs.Hash as fed
 use Rattle.route_join.specs.Subject.{Subject}

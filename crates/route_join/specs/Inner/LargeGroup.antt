@@ -17,7 +17,7 @@ use Rattle.route_join.specs.Inner.WinnerTree.{owns, AreSettled}
 abbrev pub place_at : List (Register × ℕ) → Register → Option ℕ
 place_at es r = lookup (is_at (register_cmp r)) es
 
--- what an update says; there is always one
+-- the value of an update; in all uses there is one
 abbrev pub value_in : Option Fields → Value
 value_in None = record { counter = 0; incarnation = 0; content = Withdrawn }
 value_in (Some u) = u.value
@@ -30,21 +30,20 @@ update_at us e = record { register = e.0; value = value_in (slice_get us e.1) }
 abbrev pub updates_along : List Fields → List (Register × ℕ) → List Fields
 updates_along us es = map (update_at us) es
 
--- those of a tree, whose places are these
+-- the updates of a tree with these places
 abbrev pub large_updates : List (Register × ℕ) → List WinnerNode → List Fields
 large_updates es nodes = updates_along (owns nodes) es
 
--- the register whose update stands at a place, if there is such a place
+-- the register of the update at a place, if the place exists
 abbrev pub register_at : List Fields → ℕ → Option Register
 register_at us p = option_map (λ (u : Fields). u.register) (slice_get us p)
 
--- at the places of registers stand updates of them
+-- the update at the place of each register is one of that register
 abbrev pub ArePlaced : List Fields → List (Register × ℕ) → Type 0
 ArePlaced us [] = Unit {0}
 ArePlaced us (e ∷ es) = (register_at us e.1 ≡ Some e.0) × ArePlaced us es
 
--- What is kept: registers in their order, each with the place where its update stands, no update beside them, and the
--- best advert.
+-- The invariant: registers in their order, each with the place of its update, no other update, and the best advert.
 pub record IsLargeGroup (es : List (Register × ℕ)) (nodes : List WinnerNode) : Type 0 where
   pub ordered : IsStrictlySortedBy register_cmp (keys_of es)
   pub placed : (r : Register) (p : ℕ) → place_at es r ≡ Some p → register_at (owns nodes) p ≡ Some r

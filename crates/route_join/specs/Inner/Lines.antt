@@ -1,4 +1,4 @@
--- A report as it is written: group by group, in each the registers' lines and behind them the owner's.
+-- A report as it is written: group by group, in each the registers' lines, followed by the owner's.
 use Rattle.std.specs.Prelude.{◌≡◌, ℕ, List, [], ◌∷◌, ◌++◌, decimal, Option, Some, None}
 use Rattle.route_wire.specs.declared.update.Register.{Register}
 use Rattle.route_wire.specs.declared.update.Value.{Value}
@@ -8,12 +8,12 @@ use Rattle.route_join.specs.Table.{entries_of}
 use Rattle.route_join.specs.Report.{station_text, register_line}
 use Rattle.route_join.specs.Inner.Report.{report_lines}
 
--- a network, and the address in it
+-- a VNI, and the address in its network
 abbrev pub place_text : ℕ → Option ℕ → List ℕ
 place_text vni None = decimal vni
 place_text vni (Some mac) = station_text vni mac
 
--- what each line of a subject's group says of the subject
+-- the text of the subject in each line of its group
 abbrev pub subject_text : Subject → List ℕ
 subject_text s = place_text s.vni s.mac
 
@@ -22,7 +22,7 @@ abbrev pub HaveText : List ℕ → List (Register × Value) → Type 0
 HaveText text [] = Unit {0}
 HaveText text (e ∷ es) = (subject_text (subject_of e.0.key) ≡ text) × HaveText text es
 
--- the registers' lines alone
+-- only the registers' lines
 abbrev pub register_lines : List (Register × Value) → List ℕ
 register_lines [] = []
 register_lines (e ∷ es) = register_line e.0 e.1 ++ register_lines es

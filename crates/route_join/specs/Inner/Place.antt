@@ -1,4 +1,5 @@
--- Where a register stands among updates in the order of their registers, or where it would stand.
+-- The place of a register among updates in the order of their registers (`Ok`), or its place after an insertion
+-- (`Err`).
 use Rattle.std.specs.Prelude.{ℕ, ◌+◌, List, [], ◌∷◌, Result, Ok, Err}
 use Rattle.std.specs.FinMap.Entries.{by_order}
 use Rattle.route_wire.specs.declared.update.Register.{Register}

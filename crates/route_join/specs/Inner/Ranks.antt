@@ -1,4 +1,5 @@
--- The order of subjects is total, only the same is equal in it, and it is that of their numbers.
+-- The order of subjects is total, two subjects are equal in it only if they are the same, and it is the order of their
+-- numbers.
 use Rattle.std.proofs.Common.{◌≡◌, ℕ, zero, suc, ◌==◌, ◌&&◌, Bool, true, false, Option}
 use Rattle.std.proofs.Common.{Some, None, refl, sym, ap, ◌∙◌, arith, add-one, eq-eqb}
 use Rattle.std.specs.Cmp.{IsTotalOrder, nat_cmp_total, both_ways, tied_itself}

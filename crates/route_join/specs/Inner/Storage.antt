@@ -1,4 +1,4 @@
--- The updates of a group, in whichever way they are kept.
+-- The updates of a group, in any form of storage.
 use Rattle.std.specs.Prelude.{List, [], ◌∷◌}
 use Rattle.route_wire.specs.Fields.{Fields}
 use Rattle.route_join.specs.declared.group.Storage.{Storage}

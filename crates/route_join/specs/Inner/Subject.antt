@@ -1,13 +1,13 @@
--- What routes are about, and its order.
+-- The subjects of routes, and their order.
 use Rattle.std.specs.Prelude.{ℕ, zero, suc, ◌+◌, ◌*◌, ◌^◌, Bool, Option, Some, None, ◌==◌, ◌&&◌}
 use Rattle.route_join.specs.Subject.{Subject}
 
--- where a subject stands among those of its network: the flood list first, then the addresses
+-- the place of a subject among those of its network: the flood list first, then the addresses
 abbrev pub mac_place : Option ℕ → ℕ
 mac_place None = 0
 mac_place (Some m) = m + 1
 
--- what stands there
+-- the address at that place, `None` for the flood list
 abbrev pub mac_at : ℕ → Option ℕ
 mac_at zero = None
 mac_at (suc m) = Some m

@@ -1,4 +1,4 @@
-//! Subjects of one place in the map, if there is no salt.
+//! Subjects with one place in the map, if there is no salt.
 ghost use Rattle.std.specs.Prelude.{◌≡◌, false};
 ghost use Rattle.ether_wire.specs.Addr.{is_group};
 
@@ -13,8 +13,8 @@ use std::alloc::Global;
 use std::hash::BuildHasher;
 use std::test::Fail;
 
-// Of the addresses 02:00:00:00:00:00 to 02:00:00:ff:ff:ff in network 5001 those whose hashes
-// end in the same 20 bits, 0x00007, without a salt.
+// The addresses from 02:00:00:00:00:00 to 02:00:00:ff:ff:ff in network 5001 whose hashes without a
+// salt end in the same 20 bits, 0x00007.
 const COLLIDING: [u64; 23] = [
     0x09_1c19, 0x10_9e12, 0x12_b7c0, 0x25_0fa8, 0x2e_1bb6, 0x33_a288, 0x4d_f0d4, 0x51_0eb7,
     0x55_9a99, 0x59_4865, 0x60_9160, 0x67_2be4, 0x68_e832, 0x6e_4d99, 0x91_9239, 0xa6_d9ef,
@@ -27,7 +27,7 @@ fn near(number: u64) -> Mac
     Mac::new(0x0200_0000_0000 + number % 0x100_0000)
 }
 
-// What 10.0.0.1 says of an address.
+// Returns an update of an address by 10.0.0.1.
 fn here(number: u64) -> Update {
     Update::new(
         Register {
@@ -45,14 +45,14 @@ fn listening(alloc: Global, salt: u64) -> Table {
     Table::with_salt(alloc, originators, salt)
 }
 
-// What the map takes of a subject's hash.
+// Returns the bits of a subject's hash that the map uses.
 fn hash(salt: u64, number: u64) -> u64 {
     let subject = Subject::address(vni(), near(number));
     let hash = Salted::new(salt).hash_one(&subject);
     (hash ^ (hash >> 32)) % 0x10_0000
 }
 
-// How many of them have the hash of the first one.
+// Returns how many of them have the hash of the first one.
 fn together(salt: u64) -> usize {
     COLLIDING
         .iter()

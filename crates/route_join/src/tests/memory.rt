@@ -1,5 +1,4 @@
-//! What calls make of refused memory: run with each allocation refused in turn,
-//! these tests pass too.
+//! Calls with refused memory: run with each allocation refused in turn, these tests pass too.
 ghost use Rattle.std.specs.Prelude.{◌≡◌, ◌<◌, ◌∷◌, [], IfOk};
 
 use crate::tests::sequences::Dice;
@@ -14,7 +13,7 @@ use route_wire::{Content, Key, Register, Update};
 use std::alloc::{AllocError, Global};
 use std::test::Fail;
 
-// A table of updates, each of which is taken once more where memory for it was refused.
+// Returns a table of updates. An update is taken once more if memory for it was refused.
 fn table_of(alloc: Global, updates: &[Update]) -> Table
     ensures { result.originators ≡ 167772161 ∷ 167772162 ∷ 167772163 ∷ 167772164 ∷ 167772169 ∷ [] }
 {
@@ -34,7 +33,7 @@ fn merged(table: &mut Table, other: &Table) -> Result<(), Unmerged>
     table.merge(other)
 }
 
-// What 10.0.0.N says of the next address.
+// Returns an update of the next address by 10.0.0.N.
 fn beside(n: u8, counter: u64, sequence: u32) -> Update
     requires { 0 < counter }
 {
@@ -64,7 +63,7 @@ fn expected(
     Ok(plain)
 }
 
-// A merge that is stopped has joined as many registers as it tells, and another one completes it.
+// A merge that is stopped has joined as many registers as it returns, and another one completes it.
 #[test]
 fn refused_merge_is_completed_by_another(rt: HostRuntime) -> Result<(), Fail> {
     let alloc = rt.alloc();
@@ -111,7 +110,7 @@ fn random_table(alloc: Global, seed: u64, plain: &mut Plain) -> Result<Table, Al
     Ok(table)
 }
 
-// Whether one table merged into another is the table of both's updates.
+// Returns `true` if one table merged into another is the table of the updates of both.
 fn merges(alloc: Global, ours: u64, theirs: u64) -> Result<bool, AllocError> {
     let mut plain = Plain::new(alloc);
     let mut table = random_table(alloc, ours, &mut plain)?;
@@ -134,7 +133,8 @@ fn merged_tables_are_those_of_all_updates(rt: HostRuntime) -> Result<(), Fail> {
     Ok(())
 }
 
-// Once a table is built, none of these calls asks for memory: nothing of them can be refused.
+// After a table is built, none of these calls allocates memory, so none of them can fail for lack
+// of memory.
 #[test]
 fn known_registers_take_no_memory(rt: HostRuntime) {
     let alloc = rt.alloc();

@@ -105,7 +105,7 @@ impl Dice {
         Update::new(Register { originator, key }, value)
     }
 
-    /// Of one of many registers of one MAC address.
+    /// Returns an update of one of many registers of one MAC address.
     fn one_of_many(&mut self) -> Update {
         let ip = Ip::V4(Addr::new(0xc000_0200 + self.roll(30) as u32));
         let register = Register {
@@ -132,8 +132,8 @@ impl Both {
         }
     }
 
-    /// Whether both make the same of an update, and agree then. Where memory is refused, the table
-    /// is as it was, and takes the update once more.
+    /// Returns `true` if the table and the list have the same result for an update, and agree
+    /// afterwards. If memory is refused, the table is unchanged, and takes the update once more.
     fn agree_on(&mut self, update: &Update) -> Result<bool, AllocError> {
         let mut taken = self.table.take(update);
         if taken == Err(TakeError::NoMemory) {
@@ -164,7 +164,7 @@ fn random_sequences_agree(rt: HostRuntime) -> Result<(), Fail> {
     Ok(())
 }
 
-// So many that they are put into a tree. Where memory for it is refused, the next one tries again.
+// The updates are enough for a tree. If memory for it is refused, the next update tries again.
 #[test]
 fn many_registers_of_one_address_agree(rt: HostRuntime) -> Result<(), Fail> {
     let mut dice = Dice::new(7);

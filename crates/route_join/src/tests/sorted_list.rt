@@ -1,5 +1,5 @@
-//! A table as one list of updates in the order of their registers, where owners are found by a
-//! walk: what a table of groups is compared with.
+//! A table as one list of updates in the order of their registers, in which owners are found by a
+//! walk: the reference for a table of groups.
 ghost use Rattle.std.specs.Prelude.{◌≤◌, length};
 
 use crate::Table;
@@ -16,7 +16,7 @@ pub(crate) struct Plain {
     updates: Vec<Update>,
 }
 
-/// How many updates stand before a register.
+/// Returns the number of updates before a register.
 fn before(updates: &[Update], register: &Register) -> usize
     ensures { result ≤ length updates.now }
 {
@@ -28,7 +28,7 @@ fn before(updates: &[Update], register: &Register) -> usize
     updates.len()
 }
 
-/// Whether a key is of an address.
+/// Returns `true` if a key is of an address.
 fn is_of(key: &Key, vni: Vni, mac: Mac) -> bool {
     match key {
         Key::Flood(_) => false,
@@ -36,7 +36,7 @@ fn is_of(key: &Key, vni: Vni, mac: Mac) -> bool {
     }
 }
 
-/// What an update advertises of an address, if it is about it.
+/// Returns the advert of an update, if it is about the address.
 fn said(update: &Update, vni: Vni, mac: Mac) -> Option<Advert> {
     if is_of(&update.register().key, vni, mac) {
         advert_in(&update.value().content)
@@ -45,7 +45,7 @@ fn said(update: &Update, vni: Vni, mac: Mac) -> Option<Advert> {
     }
 }
 
-/// Whether an advert comes before the best one of the registers before it.
+/// Returns `true` if an advert comes before the best one of the registers before it.
 fn beats(advert: &Advert, best: &Option<(Addr, Advert)>) -> bool {
     match best {
         None => true,
@@ -63,7 +63,7 @@ impl Plain {
         }
     }
 
-    /// Takes an update, and tells whether it is news.
+    /// Takes an update, and returns `true` if it is news.
     fn take(&mut self, update: &Update) -> Result<bool, AllocError> {
         let register = update.register();
         let at = before(&self.updates, &register);
@@ -80,7 +80,7 @@ impl Plain {
         Ok(true)
     }
 
-    /// The same, once more where memory was refused.
+    /// Takes an update as `take` does, and retries once if memory was refused.
     pub(crate) fn surely_take(&mut self, update: &Update) -> Result<bool, AllocError> {
         match self.take(update) {
             Ok(is_news) => Ok(is_news),
@@ -88,7 +88,8 @@ impl Plain {
         }
     }
 
-    /// The owner of an address. Of equal adverts the one of the first register is the better one.
+    /// Returns the owner of an address. Of equal adverts the one of the first register is the
+    /// better one.
     fn owner(&self, vni: Vni, mac: Mac) -> Option<Addr> {
         let mut best = None;
         for update in &self.updates {
@@ -113,7 +114,7 @@ impl Plain {
         flood
     }
 
-    /// Whether no register of the address stands behind this place.
+    /// Returns `true` if no register of the address is after this place.
     fn ends_at(&self, at: usize, vni: Vni, mac: Mac) -> bool {
         for update in self.updates.iter().skip(at).skip(1) {
             if is_of(&update.register().key, vni, mac) {
@@ -123,7 +124,7 @@ impl Plain {
         true
     }
 
-    /// Writes the owner of the address that the update at this place is the last one of.
+    /// Writes the owner of an address, if the update at this place is the last one of the address.
     fn put_after(&self, page: &mut Page<16384>, at: usize, key: &Key) {
         let Key::Mac(vni, mac, _) = key else {
             return;
@@ -157,7 +158,7 @@ impl Plain {
         page
     }
 
-    /// Whether a table has the same owner of the address, or the same flood list.
+    /// Returns `true` if a table has the same owner of the address, or the same flood list.
     fn agrees_at(&self, table: &Table, key: &Key) -> bool {
         match key {
             Key::Flood(vni) => table.flood(*vni).as_slice() == self.flood(*vni).as_slice(),
@@ -165,7 +166,7 @@ impl Plain {
         }
     }
 
-    /// Whether a table has the same registers, owners, flood lists and report.
+    /// Returns `true` if a table has the same registers, owners, flood lists and report.
     pub(crate) fn agrees_with(&self, table: &Table) -> bool {
         for update in &self.updates {
             let Register { originator, key } = update.register();

@@ -17,7 +17,7 @@ abbrev pub Label2Fits : Option ℕ → Type 0
 Label2Fits None = Unit {0}
 Label2Fits (Some n) = n < 2 ^ 24
 
--- of a flood list nothing but its network is written
+-- of the key of a flood list only the VNI is written
 abbrev pub RouteFits : Key → Content → Type 0
 RouteFits (Flood vni) content = Unit {0}
 RouteFits (Mac vni mac ip) content = (mac < 2 ^ 48) × IpFits ip × Label2Fits (label2_of content)

@@ -1,4 +1,4 @@
--- The refusals of a whole record: the first test that is met tells it.
+-- The refusals of a whole record: the first test that is met decides.
 use Rattle.std.specs.Prelude.{◌≡◌, ◌⊎◌, ℕ, ◌<◌, true, false}
 use Rattle.std.specs.Prelude.{List, length}
 use Rattle.route_wire.specs.declared.record.Header.{Header}
@@ -6,7 +6,7 @@ use Rattle.route_wire.specs.Route.{tail_of}
 use Rattle.route_wire.specs.Inner.Route.{HasRoute}
 use Rattle.route_wire.specs.Refusal.{is_mac_advert, has_bad_mac}
 
--- what is known of a record that isn't refused
+-- the properties of a record that isn't refused
 pub record IsReadable (h : Header) (r : List ℕ) : Type 0 where
   pub route : HasRoute r
   pub tail : is_mac_advert h r ≡ true → (length (tail_of r) ≡ 0) ⊎ (length (tail_of r) ≡ 8)

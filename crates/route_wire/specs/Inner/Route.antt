@@ -3,7 +3,7 @@ use Rattle.std.specs.Prelude.{◌≡◌, ◌⊎◌, ℕ, ◌+◌, ◌≤◌, if�
 use Rattle.route_wire.specs.Numbers.{MAC_ROUTE, FLOOD_ROUTE, LABEL2_PLACE}
 use Rattle.route_wire.specs.Route.{route_type, route_len, ip_len, has_label2}
 
--- what a route holds that isn't refused as bad
+-- the properties of a route that isn't refused as bad
 pub record HasRoute (r : List ℕ) : Type 0 where
   pub known : (route_type r ≡ MAC_ROUTE) ⊎ (route_type r ≡ FLOOD_ROUTE)
   pub flood : 19 ≤ length r

@@ -1,4 +1,4 @@
--- Addresses, keys and registers that `==` tells apart are those that report order tells apart.
+-- Addresses, keys and registers that differ by `==` are those that differ in report order.
 use Rattle.std.proofs.Common.{◌≡◌, ℕ, ◌==◌, ◌&&◌, Bool, true, false, Some, None, refl, sym, ap, ◌∙◌, eq-eqb}
 use Rattle.std.specs.Cmp.{both_ways, tied_itself}
 use Rattle.std.specs.Cmp.Lexicographic.{pointwise, bytes_decides}

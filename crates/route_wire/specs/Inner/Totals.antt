@@ -1,4 +1,4 @@
--- The orders are total, and only the same is equal in them.
+-- The orders are total, and two values are equal in them only if they are the same.
 use Rattle.std.proofs.Common.{◌≡◌, ℕ, Bool, true, false, cond, Option, Some, None, nat_cmp, refl, sym, ap, ◌∙◌, arith}
 use Rattle.std.specs.declared.cmp.Ordering.{Ordering}
 use Rattle.std.specs.declared.cmp.Ordering.TheVariants.{Less, Equal, Greater}
@@ -19,7 +19,7 @@ use Rattle.route_wire.specs.declared.update.Value.{Value}
 use Rattle.route_wire.specs.Order.{ip_version, ip_number, ip_cmp, ip_order, addr6_cmp, vni_of, place_of, ip_of, key_cmp}
 use Rattle.route_wire.specs.Order.{register_cmp, rank_of, sequence_of, label2_of, content_cmp, value_cmp, is_newer}
 
--- an order that asks one thing after the other says equal only where both do
+-- a lexicographic order yields `Equal` only if both of its parts do
 both : (o p : Ordering) → ordering_then o p ≡ Equal → (o ≡ Equal) × (p ≡ Equal)
 both Less p h = cc
 both Equal p h = (refl, h)

@@ -1,10 +1,10 @@
-//! Feeds: every cutting of a stream, faults that stay, and what is left at the end.
+//! Feeds: every cutting of a stream, faults that stay, and the rest at the end.
 
 use super::{FIRST, RESTARTED, WITHDRAWN_IP, address, dynamic, set};
 use crate::{BAD_MAGIC, Feed, Next, Truncated, UNKNOWN_TYPE, Update};
 
-/// Feeds a piece and counts the updates that come, which are to be the first record's; 1000 where
-/// anything else comes.
+/// Feeds a piece and counts the updates, which must be the first record's; returns 1000 if anything
+/// else is returned.
 fn count_of(feed: &mut Feed, piece: &[u8]) -> u32 {
     let mut start = 0;
     for found in 0..4 {
@@ -35,7 +35,7 @@ fn end_of(feed: &mut Feed) -> Option<Result<(), Truncated>> {
     }
 }
 
-/// Whether the feed gives the fault, also after it was fed more.
+/// Returns `true` if the feed returns the fault, also after it was fed more.
 fn stays_faulty(feed: &mut Feed, fault: u8) -> bool {
     let first = feed.next();
     let taken = feed.feed(&FIRST);
@@ -74,8 +74,8 @@ fn a_stream_of_single_octets_is_read(rt: HostRuntime) {
     assert_eq!(rt; end_of(&mut feed), Some(Ok(())));
 }
 
-/// Takes from a piece until it gives no more, and counts the first record's updates; 1000 where
-/// anything else comes.
+/// Takes from a piece until it yields no more, and counts the first record's updates; returns 1000
+/// if anything else is returned.
 fn taken_of(feed: &mut Feed, piece: &[u8]) -> u32 {
     let mut start = 0;
     for found in 0..4 {

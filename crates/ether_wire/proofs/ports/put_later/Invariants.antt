@@ -3,7 +3,7 @@ use Rattle.ether_wire.specs.Ends.{with_text}
 use Rattle.ether_wire.specs.Ports.{ports_after, comma_text}
 use Rattle.ether_wire.proofs.ports.put_later.Given as goal
 
--- what is written and what is still to be written is what was to be written
+-- the written text, followed by the text still to be written, is the whole text
 abbrev pub invariant-loop-next : goal.invariant-loop-next
 invariant-loop-next g l = record {
   same : with_text (g.O.Out.end l.out) (comma_text (ports_after l.set l.port))

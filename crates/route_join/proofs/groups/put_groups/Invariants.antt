@@ -4,7 +4,7 @@ use Rattle.route_join.specs.Inner.Lines.{group_lines}
 use Rattle.route_join.specs.Group.{AreGroups}
 use Rattle.route_join.proofs.groups.put_groups.Given as goal
 
--- what is left to write makes the whole of what was written
+-- the written text, followed by the text still to be written, is the whole text
 abbrev pub invariant-loop-subject : goal.invariant-loop-subject
 invariant-loop-subject g l = record {
   whole : with_text (g.O.Out.end l.initial.out) (group_lines l.groups)

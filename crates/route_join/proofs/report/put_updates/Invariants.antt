@@ -4,7 +4,7 @@ use Rattle.route_join.specs.Table.{entries_of}
 use Rattle.route_join.specs.Inner.Lines.{register_lines, HaveText}
 use Rattle.route_join.proofs.report.put_updates.Given as goal
 
--- what is left to write makes the whole of what was written
+-- the written text, followed by the text still to be written, is the whole text
 abbrev pub invariant-loop-update : goal.invariant-loop-update
 invariant-loop-update g l = record {
   whole : with_text (g.O.Out.end l.initial.out) (register_lines (entries_of l.fn.updates))

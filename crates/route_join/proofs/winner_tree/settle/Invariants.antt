@@ -2,7 +2,7 @@ use Rattle.std.proofs.Common.{◌≡◌, ◌<◌, length}
 use Rattle.route_join.specs.Inner.WinnerTree.{owns, IsSettledBut}
 use Rattle.route_join.proofs.winner_tree.settle.Given as goal
 
--- all places but this one and those above it are right
+-- all places except this one and those above it are right
 abbrev pub invariant-up : goal.invariant-up
 invariant-up l = record {
   within : l.at < length l.nodes.items;

@@ -9,7 +9,7 @@ use Rattle.route_wire.specs.Inner.Encode.{RouteFits}
 use Rattle.route_wire.proofs.Spelt.{written, read_again}
 use Rattle.route_wire.proofs.encode.write.Goals as goal
 
--- the octets of a record of this register and value, with this route
+-- the octets of the record of this register and value, with this route
 abbrev record_of : Register → Value → List ℕ → List ℕ
 record_of r v route = record_octets (kind_of v.content) r.originator v.incarnation v.counter (vni_of r.key) route
 

@@ -4,7 +4,7 @@ use Rattle.route_join.specs.Table.{with_updates}
 use Rattle.route_join.specs.Updates.{all_updates}
 use Rattle.route_join.proofs.table.Table.merge.Given as goal
 
--- the updates that are done and those that are left are all
+-- the updates that are done, followed by those that are left, are all updates
 abbrev pub invariant-loop-update : goal.invariant-loop-update
 invariant-loop-update l = record {
   done : List Fields;

@@ -55,7 +55,7 @@ returns-clause-unknown c =
     (not_unknown _ _ (listed_by c.self.inside.originators.items _ c.args.update.now.register _ c.deref.ensures.0
     c.register.ensures c.if-not-contains.ensures.value) (taken_known c.in-Ok.taken))
 
--- a listed originator's update of a register that is there is always taken
+-- an update of a listed originator at a known register is always taken
 pub returns-clause-there : goal.returns-clause-there
 returns-clause-there c = λ v at listed. (ap Ok (returns-clause-taken c), returns-clause-table c)
 
