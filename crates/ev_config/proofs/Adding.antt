@@ -1,4 +1,4 @@
--- Faults that are noted one after the other.
+-- Faults that are collected one after the other.
 use Rattle.std.proofs.Common.{◌≡◌, ℕ, List, ◌++◌, Ok, Err, ap, ◌∙◌, append_assoc}
 use Rattle.std.specs.Prelude.{Result}
 use Rattle.ev_config.specs.declared.keys.Fault.{Fault}
@@ -35,7 +35,7 @@ noted spot view wanted r rest v0 v1 vn end adds g more =
     adds_then (fault_at spot wanted) rest v0 v1 vn end
     (adds (fault_at spot wanted) (gives_fault spot view wanted r g)) more
 
--- five numbers that are read and noted one after the other
+-- five numbers that are read, whose faults are collected one after the other
 pub five : {Y : Type 0} (spot : Spot) (a b c d e : Result ℕ Key) (ra rb rc rd re : Result ℕ Fault)
     (v0 v1 v2 v3 v4 v5 : List FaultyKey) (end : Result Y Fault)
     → Gives (λ n. n) a ra → Gives (λ n. n) b rb → Gives (λ n. n) c rc → Gives (λ n. n) d rd → Gives (λ n. n) e re

@@ -1,4 +1,4 @@
--- No fault exactly where reading gives something, and otherwise the first is the one that it tells.
+-- There is no fault exactly if reading gives a value; otherwise the first fault is the one that reading returns.
 use Rattle.std.proofs.Common.{◌≡◌, ℕ, ◌+◌, Bool, true, false, List, [], ◌∷◌, ◌++◌, Option, Some, None, Ok, Err}
 use Rattle.std.proofs.Common.{refl, sym, subst}
 use Rattle.std.specs.Prelude.{◌*◌, ◌^◌, ◌==◌, Result, if◌then◌else◌, option_and_then, codes}
@@ -24,7 +24,7 @@ use Rattle.ev_config.specs.Faults.{found, spelt}
 
 -- ---- one after the other
 
--- the result agrees, and is such a value
+-- the result agrees, and a value in it has property P
 abbrev And : {X : Type 0} → (X → Type 0) → Result X Key → List Faulty → Type 0
 And P (Ok x) faults = (faults ≡ []) × P x
 And P (Err k) faults = StartAt k faults
@@ -260,7 +260,7 @@ tree_agrees bridge s t = both (edge.tree_of bridge t)
     both (Ok tree) is a = (a, is)
     both (Err k) is a = a
 
--- whatever stands where a key is left out, its fault is the same
+-- the default for a missing key doesn't change its fault
 any_default : (s : Spot) (key : Key) (read : Data → Option ℕ) (n m : ℕ) (o : Option Data)
     → Agree (optional_at key read n o) (fault_at s (optional_at key read m o))
 any_default s key read n m None = refl

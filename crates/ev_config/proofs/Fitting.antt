@@ -1,4 +1,4 @@
--- Edges that fit together, one by one, and then told of each other.
+-- Edges that fit together, one by one, and then with their lists of originators.
 use Rattle.std.proofs.Common.{◌≡◌, ℕ, zero, suc, ◌<◌, ◌≤◌, ◌⊎◌, inl, inr, true, false, List, [], ◌∷◌, ◌++◌, length, map}
 use Rattle.std.proofs.Common.{refl, sym, ap, subst, ◌∙◌, arith, Contains}
 use Rattle.std.specs.Prelude.{eqb, Some, Ok}
@@ -81,7 +81,7 @@ one_there (n ∷ ns) xs some h = go (h n (zero, omega arith, refl))
     go : Contains xs n → 0 < length xs
     go (i, l, e) = omega (arith, l)
 
--- ---- told of each other
+-- ---- with their lists of originators
 
 same_names : (names : List ℕ) (cs : List EdgeConfig) → addresses_of (map (listening names) cs) ≡ addresses_of cs
 same_names names [] = refl
@@ -109,13 +109,13 @@ name_there (x ∷ cs) c (suc n, l, e) = next (name_there cs c (n, omega (arith, 
     next : Contains (addresses_of cs) c.address → Contains (addresses_of (x ∷ cs)) c.address
     next (m, k, p) = (suc m, omega (arith, k), p)
 
--- addresses to listen to: they differ, there are few, and those of all edges are among them
+-- addresses to list: they differ, there are at most 64, and those of all edges are among them
 pub record AreHeard (names listed : List ℕ) : Type 0 where
   pub distinct : IsDistinct eqb listed
   pub few : length listed ≤ 64
   pub all : AreAmong names listed
 
--- so edges with these lists of originators can be opened
+-- edges with these lists of originators can be opened
 opens : (e : Edges) (heard : List ℕ) → 0 < length e.addresses → length e.addresses ≤ 64 → AreHeard e.addresses heard
     → FitTogether e → AreConfigs (told heard e).0
 opens e heard some few a h = record {

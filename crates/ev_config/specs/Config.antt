@@ -45,7 +45,7 @@ edges_from for_run before (item d ds) = do
   edge ← edge_of for_run before.addresses before.bridges t
   edges_from for_run (with_edge before edge) ds
 
--- the edge listens to these
+-- the edge lists these addresses
 abbrev pub listening : List ℕ → EdgeConfig → EdgeConfig
 listening addresses c = record c { originators = record { items = addresses } }
 
@@ -53,11 +53,11 @@ listening addresses c = record c { originators = record { items = addresses } }
 abbrev pub Whole : Type 0
 Whole = List EdgeConfig × List (ArrayVec PortEndpoints)
 
--- the edges, each told of these addresses, and the links of each one's ports
+-- the edges, each of which lists these addresses, and the links of each one's ports
 abbrev pub told : List ℕ → Edges → Whole
 told addresses edges = (map (listening addresses) edges.configs, edges.links)
 
--- the edges of these tables, each of which listens to all
+-- the edges of these tables, each of which lists all
 abbrev pub described : Bool → Items → Result Whole Key
 described for_run tables = do
   edges ← edges_from for_run no_edges tables
@@ -89,7 +89,7 @@ ConfigOf for_run = TextGives view_of (config_in for_run)
 abbrev pub ServedWhole : Type 0
 ServedWhole = Whole × List ℕ
 
--- each of these edges listens to all, and to the peers of these tables
+-- each of these edges lists all edges, and the peers of these tables
 abbrev pub with_peers : Items → Edges → Result Whole Key
 with_peers peers edges = do
   addresses ← listed_from edges.addresses peers
@@ -111,7 +111,7 @@ served_view s = (view_of s.config, string_bytes s.control)
 abbrev pub ServedOf : List ℕ → Result Served ConfigRefusal → Type 0
 ServedOf = TextGives served_view served_in
 
--- only the edges, whatever the path is
+-- the configuration without the path of the control socket
 abbrev pub ServedEdgesOf : List ℕ → Result Config ConfigRefusal → Type 0
 ServedEdgesOf text (Ok config) =
     (control : String Global) × ServedOf text (Ok (record { config = config; control = control }))

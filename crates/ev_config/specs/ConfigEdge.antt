@@ -61,7 +61,7 @@ incarnation_of t = optional (codes "incarnation") (number_in 0 (2 ^ 32 - 1)) 0 t
 
 -- ---- the edge
 
--- who the edge is, given the addresses and bridges of the edges before it
+-- the names of the edge, given the addresses and bridges of the edges before it
 abbrev pub names_of : List ℕ → List ℕ → Members → Result Names Key
 names_of addresses bridges t = do
   address ← address_of addresses t
@@ -85,7 +85,7 @@ tree_of bridge t = do
     hold = hold;
   })
 
--- how much it keeps, how long, and in which of its lives
+-- the limits of the edge, and its incarnation
 abbrev pub limits_of : Members → Result Limits Key
 limits_of t = do
   ageing ← ageing_of t

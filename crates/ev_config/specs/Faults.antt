@@ -22,14 +22,14 @@ pub data Spot : Type 0 where
 abbrev pub Faulty : Type 0
 Faulty = Spot × Key
 
--- the key is faulty where reading it gives no value
+-- the key is faulty if reading it gives no value
 abbrev pub fault_at : {X : Type 0} → Spot → Result X Key → List Faulty
 fault_at spot (Ok x) = []
 fault_at spot (Err k) = (spot, k) ∷ []
 
 -- ---- a table
 
--- those of the keys that aren't among the known ones
+-- the faults of the keys that aren't among the known ones
 abbrev pub unknown : Spot → List Key → List Key → List Faulty
 unknown spot known [] = []
 unknown spot known (k ∷ ks) = if is_among known k then unknown spot known ks else (spot, k) ∷ unknown spot known ks
@@ -59,7 +59,7 @@ abbrev pub port_at : Bool → Option (List ℕ) → ℕ → ℕ → Option Membe
 port_at for_run vnis n m None = (Edge n, codes "port") ∷ []
 port_at for_run vnis n m (Some t) = port_faults for_run vnis (Port n m) t
 
--- those of the ports of an edge, of which the first has this number
+-- the faults of the ports of an edge, the first of which has this number
 abbrev pub ports_faults : Bool → Option (List ℕ) → ℕ → ℕ → Items → List Faulty
 ports_faults for_run vnis n m no_items = []
 ports_faults for_run vnis n m (item d ds) = port_at for_run vnis n m (as_table d)
@@ -92,7 +92,7 @@ limits_faults spot t = fault_at spot (edge.ageing_of t)
     ++ (fault_at spot (edge.salt_of t)
     ++ fault_at spot (edge.incarnation_of t))))
 
--- whether each of an edge's times may be, and if so whether they fit together
+-- whether an edge's times fit together, if each of them is valid
 abbrev pub times_of : Members → Result Bool Key
 times_of t = do
   hello ← edge.hello_of t
@@ -100,7 +100,7 @@ times_of t = do
   forward_delay ← edge.forward_delay_of t
   Ok (edge.times_fit hello max_age forward_delay)
 
--- times that may be each for itself, and don't fit together
+-- the fault of times that are valid and don't fit together
 abbrev pub odd_times : Spot → Result Bool Key → List Faulty
 odd_times spot (Ok true) = []
 odd_times spot (Ok false) = (spot, codes "max_age") ∷ []
@@ -110,7 +110,7 @@ abbrev pub ports_at : Bool → ℕ → Members → Result Items Key → List Fau
 ports_at for_run n t (Ok tables) = ports_faults for_run (found (edge.networks_of t)) n 1 tables
 ports_at for_run n t (Err k) = []
 
--- those of an edge with this number, given the addresses and bridges of the edges before it
+-- the faults of an edge with this number, given the addresses and bridges of the edges before it
 abbrev pub edge_faults : Bool → List ℕ → List ℕ → ℕ → Members → List Faulty
 edge_faults for_run addresses bridges n t = names_faults addresses bridges (Edge n) t
     ++ (tree_faults (Edge n) t
@@ -151,7 +151,7 @@ abbrev pub edge_at : Bool → List ℕ → List ℕ → ℕ → Option Members �
 edge_at for_run addresses bridges n None = (File, codes "edge") ∷ []
 edge_at for_run addresses bridges n (Some t) = edge_faults for_run addresses bridges n t
 
--- those of the edges, of which the first has this number
+-- the faults of the edges, the first of which has this number
 abbrev pub edges_faults : Bool → List ℕ → List ℕ → ℕ → Items → List Faulty
 edges_faults for_run addresses bridges n no_items = []
 edges_faults for_run addresses bridges n (item d ds) = edge_at for_run addresses bridges n (as_table d)
@@ -166,7 +166,7 @@ abbrev pub peer_at : List ℕ → ℕ → Option Members → List Faulty
 peer_at before n None = (File, codes "peer") ∷ []
 peer_at before n (Some t) = peer_faults before (Peer n) t
 
--- those of the peers, of which the first has this number, given the addresses before it
+-- the faults of the peers, the first of which has this number, given the addresses before it
 abbrev pub peers_faults : List ℕ → ℕ → Items → List Faulty
 peers_faults before n no_items = []
 peers_faults before n (item d ds) = peer_at before n (as_table d)
@@ -188,7 +188,7 @@ edge_items t = tables_or_none (edge_tables t)
 abbrev pub peer_tables : Members → Result Items Key
 peer_tables t = optional (codes "peer") (tables_beside (count_of (edge_items t))) no_items t
 
--- those of a document for any use, or for a run
+-- the faults of a document for any use, or for a run
 abbrev pub config_faults : Bool → Members → List Faulty
 config_faults for_run t = fault_at File (edge_tables t)
     ++ (others File (codes "edge" ∷ []) t
@@ -203,7 +203,7 @@ served_faults t = fault_at File (edge_tables t)
     ++ (edges_faults true [] [] 1 (edge_items t)
     ++ peers_faults (all_addresses [] (edge_items t)) 1 (tables_or_none (peer_tables t))))))
 
--- those of a document for a use
+-- the faults of a document for a use
 abbrev pub faults_in : Use → Members → List Faulty
 faults_in Any = config_faults false
 faults_in Run = config_faults true
@@ -211,17 +211,17 @@ faults_in Serve = served_faults
 
 -- ---- faults and the result of reading
 
--- the first of these is at this key
+-- the first of these faults is at this key
 abbrev pub StartAt : Key → List Faulty → Type 0
 StartAt key [] = ⊥
 StartAt key (first ∷ more) = first.1 ≡ key
 
--- There is no fault exactly where reading gives something; otherwise the first is the one that it tells.
+-- There is no fault exactly if reading gives a value; otherwise the first fault is the one that reading returns.
 abbrev pub Agree : {X : Type 0} → Result X Key → List Faulty → Type 0
 Agree (Ok x) faults = faults ≡ []
 Agree (Err key) faults = StartAt key faults
 
--- so for each use
+-- the faults and the reading agree for each use
 pub record ReadingsAgree : Type 0 where
   pub config : (for_run : Bool) (t : Members) → Agree (config_in for_run t) (config_faults for_run t)
   pub served : (t : Members) → Agree (served_in t) (served_faults t)

@@ -26,7 +26,7 @@ abbrev pub read_or : {X : Type 0} → Key → Option X → Result X Key
 read_or key (Some x) = Ok x
 read_or key None = Err key
 
--- a key that has to be there
+-- a required key
 abbrev pub required_at : {X : Type 0} → Key → (Data → Option X) → Option Data → Result X Key
 required_at key read None = Err key
 required_at key read (Some d) = read_or key (read d)
@@ -34,7 +34,7 @@ required_at key read (Some d) = read_or key (read d)
 abbrev pub required : {X : Type 0} → Key → (Data → Option X) → Members → Result X Key
 required key read t = required_at key read (get_member key t)
 
--- a key that may be left out
+-- an optional key
 abbrev pub optional_at : {X : Type 0} → Key → (Data → Option X) → X → Option Data → Result X Key
 optional_at key read default None = Ok default
 optional_at key read default (Some d) = read_or key (read d)
@@ -71,7 +71,7 @@ abbrev pub individual : Option ℕ → Option ℕ
 individual None = None
 individual (Some m) = if is_group m then None else Some m
 
--- the address of one station
+-- the MAC address of one station
 abbrev pub bridge_in : Data → Option ℕ
 bridge_in d = individual (option_and_then mac_of_text (as_str d))
 
@@ -120,7 +120,7 @@ is_few ds = nat_lt 0 (count_of ds) && nat_le (count_of ds) 64
 abbrev pub few : Items → Option Items
 few ds = if is_few ds then Some ds else None
 
--- 1 to 64 distinct networks
+-- 1 to 64 distinct VNIs
 abbrev pub vnis_in : Data → Option (List ℕ)
 vnis_in d = option_and_then (numbers_from vni_in []) (option_and_then few (as_array d))
 

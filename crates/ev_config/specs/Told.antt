@@ -7,7 +7,7 @@ use Rattle.ether_wire.specs.Ends.{End, with_text, Puts}
 use Rattle.ev_config.specs.declared.whole.Use.{Use}
 use Rattle.ev_config.specs.Faults.{faults_in}
 
--- these words, and a line feed (10)
+-- this text, and a line feed (10)
 abbrev pub line_text : List ℕ → List ℕ
 line_text words = words ++ 10 ∷ []
 
@@ -30,6 +30,6 @@ abbrev pub TellsAll : Use → List ℕ → End → End → Result (Unit {0}) Dev
 TellsAll wanted text old new result =
     (t : Members) × (parse_document text ≡ Some t) × TellsEach (faults_in wanted t) old new result
 
--- Each fault is printed; or one line, if there is no document, or was no memory to find more.
+-- Each fault is printed; or one line, if there is no document, or there was no memory to find more.
 abbrev pub TellsRefusal : Use → List ℕ → End → End → Result (Unit {0}) Device → Type 0
 TellsRefusal wanted text old new result = TellsAll wanted text old new result ⊎ TellsOne old new result

@@ -110,7 +110,7 @@ fn put_value(line: &mut Line, value: &Value) -> Result<(), Device>
     }
 }
 
-/// Writes a character of the configuration, or a question mark where it would steer a terminal.
+/// Writes a character of the configuration, or a question mark if it could control a terminal.
 fn put_plain_char(line: &mut Line, c: char) -> Result<(), Device>
     requires { IsOpen (page_end line.old) }
     ensures { OnOk result ((page_end line.new).failures ≡ (page_end line.old).failures) }
@@ -122,7 +122,7 @@ fn put_plain_char(line: &mut Line, c: char) -> Result<(), Device>
     line.put(c.encode_utf8(&mut room).as_bytes())
 }
 
-/// Writes as much of a text as a line has room for.
+/// Writes the part of a text that fits into a line.
 pub(crate) fn put_shown(line: &mut Line, text: &str) -> Result<(), Device>
     requires { IsOpen (page_end line.old) }
     ensures { OnOk result ((page_end line.new).failures ≡ (page_end line.old).failures) }
@@ -166,7 +166,7 @@ fn put_place(line: &mut Line, place: Place<'_>) -> Result<(), Device>
     }
 }
 
-/// The table of a place.
+/// Returns the table of a place.
 fn table_of(place: Place<'_>) -> &Table {
     match place {
         Place::File(table)
@@ -195,7 +195,7 @@ fn absent(key: &str) -> &'static [u8] {
     }
 }
 
-/// Whether the value is what another table has at a key, spelt as it has to be.
+/// Returns `true` if the value is valid and another table has an equal one at a key.
 fn is_twin(other: &Value, key: &str, value: &Value) -> bool {
     let Some(table) = other.as_table() else {
         return false;
@@ -237,7 +237,7 @@ fn twin_among(
     None
 }
 
-/// The first edge or peer before the place that has the value at a key.
+/// Returns the first edge or peer before the place that has the value at a key.
 fn twin_of(document: &Table, place: Place<'_>, key: &str, value: &Value) -> Option<Twin> {
     match place {
         Place::Edge(edge, _) => { twin_among(document, "edge", edge.saturating_sub(1), key, value) }
@@ -405,7 +405,7 @@ fn put_allowed(
     put_meant(line, alloc, wanted, place, key)
 }
 
-/// Writes the place of a faulty key, its value, why it is wrong and what is allowed.
+/// Writes the place of a faulty key, its value, why it is wrong, and the allowed values.
 fn put_fault(
     line: &mut Line,
     alloc: Global,
@@ -422,7 +422,7 @@ fn put_fault(
     put_allowed(line, alloc, wanted, place, key)
 }
 
-/// The line for a faulty key.
+/// Returns the line for a faulty key.
 pub(crate) fn fault_line(
     alloc: Global,
     wanted: Use,

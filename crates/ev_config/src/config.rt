@@ -22,7 +22,7 @@ pub enum ConfigRefusal {
     NoMemory,
 }
 
-/// The document that a text spells.
+/// Returns the document that a text spells.
 fn document_of(alloc: Global, text: &str) -> Result<Table, ConfigRefusal>
     ensures { Reads table_view text.now result }
 {
@@ -33,7 +33,7 @@ fn document_of(alloc: Global, text: &str) -> Result<Table, ConfigRefusal>
     }
 }
 
-/// A document's fault for printing, with its key in memory of its own.
+/// Returns a document's fault for printing, with its key in memory of its own.
 fn refusal_of(alloc: Global, fault: Fault<'_>) -> ConfigRefusal
     ensures { Tells fault.entry result }
 {
@@ -46,12 +46,12 @@ fn refusal_of(alloc: Global, fault: Fault<'_>) -> ConfigRefusal
     }
 }
 
-/// The configuration that a text spells; for a run each port needs its endpoints.
+/// Returns the configuration that a text spells; for a run each port needs its endpoints.
 ///
 /// # Errors
 ///
-/// The first faulty key, in the order of the definition; `Text` exactly where the text is no TOML
-/// document; `NoMemory` where memory is refused.
+/// The first faulty key, in the order of the definition; `Text` exactly if the text is no TOML
+/// document; `NoMemory` if memory is refused.
 pub fn config_of(alloc: Global, text: &str, for_run: bool) -> Result<Config, ConfigRefusal>
     ensures value { ConfigOf for_run text.now result }
     ensures opens { IfOk result (λ c. AreConfigs c.edges.items) }
@@ -63,13 +63,13 @@ pub fn config_of(alloc: Global, text: &str, for_run: bool) -> Result<Config, Con
     }
 }
 
-/// The configuration of a text for edges that answer queries while they run: that of a run, with
-/// the path of a Unix socket at the key `control`, and optional peers, which are edges that run
-/// elsewhere. Each edge lists all edges and all peers.
+/// Returns the configuration of a text for edges that answer queries while they run: that of a run,
+/// with the path of a Unix socket at the key `control`, and optional peers, which are edges that
+/// run elsewhere. Each edge lists all edges and all peers.
 ///
 /// # Errors
 ///
-/// As `config_of`.
+/// As for `config_of`.
 pub fn served_config_of(alloc: Global, text: &str) -> Result<Served, ConfigRefusal>
     ensures value { ServedOf text.now result }
     ensures opens { IfOk result (λ s. AreConfigs s.config.edges.items) }
@@ -81,7 +81,7 @@ pub fn served_config_of(alloc: Global, text: &str) -> Result<Served, ConfigRefus
     }
 }
 
-/// The edges of `served_config_of`, for whom the path doesn't matter.
+/// Returns the configuration of `served_config_of`, without the path of the control socket.
 fn served_edges_of(alloc: Global, text: &str) -> Result<Config, ConfigRefusal>
     ensures { ServedEdgesOf text.now result }
 {
@@ -97,11 +97,11 @@ fn served_edges_of(alloc: Global, text: &str) -> Result<Config, ConfigRefusal>
     }
 }
 
-/// The configuration that a text spells for a use.
+/// Returns the configuration that a text spells for a use.
 ///
 /// # Errors
 ///
-/// As `config_of`.
+/// As for `config_of`.
 pub fn config_for(alloc: Global, text: &str, wanted: Use) -> Result<Config, ConfigRefusal>
     ensures { ConfigFor wanted text.now result }
 {

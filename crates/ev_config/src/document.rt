@@ -17,7 +17,7 @@ use std::alloc::Global;
 use toml::Table;
 use toml::value::Array;
 
-/// The tables of the edges, if they are valid.
+/// Returns the tables of the edges, if they are valid.
 fn edge_tables<'a>(document: &'a Table) -> Result<Option<&'a Array>, Fault<'a>>
     ensures value { IfOk result (λ o. option_map_or (λ a. array_view a.now) o no_items
         ≡ edge_items (table_view document.now)) }
@@ -30,7 +30,7 @@ fn edge_tables<'a>(document: &'a Table) -> Result<Option<&'a Array>, Fault<'a>>
     }
 }
 
-/// How many tables there are.
+/// Returns the number of tables.
 #[tactic(auto, using(crate::proofs::Walking::count_of_view))]
 fn count_of<'a>(tables: Option<&'a Array>) -> usize
     requires { IfSome tables (λ a. length a.now.items ≤ 64) }
@@ -44,7 +44,7 @@ fn count_of<'a>(tables: Option<&'a Array>) -> usize
     }
 }
 
-/// The faults of these edges, if there are any, and the addresses that they spell.
+/// Collects the faults of these edges, if there are any, and the addresses that they spell.
 fn add_edges_at<'a>(
     faults: &mut Vec<FaultyKey<'a>>,
     alloc: Global,
@@ -84,7 +84,7 @@ fn add_peers_at<'a>(
     }
 }
 
-/// The faults of a document for any use, or for a run.
+/// Collects the faults of a document for any use, or for a run.
 fn add_config<'a>(
     faults: &mut Vec<FaultyKey<'a>>,
     alloc: Global,
@@ -122,7 +122,7 @@ fn add_served<'a>(
     add_peers_at(faults, addresses, count, document)
 }
 
-/// All faults of a document for a use, in the order in which its keys are read.
+/// Returns all faults of a document for a use, in the order in which its keys are read.
 ///
 /// # Errors
 ///

@@ -37,29 +37,29 @@ pub(crate) const EDGE_KEYS: [&'static str; 14] = [
     "port",
 ];
 
-/// Who an edge is.
+/// The names of an edge.
 #[derive(Drop)]
 pub(crate) struct Names {
-    /// The address under which it speaks.
+    /// Its own address, under which it originates routes.
     pub(crate) address: Addr,
     /// Its bridge's address.
     pub(crate) bridge: Mac,
-    /// The networks that it serves.
+    /// The VNIs that it serves.
     pub(crate) vnis: ArrayVec<Vni, 64>,
 }
 
-/// How much an edge keeps, how long, and in which of its lives.
+/// The limits of an edge, and its incarnation.
 #[derive(Clone, Copy)]
 pub(crate) struct Limits {
-    /// How many seconds an entry lives that isn't heard again.
+    /// The ageing time of an entry that isn't refreshed, in seconds.
     pub(crate) ageing: u64,
-    /// How many stations may be learnt.
+    /// The maximum number of learnt stations.
     pub(crate) capacity: u64,
-    /// How many buckets the learning table has.
+    /// The number of buckets of the learning table.
     pub(crate) buckets: u64,
-    /// What keeps a stranger from choosing the buckets.
+    /// The salt that keeps a stranger from choosing the buckets.
     pub(crate) salt: u64,
-    /// Which incarnation of the originator begins.
+    /// The incarnation in which the edge begins.
     pub(crate) incarnation: u64,
 }
 
@@ -74,14 +74,14 @@ pub(crate) struct Described {
     pub(crate) links: ArrayVec<PortEndpoints, 64>,
 }
 
-/// Whether the bridge is one of these.
+/// Returns `true` if the bridge is one of these.
 fn has_bridge(bridges: &[Mac], bridge: Mac) -> bool
     ensures { result ≡ list_any (λ x. eqb x bridge) bridges.now }
 {
     bridges.contains(&bridge)
 }
 
-/// The bridge's address, none of those before.
+/// Returns the bridge's address, if it differs from those before.
 pub(crate) fn bridge_of<'a>(table: &'a Table, before: &[Mac]) -> Result<Mac, Fault<'a>>
     ensures { Gives (λ n. n) (required (codes "bridge") (λ d. new_among before.now (bridge_in d))
         (table_view table.now)) result }
@@ -95,7 +95,7 @@ pub(crate) fn bridge_of<'a>(table: &'a Table, before: &[Mac]) -> Result<Mac, Fau
     }
 }
 
-/// Who the edge is, given the addresses and bridges of the edges before it.
+/// Returns the names of the edge, given the addresses and bridges of the edges before it.
 pub(crate) fn names_of<'a>(
     addresses: &[Addr],
     bridges: &[Mac],
@@ -116,7 +116,7 @@ pub(crate) fn names_of<'a>(
     })
 }
 
-/// The bridge's priority.
+/// Returns the bridge's priority.
 pub(crate) fn priority_of<'a>(table: &'a Table) -> Result<u64, Fault<'a>>
     ensures value { Gives (λ n. n) (priority_of (table_view table.now)) result }
     ensures high { IfOk result (λ n. n ≤ 61440) }
@@ -124,7 +124,7 @@ pub(crate) fn priority_of<'a>(table: &'a Table) -> Result<u64, Fault<'a>>
     steps(table, "priority", 4096, 61_440, 32_768)
 }
 
-/// How many seconds pass from one message to the next.
+/// Returns the time between two messages, in seconds.
 pub(crate) fn hello_of<'a>(table: &'a Table) -> Result<u64, Fault<'a>>
     ensures value { Gives (λ n. n) (hello_of (table_view table.now)) result }
     ensures low { IfOk result (λ n. 1 ≤ n) }
@@ -133,7 +133,7 @@ pub(crate) fn hello_of<'a>(table: &'a Table) -> Result<u64, Fault<'a>>
     number(table, "hello", 1, 2, 2)
 }
 
-/// How many seconds old a message may be.
+/// Returns the maximum age of a message, in seconds.
 pub(crate) fn max_age_of<'a>(table: &'a Table) -> Result<u64, Fault<'a>>
     ensures value { Gives (λ n. n) (max_age_of (table_view table.now)) result }
     ensures high { IfOk result (λ n. n ≤ 40) }
@@ -141,7 +141,7 @@ pub(crate) fn max_age_of<'a>(table: &'a Table) -> Result<u64, Fault<'a>>
     number(table, "max_age", 6, 40, 20)
 }
 
-/// How many seconds a port waits before each step to forwarding.
+/// Returns the delay of a port before each step to forwarding, in seconds.
 pub(crate) fn forward_delay_of<'a>(table: &'a Table) -> Result<u64, Fault<'a>>
     ensures value { Gives (λ n. n) (forward_delay_of (table_view table.now)) result }
     ensures high { IfOk result (λ n. n ≤ 30) }
@@ -149,7 +149,7 @@ pub(crate) fn forward_delay_of<'a>(table: &'a Table) -> Result<u64, Fault<'a>>
     number(table, "forward_delay", 4, 30, 15)
 }
 
-/// How many messages go in a second.
+/// Returns the maximum number of messages in a second.
 pub(crate) fn hold_of<'a>(table: &'a Table) -> Result<u64, Fault<'a>>
     ensures value { Gives (λ n. n) (hold_of (table_view table.now)) result }
     ensures high { IfOk result (λ n. n ≤ 10) }
@@ -157,7 +157,7 @@ pub(crate) fn hold_of<'a>(table: &'a Table) -> Result<u64, Fault<'a>>
     number(table, "hold", 1, 10, 6)
 }
 
-/// The bridge's identifier and times.
+/// Returns the bridge's identifier and times.
 pub(crate) fn tree_of<'a>(bridge: Mac, table: &'a Table) -> Result<Settings, Fault<'a>>
     ensures value { Gives (λ s. s) (tree_of bridge (table_view table.now)) result }
     ensures some { IfOk result (λ s. 1 ≤ s.hello) }
@@ -178,14 +178,14 @@ pub(crate) fn tree_of<'a>(bridge: Mac, table: &'a Table) -> Result<Settings, Fau
     })
 }
 
-/// How many seconds an entry lives that isn't heard again.
+/// Returns the ageing time of an entry that isn't refreshed, in seconds.
 pub(crate) fn ageing_of<'a>(table: &'a Table) -> Result<u64, Fault<'a>>
     ensures value { Gives (λ n. n) (ageing_of (table_view table.now)) result }
 {
     number(table, "ageing", 10, 1_000_000, 300)
 }
 
-/// How many stations the edge keeps.
+/// Returns the maximum number of stations.
 pub(crate) fn capacity_of<'a>(table: &'a Table) -> Result<u64, Fault<'a>>
     ensures value { Gives (λ n. n) (capacity_of (table_view table.now)) result }
     ensures low { IfOk result (λ n. 1 ≤ n) }
@@ -194,7 +194,7 @@ pub(crate) fn capacity_of<'a>(table: &'a Table) -> Result<u64, Fault<'a>>
     number(table, "capacity", 1, 65_536, 1024)
 }
 
-/// How many buckets the stations are in, as many as stations where that is left out.
+/// Returns the number of buckets for the stations; as many as stations if the key is missing.
 pub(crate) fn buckets_of<'a>(capacity: u64, table: &'a Table) -> Result<u64, Fault<'a>>
     requires low { 1 ≤ capacity }
     requires high { capacity ≤ 65536 }
@@ -205,14 +205,14 @@ pub(crate) fn buckets_of<'a>(capacity: u64, table: &'a Table) -> Result<u64, Fau
     number(table, "buckets", 1, 65_536, capacity)
 }
 
-/// The salt of the buckets.
+/// Returns the salt of the buckets.
 pub(crate) fn salt_of<'a>(table: &'a Table) -> Result<u64, Fault<'a>>
     ensures value { Gives (λ n. n) (salt_of (table_view table.now)) result }
 {
     number(table, "salt", 0, 0x7fff_ffff_ffff_ffff, 0)
 }
 
-/// In which of its lives the edge is.
+/// Returns the incarnation of the edge.
 pub(crate) fn incarnation_of<'a>(table: &'a Table) -> Result<u64, Fault<'a>>
     ensures value { Gives (λ n. n) (incarnation_of (table_view table.now)) result }
     ensures high { IfOk result (λ n. n < 2 ^ 32) }
@@ -220,7 +220,7 @@ pub(crate) fn incarnation_of<'a>(table: &'a Table) -> Result<u64, Fault<'a>>
     number(table, "incarnation", 0, 0xffff_ffff, 0)
 }
 
-/// How much the edge keeps, how long, and in which of its lives.
+/// Returns the limits of the edge, and its incarnation.
 pub(crate) fn limits_of<'a>(table: &'a Table) -> Result<Limits, Fault<'a>>
     ensures value { Gives (λ l. l) (limits_of (table_view table.now)) result }
     ensures some_place { IfOk result (λ l. 1 ≤ l.capacity) }
@@ -243,7 +243,7 @@ pub(crate) fn limits_of<'a>(table: &'a Table) -> Result<Limits, Fault<'a>>
     })
 }
 
-/// Whether times fit together (IEEE 802.1D-2004, section 17.14).
+/// Returns `true` if times fit together (IEEE 802.1D-2004, section 17.14).
 pub(crate) fn times_fit(hello: u64, max_age: u64, forward_delay: u64) -> bool
     requires hello { hello ≤ 2 }
     requires forward_delay { forward_delay ≤ 30 }
@@ -289,7 +289,7 @@ fn edge_from(names: Names, tree: Settings, limits: Limits, ports: Ports) -> Desc
     }
 }
 
-/// The edge of a table, given the addresses and bridges of the edges before it.
+/// Returns the edge of a table, given the addresses and bridges of the edges before it.
 pub(crate) fn edge_of<'a>(
     for_run: bool,
     addresses: &[Addr],

@@ -38,7 +38,7 @@ struct Edges {
     links: Vec<ArrayVec<PortEndpoints, 64>>,
 }
 
-/// One edge more.
+/// Adds one edge.
 fn add_edge<'a>(edges: &mut Edges, edge: Described) -> Result<(), Fault<'a>>
     requires addresses { length edges.old.addresses.items < 64 }
     requires bridges { length edges.old.bridges.items < 64 }
@@ -63,7 +63,7 @@ fn add_edge<'a>(edges: &mut Edges, edge: Described) -> Result<(), Fault<'a>>
     Ok(())
 }
 
-/// The edges of these tables.
+/// Returns the edges of these tables.
 #[tactic(auto, using(crate::proofs::Walking::items_more, crate::proofs::Fitting::none_fit))]
 fn edges_of<'a>(alloc: Global, for_run: bool, tables: &'a Array) -> Result<Edges, Fault<'a>>
     requires { length tables.now.items ≤ 64 }
@@ -91,7 +91,7 @@ fn edges_of<'a>(alloc: Global, for_run: bool, tables: &'a Array) -> Result<Edges
     Ok(edges)
 }
 
-/// Tells an edge of these addresses.
+/// Sets the list of originators of an edge to these addresses.
 fn listen(edge: &mut EdgeConfig, addresses: &ArrayVec<Addr, 64>)
     ensures { edge.new ≡ listening addresses.now.items edge.old }
 {
@@ -100,7 +100,7 @@ fn listen(edge: &mut EdgeConfig, addresses: &ArrayVec<Addr, 64>)
     edge.originators = originators;
 }
 
-/// Tells each edge of these addresses.
+/// Sets the list of originators of each edge to these addresses.
 fn listen_all(edges: &mut [EdgeConfig], addresses: &ArrayVec<Addr, 64>)
     ensures { edges.new ≡ map (listening addresses.now.items) edges.old }
 {
@@ -109,7 +109,7 @@ fn listen_all(edges: &mut [EdgeConfig], addresses: &ArrayVec<Addr, 64>)
     }
 }
 
-/// The configuration of these edges: each listens to these addresses.
+/// Returns the configuration of these edges, each of which lists these addresses.
 fn told(
     configs: Vec<EdgeConfig>,
     links: Vec<ArrayVec<PortEndpoints, 64>>,
@@ -123,8 +123,8 @@ fn told(
     Config { edges, links }
 }
 
-/// The configuration of these edges: each listens to all, and to the peers in these tables, if
-/// there are any.
+/// Returns the configuration of these edges: each lists all edges, and the peers in these tables,
+/// if there are any.
 fn with_peers<'a>(edges: Edges, peers: Option<&'a Array>) -> Result<Config, Fault<'a>>
     requires each { vec_len edges.links ≡ vec_len edges.configs }
     requires some { 0 < length edges.addresses.items }
@@ -146,7 +146,7 @@ fn with_peers<'a>(edges: Edges, peers: Option<&'a Array>) -> Result<Config, Faul
     Ok(told(configs, links, &listed))
 }
 
-/// The configuration of these tables.
+/// Returns the configuration of these tables.
 fn described<'a>(alloc: Global, for_run: bool, tables: &'a Array) -> Result<Config, Fault<'a>>
     requires some { 0 < length tables.now.items }
     requires few { length tables.now.items ≤ 64 }
@@ -157,7 +157,7 @@ fn described<'a>(alloc: Global, for_run: bool, tables: &'a Array) -> Result<Conf
     with_peers(edges, None)
 }
 
-/// The configuration of a document.
+/// Returns the configuration of a document.
 pub(crate) fn config_in<'a>(
     alloc: Global,
     for_run: bool,
@@ -171,7 +171,7 @@ pub(crate) fn config_in<'a>(
     described(alloc, for_run, tables)
 }
 
-/// The tables of the peers beside these edges, if there are any.
+/// Returns the tables of the peers of these edges, if there are any.
 #[tactic(auto, using(crate::proofs::Walking::count_of_view))]
 pub(crate) fn peers_at<'a>(table: &'a Table, edges: &Array) -> Result<Option<&'a Array>, Fault<'a>>
     requires { length edges.now.items ≤ 64 }
@@ -184,7 +184,7 @@ pub(crate) fn peers_at<'a>(table: &'a Table, edges: &Array) -> Result<Option<&'a
     tables_beside(table, "peer", edges.len())
 }
 
-/// The configuration of a document of edges that answer queries while they run.
+/// Returns the configuration of a document of edges that answer queries while they run.
 pub(crate) fn served_in<'a>(alloc: Global, table: &'a Table) -> Result<Served, Fault<'a>>
     ensures value { Gives served_view (served_in (table_view table.now)) result }
     ensures opens { IfOk result (λ s. AreConfigs s.config.edges.items) }

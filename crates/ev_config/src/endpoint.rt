@@ -23,7 +23,7 @@ pub struct PortEndpoints {
     pub remote: Option<Endpoint>,
 }
 
-/// The UDP port that the text spells in decimal.
+/// Returns the UDP port that the text spells in decimal.
 fn read_udp_port(text: &[u8]) -> Option<u16>
     ensures { result ≡ decimal_of_text 65535 text.now }
 {
@@ -31,7 +31,7 @@ fn read_udp_port(text: &[u8]) -> Option<u16>
     Some(number as u16)
 }
 
-/// The endpoint that the text spells: an IPv4 address, a colon, a UDP port.
+/// Returns the endpoint that the text spells: an IPv4 address, a colon, a UDP port.
 pub(crate) fn read_endpoint(text: &[u8]) -> Option<Endpoint>
     ensures { result ≡ endpoint_of_text text.now }
 {

@@ -1,5 +1,5 @@
-//! The faults of edges, ports and peers: each key is read by what reads a configuration, and each
-//! refusal is noted.
+//! The faults of edges, ports and peers: the functions that read a configuration read each key here
+//! too, and each refusal is collected.
 ghost use Rattle.std.specs.Prelude.{◌≡◌, ◌+◌, ◌<◌, ◌≤◌, ◌++◌, ◌∷◌, [], List, length, map, codes, option_map, IfOk, OnOk};
 ghost use Rattle.toml.specs.View.{view, table_view, array_view};
 ghost use Rattle.ev_config.specs.Keys.{required, addr_in, bridge_in, vni_in, tables_in};
@@ -30,13 +30,13 @@ use toml::value::Array;
 /// A faulty key of a document.
 #[derive(Clone, Copy, Drop)]
 pub(crate) struct FaultyKey<'a> {
-    /// Where it stands.
+    /// The place of its table.
     pub(crate) place: Place<'a>,
     /// The key.
     pub(crate) key: &'a str,
 }
 
-/// One fault more.
+/// Adds one fault.
 fn add<'a>(faults: &mut Vec<FaultyKey<'a>>, place: Place<'a>, key: &'a str) -> Result<(), Fault<'a>>
     ensures { Adds ((spot_of place.entry, key.now) ∷ []) faults.old.items faults.new.items result }
 {
@@ -44,7 +44,7 @@ fn add<'a>(faults: &mut Vec<FaultyKey<'a>>, place: Place<'a>, key: &'a str) -> R
     Ok(())
 }
 
-/// Returns the fault of a result, if it has one.
+/// Adds the fault of a result, if it has one.
 pub(crate) fn note<'a, T: Drop>(
     faults: &mut Vec<FaultyKey<'a>>,
     place: Place<'a>,
@@ -60,7 +60,7 @@ pub(crate) fn note<'a, T: Drop>(
     }
 }
 
-/// The keys of a table that are none of these.
+/// Adds the keys of a table that are none of these.
 pub(crate) fn add_others<'a>(
     faults: &mut Vec<FaultyKey<'a>>,
     place: Place<'a>,
@@ -78,7 +78,7 @@ pub(crate) fn add_others<'a>(
     Ok(())
 }
 
-/// The network of a port, one of the edge's where these are known.
+/// Returns the VNI of a port, which is one of the edge's if these are known.
 fn network_of<'a>(vnis: &Option<ArrayVec<Vni, 64>>, table: &'a Table) -> Result<Vni, Fault<'a>>
     ensures { Gives (λ n. n) (network_of (option_map (λ v. v.items) vnis.now)
         (table_view table.now)) result }
@@ -89,7 +89,7 @@ fn network_of<'a>(vnis: &Option<ArrayVec<Vni, 64>>, table: &'a Table) -> Result<
     }
 }
 
-/// The network of a port, whichever it is.
+/// Returns the VNI of a port, which may be any VNI.
 fn any_vni_of<'a>(table: &'a Table) -> Result<Vni, Fault<'a>>
     ensures { Gives (λ n. n) (required (codes "vni") vni_in (table_view table.now)) result }
 {
@@ -102,7 +102,7 @@ fn any_vni_of<'a>(table: &'a Table) -> Result<Vni, Fault<'a>>
     }
 }
 
-/// The faults of a port.
+/// Collects the faults of a port.
 fn add_port<'a>(
     faults: &mut Vec<FaultyKey<'a>>,
     for_run: bool,
@@ -124,7 +124,7 @@ fn add_port<'a>(
     add_others(faults, place, &PORT_KEYS, table)
 }
 
-/// The faults of the ports of an edge.
+/// Collects the faults of the ports of an edge.
 #[tactic(auto, using(crate::proofs::Walking::items_more))]
 fn add_ports<'a>(
     faults: &mut Vec<FaultyKey<'a>>,
@@ -149,7 +149,8 @@ fn add_ports<'a>(
     Ok(())
 }
 
-/// The faults of who an edge is, given the addresses and bridges of the edges before it.
+/// Collects the faults of the names of an edge, given the addresses and bridges of the edges before
+/// it.
 fn add_names<'a>(
     faults: &mut Vec<FaultyKey<'a>>,
     addresses: &[Addr],
@@ -165,7 +166,7 @@ fn add_names<'a>(
     note(faults, place, vnis_at(table, "vnis"))
 }
 
-/// Those of its bridge's priority and times.
+/// Collects the faults of its bridge's priority and times.
 fn add_tree<'a>(
     faults: &mut Vec<FaultyKey<'a>>,
     place: Place<'a>,
@@ -181,7 +182,7 @@ fn add_tree<'a>(
     note(faults, place, hold_of(table))
 }
 
-/// Those of how much it keeps, how long, and in which of its lives.
+/// Collects the faults of its limits and its incarnation.
 fn add_limits<'a>(
     faults: &mut Vec<FaultyKey<'a>>,
     place: Place<'a>,
@@ -197,7 +198,7 @@ fn add_limits<'a>(
     note(faults, place, incarnation_of(table))
 }
 
-/// Whether each of an edge's times may be, and if so whether they fit together.
+/// Returns whether an edge's times fit together, if each of them is valid.
 fn times_of<'a>(table: &'a Table) -> Result<bool, Fault<'a>>
     ensures { Gives (λ b. b) (times_of (table_view table.now)) result }
 {
@@ -207,7 +208,7 @@ fn times_of<'a>(table: &'a Table) -> Result<bool, Fault<'a>>
     Ok(times_fit(hello, max_age, forward_delay))
 }
 
-/// The fault of times that may be each for itself, and don't fit together.
+/// Adds the fault of times that are valid and don't fit together.
 fn add_odd_times<'a>(
     faults: &mut Vec<FaultyKey<'a>>,
     place: Place<'a>,
@@ -253,7 +254,7 @@ fn add_ports_at<'a>(
     }
 }
 
-/// The faults of an edge, given the addresses and bridges of the edges before it.
+/// Collects the faults of an edge, given the addresses and bridges of the edges before it.
 fn add_edge<'a>(
     faults: &mut Vec<FaultyKey<'a>>,
     for_run: bool,
@@ -275,14 +276,14 @@ fn add_edge<'a>(
     add_ports_at(faults, for_run, edge, table)
 }
 
-/// The address that a table spells.
+/// Returns the address that a table spells.
 fn spelt_address(table: &Table) -> Option<Addr>
     ensures { result ≡ spelt (codes "address") addr_in (table_view table.now) }
 {
     addr_in(value_at(table, "address")?)
 }
 
-/// The bridge that it spells.
+/// Returns the bridge that a table spells.
 fn spelt_bridge(table: &Table) -> Option<Mac>
     ensures { result ≡ spelt (codes "bridge") bridge_in (table_view table.now) }
 {
@@ -299,7 +300,7 @@ fn join<'a, T: Drop>(before: &mut Vec<T>, more: Option<T>) -> Result<(), Fault<'
     Ok(())
 }
 
-/// The faults of these edges, and the addresses that they spell.
+/// Collects the faults of these edges, and the addresses that they spell.
 #[tactic(auto, using(crate::proofs::Walking::items_more))]
 pub(crate) fn add_edges<'a>(
     faults: &mut Vec<FaultyKey<'a>>,
@@ -331,7 +332,7 @@ pub(crate) fn add_edges<'a>(
     Ok(addresses)
 }
 
-/// The faults of a peer, given the addresses before it.
+/// Collects the faults of a peer, given the addresses before it.
 fn add_peer<'a>(
     faults: &mut Vec<FaultyKey<'a>>,
     before: &[Addr],
@@ -345,7 +346,7 @@ fn add_peer<'a>(
     add_others(faults, place, &PEER_KEYS, table)
 }
 
-/// The faults of these peers, given the addresses of the edges.
+/// Collects the faults of these peers, given the addresses of the edges.
 #[tactic(auto, using(crate::proofs::Walking::items_more))]
 pub(crate) fn add_peers<'a>(
     faults: &mut Vec<FaultyKey<'a>>,

@@ -1,5 +1,5 @@
-//! Which part of a value is wrong, and which key was meant, for people. Its words are tested, not
-//! proved.
+//! Hints about the wrong part of a value, and about the key that was meant. Their texts are tested,
+//! not proved.
 ghost use Rattle.std.specs.Prelude.{◌≡◌, OnOk};
 ghost use Rattle.ether_wire.specs.Ends.{IsOpen};
 ghost use Rattle.ether_wire.specs.Memory.{page_end};
@@ -54,7 +54,7 @@ fn decimal_flaw(part: &[u8], max: u64) -> Option<Flaw> {
     }
 }
 
-/// The first octet of an IPv4 address that has a flaw.
+/// Returns the first octet of an IPv4 address that has a flaw.
 fn addr_hint(text: &[u8]) -> Option<Hint<'_>> {
     let mut rest = text;
     for _octet in 0..4 {
@@ -71,7 +71,7 @@ fn addr_hint(text: &[u8]) -> Option<Hint<'_>> {
     None
 }
 
-/// Whether they are two hexadecimal digits, one of them in upper case.
+/// Returns `true` for two hexadecimal digits, one of them in upper case.
 fn is_upper_pair(pair: &[u8]) -> bool {
     match pair {
         [high, low] => {
@@ -83,7 +83,7 @@ fn is_upper_pair(pair: &[u8]) -> bool {
     }
 }
 
-/// The first pair of digits of a MAC address that isn't in lower case.
+/// Returns the first pair of digits of a MAC address that isn't in lower case.
 fn mac_hint(text: &[u8]) -> Option<Hint<'_>> {
     let mut rest = text;
     for _pair in 0..6 {
@@ -113,7 +113,7 @@ fn endpoint_hint(text: &[u8]) -> Option<Hint<'_>> {
     }
 }
 
-/// The part of a text at this key that is known to be wrong.
+/// Returns the part of a text at this key that is known to be wrong.
 fn hint_of<'a>(key: &str, text: &'a [u8]) -> Option<Hint<'a>> {
     match key {
         "address" => addr_hint(text),
@@ -150,7 +150,7 @@ fn put_part(line: &mut Line, hint: Hint<'_>) -> Result<(), Device>
     put_flaw(line, hint.flaw)
 }
 
-/// Whether the text spells a MAC address of a group.
+/// Returns `true` if the text spells a MAC address of a group.
 fn is_group(text: &[u8]) -> bool {
     match Mac::read_text(text) {
         Some(mac) => mac.is_group(),
@@ -172,8 +172,8 @@ pub(crate) fn put_hint(line: &mut Line, key: &str, text: &str) -> Result<(), Dev
     }
 }
 
-/// Returns the key that an unknown one resembles: the nearest by edits, if these are at most a
-/// third of its length.
+/// Returns the key that an unknown one resembles: the nearest by edits, if there are at most a
+/// third as many edits as its length.
 pub(crate) fn meant(alloc: Global, keys: &[&'static str], key: &str) -> Option<&'static str> {
     let mut least = key.len() / 3 + 1;
     let mut found = None;

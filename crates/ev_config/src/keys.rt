@@ -40,14 +40,14 @@ impl<'a> From<AllocError> for Fault<'a> {
     }
 }
 
-/// The value at a key.
+/// Returns the value at a key.
 pub(crate) fn value_at<'a>(table: &'a Table, key: &str) -> Option<&'a Value>
     ensures { option_map (λ v. view v.now) result ≡ get_member key.now (table_view table.now) }
 {
     table.get(key)
 }
 
-/// An integer from low to high.
+/// Reads an integer from low to high.
 fn number_in(value: &Value, low: u64, high: u64) -> Option<u64>
     ensures value { result ≡ number_in low high (view value.now) }
     ensures low { IfSome result (λ n. low ≤ n) }
@@ -66,7 +66,7 @@ fn number_in(value: &Value, low: u64, high: u64) -> Option<u64>
     }
 }
 
-/// The number at a key from low to high, or the default where the key is left out.
+/// Returns the number at a key from low to high, or the default if the key is missing.
 pub(crate) fn number<'a>(
     table: &'a Table,
     key: &'a str,
@@ -90,7 +90,7 @@ pub(crate) fn number<'a>(
     }
 }
 
-/// An integer from 0 to high in steps.
+/// Reads an integer from 0 to high in steps.
 fn steps_in(value: &Value, step: u64, high: u64) -> Option<u64>
     requires { 0 < step }
     ensures value { result ≡ steps_in step high (view value.now) }
@@ -102,7 +102,7 @@ fn steps_in(value: &Value, step: u64, high: u64) -> Option<u64>
     }
 }
 
-/// The number at a key from 0 to high in steps, or the default where the key is left out.
+/// Returns the number at a key from 0 to high in steps, or the default if the key is missing.
 pub(crate) fn steps<'a>(
     table: &'a Table,
     key: &'a str,
@@ -125,7 +125,7 @@ pub(crate) fn steps<'a>(
     }
 }
 
-/// The flag at a key, or the default where the key is left out.
+/// Returns the flag at a key, or the default if the key is missing.
 pub(crate) fn flag<'a>(table: &'a Table, key: &'a str, default: bool) -> Result<bool, Fault<'a>>
     ensures { Gives (λ b. b) (optional key.now flag_in default (table_view table.now)) result }
 {
@@ -138,21 +138,21 @@ pub(crate) fn flag<'a>(table: &'a Table, key: &'a str, default: bool) -> Result<
     }
 }
 
-/// The address that a value spells.
+/// Returns the address that a value spells.
 pub(crate) fn addr_in(value: &Value) -> Option<Addr>
     ensures { result ≡ addr_in (view value.now) }
 {
     Addr::read_text(value.as_str()?.as_bytes())
 }
 
-/// Whether the address is one of these.
+/// Returns `true` if the address is one of these.
 fn has_address(addresses: &[Addr], address: Addr) -> bool
     ensures { result ≡ list_any (λ x. eqb x address) addresses.now }
 {
     addresses.contains(&address)
 }
 
-/// The address at its key, none of those before.
+/// Returns the address at its key, if it differs from those before.
 pub(crate) fn new_address_at<'a>(table: &'a Table, before: &[Addr]) -> Result<Addr, Fault<'a>>
     ensures value { Gives (λ n. n) (required (codes "address")
         (λ d. new_among before.now (addr_in d)) (table_view table.now)) result }
@@ -167,7 +167,7 @@ pub(crate) fn new_address_at<'a>(table: &'a Table, before: &[Addr]) -> Result<Ad
     }
 }
 
-/// The address of one station that a value spells.
+/// Returns the MAC address of one station that a value spells.
 pub(crate) fn bridge_in(value: &Value) -> Option<Mac>
     ensures { result ≡ bridge_in (view value.now) }
 {
@@ -175,24 +175,24 @@ pub(crate) fn bridge_in(value: &Value) -> Option<Mac>
     if mac.is_group() { None } else { Some(mac) }
 }
 
-/// The endpoint that a value spells.
+/// Returns the endpoint that a value spells.
 pub(crate) fn endpoint_in(value: &Value) -> Option<Endpoint>
     ensures { result ≡ endpoint_in (view value.now) }
 {
     read_endpoint(value.as_str()?.as_bytes())
 }
 
-/// The octets that the path of a Unix socket may have (unix(7)).
+/// The maximum number of octets in the path of a Unix socket (unix(7)).
 const LONGEST_PATH: usize = 107;
 
-/// Whether these octets are the path of a Unix socket: 1 to 107, none of which is 0.
+/// Returns `true` if these octets are the path of a Unix socket: 1 to 107, none of which is 0.
 fn is_path(octets: &[u8]) -> bool
     ensures { result ≡ is_path octets.now }
 {
     0 < octets.len() && octets.len() <= LONGEST_PATH && !octets.contains(&0)
 }
 
-/// The path of a Unix socket that a value spells.
+/// Returns the path of a Unix socket that a value spells.
 fn path_in(value: &Value) -> Option<&str>
     ensures { option_map (λ s. s.now) result ≡ path_in (view value.now) }
 {
@@ -204,7 +204,7 @@ fn path_in(value: &Value) -> Option<&str>
     }
 }
 
-/// The path of a Unix socket at a key.
+/// Returns the path of a Unix socket at a key.
 pub(crate) fn path_at<'a>(table: &'a Table, key: &'a str) -> Result<&'a str, Fault<'a>>
     ensures { Gives (λ s. s.now) (required key.now path_in (table_view table.now)) result }
 {
@@ -217,7 +217,7 @@ pub(crate) fn path_at<'a>(table: &'a Table, key: &'a str) -> Result<&'a str, Fau
     }
 }
 
-/// The network that a value is.
+/// Returns the VNI of a value.
 pub(crate) fn vni_in(value: &Value) -> Option<Vni>
     ensures { result ≡ vni_in (view value.now) }
 {
@@ -227,14 +227,14 @@ pub(crate) fn vni_in(value: &Value) -> Option<Vni>
     }
 }
 
-/// Whether a key is one of these.
+/// Returns `true` if a key is one of these.
 pub(crate) fn is_among(keys: &[&str], key: &str) -> bool
     ensures { result ≡ is_among (map (λ k. k.now) keys.now) key.now }
 {
     keys.iter().any(|k| *k == key)
 }
 
-/// Refuses a table with other keys than these.
+/// Refuses a table that has any other key than `keys`.
 pub(crate) fn only<'a>(table: &'a Table, keys: &[&str]) -> Result<bool, Fault<'a>>
     ensures { Gives (λ b. b) (only (map (λ k. k.now) keys.now) (table_view table.now)) result }
 {
@@ -246,7 +246,7 @@ pub(crate) fn only<'a>(table: &'a Table, keys: &[&str]) -> Result<bool, Fault<'a
     Ok(true)
 }
 
-/// Whether it has 1 to 64 items.
+/// Returns `true` if it has 1 to 64 items.
 #[tactic(auto, using(crate::proofs::Walking::count_of_view))]
 fn is_few(array: &Array) -> bool
     ensures value { result ≡ is_few (array_view array.now) }
@@ -256,7 +256,7 @@ fn is_few(array: &Array) -> bool
     0 < array.len() && array.len() <= 64
 }
 
-/// Whether all items are tables.
+/// Returns `true` if all items are tables.
 #[tactic(auto, using(crate::proofs::Walking::items_more))]
 fn are_tables(array: &Array) -> bool
     ensures { result ≡ are_tables (array_view array.now) }
@@ -269,7 +269,7 @@ fn are_tables(array: &Array) -> bool
     true
 }
 
-/// The array of 1 to 64 tables that a value is.
+/// Returns the array of 1 to 64 tables of a value.
 fn tables_in(value: &Value) -> Option<&Array>
     ensures value { option_map (λ v. array_view v.now) result ≡ tables_in (view value.now) }
     ensures some { IfSome result (λ v. 0 < length v.now.items) }
@@ -281,7 +281,7 @@ fn tables_in(value: &Value) -> Option<&Array>
     }
 }
 
-/// The array of 1 to 64 tables at a key.
+/// Returns the array of 1 to 64 tables at a key.
 pub(crate) fn tables_at<'a>(table: &'a Table, key: &'a str) -> Result<&'a Array, Fault<'a>>
     ensures value { Gives (λ v. array_view v.now)
         (required key.now tables_in (table_view table.now)) result }
@@ -311,7 +311,7 @@ fn tables_in_beside(value: &Value, others: usize) -> Option<&Array>
     }
 }
 
-/// The one at a key, if there is one.
+/// Returns that array at a key, if there is one.
 pub(crate) fn tables_beside<'a>(
     table: &'a Table,
     key: &'a str,
@@ -331,7 +331,7 @@ pub(crate) fn tables_beside<'a>(
     }
 }
 
-/// Whether the network is one of these.
+/// Returns `true` if the VNI is one of these.
 pub(crate) fn has_vni(vnis: &[Vni], vni: Vni) -> bool
     ensures { result ≡ list_any (λ x. eqb x vni) vnis.now }
 {
@@ -349,7 +349,7 @@ fn new_vni(before: &[Vni], value: &Value) -> Option<Vni>
     }
 }
 
-/// The distinct networks of an array.
+/// Returns the distinct VNIs of an array.
 #[tactic(auto, using(crate::proofs::Walking::items_more, ether_wire::proofs::DistinctNumbers::distinct_none, ether_wire::proofs::DistinctNumbers::distinct_more))]
 fn distinct_vnis(array: &Array) -> Option<ArrayVec<Vni, 64>>
     requires { length array.now.items ≤ 64 }
@@ -367,7 +367,7 @@ fn distinct_vnis(array: &Array) -> Option<ArrayVec<Vni, 64>>
     Some(vnis)
 }
 
-/// The 1 to 64 distinct networks that a value lists.
+/// Returns the 1 to 64 distinct VNIs that a value lists.
 fn vnis_in(value: &Value) -> Option<ArrayVec<Vni, 64>>
     ensures value { option_map (λ v. v.items) result ≡ vnis_in (view value.now) }
     ensures distinct { IfSome result (λ v. IsDistinct eqb v.items) }
@@ -378,7 +378,7 @@ fn vnis_in(value: &Value) -> Option<ArrayVec<Vni, 64>>
     }
 }
 
-/// The 1 to 64 distinct networks at a key.
+/// Returns the 1 to 64 distinct VNIs at a key.
 pub(crate) fn vnis_at<'a>(table: &'a Table, key: &'a str) -> Result<ArrayVec<Vni, 64>, Fault<'a>>
     ensures value { Gives (λ v. v.items) (required key.now vnis_in (table_view table.now)) result }
     ensures distinct { IfOk result (λ v. IsDistinct eqb v.items) }

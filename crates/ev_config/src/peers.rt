@@ -17,7 +17,7 @@ use toml::value::Array;
 /// The keys of a peer's table.
 pub(crate) const PEER_KEYS: [&'static str; 1] = ["address"];
 
-/// The address of a peer, given those of all edges, and of the peers before it.
+/// Returns the address of a peer, given those of all edges, and of the peers before it.
 pub(crate) fn peer_of<'a>(before: &[Addr], table: &'a Table) -> Result<Addr, Fault<'a>>
     ensures value { Gives (λ n. n) (peer_of before.now (table_view table.now)) result }
     ensures new { IfOk result (λ n. list_any (λ x. eqb x n) before.now ≡ false) }
@@ -27,7 +27,7 @@ pub(crate) fn peer_of<'a>(before: &[Addr], table: &'a Table) -> Result<Addr, Fau
     Ok(address)
 }
 
-/// One address more, none of those before.
+/// Adds one address, if it differs from those before.
 fn add_address(listed: &mut ArrayVec<Addr, 64>, address: Addr)
     requires room { length listed.old.items < 64 }
     requires distinct { IsDistinct eqb listed.old.items }

@@ -46,7 +46,7 @@ pub(crate) struct Ports {
     pub(crate) links: ArrayVec<PortEndpoints, 64>,
 }
 
-/// The network of the port, one of the edge's.
+/// Returns the VNI of the port, one of the edge's.
 #[tactic(auto, using(crate::proofs::Fitting::there))]
 pub(crate) fn vni_of<'a>(table: &'a Table, vnis: &[Vni]) -> Result<Vni, Fault<'a>>
     ensures value { Gives (λ n. n)
@@ -62,7 +62,7 @@ pub(crate) fn vni_of<'a>(table: &'a Table, vnis: &[Vni]) -> Result<Vni, Fault<'a
     }
 }
 
-/// The endpoint at a key, which may be left out unless it is needed.
+/// Returns the endpoint at a key, which may be missing unless it is needed.
 pub(crate) fn endpoint_of<'a>(
     table: &'a Table,
     key: &'a str,
@@ -80,7 +80,7 @@ pub(crate) fn endpoint_of<'a>(
     }
 }
 
-/// The cost of the port.
+/// Returns the cost of the port.
 pub(crate) fn cost_of<'a>(table: &'a Table) -> Result<u64, Fault<'a>>
     ensures value { Gives (λ n. n) (cost_of (table_view table.now)) result }
     ensures high { IfOk result (λ n. n ≤ 200000000) }
@@ -88,7 +88,7 @@ pub(crate) fn cost_of<'a>(table: &'a Table) -> Result<u64, Fault<'a>>
     number(table, "cost", 1, 200_000_000, 20_000)
 }
 
-/// The port's priority.
+/// Returns the port's priority.
 pub(crate) fn priority_of<'a>(table: &'a Table) -> Result<u64, Fault<'a>>
     ensures value { Gives (λ n. n) (priority_of (table_view table.now)) result }
     ensures high { IfOk result (λ n. n ≤ 240) }
@@ -96,14 +96,14 @@ pub(crate) fn priority_of<'a>(table: &'a Table) -> Result<u64, Fault<'a>>
     steps(table, "priority", 16, 240, 128)
 }
 
-/// Whether the port is taken for one at the edge of the network.
+/// Returns `true` if the port is taken for one at the edge of the network (`admin_edge`).
 pub(crate) fn admin_edge_of<'a>(table: &'a Table) -> Result<bool, Fault<'a>>
     ensures { Gives (λ b. b) (admin_edge_of (table_view table.now)) result }
 {
     flag(table, "admin_edge", false)
 }
 
-/// Whether that is found out by itself.
+/// Returns `true` if the port detects that automatically (`auto_edge`).
 pub(crate) fn auto_edge_of<'a>(table: &'a Table) -> Result<bool, Fault<'a>>
     ensures { Gives (λ b. b) (auto_edge_of (table_view table.now)) result }
 {
@@ -117,7 +117,7 @@ pub(crate) fn point_to_point_of<'a>(table: &'a Table) -> Result<bool, Fault<'a>>
     flag(table, "point_to_point", true)
 }
 
-/// The port of a table, given the networks of its edge.
+/// Returns the port of a table, given the VNIs of its edge.
 pub(crate) fn port_of<'a>(for_run: bool, vnis: &[Vni], table: &'a Table) -> Result<Port, Fault<'a>>
     ensures value { Gives (λ p. p) (port_of for_run vnis.now (table_view table.now)) result }
     ensures served { IfOk result (λ p. Contains vnis.now p.config.vni) }
@@ -144,7 +144,7 @@ pub(crate) fn port_of<'a>(for_run: bool, vnis: &[Vni], table: &'a Table) -> Resu
     })
 }
 
-/// One port more.
+/// Adds one port.
 fn add_port(ports: &mut Ports, port: Port)
     requires configs { length ports.old.configs.items < 64 }
     requires links { length ports.old.links.items < 64 }
@@ -159,7 +159,7 @@ fn add_port(ports: &mut Ports, port: Port)
     ports.links.push(PortEndpoints { local, remote });
 }
 
-/// The ports of these tables.
+/// Returns the ports of these tables.
 #[tactic(auto, using(crate::proofs::Walking::items_more))]
 pub(crate) fn ports_of<'a>(
     for_run: bool,

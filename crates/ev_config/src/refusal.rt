@@ -26,7 +26,7 @@ fn put_syntax(line: &mut Line, text: &str, error: &Error) -> Result<(), Device>
     put_shown(line, error.message())
 }
 
-/// The line of an error in a text, from 1.
+/// Returns the line of an error in a text, from 1.
 fn line_of(text: &str, error: &Error) -> u64 {
     let start = match error.span() {
         Some(span) => span.start,
@@ -41,14 +41,14 @@ fn line_of(text: &str, error: &Error) -> u64 {
     number
 }
 
-/// The line that tells where a text is no TOML document.
+/// Returns the message with the line in which a text is no TOML document.
 fn syntax_line(text: &str, error: &Error) -> Line {
     let mut line = Line::new();
     let _fits = put_syntax(&mut line, text, error);
     line
 }
 
-/// The message if there is no memory for more.
+/// Returns the message if there is no memory for more.
 fn plain_line(key: Option<&str>) -> Line {
     let mut line = Line::new();
     let _fits = put_plain(&mut line, key.unwrap_or("text"));
@@ -115,7 +115,7 @@ fn put_faults<N: Out>(
 ///
 /// # Errors
 ///
-/// Exactly where a note fails.
+/// `Device` exactly if a note fails.
 #[tactic(auto, using(crate::proofs::Lines::text_told))]
 pub fn put_refusal<N: Out>(
     notes: &mut N,

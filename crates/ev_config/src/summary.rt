@@ -8,7 +8,7 @@ use crate::whole::Config;
 use ether_wire::{Device, Out, Vni, put_decimal};
 use ev_edge::EdgeConfig;
 
-/// How many ports the edges have.
+/// Returns the number of ports of the edges.
 fn count_ports(config: &Config) -> usize {
     let mut count = 0usize;
     for edge in config.edges.iter() {
@@ -17,7 +17,7 @@ fn count_ports(config: &Config) -> usize {
     count
 }
 
-/// Whether one of the first edges serves the network.
+/// Returns `true` if one of the first `edges` edges serves the VNI.
 fn is_served(config: &Config, edges: usize, vni: Vni) -> bool {
     for edge in config.edges.iter().take(edges) {
         if edge.vnis.contains(&vni) {
@@ -38,7 +38,7 @@ fn count_new(config: &Config, edges: usize, edge: &EdgeConfig) -> usize {
     count
 }
 
-/// How many networks the edges serve.
+/// Returns the number of VNIs that the edges serve.
 fn count_vnis(config: &Config) -> usize {
     let mut count = 0usize;
     for (edges, edge) in config.edges.iter().enumerate() {
@@ -47,7 +47,7 @@ fn count_vnis(config: &Config) -> usize {
     count
 }
 
-/// Writes a number of things, behind what leads to it.
+/// Writes a number of things, after its lead.
 fn put_count(line: &mut Line, lead: &[u8], count: usize, one: &[u8]) -> Result<(), Device>
     requires { IsOpen (page_end line.old) }
     ensures { OnOk result ((page_end line.new).failures ≡ (page_end line.old).failures) }
@@ -58,7 +58,7 @@ fn put_count(line: &mut Line, lead: &[u8], count: usize, one: &[u8]) -> Result<(
     line.put(if count == 1 { b"" } else { b"s" })
 }
 
-/// How many edges run elsewhere.
+/// Returns the number of edges that run elsewhere.
 fn count_peers(config: &Config) -> usize {
     match config.edges.first() {
         Some(edge) => edge.originators.len().saturating_sub(config.edges.len()),
@@ -77,7 +77,7 @@ fn put_peers(line: &mut Line, count: usize) -> Result<(), Device>
     }
 }
 
-/// Writes how much there is.
+/// Writes the numbers of edges, ports, VNIs and peers.
 fn put_summary(line: &mut Line, config: &Config) -> Result<(), Device>
     requires { IsOpen (page_end line.old) }
     ensures { OnOk result ((page_end line.new).failures ≡ (page_end line.old).failures) }
@@ -89,7 +89,7 @@ fn put_summary(line: &mut Line, config: &Config) -> Result<(), Device>
     line.put(b"\n")
 }
 
-/// The summary line of a valid configuration.
+/// Returns the summary line of a valid configuration.
 pub fn summary_line(config: &Config) -> Line {
     let mut line = Line::new();
     let _fits = put_summary(&mut line, config);

@@ -1,4 +1,4 @@
--- What a stream makes of the table that takes it.
+-- The effect of a stream on the table that takes it.
 use Rattle.std.proofs.Common.{◌≡◌, ◌⊎◌, inl, inr, ℕ, ◌==◌, Bool, true, false, cond, Option, Some, None, List, [], ◌∷◌}
 use Rattle.std.proofs.Common.{◌++◌, T, Contains, refl, sym, ap, subst, ◌∙◌, arith, eq-eqb}
 use Rattle.std.proofs.lemmas.List.Elements.{Contains-append_left, Contains-append_right, Contains-append_cases}
@@ -68,13 +68,13 @@ module _ {X : Type 0} where
       go rest false f (inl same) = let yes : p x ≡ true = subst (λ z. p z ≡ true) (sym same) e in cc
       go rest false f (inr c) = rest c
 
--- ---- what an edge says
+-- ---- the updates that an edge sends
 own_entries : (o : ℕ) (us : List Fields) → entries_of (filter (is_own o) us)
     ≡ where_key register_cmp (λ (r : Register). r.originator == o) (entries_of us)
 own_entries o [] = refl
 own_entries o (u ∷ us) = go (own_entries o us) (u.register.originator == o)
   where
-    -- those of one originator
+    -- the entries of one originator
     own : List (Register × Value) → List (Register × Value)
     own es = where_key register_cmp (λ (r : Register). r.originator == o) es
 
@@ -95,7 +95,7 @@ own_updates_are t o = record {
       (subst T (sym (all_updates_are t).ordered) tt));
 }
 
--- ---- what a stream carries
+-- ---- the updates that a stream carries
 said_of : (edges : List (ℕ × Table)) (o : ℕ) (t : Table) (u : Fields) → Contains edges (o, t)
     → Contains (own_updates t o) u → Contains (said_by edges) u
 said_of [] o t u c own = absurd (omega (arith, c.1))
@@ -107,7 +107,7 @@ said_of (e ∷ edges) o t u c own = go (λ more. said_of edges o t u more own) (
         (subst (λ (x : ℕ × Table). Contains (own_updates x.1 x.0) u) (sym same) own)
     go rest (inr c) = Contains-append_right (own_updates e.1 e.0) (said_by edges) u (rest c)
 
--- what is said is of one of the edges
+-- each sent update is of one of the edges
 said_from : (edges : List (ℕ × Table)) (u : Fields) → Contains (said_by edges) u
     → (t : Table) × Contains edges (u.register.originator, t) × Contains (own_updates t u.register.originator) u
 said_from [] u c = absurd (omega (arith, c.1))
@@ -144,12 +144,12 @@ said_is_carried edges since o start there one = record {
         (subst (λ (n : ℕ). Contains (own_updates h.0 n) u) is h.2))
     go u is (inr c) = inr c
 
--- ---- what it makes of a table
--- u is no newer than what the table has at its register
+-- ---- the effect on a table
+-- u is no newer than the table's value at its register
 abbrev IsThere : Table → Fields → Type 0
 IsThere t u = (v : Value) × (value_at t u.register ≡ Some v) × (is_newer u.value v ≡ false)
 
--- where each of the two sets' updates of a register is in the other one's table, the tables agree on it
+-- if each of the two sets' updates of a register is in the other set's table, the tables agree on it
 same_at : (us vs : List Fields) (s t : Table) (r : Register) → IsTableOf us s → IsTableOf vs t
     → ((v : Value) → Contains us (record { register = r; value = v }) → IsThere t (record { register = r; value = v }))
     → ((v : Value) → Contains vs (record { register = r; value = v }) → IsThere s (record { register = r; value = v }))
@@ -167,10 +167,10 @@ same_at us vs s t r a b there back = go (value_at s r) refl (value_at t r) refl
         let mv : m.0 ≡ v = let e = m.1 in cc in
         p ∙ ap Some (neither_newer v w (ap (is_newer v) (sym nw) ∙ n.2) (ap (is_newer w) (sym mv) ∙ m.2)) ∙ sym q
 
--- what is carried is in each other's table
+-- carried updates are in the other edge's table
 module _ (o : ℕ) (us since written : List Fields) (start now : Table) (began : IsTableOf us start)
     (went_on : IsTableOf (us ++ since) now) (carried : Carries o start since written) where
-  -- what o's table took is in a table that took what is written
+  -- the updates that o's table took are in a table that took `written`
   own_there : (taken : List Fields) (after : Table) → ((u : Fields) → Contains written u → Contains taken u)
       → IsTableOf taken after → (r : Register) → r.originator ≡ o → (v : Value)
       → Contains (us ++ since) (record { register = r; value = v }) → IsThere after (record { register = r; value = v })
@@ -187,7 +187,7 @@ module _ (o : ℕ) (us since written : List Fields) (start now : Table) (began :
           (m.0, m.1, not_newer_trans m.0 n.0 v m.2 n.2)
       go (inr c) = table.newest (record { register = r; value = v }) (all _ (carried.announced _ c is))
 
-  -- what is written of o is what o's table took
+  -- o's table took the updates of o in `written`
   from_own : (u : Fields) → Contains written u → u.register.originator ≡ o → Contains (us ++ since) u
   from_own u c is = go (carried.none_else u c is)
     where
@@ -217,7 +217,7 @@ module _ (o : ℕ) (us since written : List Fields) (start now : Table) (began :
       value : Table → Option Value
       value t = value_at t r
 
-      -- the table of what is written
+      -- the table of `written`
       alone : Table
       alone = with_updates (table_from [] []) written
 
@@ -229,7 +229,7 @@ module _ (o : ℕ) (us since written : List Fields) (start now : Table) (began :
   meets ws before after old new back r is = same_at (ws ++ written) (us ++ since) after now r new went_on known
       (own_there (ws ++ written) after (λ u c. Contains-append_right ws written u c) new r is)
     where
-      -- what the table had of o, of an earlier life say, was said back
+      -- the updates of o that the table had, for example from an earlier life, were sent back
       held : (v : Value) → Contains ws (record { register = r; value = v })
           → IsThere now (record { register = r; value = v })
       held v c =

@@ -1,4 +1,4 @@
--- Refusals, counted, and what goes on of answers.
+-- Counts of refusals, and the answers that are passed on.
 use Rattle.std.proofs.Common.{◌≡◌, ◌≢◌, ℕ, ◌+◌, ◌-◌, ◌^◌, ◌<◌, ◌==◌, Bool, true, false, cond, List, [], ◌∷◌, ◌++◌}
 use Rattle.std.proofs.Common.{min, length, slice_index, slice_set, Result, Ok, Err, refl, sym, ap, ◌∙◌}
 use Rattle.std.proofs.Common.{append_assoc, append-nil, arith, eq-eqb}
@@ -22,7 +22,7 @@ pub counts_entered : (counts : List ℕ) (answers : List (Result Fields ℕ)) (u
 counts_entered counts answers u h = λ kind k. h kind k
     ∙ ap capped (let e = times_push kind answers (Ok u) in omega arith)
 
--- a refusal raises that of its kind
+-- a refusal raises the count of its kind
 pub counts_refused : (counts : List ℕ) (answers : List (Result Fields ℕ)) (r more : ℕ) → r < length counts
     → more ≡ min (slice_index counts r + 1) (2 ^ 64 - 1) → AreCounts counts answers → r < KINDS
     → AreCounts (slice_set counts r more) (answers ++ Err r ∷ [])
@@ -47,7 +47,7 @@ counts_refused counts answers r more fits raised h known = λ kind k. go kind k 
         ∙ ap capped (sym (times_push kind answers (Err r) ∙ ap (λ n. times kind answers + n) none
         ∙ (let z : times kind answers + 0 ≡ times kind answers = omega arith in z)))
 
--- ---- what goes on
+-- ---- the answers that are passed on
 behind_push : (earlier answers : List (Result Fields ℕ)) (a : Result Fields ℕ)
     → handed_behind earlier (answers ++ a ∷ []) ≡ handed_behind earlier answers ++ news_of (earlier ++ answers) a
 behind_push earlier [] a = append-nil (news_of earlier a) ∙ ap (λ e. news_of e a) (sym (append-nil earlier))

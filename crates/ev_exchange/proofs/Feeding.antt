@@ -1,4 +1,4 @@
--- A feed that holds no whole record takes some octets of a piece, and holds none again.
+-- A feed that holds no whole record takes some octets of a piece, and again holds no whole record.
 use Rattle.std.proofs.Common.{◌≡◌, ℕ, ◌<◌, false, List, length, sym, ap, subst, ◌∙◌}
 use Rattle.route_wire.specs.declared.stream.Next.{Next}
 use Rattle.route_wire.specs.Record.{is_length}

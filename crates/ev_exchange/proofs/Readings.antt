@@ -1,4 +1,4 @@
--- A connection that is read, read after read.
+-- A connection that is read, one read after the other.
 use Rattle.std.proofs.Common.{◌≡◌, ℕ, ◌+◌, ◌<◌, ◌^◌, List, [], ◌∷◌, ◌++◌, take, Some, None, Result, Ok, refl, sym, ap}
 use Rattle.std.proofs.Common.{◌∙◌, arith}
 use Rattle.ether_wire.specs.Ends.{Source, Allows, Gets}
@@ -15,7 +15,7 @@ use Rattle.ev_report.proofs.Gathering.{gathers_none, gathers_more, Stops, gave_b
 use Rattle.ev_exchange.specs.declared.stream_end.StreamEnd.{StreamEnd}
 use Rattle.ev_exchange.specs.Receiving.{Received, Given, HasReceived, Delivers, end_by, fault_by, Receives}
 
--- the fault that a stream's end tells is the one that its rest shows
+-- the fault of a stream's end is the one that its rest shows
 fault_shown : (w : Whole) (rest : List ℕ) → fault_by (end_by w rest) ≡ None → fault_in w ≡ None
 fault_shown Rest rest e = refl
 fault_shown (Fault fault) rest e = e
@@ -30,7 +30,7 @@ faultless stream start given counts end d none = record {
   faultless = fault_shown (whole_of d.rest) d.rest (ap fault_by (sym d.end_is) ∙ none);
 }
 
--- nothing came, and so there is no fault
+-- nothing came, so there is no fault
 pub empty_faultless : (start given : Given) (counts : List ℕ) (end : StreamEnd) → Delivers [] start given counts end
     → fault_by end ≡ None
 empty_faultless start given counts end d = ap fault_by d.end_is ∙ go d.answers d.rest d.answered
@@ -40,7 +40,7 @@ empty_faultless start given counts end d = ap fault_by d.end_is ∙ go d.answers
     go [] rest a = ap (λ (r : List ℕ). fault_by (end_by (whole_of r) r)) (sym a.reads)
     go (x ∷ answers) rest a = cc
 
--- so many reads gave octets, which were received
+-- `turn` reads gave octets, which were received
 pub record Coming (turn : ℕ) (source mid : Source) (start given : Given) (r : Received) (end : StreamEnd) :
     Type 0 where
   pub input : List ℕ
@@ -60,7 +60,7 @@ module _ (turn : ℕ) (source mid : Source) (start given : Given) (r : Received)
     failures = let r = c.read.gives.unfailed in let b = a.failures in omega arith;
   }
 
-  -- a piece more
+  -- one piece more
   module _ (last : Source) (buffer : List ℕ) (n : ℕ) (got : Gets mid last buffer (Ok n)) (some : 0 < n)
       (given' : Given) (r' : Received) (end' : StreamEnd)
       (took : (start : Given) (stream : List ℕ) → HasReceived r start given stream
@@ -86,7 +86,7 @@ module _ (turn : ℕ) (source mid : Source) (start given : Given) (r : Received)
       shows = shows;
     }
 
-  -- no octet of a last read was received
+  -- the last read gave no octet that was received
   pub receives_by : fault_by end ≡ None → (ending : Ending) (last : Source)
       → Stops ending source mid last c.read.pieces c.input → fault_told ending ≡ None
       → Receives source last start given r.counts end ending
@@ -98,7 +98,7 @@ module _ (turn : ℕ) (source mid : Source) (start given : Given) (r : Received)
     shows = told ∙ sym none;
   }
 
--- the same of a receiver and ends that are known to be these
+-- the result holds for an equal receiver, end and ending
 pub receives_as : (old new : Source) (start given : Given) (r r' : Received) (end end' : StreamEnd)
     (ending ending' : Ending) → Receives old new start given r.counts end ending
     → (r' ≡ r) × (end' ≡ end) × (ending' ≡ ending) → Receives old new start given r'.counts end' ending'

@@ -1,4 +1,4 @@
--- What a receiver has received, octet after octet, and the end of its stream.
+-- The octets that a receiver has received, and the end of its stream.
 use Rattle.std.proofs.Common.{◌≡◌, ℕ, true, false, List, [], ◌++◌, Result}
 use Rattle.std.proofs.Common.{Ok, Err, refl, sym, ap, subst, ◌∙◌, append_assoc, append-nil}
 use Rattle.route_wire.specs.declared.stream.Whole.{Whole}
@@ -18,12 +18,12 @@ use Rattle.ev_exchange.specs.Inner.Receiving.{end_of_next}
 use Rattle.ev_links.proofs.Behind.{behind_twice, behind_none}
 use Rattle.ev_exchange.proofs.Counting.{handed_push}
 
--- octets took a receiver on, which gave what goes on of them
+-- a receiver took these octets: it went from r to s, and the trace of the entrance from given to given'
 abbrev pub Took : Received → Received → Given → Given → List ℕ → Type 0
 Took r s given given' octets = (start : Given) (stream : List ℕ) → HasReceived r start given stream
     → HasReceived s start given' (stream ++ octets)
 
--- what goes on of what a feed has next, behind earlier answers
+-- the part of a feed's next result that is passed on, after earlier answers
 abbrev pub news_next : List (Result Fields ℕ) → Next → List (Result Fields ℕ)
 news_next earlier More = []
 news_next earlier (Record u) = news_of earlier (Ok u)
@@ -37,7 +37,7 @@ handed_next answers (Record u) = handed_push answers (Ok u)
 handed_next answers (Refused refusal) = handed_push answers (Err refusal)
 handed_next answers (Faulted fault) = ap handed (append-nil answers) ∙ sym (append-nil (handed answers))
 
--- octets that the feed took, and what it told then, of a receiver that is seen as v
+-- the feed took octets and returned `told`, in a receiver whose view is v
 pub received_step : (v r s : Received) (given given' : Given) (octets : List ℕ) (after : Held) (told x : Next) → r ≡ v
     → s.feed ≡ after → told ≡ x
     → ((stream : List ℕ) (answers : List (Result Fields ℕ)) → HasRead r.feed stream answers
@@ -58,7 +58,7 @@ received_step v r s given given' octets after told x same fed is took counts new
           ∙ ap (behind start) (sym (handed_next was.answers x));
     }
 
--- nothing is counted and nothing goes on
+-- nothing is counted and nothing is passed on
 pub counts_none : (counts : List ℕ) (answers : List (Result Fields ℕ)) → AreCounts counts answers
     → AreCounts counts (answers ++ [])
 counts_none counts answers h = subst (AreCounts counts) (sym (append-nil answers)) h
@@ -76,14 +76,14 @@ took_both xs ys r s t given given' given'' f g start stream h =
     subst (HasReceived t start given'') (append_assoc stream xs ys) (g start (stream ++ xs) (f start stream h))
 
 -- ---- the end
--- what is held tells the end of the stream's rest
+-- the held octets determine the end of the stream's rest
 same_end : (w : Whole) (rest held : List ℕ) → is_length w ≡ false → (is_rest w ≡ true → rest ≡ held)
     → end_by w held ≡ end_by w rest
 same_end Rest rest held e same = ap (end_by Rest) (sym (same refl))
 same_end (Fault f) rest held e same = refl
 same_end (Length n) rest held e same = cc
 
--- where no whole record is held, what comes next tells it
+-- if no whole record is held, the feed's next result determines the end
 end_told : (w : Whole) (rest : List ℕ) (x : Next) → is_length w ≡ false → x ≡ next_by w rest
     → end_of_next x rest ≡ end_by w rest
 end_told Rest rest x e h = ap (λ y. end_of_next y rest) h

@@ -1,4 +1,4 @@
--- What edges say on a connection, table after table and update after update.
+-- The updates that edges send on a connection, table after table and update after update.
 use Rattle.std.proofs.Common.{◌≡◌, inl, inr, ℕ, ◌+◌, true, false, List, [], ◌∷◌, ◌++◌, map, length}
 use Rattle.std.proofs.Common.{length-append, Option, Some, None, refl, sym, ap, subst, ◌∙◌, append_assoc, append-nil}
 use Rattle.std.proofs.Common.{arith}
@@ -31,7 +31,7 @@ said_push : (ts : List EdgeTable) (t : EdgeTable)
 said_push ts t = flat_map-append (λ (x : EdgeTable). own_of x.address x.updates.items) ts (t ∷ [])
     ∙ ap (λ z. said_of ts ++ z) (append-nil (own_of t.address t.updates.items))
 
--- the tables of so many edges were said
+-- the tables of `place` edges were sent
 pub record Saying (place : ℕ) (before now : Option (List Told)) (s t : Sending) : Type 0 where
   pub tables : List EdgeTable
   pub many : length tables ≡ place
@@ -42,7 +42,7 @@ pub saying_none : (before : Option (List Told)) (s : Sending) → Saying 0 befor
 saying_none before s = record { tables = []; many = refl; told = sym (behind_none before); said = said_none s }
 
 module _ (place : ℕ) (before now : Option (List Told)) (s t : Sending) (h : Saying place before now s t) where
-  -- one more
+  -- one table more
   module _ (table : EdgeTable) (next : Option (List Told)) (u : Sending)
       (told : next ≡ behind now (has_table (place + 1) (Some table) ∷ []))
       (said : HasSaid t u (own_of table.address table.updates.items)) where
@@ -70,7 +70,7 @@ module _ (place : ℕ) (before now : Option (List Told)) (s t : Sending) (h : Sa
       broken = λ e. inr (refl, shut);
     }
 
-  -- the next edge shows no table
+  -- the next edge returns no table
   pub saying_without : (edges : ℕ) (next : Option (List Told)) → next ≡ behind now (has_table (place + 1) None ∷ [])
       → SaysTables edges before next s t false
   saying_without edges next told = record {
@@ -84,7 +84,7 @@ module _ (place : ℕ) (before now : Option (List Told)) (s t : Sending) (h : Sa
     broken = λ e. inl refl;
   }
 
-  -- those of all
+  -- the tables of all edges were sent
   pub saying_all : (edges : ℕ) → place ≡ edges → SaysTables edges before now s t true
   saying_all edges all = record {
     tables = h.tables;
@@ -95,11 +95,11 @@ module _ (place : ℕ) (before now : Option (List Told)) (s t : Sending) (h : Sa
     broken = λ e. cc;
   }
 
--- ---- what is announced
+-- ---- announced updates
 abbrev each_announced : List Fields → List Told
 each_announced us = map (λ u. announced (Some u)) us
 
--- updates that were announced were said
+-- announced updates were sent
 pub record Passing (before now : Option (List Told)) (s t : Sending) : Type 0 where
   pub since : List Fields
   pub told : now ≡ behind before (map (λ u. announced (Some u)) since)
@@ -109,7 +109,7 @@ pub passing_none : (before : Option (List Told)) (s : Sending) → Passing befor
 passing_none before s = record { since = []; told = sym (behind_none before); said = said_none s }
 
 module _ (before now : Option (List Told)) (s t : Sending) (h : Passing before now s t) where
-  -- what was held went out, or not
+  -- the writer was flushed, or not
   pub passing_flushed : (u : Sending) → HasSaid t u [] → Passing before now s u
   passing_flushed u flushed = record {
     since = h.since;

@@ -1,4 +1,4 @@
--- One record more, and none.
+-- One record more is sent, or none.
 use Rattle.std.proofs.Common.{◌≡◌, ℕ, ◌+◌, Bool, true, false, List, [], ◌∷◌, ◌++◌, map, drop, Result, Ok, refl, sym, ap}
 use Rattle.std.proofs.Common.{Err, cond, is_ok, subst, ◌∙◌, append_assoc, append-nil}
 use Rattle.std.specs.List.{concat}
@@ -11,7 +11,7 @@ use Rattle.route_wire.specs.Record.{ReadsUpTo, Reads}
 use Rattle.route_wire.specs.Encode.{spelling_of}
 use Rattle.ev_exchange.specs.Sending.{Sending, records_of, all_ok, is_own, own_of, HasSent}
 
--- answers, and then those of what is left
+-- answers, and then the answers of the rest
 reads_on : (newest : ℕ) (s : List ℕ) (xs ys : List (Result Fields ℕ)) (r t : List ℕ) → ReadsUpTo newest s xs r
     → ReadsUpTo newest r ys t → ReadsUpTo newest s (xs ++ ys) t
 reads_on newest s [] ys r t h k = subst (λ (z : List ℕ). ReadsUpTo newest z ys t) (sym h) k
@@ -38,7 +38,7 @@ reads_more us u before last rest =
     (reads_on 3 (records_of us ++ (spelling_of u ++ rest)) (all_ok us) (Ok u ∷ []) (spelling_of u ++ rest) rest
     (before (spelling_of u ++ rest)) (last rest)))
 
--- a record more was put, or the call failed
+-- one record more was written, or the call failed
 sent_more : (s t : Sending) (start : End) (sent : List Fields) (u : Fields) → s.is_open ≡ true
     → (t.is_open ≡ true → t.end ≡ with_text s.end (spelling_of u))
     → (t.is_open ≡ false → t.end.failures ≡ s.end.failures + 1)
@@ -64,7 +64,7 @@ sent_none s start sent u shut last h = record {
   again = reads_more sent u h.again last;
 }
 
--- what a put made of it
+-- the result of a call of `put`
 pub sent_put : (s : Sending) (e e' : End) (o b : Bool) (u : Fields) (octets : List ℕ) (r : Result (Unit {0}) Device)
     → record { end = e; is_open = o } ≡ s → o ≡ true → octets ≡ spelling_of u → Puts e e' octets r → b ≡ is_ok r
     → ((rest : List ℕ) → Reads (spelling_of u ++ rest) (Ok u ∷ []) rest) → (start : End) (sent : List Fields)
@@ -78,7 +78,7 @@ sent_put s e e' o b u octets (Err device) same opened spells put is last start s
     (λ still. absurd (never (sym still ∙ is)))
     (λ _. put ∙ ap (λ (x : Sending). x.end.failures + 1) same) last h
 
--- ---- a walk over updates of which some are said
+-- ---- a walk over updates, some of which are sent
 pub own_is : (o : ℕ) (u : Fields) → is_own o u ≡ true → own_of o (u ∷ []) ≡ u ∷ []
 own_is o u own = ap (λ b. cond b (u ∷ []) []) own
 

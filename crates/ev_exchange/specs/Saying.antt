@@ -1,4 +1,5 @@
--- What edges of this process say on a connection: of each its own registers, and then each update as it is announced.
+-- The updates that edges of this process send on a connection: each edge's own registers, and then each update as it is
+-- announced.
 use Rattle.std.specs.Prelude.{◌≡◌, ◌⊎◌, ℕ, ◌+◌, Bool, true, false, List, [], ◌∷◌, ◌++◌, map, length, Option, Some, None}
 use Rattle.std.specs.List.{flat_map}
 use Rattle.route_wire.specs.Fields.{Fields}
@@ -6,7 +7,8 @@ use Rattle.ev_exchange.specs.declared.announcing.EdgeTable.{EdgeTable}
 use Rattle.ev_links.specs.Coming.{behind}
 use Rattle.ev_exchange.specs.Sending.{Sending, HasSaid, own_of}
 
--- what edges told: the table of the one with this number, if it shows one; or the next update, if one comes
+-- a result of a call of the edges: the table of the edge with this number, if it returns one; or the next update, if
+-- one comes
 pub data Told : Type 0 where
   has_table : ℕ → Option EdgeTable → Told
   announced : Option Fields → Told
@@ -18,12 +20,12 @@ abbrev pub tables_from : ℕ → List EdgeTable → List Told
 tables_from number [] = []
 tables_from number (t ∷ ts) = has_table number (Some t) ∷ tables_from (number + 1) ts
 
--- what they say of them: each its own registers
+-- the updates that are sent from these tables: each edge's own registers
 abbrev pub said_of : List EdgeTable → List Fields
 said_of ts = flat_map (λ (t : EdgeTable). own_of t.address t.updates.items) ts
 
--- The tables that edges showed, from the first edge on, were said: of all this many edges; or the next one showed none;
--- or a call of the writer has failed.
+-- The tables that edges returned, from the first edge on, were sent: those of all `edges` edges; or the next edge
+-- returned none; or a call of the writer has failed.
 pub record SaysTables (edges : ℕ) (before after : Option (List Told)) (s s' : Sending) (is_whole : Bool) : Type 0 where
   pub tables : List EdgeTable
   pub last : List Told
@@ -33,9 +35,9 @@ pub record SaysTables (edges : ℕ) (before after : Option (List Told)) (s s' : 
   pub broken : is_whole ≡ false → (last ≡ has_table (length tables + 1) None ∷ [])
       ⊎ ((last ≡ []) × (s'.is_open ≡ false))
 
--- ---- what is announced since
+-- ---- the updates announced since
 
--- Updates that were announced were said, in their order; then no more came, or a call of the writer has failed.
+-- Updates that were announced were sent, in their order; then no more came, or a call of the writer has failed.
 pub record PassesOn (before after : Option (List Told)) (s s' : Sending) : Type 0 where
   pub since : List Fields
   pub last : List Told
@@ -45,7 +47,8 @@ pub record PassesOn (before after : Option (List Told)) (s s' : Sending) : Type 
 
 -- ---- all of it
 
--- The tables of so many edges were said, and behind them what was announced since; or the tables broke off.
+-- The tables of `edges` edges were sent, and then the updates announced since; or the tables broke off, and nothing
+-- followed.
 pub record Announces (edges : ℕ) (before after : Option (List Told)) (s s' : Sending) : Type 0 where
   pub middle : Option (List Told)
   pub mid : Sending

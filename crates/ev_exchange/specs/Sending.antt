@@ -1,4 +1,4 @@
--- What is said on a connection: records of what the edges said when it began, and of each update since.
+-- The records that are sent on a connection: those of the edges' tables when it began, and that of each update since.
 use Rattle.std.specs.Prelude.{◌≡◌, ℕ, ◌+◌, ◌==◌, Bool, true, false, List, map, ◌++◌, Contains, Some, Result, Ok}
 use Rattle.std.specs.List.{concat, filter}
 use Rattle.ether_wire.specs.Ends.{End, with_text}
@@ -15,20 +15,20 @@ pub record Sending : Type 0 where
   pub end : End
   pub is_open : Bool
 
--- ---- what an edge says
+-- ---- the updates that an edge sends
 abbrev pub is_own : ℕ → Fields → Bool
 is_own o u = u.register.originator == o
 
--- of updates those of its own registers
+-- those of the updates that are of o's own registers
 abbrev pub own_of : ℕ → List Fields → List Fields
 own_of o us = filter (is_own o) us
 
--- of its table each register of its own with its value, in the order of a report
+-- each of o's own registers in a table, with its value, in the order of a report
 abbrev pub own_updates : Table → ℕ → List Fields
 own_updates t o = own_of o (all_updates t)
 
--- Each of the updates is the value of a register of o, each such register that has a value is among them, and they are
--- in the order of a report, at most one of a register.
+-- Each of the updates is the value of a register of o. Each register of o that has a value is among them. They are in
+-- the order of a report, at most one per register.
 pub record AreOwn (t : Table) (o : ℕ) (us : List Fields) : Type 0 where
   pub named : (u : Fields) → Contains us u → u.register.originator ≡ o
   pub own : (u : Fields) → Contains us u → value_at t u.register ≡ Some u.value
@@ -36,23 +36,23 @@ pub record AreOwn (t : Table) (o : ℕ) (us : List Fields) : Type 0 where
       → Contains us (record { register = r; value = v })
   pub ordered : IsOrdered us
 
--- ---- what is written
+-- ---- the records that are written
 
 -- the records of updates, one after the other
 abbrev pub records_of : List Fields → List ℕ
 records_of us = concat (map spelling_of us)
 
--- these updates, as a stream's answers
+-- these updates, as the answers of a stream
 abbrev pub all_ok : List Fields → List (Result Fields ℕ)
 all_ok us = map (λ u. Ok u) us
 
--- Behind what the writer held at the start stand the records of these updates, or just one call of it failed. Whatever
--- follows them, the records are read as the updates.
+-- The writer holds its text at the start, followed by the records of these updates, or exactly one call of it failed.
+-- Whatever follows the records, they are read as the updates.
 pub record HasSent (s : Sending) (start : End) (sent : List Fields) : Type 0 where
   pub written : s.is_open ≡ true → s.end ≡ with_text start (records_of sent)
   pub failed : s.is_open ≡ false → s.end.failures ≡ start.failures + 1
   pub again : (rest : List ℕ) → Reads (records_of sent ++ rest) (all_ok sent) rest
 
--- these updates were said behind all that was sent
+-- these updates were sent after all that was sent before
 abbrev pub HasSaid : Sending → Sending → List Fields → Type 0
 HasSaid s s' us = (start : End) (sent : List Fields) → HasSent s start sent → HasSent s' start (sent ++ us)

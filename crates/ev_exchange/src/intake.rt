@@ -1,4 +1,4 @@
-//! A connection that is read up to its end.
+//! Reads a connection up to its end.
 ghost use Rattle.std.specs.Prelude.{◌≡◌, ◌^◌};
 ghost use Rattle.ether_wire.specs.Ends.{Allows};
 ghost use Rattle.ev_exchange.specs.Receiving.{Receives, fault_by};
@@ -9,21 +9,21 @@ use crate::stream_end::StreamEnd;
 use ether_wire::{Device, In};
 use ev_report::{Ending, MOST_READS};
 
-/// How many octets a read asks for.
+/// The maximum number of octets per read.
 const PIECE: usize = 4_096;
 
-/// What came over a connection.
+/// The result of reading a connection.
 #[derive(Drop)]
 pub struct Incoming {
-    /// It has counted what was refused.
+    /// The receiver, which has counted the refused records.
     pub receiver: Receiver,
     /// How the stream that came ends.
     pub end: StreamEnd,
-    /// How its reading ended.
+    /// How the reading ended.
     pub ending: Ending,
 }
 
-/// The fault that the end of a stream tells.
+/// Returns the fault that the end of a stream shows.
 fn fault_by(end: StreamEnd) -> Option<u8>
     ensures { result ≡ fault_by end }
 {
@@ -33,7 +33,7 @@ fn fault_by(end: StreamEnd) -> Option<u8>
     }
 }
 
-/// What came, where the reading ended so.
+/// Returns the result of a reading that ended this way.
 fn came(receiver: Receiver, end: StreamEnd, ending: Ending) -> Incoming
     ensures { (result.receiver ≡ receiver) × (result.end ≡ end) × (result.ending ≡ ending) }
 {
@@ -44,10 +44,10 @@ fn came(receiver: Receiver, end: StreamEnd, ending: Ending) -> Incoming
     }
 }
 
-/// Takes the records of a reader as they come, up to its end, a failed read or the first fault of
-/// what is read, or for 2^40 reads. Each update whose record is whole is entered, once and in
-/// order. Refused records are counted, and the first of each kind is told. Behind a fault it makes
-/// no read.
+/// Takes the records of a reader as they come, up to the reader's end, a failed read or the first
+/// fault of the octets, or for 2^40 reads. Each update whose record is whole is entered, once and
+/// in order. Refused records are counted, and the first of each kind is reported. After a fault it
+/// makes no read.
 pub fn receive<E: Entrance, R: In>(into: &mut E, reader: &mut R) -> Incoming
     requires { Allows (2 ^ 40) (R.end reader.old) }
     ensures { Receives (R.end reader.old) (R.end reader.new) (E.given into.old) (E.given into.new)

@@ -1,39 +1,40 @@
 //! Laws, as functions that do nothing: the contract is the law.
 ghost use Rattle.ev_exchange.specs.Laws.{OwnUpdatesAre, SaidIsCarried, NewestArrives, OwnRegistersAgree, BothAgree, MeetingAgrees};
 
-/// What an edge says of its table at the beginning are its own registers, all of them, each with
-/// the value that it has, in the order of a report.
+/// The updates that an edge sends from its table at the beginning are its own registers, all of
+/// them, each with its value, in the order of a report.
 pub fn own_updates_are()
     ensures { OwnUpdatesAre }
 {}
 
-/// What edges say at the beginning, and behind it what they announce since, has of each edge's
-/// updates exactly what it said and announced.
+/// The updates that edges send from their tables at the beginning, followed by those that they
+/// announce since, have of each edge exactly the updates that it sent and announced.
 pub fn said_is_carried()
     ensures { SaidIsCarried }
 {}
 
-/// A table that takes what is written has at each register of the edge that says it the newer of
-/// what it had and of what the edge's own table has.
+/// A table that takes the written updates has, at each register of the edge that sends them, the
+/// newer of its own earlier value and the value in the edge's own table.
 pub fn newest_arrives()
     ensures { NewestArrives }
 {}
 
-/// Once all that is written is taken, each register of the edge is as in the edge's own table,
+/// Once all written updates are taken, each register of the edge is as in the edge's own table,
 /// provided that the edge itself announced each of its updates that were taken.
 pub fn own_registers_agree()
     ensures { OwnRegistersAgree }
 {}
 
 /// Two edges whose streams are joined both ways have equal tables and reports once all is
-/// delivered, if their registers are of these two alone.
+/// delivered, if all their registers are of these two edges.
 pub fn both_agree()
     ensures { BothAgree }
 {}
 
-/// A table that had taken anything, of an edge's earlier lives too, has each register of the edge
-/// as the edge's own table has it, once the one has taken what the edge's process says and
-/// announces, and the edge has taken what is said back to it of that table.
+/// A table that had taken any updates, including those of an edge's earlier lives, has each
+/// register of the edge as the edge's own table has it. The premise is that the table has taken the
+/// updates that the edge's process sends and announces, and the edge has taken the updates that are
+/// sent back to it from that table.
 pub fn meeting_agrees()
     ensures { MeetingAgrees }
 {}

@@ -1,5 +1,5 @@
-//! The records between two processes of edges: what one writes on a connection, and what the other
-//! takes from it. `evpnd serve` joins processes by it, over sockets.
+//! The records between two processes of edges: one process writes them on a connection, and the
+//! other one takes them. `evpnd serve` joins processes this way, over sockets.
 #![tactic(auto)]
 
 mod announcing;

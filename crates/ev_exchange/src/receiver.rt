@@ -1,4 +1,4 @@
-//! What comes over a connection: its records go on as they come, refused ones are counted.
+//! Passes on the records that come over a connection as they come, and counts refused ones.
 ghost use Rattle.std.specs.Prelude.{◌≡◌, ◌<◌, ◌≤◌, ◌++◌, ◌∷◌, [], ◌==◌, ℕ, List, Result, Err, take, length, slice_index, true};
 ghost use Rattle.route_wire.specs.Fields.{Fields};
 ghost use Rattle.route_wire.specs.Feed.{is_rest, shown};
@@ -12,11 +12,11 @@ use crate::stream_end::StreamEnd;
 use route_wire::{Feed, Next, Truncated};
 use std::marker::Model;
 
-/// How many counts there are: the greatest number of a record's refusal is 14, a counter of 0.
+/// The number of counts: the greatest number of a record's refusal is 14, a counter of 0.
 pub const KINDS: usize = 15;
 
-/// Takes a connection's octets, in whatever pieces they come. It holds the octets of one record
-/// at most, and takes no memory.
+/// Takes a connection's octets, in pieces of any size. It holds the octets of at most one record,
+/// and allocates no memory.
 #[derive(Drop)]
 pub struct Receiver {
     feed: Feed,
@@ -36,7 +36,7 @@ impl Model for Receiver {
     ghost invariant = { λ r. (r.feed.newest ≡ 3) × (is_length (shown r.feed) ≡ false) };
 }
 
-/// What the stream shows by what the feed has next.
+/// Returns the end that the stream shows, by the feed's next result.
 fn end_of_next(next: &Next, feed: &Feed) -> StreamEnd
     requires { next.now ≡ More → is_rest (shown feed.now) ≡ true }
     ensures { result ≡ end_of_next next.now feed.now.rest }
@@ -53,7 +53,7 @@ fn end_of_next(next: &Next, feed: &Feed) -> StreamEnd
 }
 
 impl Receiver {
-    /// Before anything has come.
+    /// Returns a receiver that has received nothing.
     pub fn new() -> Self
         ensures { (start : Given) → HasReceived result start start [] }
     {
@@ -63,7 +63,7 @@ impl Receiver {
         }
     }
 
-    /// Counts a refused record: whether it is the first of its kind.
+    /// Counts a refused record. Returns `true` if it is the first of its kind.
     fn count(&mut self, refusal: u8) -> bool
         requires { refusal < KINDS }
         ensures first { (earlier : List (Result Fields ℕ)) → AreCounts self.old.counts earlier
@@ -78,7 +78,7 @@ impl Receiver {
         before == 0
     }
 
-    /// Counts a refused record, and tells it where it is the first of its kind.
+    /// Counts a refused record, and reports it if it is the first of its kind.
     fn refuse<E: Entrance>(&mut self, refusal: u8, into: &mut E)
         requires { refusal < KINDS }
         ensures told { (earlier : List (Result Fields ℕ)) → AreCounts self.old.counts earlier
@@ -92,7 +92,7 @@ impl Receiver {
         }
     }
 
-    /// Takes octets at the front of a piece, up to a record's end, and tells how many.
+    /// Takes octets at the front of a piece, up to a record's end, and returns their number.
     fn step<E: Entrance>(&mut self, piece: &[u8], into: &mut E) -> usize
         requires { 0 < length piece.now }
         ensures took { (start : Given) (stream : List ℕ)
@@ -107,14 +107,14 @@ impl Receiver {
             Next::More => {}
             Next::Record(update) => into.enter(update),
             Next::Refused(refusal) => self.refuse(*refusal, into),
-            // the feed keeps it, and `end` asks the feed
+            // the feed keeps the fault, and `end` queries the feed
             Next::Fault(_) => {}
         }
         taken.0
     }
 
     /// Takes the octets of a piece. Each update whose record is whole now is entered, once and in
-    /// order; a refused record is counted, and the first of each kind is told. Behind a fault of
+    /// order. A refused record is counted, and the first of each kind is reported. After a fault of
     /// the stream nothing is read.
     pub fn take<E: Entrance>(&mut self, piece: &[u8], into: &mut E)
         ensures { (start : Given) (stream : List ℕ)
@@ -129,7 +129,8 @@ impl Receiver {
         }
     }
 
-    /// How many records were refused so, up to 2^64 - 1; 0 of what is no refusal of a record.
+    /// Returns the number of records with this refusal, up to 2^64 - 1, or 0 for a number that is
+    /// no refusal of a record.
     pub fn refused(&self, refusal: u8) -> u64
         ensures value { refusal < KINDS → result ≡ slice_index self.now.counts refusal }
         ensures none { KINDS ≤ refusal → result ≡ 0 }
@@ -140,7 +141,7 @@ impl Receiver {
         }
     }
 
-    /// What the stream shows where it stands now: whether it may end here, and its fault.
+    /// Returns the end that the stream shows now: whether it may end here, and its fault.
     pub fn end(&mut self) -> StreamEnd
         ensures delivers { (start given : Given) (stream : List ℕ)
             → HasReceived self.old start given stream

@@ -1,4 +1,5 @@
-//! What edges of this process say on a connection: their tables first, and then what they announce.
+//! Sends the updates of this process's edges on a connection: their tables first, and then the
+//! updates that they announce.
 ghost use Rattle.std.specs.Prelude.{[]};
 ghost use Rattle.ev_exchange.specs.Sending.{HasSaid};
 ghost use Rattle.ev_exchange.specs.Saying.{SaysTables, PassesOn, Announces};
@@ -9,7 +10,7 @@ use ether_wire::Out;
 use std::alloc::Global;
 use std::sync::Wait;
 
-/// Says of each of so many edges its own registers: whether all of that was said.
+/// Sends the own registers of each of `edges` edges. Returns `true` if all of them were sent.
 fn say_tables<S: Announcing, W: Out>(
     alloc: Global,
     edges: u64,
@@ -30,7 +31,7 @@ fn say_tables<S: Announcing, W: Out>(
     true
 }
 
-/// Has the writer give out what it holds, where there is nothing more to say at present.
+/// Flushes the writer if there is nothing more to send at present.
 #[tactic(auto, using(crate::proofs::Sayings::said_none))]
 fn flush_idle<S: Announcing, W: Out>(from: &S, sender: &mut Sender<W>)
     ensures { HasSaid sender.old sender.new [] }
@@ -40,7 +41,7 @@ fn flush_idle<S: Announcing, W: Out>(from: &S, sender: &mut Sender<W>)
     }
 }
 
-/// Says each update as it is announced, until no more come or a call of the writer has failed.
+/// Sends each update as it is announced, until no more come or a call of the writer has failed.
 fn pass_on<S: Announcing, W: Out, R: Wait>(rt: &R, from: &mut S, sender: &mut Sender<W>)
     ensures { PassesOn (S.told from.old) (S.told from.new) sender.old sender.new }
 {
@@ -57,10 +58,10 @@ fn pass_on<S: Announcing, W: Out, R: Wait>(rt: &R, from: &mut S, sender: &mut Se
     unreachable!()
 }
 
-/// Says on a connection what so many edges say at present, each its own registers, from the first
-/// edge to the last; and then each update that they announce, in its order. It ends where an edge
-/// shows no table, where no more updates come, and where a call of the writer has failed. Before it
-/// waits for an update it has the writer give out what it holds.
+/// Sends on a connection the present own registers of each of `edges` edges, from the first edge to
+/// the last, and then each update that they announce, in order. It ends if an edge returns no
+/// table, if no more updates come, or if a call of the writer has failed. Before it waits for an
+/// update it flushes the writer.
 pub fn announce<S: Announcing, W: Out, R: Wait>(
     rt: &R,
     alloc: Global,

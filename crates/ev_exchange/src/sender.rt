@@ -1,5 +1,5 @@
-//! What one process says on a connection: what its edges say when it begins, and each update that
-//! they announce since, in their order.
+//! Sends the updates of one process on a connection: those of its edges' tables when it begins, and
+//! each update that they announce since, in order.
 ghost use Rattle.std.specs.Prelude.{◌≡◌, ◌∷◌, [], false};
 ghost use Rattle.ether_wire.specs.Ends.{IsOpen};
 ghost use Rattle.ev_exchange.specs.Sending.{HasSent, HasSaid, own_of};
@@ -8,7 +8,7 @@ use ether_wire::{Addr, Out};
 use route_wire::{Update, write};
 use std::marker::Model;
 
-/// Writes what is said on a connection. After a failed call it makes none.
+/// Writes the records of updates on a connection. After a failed call it makes no further one.
 #[derive(Drop)]
 pub struct Sender<W: Out> {
     out: W,
@@ -28,7 +28,7 @@ impl<W: Out> Model for Sender<W> {
 }
 
 impl<W: Out> Sender<W> {
-    /// Before anything is said.
+    /// Returns a sender that has sent nothing.
     pub fn new(out: W) -> Self
         requires { IsOpen (W.end out) }
         ensures { HasSent result (W.end out) [] }
@@ -36,7 +36,7 @@ impl<W: Out> Sender<W> {
         Sender { out, is_open: true }
     }
 
-    /// Says an update: its record is written, or a call has failed.
+    /// Sends an update: its record is written, or a call has failed.
     pub fn put(&mut self, update: &Update)
         ensures shut { self.old.is_open ≡ false → self.new ≡ self.old }
         ensures said { HasSaid self.old self.new (update.now ∷ []) }
@@ -47,7 +47,7 @@ impl<W: Out> Sender<W> {
         }
     }
 
-    /// Says an update if it is of this edge's own registers.
+    /// Sends an update if it is of one of this edge's own registers.
     fn put_own(&mut self, originator: Addr, update: &Update)
         ensures shut { self.old.is_open ≡ false → self.new ≡ self.old }
         ensures said { HasSaid self.old self.new (own_of originator (update.now ∷ [])) }
@@ -57,8 +57,8 @@ impl<W: Out> Sender<W> {
         }
     }
 
-    /// Says what an edge originates: of what its table holds each register of its own, those
-    /// that are withdrawn too, in the order in which they are given. It takes no memory.
+    /// Sends the updates that an edge originates: of the contents of its table each of its own
+    /// registers, including withdrawn ones, in the given order. It allocates no memory.
     pub fn originate(&mut self, originator: Addr, updates: &[Update])
         ensures shut { self.old.is_open ≡ false → self.new ≡ self.old }
         ensures said { HasSaid self.old self.new (own_of originator updates.now) }
@@ -68,7 +68,7 @@ impl<W: Out> Sender<W> {
         }
     }
 
-    /// Has the writer give out what it holds, if anything.
+    /// Flushes the octets that the writer holds, if any.
     pub fn flush(&mut self)
         ensures shut { self.old.is_open ≡ false → self.new ≡ self.old }
         ensures said { HasSaid self.old self.new [] }
@@ -78,14 +78,14 @@ impl<W: Out> Sender<W> {
         }
     }
 
-    /// Whether no call has failed.
+    /// Returns `true` if no call has failed.
     pub fn is_open(&self) -> bool
         ensures { result ≡ self.now.is_open }
     {
         self.is_open
     }
 
-    /// Gives the writer back.
+    /// Returns the writer.
     pub fn finish(self) -> W
         ensures { W.end result ≡ self.end }
     {

@@ -1,12 +1,12 @@
 //! How a stream of records ends.
 
-/// What a stream of records shows where it stands now, as if it ended here.
+/// The end that a stream of records shows now, as if it ended here.
 #[derive(Clone, Copy, Debug, PartialEq, Eq)]
 pub enum StreamEnd {
-    /// It ends behind a whole record, or before the first one.
+    /// It ends after a whole record, or before the first one.
     Whole,
-    /// It ends in a record, of which there are this many octets.
+    /// It ends within a record, of which it has this many octets.
     Cut(usize),
-    /// It shows a fault, 1 to 4, and nothing behind it is read.
+    /// It shows a fault, 1 to 4, and nothing after the fault is read.
     Faulty(u8),
 }

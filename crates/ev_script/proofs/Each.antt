@@ -1,4 +1,4 @@
--- Texts of each of a list, one after the other.
+-- The texts of the elements of a list, in order.
 use Rattle.std.proofs.Common.{◌≡◌, ℕ, ◌+◌, ◌<◌, List, [], ◌∷◌, ◌++◌, take, length, get_or, append-nil}
 use Rattle.std.proofs.Common.{zero, suc, Some, None, refl, ap, subst, ◌∙◌, arith}
 use Rattle.std.proofs.lemmas.List.{take_more}
@@ -7,11 +7,11 @@ use Rattle.std.specs.List.{flat_map}
 use Rattle.std.proofs.lemmas.Grind.{flat_map-append}
 use Rattle.ev_fabric.specs.Fabric.{nth}
 
--- the one at a place that is counted from 1
+-- the element at a place that is counted from 1
 pub at_next : {X : Type 0} (xs : List X) (i n : ℕ) (x d : X) → n ≡ suc i → nth xs n ≡ Some x → get_or xs i d ≡ x
 at_next xs i n x d is at = get_or_from_slice_get xs i x d (subst (λ m. nth xs m ≡ Some x) is at)
 
--- one more, of texts that don't tell their place
+-- one more element, if its text doesn't depend on its place
 pub one_behind : {X : Type 0} (text : X → List ℕ) (all : List X) (place : ℕ) (d : X) → place < length all
     → flat_map text (take (place + 1) all) ≡ flat_map text (take place all) ++ text (get_or all place d)
 one_behind text all place d within =
@@ -20,7 +20,7 @@ one_behind text all place d within =
     ap (flat_map text) (take_more all place d within) ∙ flat_map-append text before (one ∷ [])
     ∙ ap (λ t. flat_map text before ++ t) (append-nil (text one))
 
--- past the last one there is none
+-- there is no element after the last one
 pub none_past : {X : Type 0} (xs : List X) (n : ℕ) → length xs < n → nth xs n ≡ None
 none_past xs zero past = refl
 none_past xs (suc i) past = slice_get_past xs i (omega (arith, past))

@@ -1,4 +1,4 @@
--- Lines that are looked at, one after the other.
+-- Lines that are checked, in order.
 use Rattle.std.proofs.Common.{◌≡◌, ℕ, ◌+◌, ◌<◌, Bool, true, false, ◌&&◌, List, [], ◌∷◌, ◌++◌, length, length-append}
 use Rattle.std.proofs.Common.{append_assoc, Some, refl, sym, ap, subst, ◌∙◌, arith}
 use Rattle.std.proofs.lemmas.List.{append-nil}
@@ -60,7 +60,7 @@ looks_more name script rest line after a b c found more h some cut count good to
           (subst (λ n. Tells b c found.are_told more.are_told (told_text name n line)) many told));
     }
 
--- where all was told, a note more may fail
+-- if no note has failed so far, a call may fail
 pub told_open : (name script rest : List ℕ) (a b : End) (found : Found) → LooksAt name script rest a b found → IsOpen a
     → found.are_told ≡ true → IsOpen b
 told_open name script rest a b found h room e =

@@ -28,7 +28,7 @@ minds_both a b c false false r h k = record {
   failed = λ t f. absurd (cc);
 }
 
--- a writer that hasn't failed may be called on
+-- a writer that hasn't failed may be called again
 pub still_open : (a b : End) (p q : Bool) → (p ≡ true → IsOpen a) → Minds a b p q → q ≡ true → IsOpen b
 still_open a b true q room h t = let o = room refl in let same = h.written t in omega arith
 still_open a b false q room h t = absurd (let n = (h.kept refl).0 in cc)
@@ -41,7 +41,7 @@ pub minds_counts : (a b : End) (q : Bool) → Minds a b true q → CountsFailure
 minds_counts a b true h = inl (h.written refl)
 minds_counts a b false h = inr (h.failed refl refl)
 
--- a text that was told
+-- a written text
 pub tells_minds : (a b : End) (p q : Bool) (text : List ℕ) → Tells a b p q text → Minds a b p q
 tells_minds a b p q text h =
     record { kept = h.kept; written = λ t. ap (λ (e : End). e.failures) (h.written t); failed = h.failed }

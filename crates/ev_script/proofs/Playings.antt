@@ -1,4 +1,4 @@
--- Steps that are made one after the other, and the lines that ask for them.
+-- Steps that are made one after the other, and the lines that request them.
 use Rattle.std.proofs.Common.{◌≡◌, ℕ, ◌+◌, ◌<◌, Bool, ◌||◌, List, [], ◌∷◌, ◌++◌, length, length-append, append_assoc}
 use Rattle.std.proofs.Common.{Option, Some, None, option_map, Result, true, false, refl, sym, ap, subst, ◌∙◌, arith}
 use Rattle.std.proofs.lemmas.List.{append-nil}
@@ -56,7 +56,7 @@ makes_both p q r m n h k = record {
       ∙ ap (λ b. p.is_out_of_memory || b) (sym (out_of_memory_both m n));
 }
 
--- whether text was lost doesn't matter
+-- the value of `is_told` doesn't matter
 pub retold : (p q : Simulator) (made : List Made) (b : Bool) → Makes made p q → Makes made p (record q { is_told = b })
 retold p q made b h = record { goes = h.goes; out_of_memory = h.out_of_memory }
 
@@ -126,7 +126,7 @@ played_more mode script rest line after p q r n h some cut k =
           (makes_both p q r (joined h.made) made h.makes k.2.2);
     }
 
--- the line behind them is a bad one
+-- the next line is a bad one
 pub played_bad : (mode : Mode) (script rest line after : List ℕ) (p q r : Simulator) (n : ℕ)
     (found : BadLine) → Played mode script rest p q n → 0 < length rest → (line, after) ≡ cut_line rest
     → PlaysLine mode line q r false
@@ -138,22 +138,22 @@ played_bad mode script rest line after p q r n found h some cut k is at =
 
 -- ---- a line
 
--- no question, nor skipped
+-- the line is no query and isn't skipped
 pub no_question : (mode : Mode) (line : List ℕ) → asked_in mode line ≡ None → skips mode line ≡ false
     → asks_no_step mode line ≡ false
 no_question mode line e f = rw (e, f) refl
 
--- a question
+-- the line is a query
 pub question_asked : (mode : Mode) (line : List ℕ) (q : Question) → asked_in mode line ≡ Some q
     → asks_no_step mode line ≡ true
 question_asked mode line q e = rw e refl
 
--- skipped
+-- the line is skipped
 pub line_passed : (mode : Mode) (line : List ℕ) → asked_in mode line ≡ None → skips mode line ≡ true
     → asks_no_step mode line ≡ true
 line_passed mode line e f = rw (e, f) refl
 
--- its line was shown, and it was answered
+-- the line was printed, and the query was answered
 pub question_answered : (mode : Mode) (line : List ℕ) (p q : Simulator) (a b : End) (question : Question)
     → asked_in mode line ≡ Some question → Makes [] p q
     → Tells a b p.is_told q.is_told (shown_text mode line ++ view_text p.fabric question) → Answers mode line p q a b
@@ -181,17 +181,17 @@ item_read : (mode : Mode) (line : List ℕ) (found : Option (ℕ × Command)) �
     → line_of line ≡ found → item_of mode line ≡ option_map (λ c. Some c) found
 item_read mode line found e is = rw (e, is) refl
 
--- it asks for nothing
+-- the line requests no step
 pub line_skipped : (mode : Mode) (line : List ℕ) (p q : Simulator) → asks_no_step mode line ≡ true → Makes [] p q
     → PlaysLine mode line p q true
 line_skipped mode line p q e h = (None, item_skipped mode line e, ([], refl, h))
 
--- it is a bad one
+-- the line is a bad one
 pub line_bad : (mode : Mode) (line : List ℕ) (p : Simulator) → asks_no_step mode line ≡ false → line_of line ≡ None
     → PlaysLine mode line p p false
 line_bad mode line p e is = (item_read mode line None e is, refl)
 
--- its command was shown, and then done
+-- the line was printed, and then its command was done
 pub line_done : (mode : Mode) (line : List ℕ) (p q r : Simulator) (edge : ℕ) (command : Command)
     → asks_no_step mode line ≡ false → line_of line ≡ Some (edge, command)
     → Makes [] p q → Performs edge command q r → PlaysLine mode line p r true

@@ -1,4 +1,4 @@
--- Whether a call of a writer has failed, of what is written.
+-- Whether a call of a writer has failed, derived from the text that it wrote.
 use Rattle.std.proofs.Common.{ℕ, List, true, Result, Ok, Err, is_ok, ap, ◌∙◌, arith}
 use Rattle.ether_wire.specs.declared.ends.Device.{Device}
 use Rattle.ether_wire.specs.Ends.{End, Puts}
@@ -8,7 +8,7 @@ pub some_put : (a b : End) (text : List ℕ) (r : Result (Unit {0}) Device) → 
 some_put a b text (Ok x) h = ap (λ (e : End). e.failures) h ∙ grind arith
 some_put a b text (Err e) h = h
 
--- a call that is made where none has failed
+-- a call that is made if no earlier call has failed
 pub minds_put : (a b : End) (r : Result (Unit {0}) Device) → PutsSome a b r → Minds a b true (is_ok r)
 minds_put a b (Ok x) h = record { kept = λ f. absurd (cc); written = λ t. omega arith; failed = λ t f. absurd (cc) }
 minds_put a b (Err e) h = record { kept = λ f. absurd (cc); written = λ t. absurd (cc); failed = λ t f. h }

@@ -1,4 +1,4 @@
--- A simulation's status and notes at its end.
+-- The status and the notes at the end of a simulation.
 use Rattle.std.proofs.Common.{◌≡◌, ◌≢◌, ◌⊎◌, inl, inr, ℕ, ◌+◌, Bool, true, false, not, ◌||◌, List, [], length, Option}
 use Rattle.std.proofs.Common.{Some, None, is_some, Result, Ok, Err, is_ok, refl, sym, ap, subst, ◌∙◌, arith}
 use Rattle.std.proofs.lemmas.Bool.Decides.{nat_tests}
@@ -88,10 +88,10 @@ pub plays_read_error : (mode : Mode) (configs : List EdgeConfig) (read_error : R
 plays_read_error mode configs Device out notes status is = (is_silent out notes, is)
 plays_read_error mode configs NoMemory out notes status is = refused_memory out notes status is
 
--- ---- writers that are given more at once
+-- ---- writers that get several texts in one call
 
 module _ (a b c : End) (q : Bool) (counts : CountsFailure a b) (f : Finishes a.failures b c q) where
-  -- a run that says nothing of what it wrote holds as good as any text
+  -- the contract of a run doesn't specify the text that was written, only whether a call failed
   late : c.failures ≡ a.failures + 1 → CountsFailure a c
   late e = inr e
 

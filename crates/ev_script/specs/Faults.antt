@@ -1,4 +1,4 @@
--- What is told of the lines of a script that are no command.
+-- The texts about those lines of a script that are no command.
 use Rattle.std.specs.Prelude.{◌≡◌, ℕ, ◌+◌, Bool, true, nat_le, if◌then◌else◌, List, [], ◌∷◌, ◌++◌, length, codes}
 use Rattle.std.specs.Prelude.{decimal, Option, Some, None, is_some}
 use Rattle.std.specs.List.{list_all}
@@ -14,9 +14,9 @@ use Rattle.ev_script.specs.declared.script.command.Verb.TheVariants.{Unpin, Thaw
 use Rattle.ev_script.specs.declared.script.command.Verb.TheVariants.{Restart}
 use Rattle.ev_script.specs.Script.{number, verbs, verb_in, line_of, is_remark, Follows}
 
--- ---- why a line is none
+-- ---- why a line is no command
 
--- the words in front of the first space (32)
+-- the text before the first space (32)
 abbrev pub word_from : List ℕ → Option (List ℕ × List ℕ) → List ℕ
 word_from s None = s
 word_from s (Some p) = p.0
@@ -43,16 +43,16 @@ why_parted (Some p) = why_behind (number p.0) p.1
 abbrev pub why_words : List ℕ → LineFault
 why_words line = why_parted (parted 32 line)
 
--- of a line that is no command, the first of these that applies
+-- the first reason that applies to a line that is no command
 abbrev pub why_of : List ℕ → LineFault
 why_of line = if is_remark line then Remark else if is_some (parted 13 line) then Return
     else if nat_le (length line) 20000 then why_words line else Long
 
--- a line is good exactly where it is a command
+-- a line is good exactly if it is a command
 abbrev pub is_good : List ℕ → Bool
 is_good line = is_some (line_of line)
 
--- ---- what is told of it
+-- ---- the text about a bad line
 
 abbrev pub form_of : Verb → List ℕ
 form_of Up = codes ": expected E up P\n"
@@ -83,18 +83,17 @@ why_text (Misspelt verb) = form_of verb
 abbrev pub fault_text : List ℕ → ℕ → LineFault → List ℕ
 fault_text name number fault = name ++ codes ":" ++ decimal number ++ why_text fault
 
--- of the line of this number, nothing where it is good
+-- the text about the line of this number, empty if the line is good
 abbrev pub told_text : List ℕ → ℕ → List ℕ → List ℕ
 told_text name number line = if is_good line then [] else fault_text name number (why_of line)
 
--- of all lines, the first of which has this number
+-- the texts about all lines, the first of which has this number
 abbrev pub faults_text : List ℕ → ℕ → List (List ℕ) → List ℕ
 faults_text name number [] = []
 faults_text name number (line ∷ lines) = told_text name number line ++ faults_text name (number + 1) lines
 
--- Lines at the front of a script were looked at: they were counted, each is good or not, and each bad one is told with
--- its
--- place and why, or a note failed.
+-- Lines at the front of a script were checked: they were counted, `are_good` is true exactly if each is good, and each
+-- bad one was reported with its place and the reason, or a note failed.
 pub record LooksAt (name script rest : List ℕ) (old new : End) (found : Found) : Type 0 where
   pub lines : List (List ℕ)
   pub follows : Follows (λ line. Some line) script lines rest
@@ -102,6 +101,6 @@ pub record LooksAt (name script rest : List ℕ) (old new : End) (found : Found)
   pub good : found.are_good ≡ list_all is_good lines
   pub told : Tells old new true found.are_told (faults_text name 1 lines)
 
--- all lines
+-- all lines were checked
 abbrev pub ChecksLines : List ℕ → List ℕ → End → End → Found → Type 0
 ChecksLines name script old new found = LooksAt name script [] old new found

@@ -1,5 +1,4 @@
--- What is printed of a step, of a refusal and of a port; and what is said of text whose octets aren't: whether a call
--- failed, and no more.
+-- The texts that are printed for a step, for a refusal and for a port.
 use Rattle.std.specs.Prelude.{ℕ, ◌/◌, ◌%◌, Bool, true, false, if◌then◌else◌, List, [], ◌∷◌, ◌++◌, codes}
 use Rattle.std.specs.Prelude.{decimal, get_or, Option, Some, None}
 use Rattle.std.specs.List.{flat_map}
@@ -25,7 +24,7 @@ use Rattle.ev_fabric.specs.Refusal.{refusal_number}
 
 -- ---- lines
 
--- an edge's number, and words behind it
+-- an edge's number, and a text after it
 abbrev pub words_text : ℕ → List ℕ → List ℕ
 words_text edge words = decimal edge ++ words
 
@@ -33,7 +32,7 @@ words_text edge words = decimal edge ++ words
 abbrev pub number_text : ℕ → List ℕ → ℕ → List ℕ
 number_text edge word number = decimal edge ++ word ++ decimal number ++ codes "\n"
 
--- ---- what a step gives out
+-- ---- the results of a step
 
 -- two lower case hexadecimal digits
 abbrev pub hex_digits : ℕ → List ℕ
@@ -51,7 +50,7 @@ bpdu_line edge sent =
 abbrev pub bpdu_lines : ℕ → List (ℕ × Bpdu) → List ℕ
 bpdu_lines edge bpdus = flat_map (bpdu_line edge) bpdus
 
--- an address behind another one
+-- a comma and an address
 abbrev pub later_words : ℕ → List ℕ
 later_words address = codes "," ++ addr_text address
 
@@ -70,18 +69,18 @@ abbrev pub place_text : ℕ → Option Decision → List ℕ
 place_text edge None = []
 place_text edge (Some d) = decision_line edge d
 
--- what an update was, where one was taken
+-- whether an update was newer or known, if one was taken
 abbrev pub taken_text : ℕ → Option Taken → List ℕ
 taken_text edge None = []
 taken_text edge (Some Newer) = words_text edge (codes " newer\n")
 taken_text edge (Some Known) = words_text edge (codes " known\n")
 
--- `E alert N`, where there is one
+-- `E alert N`, if there is an alert
 abbrev pub alert_text : ℕ → Option Alert → List ℕ
 alert_text edge None = []
 alert_text edge (Some alert) = number_text edge (codes " alert ") (number_of alert)
 
--- the BPDUs, then where a frame goes or what an update was, then an alert
+-- the BPDUs, then where a frame goes, then whether an update was newer or known, then an alert
 abbrev pub reply_text : ℕ → Reply → List ℕ
 reply_text edge reply =
     bpdu_lines edge reply.bpdus.items ++ place_text edge reply.decision ++ taken_text edge reply.taken

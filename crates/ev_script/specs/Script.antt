@@ -1,4 +1,4 @@
--- A script: one command a line.
+-- A script: one command per line.
 use Rattle.std.specs.Prelude.{◌≡◌, ℕ, ◌+◌, ◌*◌, slice_get, ◌%◌, ◌^◌, ◌-◌, Bool, true, false, ◌&&◌, ◌||◌, ◌==◌, ◌<◌}
 use Rattle.std.specs.Prelude.{nat_lt, nat_le, if◌then◌else◌, List, [], ◌∷◌, length, codes, Option, Some, None, is_some}
 use Rattle.std.specs.Prelude.{option_map, option_and_then}
@@ -19,7 +19,7 @@ use Rattle.ev_script.specs.declared.script.mode.Mode.TheVariants.{Simulate, Play
 use Rattle.ev_script.specs.declared.script.command.Command as read
 use Rattle.ev_script.specs.declared.script.command.Command.TheVariants as found
 
--- What a line asks an edge for. Ports and updates are numbered from 1.
+-- A line's command for an edge. Ports and updates are numbered from 1.
 pub data Command : Type 0 where
   up : ℕ → Command
   down : ℕ → Command
@@ -79,7 +79,7 @@ incarnation w = decimal_of_text (2 ^ 32 - 1) w
 abbrev pub hex : List ℕ → Option (List ℕ)
 hex w = when (is_hex w) w
 
--- a network and a MAC address, with a space (32) between them
+-- a VNI and a MAC address, with a space (32) between them
 abbrev pub station : List ℕ → Option Station
 station s = do
   (v, m) ← parted 32 s
@@ -103,15 +103,15 @@ abbrev pub verb_in : List (List ℕ × Verb) → List ℕ → Option Verb
 verb_in [] w = None
 verb_in (row ∷ rows) w = if bytes_eq w row.0 then Some row.1 else verb_in rows w
 
--- ---- a line: one row a command
+-- ---- a line: one row per command
 
--- a verb with nothing behind it
+-- a verb without arguments
 abbrev pub command_alone : Verb → Option Command
 command_alone Announce = Some announce
 command_alone Report = Some report
 command_alone _ = None
 
--- a verb with what stands behind it and a space
+-- a verb with the text after it and a space
 abbrev pub command_with : Verb → List ℕ → Option Command
 command_with Up s = option_map up (number s)
 command_with Down s = option_map down (number s)
@@ -157,11 +157,11 @@ words_of s = do
   command ← command_in rest
   Some (edge, command)
 
--- the edge and the command of a line, or nothing where it is outside the grammar
+-- the edge and the command of a line, or nothing if the line is outside the grammar
 abbrev pub line_of : List ℕ → Option (ℕ × Command)
 line_of s = if nat_le (length s) 20000 then words_of s else None
 
--- what a command that was read asks for
+-- converts a command that was read
 abbrev pub command_of : read.Command → Command
 command_of (found.Up p) = up p
 command_of (found.Down p) = down p
@@ -184,7 +184,7 @@ abbrev pub cut_from : List ℕ → Option (List ℕ × List ℕ) → List ℕ ×
 cut_from s None = (s, [])
 cut_from s (Some p) = p
 
--- the first line, and what follows its line feed (10)
+-- the first line, and the text after its line feed (10)
 abbrev pub cut_line : List ℕ → List ℕ × List ℕ
 cut_line s = cut_from s (parted 10 s)
 
@@ -193,7 +193,7 @@ abbrev pub Follows : {X : Type 0} → (List ℕ → Option X) → List ℕ → L
 Follows reads s [] rest = s ≡ rest
 Follows reads s (x ∷ xs) rest = (0 < length s) × (reads (cut_line s).0 ≡ Some x) × Follows reads (cut_line s).1 xs rest
 
--- what is left is nothing, or, where it is bad, begins with a line that isn't read
+-- the rest is empty; or, if it is bad, it begins with a line that isn't read
 abbrev pub Ends : {X : Type 0} → (List ℕ → Option X) → Bool → List ℕ → Type 0
 Ends reads false rest = rest ≡ []
 Ends reads true rest = (0 < length rest) × (reads (cut_line rest).0 ≡ None)
@@ -209,18 +209,18 @@ begins_remark (Some octet) = octet == 35
 abbrev pub is_remark : List ℕ → Bool
 is_remark line = begins_remark (slice_get line 0)
 
--- the line is skipped: where a script is played, one that is empty or a remark
+-- the line is skipped: the script is played, and the line is empty or a remark
 abbrev pub skips : Mode → List ℕ → Bool
 skips Simulate line = false
 skips Play line = is_remark line
 
--- a question of one edge that is a verb alone
+-- a query about one edge that is only a verb
 abbrev pub question_alone : List ℕ → Option EdgeQuestion
 question_alone s =
     if bytes_eq s (codes "counts") then Some Counts
     else if bytes_eq s (codes "stations") then Some (Stations None) else None
 
--- one of a verb with what stands behind it and a space
+-- a query about one edge: a verb with the text after it and a space
 abbrev pub question_with : List ℕ → List ℕ → Option EdgeQuestion
 question_with verb s =
     if bytes_eq verb (codes "owner") then option_map Owner (station s)
@@ -230,7 +230,7 @@ abbrev pub question_from : List ℕ → Option (List ℕ × List ℕ) → Option
 question_from s None = question_alone s
 question_from s (Some p) = question_with p.0 p.1
 
--- a question of one edge, from its verb on
+-- a query about one edge, from its verb on
 abbrev pub edge_question_of : List ℕ → Option EdgeQuestion
 edge_question_of s = question_from s (parted 32 s)
 
@@ -241,24 +241,24 @@ of_edge s = do
   question ← edge_question_of rest
   Some (OfEdge edge question)
 
--- the question of a line
+-- the query of a line
 abbrev pub question_of : List ℕ → Option Question
 question_of s =
     if bytes_eq s (codes "help") then Some Help else if bytes_eq s (codes "edges") then Some Edges else of_edge s
 
--- the question that a line asks: there are some where a script is played
+-- the query of a line, if the script is played; otherwise there is none
 abbrev pub asked_in : Mode → List ℕ → Option Question
 asked_in Simulate line = None
 asked_in Play line = question_of line
 
--- the line asks for no step: it is a question, or is skipped
+-- the line requests no step: it is a query, or is skipped
 abbrev pub asks_no_step : Mode → List ℕ → Bool
 asks_no_step mode line = is_some (asked_in mode line) || skips mode line
 
--- what a line asks for, if it asks for any step
+-- the edge and the command of a line, if the line requests any step
 abbrev pub Item : Type 0
 Item = Option (ℕ × Command)
 
--- how a line is read: as nothing where it asks for no step, else as its command, or not at all
+-- `Some None` if a line requests no step, `Some (Some c)` if it is a command `c`, else `None`
 abbrev pub item_of : Mode → List ℕ → Option Item
 item_of mode line = if asks_no_step mode line then Some None else option_map (λ c. Some c) (line_of line)

@@ -1,4 +1,4 @@
--- What a simulation does: the steps that its lines ask for, from an opened fabric on.
+-- The effect of a simulation: the steps that its lines request, from an opened fabric on.
 use Rattle.std.specs.Prelude.{◌≡◌, ℕ, ◌⊎◌, ◌+◌, ◌||◌, ◌==◌, Bool, false, nat_le, if◌then◌else◌, List, [], ◌∷◌, ◌++◌}
 use Rattle.ev_mobility.specs.Alert.{number_of}
 use Rattle.ev_mobility.specs.declared.alert.Alert.{Alert}
@@ -33,15 +33,15 @@ use Rattle.ev_script.specs.Faults.{why_of, fault_text}
 abbrev pub Made : Type 0
 Made = Step × Result Reply FabricRefusal
 
--- A port's number, in an octet. Those above 255 are as 255: there are 64 at most.
+-- A port's number, in an octet. A number above 255 becomes 255: there are at most 64 ports.
 abbrev pub port_number : ℕ → ℕ
 port_number p = if nat_le p 255 then p else 255
 
--- that step alone was made
+-- exactly that step was made
 abbrev pub IsOne : Step → List Made → Type 0
 IsOne step made = (answer : Result Reply FabricRefusal) × (made ≡ (step, answer) ∷ [])
 
--- the steps that a command asks of an edge
+-- the steps that a command requests from an edge
 abbrev pub Asked : ℕ → Command → List Made → Type 0
 Asked e (up p) made = IsOne (steps.Local e (events.PortUp (port_number p))) made
 Asked e (down p) made = IsOne (steps.Local e (events.PortDown (port_number p))) made
@@ -60,12 +60,12 @@ Asked e (port p) made = made ≡ []
 Asked e report made = made ≡ []
 Asked e (restart n) made = IsOne (steps.Restart e n) made
 
--- the steps that a line asks for
+-- the steps that a line requests
 abbrev pub AskedItem : Item → List Made → Type 0
 AskedItem None made = made ≡ []
 AskedItem (Some line) made = Asked line.0 line.1 made
 
--- the steps of line after line
+-- the steps of each line, in order
 abbrev pub AskedAll : List Item → List (List Made) → Type 0
 AskedAll [] [] = Unit {0}
 AskedAll [] (made ∷ more) = ⊥
@@ -76,17 +76,17 @@ abbrev pub joined : List (List Made) → List Made
 joined [] = []
 joined (made ∷ more) = made ++ joined more
 
--- steps with their answers, each from where the one before has led
+-- steps with their answers, each from the fabric that the step before it has led to
 abbrev pub Goes : Fabric → List Made → Fabric → Type 0
 Goes old [] new = new ≡ old
 Goes old (m ∷ made) new = (mid : Fabric) × FabricSteps old m.0 m.1 mid × Goes mid made new
 
--- the alert that tells of refused memory
+-- the alert that reports refused memory
 abbrev pub is_memory_alert : Option Alert → Bool
 is_memory_alert None = false
 is_memory_alert (Some alert) = number_of alert == 15
 
--- a step that was refused memory, or did something less for want of it, which its alert says
+-- a step was refused memory, or did less for want of memory, which its alert reports
 abbrev pub is_out_of_memory : Result Reply FabricRefusal → Bool
 is_out_of_memory (Ok reply) = is_memory_alert reply.alert
 is_out_of_memory (Err refusal) = refusal_number refusal == 15
@@ -101,7 +101,7 @@ ran_out_of_memory (m ∷ made) = is_out_of_memory m.1 || ran_out_of_memory made
 abbrev pub bad_head : ℕ → List ℕ
 bad_head number = codes "line " ++ decimal number ++ codes " bad\n"
 
--- and on the next line why it is bad, as of a line of the file `standard input`
+-- and on the next line the reason why it is bad, as for a line of the file `standard input`
 abbrev pub bad_line : ℕ → List ℕ → List ℕ
 bad_line number line = bad_head number ++ fault_text (codes "standard input") number (why_of line)
 
@@ -112,8 +112,8 @@ note_of is_bad number line = if is_bad then bad_line number line else []
 abbrev pub CountsFailure : End → End → Type 0
 CountsFailure old new = (new.failures ≡ old.failures) ⊎ (new.failures ≡ old.failures + 1)
 
--- The script's lines up to its end or its first bad one were run on the fabric: it went exactly the steps that they ask
--- for, in their order. Which lines are bad, and which ask for nothing, is the mode's.
+-- The script's lines up to its end or its first bad one were run on the fabric: it went exactly the steps that they
+-- request, in their order. The mode decides which lines are bad, and which request nothing.
 pub record PlaysOn (mode : Mode) (start : Fabric) (script : List ℕ) (out out' notes notes' : End)
     (status : ℕ) : Type 0 where
   pub lines : List Item
@@ -130,12 +130,12 @@ pub record PlaysOn (mode : Mode) (start : Fabric) (script : List ℕ) (out out' 
   pub status_is : status ≡ status_of (has_failed out out' || has_failed notes notes') (ran_out_of_memory (joined made))
       is_bad
 
--- on a fabric of edges that are opened so
+-- on a fabric of edges that are opened with these configurations
 abbrev pub Plays : Mode → List EdgeConfig → List ℕ → End → End → End → End → ℕ → Type 0
 Plays mode configs script out out' notes notes' status =
     (start : Fabric) × IsStart configs start × PlaysOn mode start script out out' notes notes' status
 
--- What became of a script that was read or not. Where memory was refused to the script or to the edges, or the script
+-- The result for a script that was read or not. If memory was refused to the script or to the edges, or the script
 -- wasn't read to its end, nothing was run.
 abbrev pub PlaysRead : Mode → List EdgeConfig → Result (List ℕ) ReadError → End → End → End → End → ℕ → Type 0
 PlaysRead mode configs (Ok script) out out' notes notes' status =

@@ -1,4 +1,4 @@
-//! A script's lines that are looked at, and not run.
+//! Checks the lines of a script without running them.
 ghost use Rattle.std.specs.Prelude.{◌≡◌, ◌+◌, ◌<◌, ◌^◌, ◌&&◌, true};
 ghost use Rattle.ether_wire.specs.Ends.{IsOpen, Puts};
 ghost use Rattle.ev_report.specs.Ends.{Tells};
@@ -7,14 +7,14 @@ ghost use Rattle.ev_script.specs.Faults.{is_good, fault_text, told_text, ChecksL
 use crate::script::{LineFault, cut_line, is_good, why_of};
 use ether_wire::{Device, Out, put_decimal};
 
-/// What was found in lines.
+/// The result of a check of lines.
 #[derive(Clone, Copy, Debug)]
 pub struct Found {
-    /// How many there are.
+    /// The number of lines.
     pub count: u64,
-    /// Each is a command.
+    /// Whether each line is a command.
     pub are_good: bool,
-    /// No note has failed.
+    /// Whether no note has failed.
     pub are_told: bool,
 }
 
@@ -35,7 +35,7 @@ pub(crate) fn put_fault<N: Out>(
     notes.put(fault.why())
 }
 
-/// Writes what is wrong with the line of this number, if anything is.
+/// Writes why the line of this number is bad, if it is.
 #[tactic(auto, using(ether_wire::proofs::Appending::with_text_none))]
 fn put_told<N: Out>(notes: &mut N, name: &[u8], number: u64, line: &[u8]) -> Result<(), Device>
     requires { IsOpen (N.end notes.old) }
@@ -48,7 +48,7 @@ fn put_told<N: Out>(notes: &mut N, name: &[u8], number: u64, line: &[u8]) -> Res
 }
 
 impl Found {
-    /// With one line more, which is told where it is none of the commands.
+    /// Returns the result with one line more. Reports the line if it is none of the commands.
     fn with<N: Out>(self, name: &[u8], line: &[u8], notes: &mut N) -> Found
         requires count { self.count + 1 < 2 ^ 64 }
         requires room { self.are_told ≡ true → IsOpen (N.end notes.old) }
@@ -66,8 +66,8 @@ impl Found {
     }
 }
 
-/// Looks at each line of a script, and writes `NAME:N: WHY` on the notes for each that is none of
-/// the commands. After a note that failed it writes no more.
+/// Checks each line of a script, and writes `NAME:N: WHY` on the notes for each that is none of the
+/// commands. After a note that failed it writes no more.
 pub fn check_lines<N: Out>(name: &[u8], script: &[u8], notes: &mut N) -> Found
     requires { IsOpen (N.end notes.old) }
     ensures { ChecksLines name.now script.now (N.end notes.old) (N.end notes.new) result }

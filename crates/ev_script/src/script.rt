@@ -1,4 +1,4 @@
-//! The language of scripts: one command a line.
+//! The language of scripts: one command per line.
 
 mod command;
 mod digits;

@@ -35,7 +35,7 @@ fn put_bad<N: Out>(notes: &mut N, number: u64) -> Result<(), Device>
     notes.put(b" bad\n")
 }
 
-/// Writes `line N bad`, and on the next line why it is bad.
+/// Writes `line N bad`, and on the next line the reason.
 #[tactic(auto, using(ether_wire::proofs::Appending::with_text_twice))]
 fn put_bad_and_why<N: Out>(notes: &mut N, number: u64, line: &[u8]) -> Result<(), Device>
     requires { IsOpen (N.end notes.old) }
@@ -45,7 +45,7 @@ fn put_bad_and_why<N: Out>(notes: &mut N, number: u64, line: &[u8]) -> Result<()
     put_fault(notes, b"standard input", number, why_of(line))
 }
 
-/// Writes which line is bad and why, if there is such a line.
+/// Writes which line is bad and why, if a line is bad.
 #[tactic(auto, using(ether_wire::proofs::Appending::with_text_none))]
 fn put_bad_line<N: Out>(bad: Option<BadLine<'_>>, notes: &mut N) -> Result<(), Device>
     requires { IsOpen (N.end notes.old) }
@@ -57,7 +57,7 @@ fn put_bad_line<N: Out>(bad: Option<BadLine<'_>>, notes: &mut N) -> Result<(), D
     }
 }
 
-/// Runs a script on a fabric.
+/// Runs a script on a fabric, and returns the status.
 fn play<W: Out, N: Out>(mode: Mode, fabric: Fabric, script: &[u8], out: &mut W, notes: &mut N) -> u8
     requires out { IsOpen (W.end out.old) }
     requires notes { IsOpen (N.end notes.old) }
@@ -92,7 +92,7 @@ fn open_and_play<W: Out, N: Out>(
     }
 }
 
-/// The status of a script that wasn't read to its end.
+/// Returns the status of a script that wasn't read to its end.
 fn read_error_status(read_error: ReadError) -> u8
     ensures { result ≡ read_error_status read_error }
 {
@@ -103,19 +103,18 @@ fn read_error_status(read_error: ReadError) -> u8
 }
 
 /// Reads a whole script, and then runs its lines, one after the other, on a fabric of edges that
-/// are opened with these configurations. Each command's lines come on `out`. The first line
-/// outside the grammar ends the run: `notes` gets `line N bad`, and on the next line why, as
-/// `check_lines` writes it of a file `standard input`; what stood before it has been run, and its
-/// lines stay. Where it is played (`Mode::Play`), empty lines and remarks are skipped,
-/// questions are answered, and each command's or question's line is printed before what becomes of
-/// it.
+/// are opened with these configurations. It prints each command's lines on `out`. The first line
+/// outside the grammar ends the run: `notes` gets `line N bad`, and on the next line the reason, as
+/// `check_lines` writes it for a file `standard input`. The lines before it have been run, and
+/// their output stays. If the script is played (`Mode::Play`), empty lines and remarks are skipped,
+/// queries are answered, and the line of each command or query is printed before its result.
 ///
-/// Where the script can't be read to its end, or there is no memory for it or for the edges,
-/// nothing is run. Where a call of `out` fails, no further one is made, and the script is run on.
+/// If the script can't be read to its end, or there is no memory for it or for the edges, nothing
+/// is run. If a call of `out` fails, no further one is made, and the script is run on.
 ///
-/// The status is the greatest that applies: 4 where a read or a write failed, or 2^40 reads didn't
-/// reach the end, 3 where memory was refused to the script, to the edges or to a step, 1 where a
-/// line is outside the grammar, else 0.
+/// The status is the greatest that applies: 4 if a read or a write failed, or 2^40 reads didn't
+/// reach the end, 3 if memory was refused to the script, to the edges or to a step, 1 if a line is
+/// outside the grammar, else 0.
 pub fn simulate_run<R: In, W: Out, N: Out>(
     alloc: Global,
     mode: Mode,
@@ -138,7 +137,7 @@ pub fn simulate_run<R: In, W: Out, N: Out>(
     }
 }
 
-/// `simulate_run` with few and large writes: it takes the devices, and gives them back.
+/// Runs `simulate_run` with few and large writes: it takes the devices, and returns them.
 pub fn simulate_buffered<R: In, W: Out, N: Out>(
     alloc: Global,
     mode: Mode,

@@ -181,7 +181,7 @@ sure_found p (x ∷ xs) a s e = go (p x) e (λ f. sure_found p xs a (both (is_su
         subst (λ (y : Rule). is_sure y ≡ true) same (both (is_sure x) (list_all is_sure xs) s).0
     go false e more = more e
 
--- ---- a walk over the words
+-- ---- a walk over the arguments
 
 module _ (s : Shape) (sure : list_all is_sure s.rules ≡ true) where
   settled_full : (h : Held) → settle_fault s.rules s.args_override_self h ≡ [] → AreFull h.rows
@@ -266,7 +266,7 @@ module _ (s : Shape) (sure : list_all is_sure s.rules ≡ true) where
       bundle_full (slice_get (chars flags) 0) flags skip so_far h (flags_fault s.rules s.args_override_self k)
       (bundle_met s.rules k) (λ rest n x g. flags_full k rest n x g) f e
 
-  -- ---- one word
+  -- ---- one argument
 
   -- a step enters no subcommand that answers with help
   abbrev passes : Step → Bool
@@ -337,7 +337,7 @@ module _ (s : Shape) (sure : list_all is_sure s.rules ≡ true) where
   word_fine names false waiting position word h f e = other_fine (subcommand_met names waiting word) waiting position
       word h f e
 
-  -- ---- all words
+  -- ---- all arguments
 
   abbrev stops : Option (Text × List Text) → Bool
   stops None = true
@@ -475,7 +475,7 @@ one_given name needs words f =
     go true b f = refl
     go false b f = cc
 
--- so where there are one and two flags that may be given
+-- the result for a subcommand with one and two optional flags
 one_of_four : (name : Text) (needs takes flag other : Given) (words : List Text)
     → level_fault (leaf_of name needs (Some takes) (Some flag) (Some other)) [] nothing_held words false [] ≡ []
     → is_some (first_of (option_name needs)

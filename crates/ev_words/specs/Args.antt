@@ -1,4 +1,4 @@
--- The program's words, as `clap` reads them.
+-- The program's arguments, as `clap` reads them.
 use Rattle.std.specs.Prelude.{◌≡◌, ◌≢◌, ℕ, ◌+◌, ◌⊎◌, Bool, true, false, List, [], ◌∷◌, ◌++◌, codes, find, Option, Some}
 use Rattle.std.specs.Prelude.{None, option_map, Result, Ok, Err, OnOk, IfErr, if◌then◌else◌}
 use Rattle.std.specs.Option.{option_map_or}
@@ -44,7 +44,7 @@ option_name Script = codes "script"
 option_name ForRun = codes "run"
 option_name ForServe = codes "serve"
 
--- the option that it has to be given
+-- the option that a subcommand requires
 abbrev pub needs_of : Subcommand → Option Given
 needs_of Report = Some Originators
 needs_of Migrate = Some Originators
@@ -55,7 +55,7 @@ needs_of Run = Some Config
 needs_of Serve = Some Config
 needs_of Version = None
 
--- the option that it may be given besides
+-- the option that a subcommand allows besides
 abbrev pub takes_of : Subcommand → Option Given
 takes_of Report = None
 takes_of Migrate = None
@@ -66,7 +66,7 @@ takes_of Run = None
 takes_of Serve = None
 takes_of Version = None
 
--- the flag that it may be given
+-- the flag that a subcommand allows
 abbrev pub flag_of : Subcommand → Option Given
 flag_of Report = None
 flag_of Migrate = None
@@ -77,7 +77,7 @@ flag_of Run = None
 flag_of Serve = None
 flag_of Version = None
 
--- one more that it may be given
+-- another flag that a subcommand allows
 abbrev pub other_flag_of : Subcommand → Option Given
 other_flag_of Report = None
 other_flag_of Migrate = None
@@ -90,7 +90,7 @@ other_flag_of Version = None
 
 -- ---- the command
 
--- `--NAME VALUE`, which has to be there or may be
+-- `--NAME VALUE`, required or optional
 abbrev pub option_rule : Bool → Text → Rule
 option_rule is_required name =
     record (new_rule name) { long = Some name; action = Some Set; value_names = 1; required = is_required }
@@ -103,7 +103,7 @@ abbrev pub with_option : Bool → Option Given → App → App
 with_option is_required option a =
     record a { top = record a.top { rules = a.top.rules ++ option_rules is_required option } }
 
--- `--NAME`, which may be there
+-- `--NAME`, optional
 abbrev pub flag_rule : Text → Rule
 flag_rule name = record (new_rule name) { long = Some name; action = Some SetTrue }
 
@@ -130,17 +130,17 @@ program =
     let all = with_subcommands (new_app (codes "evpnd")) subcommands in
     record all { top = record all.top { subcommand_required = true } }
 
--- ---- orders
+-- ---- invocations
 
 abbrev pub named : Text → Option Subcommand
 named name = find (λ s. bytes_eq name (name_of s)) subcommands
 
--- the text of an option that has to be there, among the matches; none is nothing
+-- the text of a required option among the matches; empty if no option is required
 abbrev pub needed_in : Option Given → List Row → Option Text
 needed_in None rows = Some []
 needed_in (Some option) rows = first_of (option_name option) rows
 
--- the text of an option that may be there
+-- the text of an optional option
 abbrev pub given_in : Option Given → List Row → Option Text
 given_in None rows = None
 given_in (Some option) rows = first_of (option_name option) rows
@@ -153,7 +153,7 @@ is_flagged flag rows = option_map_or (λ text. bytes_eq text (codes "true")) (gi
 abbrev pub aim_of : Bool → Bool → Aim
 aim_of is_run is_served = if is_served then aim.Serve else if is_run then aim.Run else aim.Any
 
--- so of a subcommand's flags among the matches
+-- the purpose of a check, by a subcommand's flags among the matches
 abbrev pub aim_in : Subcommand → List Row → Aim
 aim_in s rows = aim_of (is_flagged (flag_of s) rows) (is_flagged (other_flag_of s) rows)
 
@@ -177,15 +177,15 @@ parts_of invocation = (
   invocation.aim,
 )
 
--- the words have no fault, and are this invocation
+-- the arguments have no fault, and are this invocation
 abbrev pub Spells : List Text → Parts → Type 0
 Spells words invocation = (fault_of program words ≡ []) × (invocation_in (subcommand_of program words)
     ≡ Some invocation)
 
 -- ---- reading
 
--- what `clap` makes of the words: their matches where they have no fault; else it was refused memory, or it tells their
--- fault
+-- the result of `clap` for the arguments: their matches if they have no fault; else it was refused memory, or it
+-- reports their fault
 abbrev pub IsAnswer : List Text → Result ArgMatches Error → Type 0
 IsAnswer words (Ok m) = (fault_of program words ≡ []) × (subcommand_rows_of m ≡ subcommand_of program words)
 IsAnswer words (Err e) = (kind_of e ≡ OutOfMemory) ⊎ IsAmong (kind_of e) (fault_of program words)
@@ -198,7 +198,8 @@ pub record Parses (words : List Text) (before after : ℕ) (answer : Result ArgM
   pub refused : IfErr answer (λ e. kind_of e ≡ OutOfMemory → after ≡ before + 1)
   pub told : IfErr answer (λ e. kind_of e ≢ OutOfMemory → after ≡ before)
 
--- The words have no fault and are this invocation; or they have the fault that the error tells; or memory was refused.
+-- The arguments have no fault and are this invocation; or they have the fault that the error reports; or memory was
+-- refused.
 abbrev pub Invokes : List Text → ℕ → ℕ → Result Invocation ArgsError → Type 0
 Invokes words before after (Ok invocation) = Spells words (parts_of invocation) × (after ≡ before)
 Invokes words before after (Err (Usage e)) = IsAmong (kind_of e) (fault_of program words) × (after ≡ before)

@@ -1,4 +1,4 @@
-//! The program's words, read as an invocation.
+//! Reads the program's arguments as an invocation.
 ghost use Rattle.std.specs.Prelude.{◌≡◌, ◌≢◌, ◌+◌, ◌<◌, ◌^◌, map, string_bytes, IfOk, OnOk, OnErr, ℕ, Option, option_map, false};
 ghost use Rattle.clap.specs.Words.{app_of, found_of, kind_of, rows_of, rule_of, subcommand_rows_of, with_subcommand};
 ghost use Rattle.clap.specs.declared.builder.command.Command.TheViews.{out-Command};
@@ -21,16 +21,16 @@ pub struct Invocation<'a> {
     pub aim: Aim,
 }
 
-/// Why the words are no invocation.
+/// Why the arguments are no invocation.
 #[derive(Debug, Drop)]
 pub enum ArgsError {
-    /// They are invalid, or ask for help: the message of `clap`.
+    /// They are invalid, or request help: the message of `clap`.
     Usage(Error),
     /// There was no memory to read them.
     NoMemory,
 }
 
-/// An option, which has to be there or may be.
+/// Returns an option, required or optional.
 fn option_arg<'a>(alloc: Global, option: Given, is_required: bool) -> Arg<'a>
     ensures rule { rule_of result ≡ option_rule is_required (option_name option) }
     ensures local { result.global ≡ false }
@@ -43,7 +43,7 @@ fn option_arg<'a>(alloc: Global, option: Given, is_required: bool) -> Arg<'a>
         .required(is_required)
 }
 
-/// A command with an option more, if there is one.
+/// Adds an option to a command, if there is one.
 fn with_option<'a>(
     alloc: Global,
     command: Command<'a>,
@@ -61,7 +61,7 @@ fn with_option<'a>(
     }
 }
 
-/// A command with a flag more, if there is one.
+/// Adds a flag to a command, if there is one.
 fn with_flag<'a>(
     alloc: Global,
     command: Command<'a>,
@@ -77,7 +77,7 @@ fn with_flag<'a>(
     }
 }
 
-/// A flag.
+/// Returns a flag.
 fn flag_arg<'a>(alloc: Global, flag: Given) -> Arg<'a>
     ensures rule { rule_of result ≡ flag_rule (option_name flag) }
     ensures local { result.global ≡ false }
@@ -88,7 +88,7 @@ fn flag_arg<'a>(alloc: Global, flag: Given) -> Arg<'a>
         .help(flag.value_help())
 }
 
-/// A subcommand with its options.
+/// Returns a subcommand with its options.
 fn subcommand_command<'a>(alloc: Global, subcommand: Subcommand) -> Result<Command<'a>, AllocError>
     ensures app { IfOk result (λ c. app_of c ≡ subcommand_app subcommand) }
     ensures local { IfOk result (λ c. (out-Command c).has_globals ≡ false) }
@@ -114,7 +114,7 @@ writing standard output fails, standard error says so.
 Example:
   evpnd report --originators 10.0.0.1,10.0.0.2 < records";
 
-/// The command with one subcommand more.
+/// Adds a subcommand to a command.
 fn add_subcommand<'a>(
     alloc: Global,
     command: Command<'a>,
@@ -126,7 +126,7 @@ fn add_subcommand<'a>(
     command.subcommand(subcommand_command(alloc, subcommand)?)
 }
 
-/// The program's command.
+/// Returns the program's command.
 fn program<'a>(alloc: Global) -> Result<Command<'a>, AllocError>
     ensures { IfOk result (λ c. app_of c ≡ program) }
 {
@@ -147,14 +147,14 @@ pub trait Parser {
     /// How often it was refused memory.
     ghost refusals: { Self → ℕ };
 
-    /// Reads the words: the first is the program's name. An error is of the kind `OutOfMemory`
-    /// exactly where memory was refused once more.
+    /// Reads the arguments: the first is the program's name. An error is of the kind `OutOfMemory`
+    /// exactly if memory was refused once more.
     fn parse<'a>(&mut self, words: &'a [String]) -> Result<ArgMatches<'a>, Error>
         requires { refusals self.old + 1 < 2 ^ 64 }
         ensures { Parses (map string_bytes words.entry.now)
             (refusals self.old) (refusals self.new) result };
 
-    /// The text of an error for the user. It fails exactly where memory was refused once more.
+    /// Returns the text of an error for the user. It fails exactly if memory was refused once more.
     fn text_of(&mut self, error: &Error) -> Result<String, AllocError>
         requires { refusals self.old + 1 < 2 ^ 64 }
         ensures kept { OnOk result (refusals self.new ≡ refusals self.old) }
@@ -169,7 +169,7 @@ pub struct ClapParser {
 }
 
 impl ClapParser {
-    /// A parser that wasn't refused anything yet.
+    /// Returns a parser that hasn't been refused memory yet.
     pub fn new(alloc: Global) -> ClapParser
         ensures { parser_refusals result ≡ 0 }
     {
@@ -177,7 +177,7 @@ impl ClapParser {
     }
 }
 
-/// What `clap` makes of the words.
+/// Returns the result of `clap` for the arguments.
 fn matches_of<'a>(alloc: Global, words: &'a [String]) -> Result<ArgMatches<'a>, Error>
     ensures { IsAnswer (map string_bytes words.entry.now) result }
 {
@@ -210,7 +210,7 @@ impl Parser for ClapParser {
     }
 }
 
-/// The invocation that the words give: the first is the program's name.
+/// Returns the invocation that the arguments give: the first is the program's name.
 pub fn invocation_of<'a, P: Parser>(
     parser: &mut P,
     words: &'a [String],
@@ -251,7 +251,7 @@ fn needed_in<'a>(option: Option<Given>, matches: &ArgMatches<'a>) -> Option<&'a 
     }
 }
 
-/// The value of the option that may be there.
+/// Returns the value of the optional option, if it was given.
 fn given_in<'a>(option: Option<Given>, matches: &ArgMatches<'a>) -> Option<&'a str>
     ensures { option_map (λ s. s.now) result
         ≡ given_in option (rows_of (found_of matches.now)) }
@@ -262,7 +262,7 @@ fn given_in<'a>(option: Option<Given>, matches: &ArgMatches<'a>) -> Option<&'a s
     }
 }
 
-/// Whether the flag that may be there is.
+/// Returns `true` if the optional flag was given.
 fn is_flagged<'a>(flag: Option<Given>, matches: &ArgMatches<'a>) -> bool
     ensures { result ≡ is_flagged flag (rows_of (found_of matches.now)) }
 {
@@ -285,7 +285,7 @@ fn aim_of(is_run: bool, is_served: bool) -> Aim
     }
 }
 
-/// So by the flags of a subcommand.
+/// Returns the purpose of a check, by the flags of a subcommand.
 fn aim_in<'a>(subcommand: Subcommand, matches: &ArgMatches<'a>) -> Aim
     ensures { result ≡ aim_in subcommand (rows_of (found_of matches.now)) }
 {
@@ -294,7 +294,7 @@ fn aim_in<'a>(subcommand: Subcommand, matches: &ArgMatches<'a>) -> Aim
     aim_of(is_run, is_served)
 }
 
-/// The invocation at the subcommand that was used.
+/// Returns the invocation at the subcommand that was used.
 fn invocation_in<'a>(matches: &ArgMatches<'a>) -> Option<Invocation<'a>>
     ensures { option_map parts_of result ≡ invocation_in (subcommand_rows_of matches.now) }
 {

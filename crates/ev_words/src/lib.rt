@@ -1,4 +1,4 @@
-//! The program's words, read by `clap`: its subcommands, their options, and what help says.
+//! The program's arguments, read by `clap`: its subcommands, their options, and their help texts.
 #![tactic(auto)]
 
 mod args;

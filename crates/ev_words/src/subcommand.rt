@@ -50,7 +50,7 @@ pub enum Aim {
 }
 
 impl Subcommand {
-    /// Its word.
+    /// Returns its name.
     pub(crate) fn name<'a>(self) -> &'a str
         ensures { result.now ≡ name_of self }
     {
@@ -66,7 +66,7 @@ impl Subcommand {
         }
     }
 
-    /// The option that it has to be given, if there is one.
+    /// Returns the option that it requires, if there is one.
     pub(crate) fn needs(self) -> Option<Given>
         ensures { result ≡ needs_of self }
     {
@@ -81,7 +81,7 @@ impl Subcommand {
         }
     }
 
-    /// The option that it may be given besides, if there is one.
+    /// Returns the option that it allows besides, if there is one.
     pub(crate) fn takes(self) -> Option<Given>
         ensures { result ≡ takes_of self }
     {
@@ -91,7 +91,7 @@ impl Subcommand {
         }
     }
 
-    /// The flag that it may be given, if there is one.
+    /// Returns the flag that it allows, if there is one.
     pub(crate) fn flag(self) -> Option<Given>
         ensures { result ≡ flag_of self }
     {
@@ -101,7 +101,7 @@ impl Subcommand {
         }
     }
 
-    /// One more that it may be given, if there is one.
+    /// Returns the other flag that it allows, if there is one.
     pub(crate) fn other_flag(self) -> Option<Given>
         ensures { result ≡ other_flag_of self }
     {
@@ -282,7 +282,7 @@ Example:
 }
 
 impl Given {
-    /// The option's name.
+    /// Returns the option's name.
     pub(crate) fn name<'a>(self) -> &'a str
         ensures { result.now ≡ option_name self }
     {
@@ -295,7 +295,7 @@ impl Given {
         }
     }
 
-    /// What help calls its value.
+    /// Returns the name of its value in the help text.
     pub(crate) fn value_name<'a>(self) -> &'a str {
         match self {
             Given::Originators => "LIST",
@@ -304,7 +304,7 @@ impl Given {
         }
     }
 
-    /// What its value is.
+    /// Returns the description of its value.
     pub(crate) fn value_help<'a>(self) -> &'a str {
         match self {
             Given::Originators => "1 to 64 different IPv4 addresses with commas between them",
@@ -316,7 +316,7 @@ impl Given {
     }
 }
 
-/// The subcommand of this name.
+/// Returns the subcommand of this name.
 pub(crate) fn named(name: &str) -> Option<Subcommand>
     ensures { result ≡ named name.now }
 {

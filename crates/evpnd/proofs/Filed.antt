@@ -69,7 +69,7 @@ never_used uses gives path b a status (inr r) =
 -- the result of a file, given devices of which only the notes were called
 module _ {X : Type 0} (uses : UsesConfig X) (gives : Gives X) (path : Text) (s s' : Shelf) (before : Devices)
     (input : Source) (out notes notes' : End) (is : devices input out notes ≡ before) (status : ℕ) where
-  -- none is used
+  -- no configuration is used
   pub of_never : FileGives gives path s s' notes notes' (Err status)
       → OfFile gives (OfFound uses) path (desk s before) (desk s' (devices input out notes')) status
   of_never given =

@@ -1,4 +1,4 @@
--- A script that is looked at, behind a configuration that is checked.
+-- A script that is checked after a configuration.
 use Rattle.std.proofs.Common.{◌≡◌, ◌⊎◌, inl, inr, ℕ, ◌+◌, Bool, true, false, cond, not, ◌||◌, ◌==◌, List, [], ◌∷◌, ◌++◌}
 use Rattle.std.proofs.Common.{length, Option, Some, option_map, Bor, Result, Ok, Err, is_ok, refl, sym, ap, subst, ◌∙◌}
 use Rattle.std.proofs.Common.{arith}
@@ -34,7 +34,7 @@ noted a b false t h =
     let one = h.failed refl refl in
     (record { written = λ e. absurd (omega arith); failures = inr one }, grind (arith, nat_tests))
 
--- the lines of a script were looked at, and counted on the output
+-- the lines of a script were checked, and counted on the output
 pub looks : (name script : Text) (out out' notes notes' : End) (found : Found) (r : Result (Unit {0}) Device)
     (status : ℕ) → ChecksLines name script notes notes' found → Puts out out' (lines_text found.are_good found.count) r
     → status ≡ status_of (not (is_ok r) || not found.are_told) false (not found.are_good)
@@ -63,7 +63,7 @@ pub script_looked : (path text : Text) (s s' : Shelf) (input : Source) (out out'
 script_looked path text s s' input out out' notes notes' status gives h =
     inr (record { shelf_kept = gives.0; text = text; read = gives.1; input = refl; looks = h })
 
--- ---- behind a configuration that is right
+-- ---- after a valid configuration
 
 -- one call more may fail
 open_kept : (a b : End) (text : Text) (status : ℕ) → Holds a b text → ◌≡◌ {A = ℕ} status (cond (has_failed a b) 4 0)
@@ -141,11 +141,11 @@ ready purpose path s s' input out out' notes notes' status (inr r) room o n done
 pub is_zero : (n : ℕ) → (n == 0) ≡ true → n ≡ 0
 is_zero n e = grind (arith, nat_tests)
 
--- the check wasn't done
+-- the script isn't checked, since the first status isn't 0
 pub behind_failed : (first : ℕ) (path : Text) (d : Desk) → (first == 0) ≡ false → Behind first path d d first
 behind_failed first path d e = rw e (refl, refl)
 
--- it was
+-- the script is checked, since the first status is 0
 pub behind_done : (first : ℕ) (path : Text) (before after : Desk) (status : ℕ) → (first == 0) ≡ true
     → OfScript path before after status → Behind first path before after status
 behind_done first path before after status e h = rw e h

@@ -31,7 +31,7 @@ put_behind a b c text more (Ok x) first h =
     (text, h ∙ ap (λ (e : End). with_text e more) first ∙ with_text_twice a text more)
 put_behind a b c text more (Err d) first h = (text, h ∙ ap (λ (e : End). e.failures + 1) first)
 
--- a text was put, and then some other one
+-- a text was put, followed by some other text
 pub put_before : (a b c : End) (text : Text) (r : Result (Unit {0}) Device) → b ≡ with_text a text
     → (t : Text) × Puts b c t r
     → (t : Text) × Puts a c (text ++ t) r
@@ -50,7 +50,7 @@ among_some : (k : ErrorKind) (ks : Kinds) → IsAmong k ks → ks ≢ []
 among_some k [] among none = among
 among_some k (x ∷ xs) among none = cc
 
--- words with a fault
+-- arguments with a fault
 pub runs_refused : (given : Descriptors) (words : List Text) (k : ErrorKind) (before middle after : ℕ) (shelf : Shelf)
     (d d' : Devices) (status : ℕ) → IsAmong k (fault_of program words) → middle ≡ before
     → d' ≡ record d { notes = d'.notes } → TellsFault middle after d.notes d'.notes status

@@ -1,4 +1,4 @@
--- What becomes of a configuration's file.
+-- The results of reading a configuration's file, and of a check.
 use Rattle.std.specs.Prelude.{◌≡◌, ℕ, ◌+◌, ◌⊎◌, Bool, true, false, List, [], ◌∷◌, ◌++◌, Option, Result, Ok, Err}
 use Rattle.std.specs.Prelude.{if◌then◌else◌}
 use Rattle.ether_wire.specs.Ends.{End}
@@ -52,7 +52,7 @@ IsTextless option path before after status = IsRefusedText before after status
 abbrev pub Gives : Type 0 → Type 1
 Gives X = Text → Result X ConfigRefusal → Type 0
 
--- the use of it
+-- the use of a configuration
 abbrev pub Uses : Type 0 → Type 1
 Uses X = Result X ConfigRefusal → Devices → Devices → ℕ → Type 0
 
@@ -93,15 +93,15 @@ TellsObstacles [] takes out out' notes notes' status = (notes' ≡ notes) × Sum
 TellsObstacles (one ∷ more) takes out out' notes notes' status =
     (out' ≡ out) × IsTold (obstacles_text (one ∷ more)) notes notes' status
 
--- The same for a configuration's run, served or not, given the limit of descriptors; or there was no memory for the
--- obstacles.
+-- The obstacles or the resources of a configuration's run, served or not, given the limit of descriptors; or there was
+-- no memory for the obstacles.
 abbrev pub SumsRun : Bool → Option ℕ → Config → End → End → End → End → ℕ → Type 0
 SumsRun is_asked most config out out' notes notes' status =
     TellsObstacles (obstacles_of config.edges.items config.links.items is_asked most)
     (asked_text is_asked (needs_of config.edges.items)) out out' notes notes' status
     ⊎ ((out' ≡ out) × (notes' ≡ notes) × (status ≡ 3))
 
--- so for a use
+-- the summary of a configuration for a use; for a run, its obstacles or its resources
 abbrev pub SumsFor : Use → Option ℕ → Config → End → End → End → End → ℕ → Type 0
 SumsFor Any most config out out' notes notes' status = (notes' ≡ notes) × Sums out out' status
 SumsFor Run most config out out' notes notes' status = SumsRun false most config out out' notes notes' status

@@ -1,4 +1,4 @@
--- What becomes of a configuration that is wanted, to be used.
+-- The result of reading a configuration that is to be used.
 use Rattle.std.specs.Prelude.{◌≡◌, ℕ, ◌++◌, codes, string_bytes, Ok, Err}
 use Rattle.ev_config.specs.declared.config.ConfigRefusal.{ConfigRefusal}
 use Rattle.ev_config.specs.declared.config.ConfigRefusal.TheVariants as refusal
@@ -11,12 +11,13 @@ use Rattle.ev_report.specs.Usage.{TellsUsage}
 abbrev pub config_text : Text → Text
 config_text key = codes "config " ++ key ++ codes "\n"
 
--- `config KEY`, and behind it the lines that a check writes of the faults; nothing was read, nothing else written
+-- `config KEY`, and then some text (the lines that a check writes for the faults); nothing was read, nothing else
+-- written
 abbrev pub TellsKey : Text → Devices → Devices → ℕ → Type 0
 TellsKey key before after status = (more : Text) × TellsUsage (config_text key ++ more) before after status
 
--- There is no configuration: its first faulty key is reported, or that its text is no document (2); or there was no
--- memory to read it (3), and no device was called.
+-- There is no configuration. Its first faulty key is reported, or the key `text` if the text is no document (2); or
+-- there was no memory to read it (3), and no device was called.
 abbrev pub Refuses : ConfigRefusal → Devices → Devices → ℕ → Type 0
 Refuses (refusal.Key key) before after status = TellsKey (string_bytes key) before after status
 Refuses refusal.Text before after status = TellsKey (codes "text") before after status

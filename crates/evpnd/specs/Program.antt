@@ -1,4 +1,4 @@
--- A run of the program, from its words to its status.
+-- A run of the program, from its arguments to its status.
 use Rattle.std.specs.Prelude.{◌≡◌, ◌≢◌, ℕ, ◌+◌, ◌⊎◌, Bool, true, false, List, [], codes, map, string_bytes, Option}
 use Rattle.clap.specs.Words.{fault_of}
 use Rattle.evpnd.specs.declared.program.Argv.{Argv}
@@ -29,7 +29,7 @@ use Rattle.evpnd.specs.declared.check.Purpose.{Purpose}
 use Rattle.evpnd.specs.Streams.{Unclosed}
 use Rattle.ev_report.specs.Failures.{failures_of, TellsFailed}
 
--- the devices and the files, and how often what reads the words was refused memory
+-- the devices and the files, and how often the parser of the arguments was refused memory
 pub record World : Type 0 where
   pub refusals : ℕ
   pub desk : Desk
@@ -43,9 +43,9 @@ world refusals shelf devices = record { refusals = refusals; desk = desk shelf d
 abbrev pub not_text : Text
 not_text = codes "error: a word isn't UTF-8\n"
 
--- ---- orders
+-- ---- invocations
 
--- the edges of a file are run, and may be asked meanwhile or not
+-- the edges of a file run; with `true` they answer queries meanwhile
 abbrev pub RunsFile : Bool → Text → Desk → Desk → ℕ → Type 0
 RunsFile false = OfFile (ConfigOf true) RunsFound
 RunsFile true = OfFile ServedOf ServesFound
@@ -92,7 +92,7 @@ pub record FollowsTelling (given : Descriptors) (invocation : Parts) (before aft
   pub shelf_kept : after.shelf ≡ mid.shelf
   pub told : TellsFailed (failures_of before.devices) mid.devices after.devices
 
--- ---- words
+-- ---- arguments
 
 -- memory was refused once more, for the parser or for its message; no device was called
 pub record IsOutOfMemory (before after : World) (status : ℕ) : Type 0 where
@@ -108,7 +108,7 @@ pub record IsRefused (words : List Text) (before after : World) (status : ℕ) :
   pub text : Text
   pub told : TellsUsage text before.desk.devices after.desk.devices status
 
--- the words are an invocation, and it is followed
+-- the arguments are an invocation, and it is executed
 pub record IsFollowed (given : Descriptors) (words : List Text) (before after : World) (status : ℕ) : Type 0 where
   pub invocation : Parts
   pub spells : Spells words invocation

@@ -1,4 +1,4 @@
--- What becomes of a script that is looked at, and not run.
+-- The check of a script, which isn't run.
 use Rattle.std.specs.Prelude.{◌≡◌, ℕ, ◌⊎◌, Bool, false, not, ◌||◌, ◌==◌, if◌then◌else◌, List, [], ◌++◌, length, codes}
 use Rattle.std.specs.Prelude.{decimal, Option, Some, None, MatchBool}
 use Rattle.std.specs.List.{list_all}
@@ -20,8 +20,8 @@ lines_word count = if count == 1 then codes " line\n" else codes " lines\n"
 abbrev pub lines_text : Bool → ℕ → Text
 lines_text are_good count = if are_good then codes "ok: " ++ decimal count ++ lines_word count else []
 
--- A script of this name was split into its lines. Each invalid line is reported with its place and why (1); or the
--- number of lines is written (0).
+-- A script of this name was split into its lines. Each invalid line is reported with its place and the reason (1); or
+-- the number of lines is written (0).
 pub record Looks (name script : Text) (out out' notes notes' : End) (status : ℕ) : Type 0 where
   pub lines : List Text
   pub follows : Follows (λ line. Some line) script lines []
@@ -30,7 +30,7 @@ pub record Looks (name script : Text) (out out' notes notes' : End) (status : �
   pub status_is : status
       ≡ status_of (has_failed out out' || has_failed notes notes') false (not (list_all is_good lines))
 
--- the file has this text, which was looked at; nothing was read
+-- the file has this text, which was checked; nothing was read from the input
 pub record IsLooked (path : Text) (before after : Desk) (status : ℕ) : Type 0 where
   pub shelf_kept : after.shelf ≡ before.shelf
   pub text : Text
@@ -41,12 +41,12 @@ pub record IsLooked (path : Text) (before after : Desk) (status : ℕ) : Type 0 
 abbrev pub OfScript : Text → Desk → Desk → ℕ → Type 0
 OfScript path before after status = IsTextless Script path before after status ⊎ IsLooked path before after status
 
--- the script is looked at where the status so far is 0
+-- the script is checked if the status so far is 0; otherwise nothing is done
 abbrev pub Behind : ℕ → Text → Desk → Desk → ℕ → Type 0
 Behind first path before after status =
     MatchBool (first == 0) (OfScript path before after status) ((after ≡ before) × (status ≡ first))
 
--- A configuration is checked for a purpose, and where it is right the script too, if one was given.
+-- A configuration is checked for a purpose. If the status of that is 0, the script is checked too, if one was given.
 abbrev pub ChecksAll : Purpose → Text → Option Text → Desk → Desk → ℕ → Type 0
 ChecksAll purpose path None before after status =
     OfFile (ConfigFor purpose.wanted) (Checks purpose) path before after status

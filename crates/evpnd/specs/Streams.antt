@@ -1,4 +1,4 @@
--- The standard streams, and what becomes of a run where one is closed.
+-- The standard streams, and the effect on a run if one is closed.
 use Rattle.std.specs.Prelude.{◌≡◌, ℕ, codes, Option, Some, None}
 use Rattle.ev_report.specs.Ends.{Holds}
 use Rattle.evpnd.specs.declared.streams.Stream.{Stream}

@@ -17,7 +17,7 @@ SimulatesEdges mode config before after status = Simulates mode config.edges.ite
 abbrev pub SimulatesFound : Mode → Result Config ConfigRefusal → Devices → Devices → ℕ → Type 0
 SimulatesFound mode = OfFound (SimulatesEdges mode)
 
--- the edges of one are run, and may be asked at its socket meanwhile
+-- the edges of a configuration run, and answer queries at its socket meanwhile
 abbrev pub ServesConfig : Served → Devices → Devices → ℕ → Type 0
 ServesConfig served = ServesEdges (string_bytes served.control) served.config
 

@@ -1,4 +1,4 @@
--- What `evpnd version` leaves.
+-- The output of `evpnd version`.
 use Rattle.std.specs.Prelude.{◌≡◌, ℕ, codes, if◌then◌else◌}
 use Rattle.ev_report.specs.Ends.{Devices, has_failed, Holds}
 use Rattle.evpnd.specs.Files.{Text}
@@ -6,7 +6,7 @@ use Rattle.evpnd.specs.Files.{Text}
 abbrev pub version_text : Text
 version_text = codes "evpnd 0.1.0\nproved\n"
 
--- It is written on the output, or a call of that failed; nothing was read, nothing noted.
+-- The version is written on the output, or a call of it failed; nothing was read, and nothing was written to the notes.
 pub record TellsVersion (before after : Devices) (status : ℕ) : Type 0 where
   pub input : after.input ≡ before.input
   pub written : Holds before.out after.out version_text

@@ -1,4 +1,4 @@
-//! `evpnd check`: whether a configuration is right.
+//! `evpnd check`: checks whether a configuration is valid.
 ghost use Rattle.std.specs.Prelude.{◌≡◌, ◌++◌, is_ok, if◌then◌else◌, option_map};
 ghost use Rattle.ether_wire.specs.Ends.{Source, IsOpen, Puts};
 ghost use Rattle.ev_report.specs.Ends.{devices};
@@ -19,12 +19,12 @@ use ev_report::{DEVICE, DONE, MEMORY, usage_status};
 use ev_run::{Obstacle, needs_of, obstacles_of, put_asked_needs, put_obstacles};
 use std::alloc::Global;
 
-/// The subject of a check.
+/// The purpose of a check.
 #[derive(Clone, Copy, Debug)]
 pub(crate) struct Purpose {
-    /// The purpose of the configuration.
+    /// The use of the configuration.
     pub(crate) wanted: Use,
-    /// The limit of descriptors then, if known.
+    /// The limit of descriptors in a run, if known.
     pub(crate) most: Option<u64>,
 }
 
@@ -35,7 +35,7 @@ pub(crate) struct Wanted<'a> {
     pub(crate) path: &'a str,
     /// The path of a script, if there is one.
     pub(crate) script: Option<&'a str>,
-    /// What for.
+    /// The purpose of the check.
     pub(crate) purpose: Purpose,
 }
 
@@ -49,7 +49,7 @@ pub(crate) fn done_status(written: Result<(), Device>) -> u8
     }
 }
 
-/// Writes how much a configuration has.
+/// Writes the summary of a configuration.
 fn sum_up<W: Out>(config: &Config, out: &mut W) -> u8
     requires { IsOpen (W.end out.old) }
     ensures { Sums (W.end out.old) (W.end out.new) result }
@@ -57,7 +57,7 @@ fn sum_up<W: Out>(config: &Config, out: &mut W) -> u8
     done_status(out.put(summary_line(config).octets()))
 }
 
-/// Writes the sum of a configuration, and the resources of its run.
+/// Writes the summary of a configuration, and the resources of its run.
 fn put_sums<W: Out>(config: &Config, is_asked: bool, out: &mut W) -> Result<(), Device>
     requires { IsOpen (W.end out.old) }
     ensures { (text : Text) × Puts (W.end out.old) (W.end out.new)
@@ -67,7 +67,7 @@ fn put_sums<W: Out>(config: &Config, is_asked: bool, out: &mut W) -> Result<(), 
     put_asked_needs(out, needs_of(config), is_asked)
 }
 
-/// Writes the sum of a configuration, and the resources of its run, and returns the status.
+/// Writes the summary of a configuration, and the resources of its run, and returns the status.
 fn sum_up_run<W: Out>(config: &Config, is_asked: bool, out: &mut W) -> u8
     requires { IsOpen (W.end out.old) }
     ensures { SumsWith (asked_text is_asked (needs_of config.now.edges.items)) (W.end out.old)
@@ -76,7 +76,7 @@ fn sum_up_run<W: Out>(config: &Config, is_asked: bool, out: &mut W) -> u8
     done_status(put_sums(config, is_asked, out))
 }
 
-/// Tells what hinders a run.
+/// Reports the obstacles to a run.
 fn tell_obstacles<N: Out>(found: &[Obstacle], notes: &mut N) -> u8
     requires { IsOpen (N.end notes.old) }
     ensures { IsTold (obstacles_text found.now) (N.end notes.old) (N.end notes.new) result }
@@ -106,7 +106,7 @@ fn tell_run<W: Out, N: Out>(
 /// The kind of run that a check covers.
 #[derive(Clone, Copy)]
 struct Run {
-    /// Whether clients may ask meanwhile.
+    /// Whether clients may query the edges meanwhile.
     is_asked: bool,
     /// The limit of descriptors, if known.
     most: Option<u64>,
@@ -131,7 +131,7 @@ fn sum_up_or_tell<W: Out, N: Out>(
     }
 }
 
-/// Writes the sum of a configuration, and for a run its resources, or reports its obstacles.
+/// Writes the summary of a configuration, and for a run its resources, or reports its obstacles.
 fn sum_up_for<W: Out, N: Out>(
     alloc: Global,
     purpose: Purpose,
@@ -158,7 +158,7 @@ fn sum_up_for<W: Out, N: Out>(
     }
 }
 
-/// Tells why a text is no configuration.
+/// Reports why a text is no configuration.
 fn tell_refusal<N: Out>(
     alloc: Global,
     wanted: Use,
@@ -217,8 +217,8 @@ fn check<F: Files, W: Out, N: Out>(
     }
 }
 
-/// Checks the configuration in a file, and where it is right the script in another, if there is
-/// one.
+/// Checks the configuration in a file, and if the status is 0 the script in another file, if there
+/// is one.
 pub(crate) fn check_all<F: Files, W: Out, N: Out>(
     alloc: Global,
     files: &mut F,

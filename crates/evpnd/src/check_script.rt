@@ -1,4 +1,4 @@
-//! `evpnd check --script`: whether each line of a script is a command.
+//! `evpnd check --script`: checks whether each line of a script is a command.
 ghost use Rattle.std.specs.Prelude.{◌≡◌, ◌==◌};
 ghost use Rattle.ether_wire.specs.Ends.{Source, IsOpen, Puts};
 ghost use Rattle.ev_report.specs.Ends.{devices};
@@ -11,7 +11,7 @@ use ether_wire::{Device, Out, put_decimal};
 use ev_report::{Ending, has_failed, status_of};
 use ev_script::check_lines;
 
-/// The word behind the number of lines, and a line feed.
+/// Returns the word after the number of lines, with a line feed.
 fn lines_word(count: u64) -> &'static [u8]
     ensures { result.now ≡ lines_word count }
 {
@@ -32,7 +32,7 @@ fn put_lines<W: Out>(are_good: bool, count: u64, out: &mut W) -> Result<(), Devi
     out.put(lines_word(count))
 }
 
-/// Looks at the lines of a script of this name.
+/// Checks the lines of a script of this name, and returns the status.
 fn look<W: Out, N: Out>(name: &str, text: &str, out: &mut W, notes: &mut N) -> u8
     requires out { IsOpen (W.end out.old) }
     requires notes { IsOpen (N.end notes.old) }

@@ -50,7 +50,7 @@ fn put_faults<N: Out>(refused: Refused<'_>, key: &str, notes: &mut N) -> Result<
     )
 }
 
-/// Tells which key of a configuration is faulty, and what is wrong with it.
+/// Reports which key of a configuration is faulty, and its faults, and returns the status.
 fn tell_key<N: Out>(refused: Refused<'_>, key: &str, notes: &mut N) -> u8
     requires { IsOpen (N.end notes.old) }
     ensures { (more : Text) × IsTold (config_text key.now ++ more) (N.end notes.old)
@@ -59,7 +59,7 @@ fn tell_key<N: Out>(refused: Refused<'_>, key: &str, notes: &mut N) -> u8
     usage_status(put_faults(refused, key, notes))
 }
 
-/// Tells why a text is no configuration, and returns the status.
+/// Reports why a text is no configuration, and returns the status.
 fn tell_refusal<N: Out>(refused: Refused<'_>, refusal: &ConfigRefusal, notes: &mut N) -> u8
     requires { IsOpen (N.end notes.old) }
     ensures { (input : Source) → (out : End) → Refuses refusal.now
@@ -98,7 +98,8 @@ fn configured_by<N: Out>(
     }
 }
 
-/// So of edges that may be asked while they run.
+/// Returns the configuration of a text for edges that answer queries while they run, or the status
+/// if it has none, after a report.
 fn served_by<N: Out>(alloc: Global, text: &str, notes: &mut N) -> Result<Served, u8>
     requires { IsOpen (N.end notes.old) }
     ensures value { TextGives ServedOf text.now (N.end notes.old) (N.end notes.new) result }
@@ -117,7 +118,7 @@ fn served_by<N: Out>(alloc: Global, text: &str, notes: &mut N) -> Result<Served,
     }
 }
 
-/// The configuration in the file at a path; for a run each port needs its endpoints.
+/// Returns the configuration in the file at a path; for a run each port needs its endpoints.
 ///
 /// # Errors
 ///
@@ -142,11 +143,11 @@ pub(crate) fn configured<F: Files, N: Out>(
     }
 }
 
-/// So of edges that may be asked while they run.
+/// Returns the configuration in the file at a path for edges that answer queries while they run.
 ///
 /// # Errors
 ///
-/// As `configured`.
+/// As for `configured`.
 pub(crate) fn served<F: Files, N: Out>(
     alloc: Global,
     files: &mut F,

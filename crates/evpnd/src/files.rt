@@ -27,7 +27,7 @@ pub(crate) enum Unread {
     Broken,
 }
 
-/// Which option names a file.
+/// The option that names a file.
 #[derive(Clone, Copy)]
 pub(crate) enum Named {
     /// `--config`
@@ -45,18 +45,18 @@ pub(crate) enum FileFault {
     Unread(Unread),
 }
 
-/// What gives the texts of files. It may be refused memory.
+/// A source of the texts of files. It may be refused memory.
 pub(crate) trait Files {
     /// The text of each file, if known, how often memory was refused, and how often a file had no
     /// text.
     ghost shelf: { Self → Shelf };
 
-    /// The text of the file at a path.
+    /// Returns the text of the file at a path.
     ///
     /// # Errors
     ///
-    /// `NoMemory` exactly where memory was refused once more; `Unread` exactly where a file had no
-    /// text once more.
+    /// `NoMemory` exactly if memory was refused once more; `Unread` exactly if a file had no text
+    /// once more.
     fn text_of(&mut self, path: &str) -> Result<String, FileFault>
         requires { HasRoom (shelf self.old) }
         ensures { GivesText (shelf self.old) (shelf self.new) path.now result };
@@ -96,7 +96,7 @@ fn fault_of(kind: io::ErrorKind) -> FileFault {
     }
 }
 
-/// The text of a file, which is read only if it is a regular one: a device may have no end.
+/// Returns the text of a file. Reads it only if it is a regular one: a device may have no end.
 fn read_regular(rt: &HostRuntime, path: &str) -> Result<String, FileFault> {
     let found = match fs::metadata(rt, path) {
         Ok(found) => found,
@@ -132,7 +132,7 @@ impl Files for SystemFiles<'_> {
 }
 
 impl Unread {
-    /// The words behind the path.
+    /// Returns the text after the path in the message.
     fn reason(self) -> &'static [u8]
         ensures { result.now ≡ reason_of self }
     {
@@ -148,7 +148,7 @@ impl Unread {
 }
 
 impl Named {
-    /// The words before the path.
+    /// Returns the text before the path in the message.
     fn lead(self) -> &'static [u8]
         ensures { result.now ≡ lead_of self }
     {
@@ -184,7 +184,7 @@ fn unread_status(told: Result<(), Device>) -> u8
     }
 }
 
-/// The text of the file at the path that an option names.
+/// Returns the text of the file at the path that an option names.
 ///
 /// # Errors
 ///

@@ -48,10 +48,10 @@ fn main(rt: HostRuntime) -> ExitCode {
     ExitCode::from(status)
 }
 
-/// The system's word for a descriptor that isn't open (EBADF).
+/// The system's error for a descriptor that isn't open (EBADF).
 const NOT_OPEN: i32 = 9;
 
-/// Whether a stream's descriptor is closed: there is no other one of its file.
+/// Returns `true` if a stream's descriptor is closed: duplicating it fails with EBADF.
 fn is_closed<S: AsFd>(stream: &S) -> bool {
     match stream.as_fd().try_clone_to_owned() {
         Ok(_) => false,
@@ -81,7 +81,7 @@ fn most_descriptors(rt: &HostRuntime) -> Option<u64> {
     line.split_ascii_whitespace().next()?.parse::<u64>().ok()
 }
 
-/// The system's arguments.
+/// Returns the system's arguments.
 fn argv_of(rt: &HostRuntime) -> Argv {
     let words = match std::env::args(rt) {
         Ok(words) => words,

@@ -1,4 +1,4 @@
-//! A run of the program: from its words, over its devices, to its status.
+//! A run of the program: from its arguments, over its devices, to its status.
 ghost use Rattle.std.specs.Prelude.{◌≡◌, ◌≢◌, ◌+◌, ◌<◌, ◌^◌, map, string_bytes, [], is_ok, if◌then◌else◌, option_map};
 ghost use Rattle.ether_wire.specs.Ends.{IsOpen};
 ghost use Rattle.clap.specs.Words.{fault_of};
@@ -38,7 +38,7 @@ use std::time::Clock;
 /// The system's arguments.
 #[derive(Debug, Drop)]
 pub(crate) enum Argv {
-    /// The words, of which the first is the program's name.
+    /// The arguments, the first of which is the program's name.
     Words(Vec<String>),
     /// One of them isn't UTF-8.
     NotText,
@@ -59,7 +59,7 @@ fn tell_fault<P: Parser, N: Out>(parser: &mut P, error: &Error, notes: &mut N) -
     }
 }
 
-/// Checks the configuration in the file at a path, and a script, whatever is on the input.
+/// Checks the configuration in the file at a path, and a script, for any input.
 fn check_on<F: Files, R: In, W: Out, N: Out>(
     alloc: Global,
     files: &mut F,
@@ -199,7 +199,7 @@ fn follow_telling<
     (status, tell_failed(before, devices))
 }
 
-/// A run over these words.
+/// Runs the program with these arguments.
 fn run_words<
     H: Threads + Wait + Net + SocketFiles + Clock + Sync,
     P: Parser,
@@ -232,12 +232,12 @@ fn run_words<
 }
 
 /// Runs the program: executes the invocation of its arguments, or reports their fault on the notes.
-/// It takes the devices and returns them. If reading or writing failed, the notes say so at the
+/// It takes the devices and returns them. If reading or writing failed, the notes report it at the
 /// end, unless they failed themselves.
 ///
 /// The status is the greatest that applies: 4 if a device failed, 3 if memory was refused, 2 if the
-/// arguments are invalid or ask for help, or a configuration is faulty, 1 if the input is broken,
-/// else 0. If a standard stream is closed, edges don't start: 4.
+/// arguments are invalid or request help, or a configuration is faulty, 1 if the input is broken,
+/// else 0. If a standard stream is closed, edges don't start, and the status is 4.
 pub(crate) fn run<
     H: Threads + Wait + Net + SocketFiles + Clock + Sync,
     P: Parser,

@@ -1,4 +1,4 @@
-//! `evpnd serve`: the edges of a configuration, over sockets, which may be asked meanwhile.
+//! `evpnd serve`: runs the edges of a configuration over sockets, and answers queries meanwhile.
 ghost use Rattle.ev_config.specs.Config.{ServedOf};
 ghost use Rattle.evpnd.specs.Files.{HasRoom};
 ghost use Rattle.ev_report.specs.Ends.{AreOpen};
@@ -17,7 +17,7 @@ use std::sync::Wait;
 use std::thread::Threads;
 use std::time::Clock;
 
-/// Runs the edges that the file at a path configures, and lets them be asked meanwhile.
+/// Runs the edges that the file at a path configures. They answer queries meanwhile.
 pub(crate) fn serve_file<
     H: Threads + Wait + Net + SocketFiles + Clock + Sync,
     F: Files,

@@ -32,7 +32,7 @@ fn put_closed<N: Out>(notes: &mut N, stream: Stream) -> Result<(), Device>
     }
 }
 
-/// Tells which stream is closed, so that nothing begins, and answers the status.
+/// Reports which stream is closed, so that nothing starts, and returns the status.
 pub(crate) fn tell_closed<R: In, W: Out, N: Out>(
     stream: Stream,
     devices: Devices<R, W, N>,

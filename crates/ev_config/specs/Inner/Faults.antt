@@ -26,7 +26,7 @@ HasFault spot (Ok x) faults = faults ≡ []
 HasFault spot (Err (fault.Key k)) faults = faults ≡ (spot, k.now) ∷ []
 HasFault spot (Err fault.NoMemory) faults = Unit {0}
 
--- these faults more, unless memory is refused
+-- these faults were added, unless memory was refused
 abbrev pub Adds : {X : Type 0} → List Faulty → List FaultyKey → List FaultyKey → Result X Fault → Type 0
 Adds more old new (Ok x) = faults_view new ≡ faults_view old ++ more
 Adds more old new (Err any) = Unit {0}

@@ -10,7 +10,7 @@ use Rattle.ev_config.specs.Config.{Edges}
 abbrev pub AreAmong : List ℕ → List ℕ → Type 0
 AreAmong xs ys = (n : ℕ) → Contains xs n → Contains ys n
 
--- the conditions on an edge, whatever originators it lists
+-- the conditions on an edge, for any list of originators
 pub record Fits (c : EdgeConfig) : Type 0 where
   pub distinct : IsDistinct eqb c.vnis.items
   pub some_port : 1 ≤ length c.ports.items
@@ -21,7 +21,7 @@ pub record Fits (c : EdgeConfig) : Type 0 where
   pub buckets : c.buckets ≤ 65536
   pub hello : 1 ≤ c.tree.hello
 
--- edges that fit, each of another address
+-- edges that fit, each with a different address
 pub record FitTogether (e : Edges) : Type 0 where
   pub named : e.addresses ≡ addresses_of e.configs
   pub apart : IsDistinct eqb e.addresses

@@ -1,4 +1,4 @@
--- What comes over a connection: the answers of its stream, what of them goes on, and how refusals are counted.
+-- The end of a stream, by the next result of a feed.
 use Rattle.std.specs.Prelude.{ℕ, List}
 use Rattle.route_wire.specs.declared.stream.Whole.TheVariants.{Rest}
 use Rattle.route_wire.specs.declared.stream.Next.{Next}
@@ -7,7 +7,7 @@ use Rattle.ev_exchange.specs.declared.stream_end.StreamEnd.{StreamEnd}
 use Rattle.ev_exchange.specs.declared.stream_end.StreamEnd.TheVariants.{Whole as Ended, Faulty}
 use Rattle.ev_exchange.specs.Receiving.{end_by}
 
--- the same by what a feed has next that holds this rest
+-- the end of a stream, by the next result of a feed that holds this rest
 abbrev pub end_of_next : Next → List ℕ → StreamEnd
 end_of_next More rest = end_by Rest rest
 end_of_next (Record u) rest = Ended

@@ -1,4 +1,4 @@
-//! What edges say on a connection that is joined to them.
+//! Tests the updates that edges send on a connection that is joined to them.
 use super::{EDGE, FLOOD, are, of_another, update, withdrawn};
 use crate::{Announcing, EdgeTable, Sender, announce};
 use ether_wire::{Addr, FailAt, Page};
@@ -7,7 +7,7 @@ use std::alloc::Global;
 use std::test::Fail;
 
 /// Two edges, each with the flood lists of both in its table. They announce the withdrawal of the
-/// first one's, and nothing behind it.
+/// first one's flood list, and nothing more.
 #[derive(Drop)]
 struct Two {
     tables: u64,
@@ -16,7 +16,7 @@ struct Two {
 }
 
 impl Two {
-    /// Two edges, the first so many of which show their tables.
+    /// Returns two edges, the first `tables` of which return their tables.
     fn new(tables: u64) -> Self {
         Two {
             tables,

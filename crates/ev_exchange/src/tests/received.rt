@@ -1,4 +1,4 @@
-//! What is received of octets, in whatever pieces.
+//! Tests the updates that are received from octets, in pieces of any size.
 use super::{COUNTER, FLOOD, KIND, with};
 use crate::{Entrance, Incoming, Receiver, StreamEnd, receive};
 use arrayvec::ArrayVec;
@@ -8,7 +8,7 @@ use route_wire::{BAD_MAGIC, COUNTER_ZERO, Content, Key, Update};
 use std::alloc::Global;
 use std::test::Fail;
 
-/// An entrance that keeps what it is given.
+/// An entrance that keeps the updates and refusals that it is given.
 #[derive(Drop)]
 struct Kept {
     updates: Vec<Update>,
@@ -16,7 +16,7 @@ struct Kept {
 }
 
 impl Kept {
-    /// Nothing yet.
+    /// Returns an entrance that was given nothing yet.
     fn none(alloc: Global) -> Kept {
         Kept {
             updates: Vec::new(alloc),
@@ -39,7 +39,7 @@ impl Entrance for Kept {
     }
 }
 
-/// The advert, two records with counter 0, the withdrawal with counter 2.
+/// Returns the advert, two records with counter 0, and the withdrawal with counter 2.
 fn stream() -> ArrayVec<u8, 256> {
     let mut octets = ArrayVec::new();
     let withdrawn = with(with(FLOOD, KIND, 2), COUNTER, 2);
@@ -50,7 +50,7 @@ fn stream() -> ArrayVec<u8, 256> {
     octets
 }
 
-/// Whether the kept updates are those of `stream`, and the refusal was told once.
+/// Returns `true` if the kept updates are those of `stream`, and the refusal was reported once.
 fn is_stream(kept: &Kept) -> bool {
     let [first, second] = kept.updates.as_slice() else {
         return false;
@@ -104,7 +104,8 @@ fn behind_a_fault_nothing_is_read(rt: HostRuntime) {
     assert_eq!(rt; receiver.refused(COUNTER_ZERO), 2);
 }
 
-/// What octets are received as where the read of this number fails, and how many reads there were.
+/// Receives octets from a reader whose read number `at` fails. Returns the entrance, the result and
+/// the number of reads.
 fn received(alloc: Global, octets: &[u8], at: u64) -> (Kept, Incoming, u64) {
     let mut kept = Kept::none(alloc);
     let mut reader = FailAt::reader(Octets::new(octets), at);

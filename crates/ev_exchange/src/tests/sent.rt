@@ -1,4 +1,4 @@
-//! What is written on a connection.
+//! Tests the octets that are written on a connection.
 use super::{EDGE, FLOOD, are, of_another, update, withdrawn};
 use crate::Sender;
 use ether_wire::{Addr, FailAt, Page};
@@ -6,7 +6,7 @@ use route_wire::Update;
 use std::alloc::Global;
 use std::test::Fail;
 
-/// The updates that these records spell.
+/// Returns the updates that these records spell.
 fn updates(alloc: Global, records: &[[u8; 44]]) -> Vec<Update> {
     let mut updates = Vec::new(alloc);
     for record in records.iter() {

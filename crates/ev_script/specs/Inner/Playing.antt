@@ -1,4 +1,4 @@
--- How far a simulation has come.
+-- The progress of a simulation.
 use Rattle.std.specs.Prelude.{◌≡◌, ℕ, ◌+◌, Bool, true, false, ◌||◌, List, [], ◌∷◌, ◌++◌, length}
 use Rattle.std.specs.Prelude.{Option, Some, None, Result}
 use Rattle.ev_edge.specs.declared.reply.Reply.{Reply}
@@ -20,30 +20,31 @@ pub record Makes (made : List Made) (old new : Simulator) : Type 0 where
   pub goes : Goes old.fabric made new.fabric
   pub out_of_memory : new.is_out_of_memory ≡ (old.is_out_of_memory || ran_out_of_memory made)
 
--- that step was made
+-- exactly that step was made
 abbrev pub MakesOne : Step → Simulator → Simulator → Type 0
 MakesOne step old new = (answer : Result Reply FabricRefusal) × Makes ((step, answer) ∷ []) old new
 
--- the steps that a command asks of an edge were made
+-- the steps that a command requests from an edge were made
 abbrev pub Performs : ℕ → Command → Simulator → Simulator → Type 0
 Performs e command old new = (made : List Made) × Asked e command made × Makes made old new
 
--- the steps that a line asks for were made
+-- the steps that a line requests were made
 abbrev pub PerformsItem : Item → Simulator → Simulator → Type 0
 PerformsItem item old new = (made : List Made) × AskedItem item made × Makes made old new
 
--- What a line asks for was done; or it is a bad one, and nothing was done.
+-- The steps that a line requests were made; or the line is a bad one, and nothing was done.
 abbrev pub PlaysLine : Mode → List ℕ → Simulator → Simulator → Bool → Type 0
 PlaysLine mode line old new true = (item : Item) × (item_of mode line ≡ Some item) × PerformsItem item old new
 PlaysLine mode line old new false = (item_of mode line ≡ None) × (new ≡ old)
 
--- A line that is a question was printed, and then exactly what is told of it; nothing else has changed.
+-- If a line is a query, it was printed and then exactly the answer, or a call of the writer has failed; the fabric
+-- hasn't changed.
 abbrev pub Answers : Mode → List ℕ → Simulator → Simulator → End → End → Type 0
 Answers mode line old new a b = (q : Question) → asked_in mode line ≡ Some q
     → (new.fabric ≡ old.fabric) × Tells a b old.is_told new.is_told
     (shown_text mode line ++ view_text old.fabric q)
 
--- The steps of the lines in front of the rest were made.
+-- The steps of the lines before the rest were made.
 pub record Played (mode : Mode) (script rest : List ℕ) (old new : Simulator) (n : ℕ) : Type 0 where
   pub lines : List Item
   pub follows : Follows (item_of mode) script lines rest
@@ -52,7 +53,7 @@ pub record Played (mode : Mode) (script rest : List ℕ) (old new : Simulator) (
   pub asked : AskedAll lines made
   pub makes : Makes (joined made) old new
 
--- Up to the end of the script, or up to this line, which is the first bad one.
+-- The script was run up to its end, or up to this line, which is its first bad one.
 abbrev pub PlaysTo : Mode → List ℕ → Simulator → Simulator → Option BadLine → Type 0
 PlaysTo mode script old new None = (n : ℕ) × Played mode script [] old new n
 PlaysTo mode script old new (Some bad) = (n : ℕ) × (rest : List ℕ) × (bad.number ≡ n + 1)

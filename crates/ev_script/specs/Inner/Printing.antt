@@ -1,4 +1,4 @@
--- What is printed of a step, of a refusal and of a port; and what is said of text whose octets aren't: whether a call
+-- Printed text of which only this is specified: whether a call of the writer failed.
 use Rattle.std.specs.Prelude.{◌≡◌, ◌+◌, Bool, true, false, if◌then◌else◌}
 use Rattle.std.specs.Prelude.{Result, is_err}
 use Rattle.ether_wire.specs.Ends.{End}
@@ -8,7 +8,7 @@ use Rattle.ether_wire.specs.declared.ends.Device.{Device}
 abbrev pub PutsSome : End → End → Result (Unit {0}) Device → Type 0
 PutsSome old new result = new.failures ≡ old.failures + (if is_err result then 1 else 0)
 
--- Some text was written, or a call failed and `after` is false. Where `before` is false a call has failed already, and
+-- Some text was written, or a call failed and `after` is false. If `before` is false, a call has failed already, and
 -- none was made.
 pub record Minds (old new : End) (before after : Bool) : Type 0 where
   pub kept : before ≡ false → (after ≡ false) × (new ≡ old)

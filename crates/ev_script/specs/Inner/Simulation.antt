@@ -1,4 +1,4 @@
--- What a simulation does: the steps that its lines ask for, from an opened fabric on.
+-- The note about a bad line, and the status of a script that wasn't read to its end.
 use Rattle.std.specs.Prelude.{ℕ, List, []}
 use Rattle.std.specs.Prelude.{Option, Some, None}
 use Rattle.ev_report.specs.declared.input.ReadError.{ReadError}
@@ -6,7 +6,7 @@ use Rattle.ev_report.specs.declared.input.ReadError.TheVariants.{Device, NoMemor
 use Rattle.ev_script.specs.declared.simulate.simulator.BadLine.{BadLine}
 use Rattle.ev_script.specs.Simulation.{bad_line}
 
--- for this line, if there is one
+-- the note about this line, if there is one
 abbrev pub note_of_line : Option BadLine → List ℕ
 note_of_line None = []
 note_of_line (Some bad) = bad_line bad.number bad.line.now

@@ -1,4 +1,4 @@
--- What is told of a question.
+-- The answers to queries.
 use Rattle.std.specs.Prelude.{ℕ, List, ◌++◌, codes, decimal, Option, Some, None}
 use Rattle.ev_edge.specs.Edge.{Edge}
 use Rattle.ev_fabric.specs.Fabric.{Fabric, nth}
@@ -7,7 +7,7 @@ use Rattle.ev_script.specs.declared.script.question.Question.TheVariants.{Help, 
 use Rattle.ev_view.specs.declared.view.EdgeQuestion.{EdgeQuestion}
 use Rattle.ev_view.specs.EdgeViews.{each_from, edge_line, edge_view_text}
 
--- which lines there are, one a line
+-- each kind of line, one per line
 abbrev pub help_text : List ℕ
 help_text =
     codes "E up P\n" ++ codes "E down P\n" ++ codes "E mcheck P\n" ++ codes "E second N\n" ++ codes "E frame P HEX\n"
@@ -18,13 +18,13 @@ help_text =
 
 -- ---- the edges
 
--- one line an edge
+-- one line per edge
 abbrev pub edges_text : Fabric → List ℕ
 edges_text f = each_from edge_line 1 f.edges
 
--- ---- what is told of one edge
+-- ---- the answer for one edge
 
--- the refusal of a step of an edge that there isn't, as a step tells it
+-- the refusal of a step of an edge that doesn't exist, as a step prints it
 abbrev pub no_edge_text : ℕ → List ℕ
 no_edge_text number = decimal number ++ codes " refused fabric 18\n"
 
@@ -32,7 +32,7 @@ abbrev pub edge_answer : ℕ → Option Edge → EdgeQuestion → List ℕ
 edge_answer number None q = no_edge_text number
 edge_answer number (Some e) q = edge_view_text number e q
 
--- ---- what is seen then, of a fabric
+-- ---- the answer for a fabric
 
 abbrev pub view_text : Fabric → Question → List ℕ
 view_text f Help = help_text

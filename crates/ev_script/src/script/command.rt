@@ -1,10 +1,10 @@
-//! What a line of a script asks an edge for.
+//! The command of a script's line, for an edge.
 
 use crate::script::hex::Hex;
 use ether_wire::Addr;
 use mac_arena::Station;
 
-/// The word behind the edge.
+/// The word after the edge.
 #[derive(Clone, Copy, Debug, PartialEq, Eq)]
 pub(crate) enum Verb {
     Up,
@@ -23,36 +23,36 @@ pub(crate) enum Verb {
     Restart,
 }
 
-/// What an edge is asked for. Ports and updates are numbered from 1; there may be
-/// none of that number.
+/// A command for an edge. Ports and updates are numbered from 1; the number may be one that doesn't
+/// exist.
 #[derive(Clone, Copy)]
 pub enum Command<'a> {
     /// The port comes up.
     Up(u64),
     /// The port goes down.
     Down(u64),
-    /// The port's protocol is to be found out anew.
+    /// The port detects its neighbour's protocol again (IEEE 802.1D-2004 17.19.13).
     Mcheck(u64),
-    /// So many seconds pass, 1 to 100,000.
+    /// This number of seconds passes, 1 to 100,000.
     Second(u64),
-    /// These octets come at the port.
+    /// The port receives these octets.
     Frame(u64, Hex<'a>),
-    /// This datagram comes from another edge.
+    /// The edge receives this datagram from another edge.
     Tunnel(Addr, Hex<'a>),
-    /// The station is to be pinned on the port.
+    /// Pins the station on the port.
     Pin(Station, u64),
-    /// The station is to be pinned no more.
+    /// Unpins the station.
     Unpin(Station),
-    /// The station is to be thawed.
+    /// Thaws the station.
     Thaw(Station),
-    /// The own update that waits longest is to be announced.
+    /// Announces the edge's oldest pending update.
     Announce,
-    /// This update of the pool comes.
+    /// The edge receives this update of the pool.
     Deliver(u64),
-    /// How the spanning tree has the port.
+    /// Prints the port's role and state in the spanning tree.
     Port(u64),
-    /// The report of the edge's table.
+    /// Prints the report of the edge's table.
     Report,
-    /// The edge is opened anew in this incarnation.
+    /// Opens the edge again, in this incarnation.
     Restart(u32),
 }

@@ -6,21 +6,21 @@ ghost use Rattle.ev_script.specs.Script.{is_hex_digit, value_or_zero, octet_of};
 
 use ether_wire::hex_value;
 
-/// Whether an octet is a lower case digit.
+/// Returns `true` if an octet is a lower case digit.
 fn is_hex_digit(octet: u8) -> bool
     ensures { result ≡ is_hex_digit octet }
 {
     hex_value(octet).is_some()
 }
 
-/// Whether all octets are digits.
+/// Returns `true` if all octets are digits.
 pub(crate) fn are_hex_digits(word: &[u8]) -> bool
     ensures { result ≡ list_all is_hex_digit word.now }
 {
     word.iter().all(|octet| is_hex_digit(*octet))
 }
 
-/// The value of a digit, 0 for none.
+/// Returns the value of a digit, or 0 if the octet is no digit.
 fn value_or_zero(octet: u8) -> u8
     ensures value { result ≡ value_or_zero (hex_value octet) }
     ensures small { result < 16 }
@@ -31,7 +31,7 @@ fn value_or_zero(octet: u8) -> u8
     }
 }
 
-/// The octet of two digits.
+/// Returns the octet of two digits.
 pub(crate) fn octet_of(high: u8, low: u8) -> u8
     ensures { result ≡ octet_of high low }
 {

@@ -18,14 +18,14 @@ pub(crate) enum LineFault {
     Long,
     /// It doesn't begin with an edge's number and a space.
     NoEdge,
-    /// The word behind the edge is no verb.
+    /// The word after the edge is no verb.
     NoVerb,
-    /// What stands behind the verb isn't what belongs there.
+    /// The text after the verb isn't in the form of that verb's commands.
     Misspelt(Verb),
 }
 
 impl Verb {
-    /// How a command of this verb is spelt, and a line feed.
+    /// Returns the form of this verb's commands, with a line feed.
     fn form(self) -> &'static [u8]
         ensures { result.now ≡ form_of self }
     {
@@ -49,7 +49,8 @@ impl Verb {
 }
 
 impl LineFault {
-    /// What is told of it behind the place, and a line feed.
+    /// Returns the reason as text that follows the place: a colon, a space, the reason, and a line
+    /// feed.
     pub(crate) fn why(self) -> &'static [u8]
         ensures { result.now ≡ why_text self }
     {
@@ -69,7 +70,7 @@ deliver, port, report or restart behind the edge\n"
     }
 }
 
-/// The first word of a text.
+/// Returns the first word of a text.
 fn first_word(text: &[u8]) -> &[u8]
     ensures { result.now ≡ first_word text.now }
 {
@@ -79,7 +80,7 @@ fn first_word(text: &[u8]) -> &[u8]
     }
 }
 
-/// Why a command, from its verb on, is none.
+/// Returns why a text that should be a command, from its verb on, is none.
 fn misspelt(text: &[u8]) -> LineFault
     ensures { result ≡ misspelt text.now }
 {
@@ -89,7 +90,7 @@ fn misspelt(text: &[u8]) -> LineFault
     }
 }
 
-/// Why words with one space between them are no command.
+/// Returns why words with one space between them are no command.
 fn why_words(line: &[u8]) -> LineFault
     ensures { result ≡ why_words line.now }
 {
@@ -102,7 +103,7 @@ fn why_words(line: &[u8]) -> LineFault
     }
 }
 
-/// Why a line that is no command is none.
+/// Returns why a line that is no command is none.
 pub(crate) fn why_of(line: &[u8]) -> LineFault
     ensures { result ≡ why_of line.now }
 {
@@ -119,7 +120,7 @@ pub(crate) fn why_of(line: &[u8]) -> LineFault
     }
 }
 
-/// Whether a line is a command.
+/// Returns `true` if a line is a command.
 pub(crate) fn is_good(line: &[u8]) -> bool
     ensures { result ≡ is_good line.now }
 {
@@ -129,7 +130,7 @@ pub(crate) fn is_good(line: &[u8]) -> bool
     }
 }
 
-/// What is told of a line that is no command: a colon, a space, why, and a line feed.
+/// Returns the text about a line that is no command: a colon, a space, the reason, and a line feed.
 pub fn why_text(line: &[u8]) -> &'static [u8]
     ensures { result.now ≡ why_text (why_of line.now) }
 {

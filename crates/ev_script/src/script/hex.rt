@@ -4,13 +4,13 @@ ghost use Rattle.std.specs.Prelude.{◌≤◌, length};
 use crate::script::digits::{are_hex_digits, octet_of};
 use arrayvec::ArrayVec;
 
-/// The digits that a line may have at most.
+/// The maximum number of digits in a line.
 const MOST_DIGITS: usize = 20_000;
 
-/// The octets that they spell at most.
+/// The maximum number of octets that they spell.
 const MOST_OCTETS: usize = 10_000;
 
-/// Octets as they stand in a line: pairs of lower case digits, at least one.
+/// Octets as a line spells them: pairs of lower case digits, at least one pair.
 #[derive(Clone, Copy)]
 pub struct Hex<'a> {
     /// The digits.
@@ -22,7 +22,7 @@ impl<'a> Hex<'a> {
     ghost use Rattle.std.specs.Prelude.{◌≡◌, option_map};
     ghost use Rattle.ev_script.specs.Script.{hex, octets_of};
 
-    /// The digits of a word: an even number of them, and nothing else.
+    /// Reads the digits of a word: an even number of them, and nothing else.
     pub(crate) fn read_text(word: &'a [u8]) -> Option<Hex<'a>>
         ensures { option_map (λ h. h.digits.now) result ≡ hex word.now }
     {
@@ -34,7 +34,7 @@ impl<'a> Hex<'a> {
         }
     }
 
-    /// The octets.
+    /// Returns the octets.
     pub(crate) fn octets(self) -> ArrayVec<u8, MOST_OCTETS>
         ensures { result.items ≡ octets_of self.entry.digits.now }
     {

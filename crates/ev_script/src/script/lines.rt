@@ -4,7 +4,7 @@ ghost use Rattle.ev_script.specs.Script.{cut_line};
 
 use ether_wire::parted;
 
-/// The first line, and what follows its line feed.
+/// Returns the first line, and the text after its line feed.
 pub(crate) fn cut_line(text: &[u8]) -> (&[u8], &[u8])
     ensures value { (result.0.now, result.1.now) ≡ cut_line text.now }
     ensures shorter { 0 < length text.now → length result.1.now < length text.now }

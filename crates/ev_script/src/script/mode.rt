@@ -7,14 +7,14 @@ use crate::script::question::{Question, question_of};
 /// How a script is run.
 #[derive(Clone, Copy, Debug)]
 pub enum Mode {
-    /// Each line is a command, and what becomes of it is printed.
+    /// Each line is a command, and its result is printed.
     Simulate,
-    /// Empty lines and remarks are skipped, a line may be a question, and the line of a command or
-    /// a question is printed before what becomes of it.
+    /// Empty lines and remarks are skipped, a line may be a query, and the line of a command or
+    /// a query is printed before its result.
     Play,
 }
 
-/// Whether a line is empty, or a remark.
+/// Returns `true` if a line is empty, or a remark.
 fn is_remark(line: &[u8]) -> bool
     ensures { result ≡ is_remark line.now }
 {
@@ -25,7 +25,7 @@ fn is_remark(line: &[u8]) -> bool
 }
 
 impl Mode {
-    /// The question that a line asks.
+    /// Returns the query of a line, if it is one in this mode.
     pub(crate) fn question(self, line: &[u8]) -> Option<Question>
         ensures { result ≡ asked_in self line.now }
     {
@@ -35,7 +35,7 @@ impl Mode {
         }
     }
 
-    /// Whether a line is skipped.
+    /// Returns `true` if a line is skipped.
     pub(crate) fn skips(self, line: &[u8]) -> bool
         ensures { result ≡ skips self line.now }
     {

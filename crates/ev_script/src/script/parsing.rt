@@ -1,4 +1,4 @@
-//! A line of a script, word by word. It takes no memory.
+//! Parses a line of a script, word by word, without allocating memory.
 ghost use Rattle.std.specs.Prelude.{◌≡◌, ℕ, ◌+◌, ◌<◌, ◌≤◌, ◌^◌, ◌-◌, length, option_map, option_and_then, codes, IfSome};
 ghost use Rattle.ev_script.specs.Script.{number, seconds, incarnation, station, verbs, later_verbs, verb_in, command_of, command_alone, command_with, command_in, words_of, line_of};
 
@@ -7,26 +7,26 @@ use crate::script::hex::Hex;
 use ether_wire::{Addr, Mac, Vni, parted, read_decimal};
 use mac_arena::Station;
 
-/// The octets that a line may have, without its line feed.
+/// The maximum number of octets of a line, without its line feed.
 pub const MOST_OCTETS: usize = 20_000;
 
 /// The greatest number of 18 digits.
 const MOST_NUMBER: u64 = 999_999_999_999_999_999;
 
-/// The seconds that may pass in a line.
+/// The maximum number of seconds in a line.
 const MOST_SECONDS: u64 = 100_000;
 
 /// The last incarnation.
 const LAST_INCARNATION: u64 = 0xffff_ffff;
 
-/// A decimal number of 1 to 18 digits, without leading zeros.
+/// Reads a decimal number of 1 to 18 digits, without leading zeros.
 pub(crate) fn number(word: &[u8]) -> Option<u64>
     ensures { result ≡ number word.now }
 {
     read_decimal(word, MOST_NUMBER)
 }
 
-/// A number of seconds.
+/// Reads a number of seconds.
 fn seconds(word: &[u8]) -> Option<u64>
     ensures { result ≡ seconds word.now }
 {
@@ -34,7 +34,7 @@ fn seconds(word: &[u8]) -> Option<u64>
     if 0 < seconds { Some(seconds) } else { None }
 }
 
-/// The number of an incarnation.
+/// Reads the number of an incarnation.
 fn incarnation(word: &[u8]) -> Option<u32>
     ensures { result ≡ incarnation word.now }
 {
@@ -42,7 +42,7 @@ fn incarnation(word: &[u8]) -> Option<u32>
     Some(incarnation as u32)
 }
 
-/// A network and a MAC address.
+/// Reads a VNI and a MAC address.
 pub(crate) fn station(text: &[u8]) -> Option<Station>
     ensures { result ≡ station text.now }
 {
@@ -52,7 +52,7 @@ pub(crate) fn station(text: &[u8]) -> Option<Station>
     Some(Station { vni, mac })
 }
 
-/// The verb of this name, of those behind the first seven.
+/// Returns the verb of this name, if it is one of those after the first seven.
 fn later_verb(word: &[u8]) -> Option<Verb>
     ensures { result ≡ verb_in later_verbs word.now }
 {
@@ -80,7 +80,7 @@ fn later_verb(word: &[u8]) -> Option<Verb>
     None
 }
 
-/// The verb of this name.
+/// Returns the verb of this name.
 pub(crate) fn verb_of(word: &[u8]) -> Option<Verb>
     ensures { result ≡ verb_in verbs word.now }
 {
@@ -108,7 +108,7 @@ pub(crate) fn verb_of(word: &[u8]) -> Option<Verb>
     later_verb(word)
 }
 
-/// `frame P HEX`, behind its verb.
+/// Reads the arguments of `frame P HEX`.
 fn frame(text: &[u8]) -> Option<Command<'_>>
     ensures { option_map command_of result ≡ command_with Verb.Frame text.now }
 {
@@ -117,7 +117,7 @@ fn frame(text: &[u8]) -> Option<Command<'_>>
     Some(Command::Frame(port, Hex::read_text(octets)?))
 }
 
-/// `tunnel ADDR HEX`, behind its verb.
+/// Reads the arguments of `tunnel ADDR HEX`.
 fn tunnel(text: &[u8]) -> Option<Command<'_>>
     ensures { option_map command_of result ≡ command_with Verb.Tunnel text.now }
 {
@@ -126,7 +126,7 @@ fn tunnel(text: &[u8]) -> Option<Command<'_>>
     Some(Command::Tunnel(from, Hex::read_text(octets)?))
 }
 
-/// `pin VNI MAC P`, behind its verb.
+/// Reads the arguments of `pin VNI MAC P`.
 fn pin(text: &[u8]) -> Option<Command<'_>>
     ensures { option_map command_of result ≡ command_with Verb.Pin text.now }
 {
@@ -138,7 +138,7 @@ fn pin(text: &[u8]) -> Option<Command<'_>>
     Some(Command::Pin(Station { vni, mac }, port))
 }
 
-/// A command of a verb alone.
+/// Returns the command of a verb without arguments.
 fn command_alone<'a>(verb: Verb) -> Option<Command<'a>>
     ensures { option_map command_of result ≡ command_alone verb }
 {
@@ -149,7 +149,7 @@ fn command_alone<'a>(verb: Verb) -> Option<Command<'a>>
     }
 }
 
-/// A command by its verb, and what stands behind it.
+/// Reads a command by its verb and the text after it.
 fn command_with(verb: Verb, text: &[u8]) -> Option<Command<'_>>
     ensures { option_map command_of result ≡ command_with verb text.now }
 {
@@ -170,7 +170,7 @@ fn command_with(verb: Verb, text: &[u8]) -> Option<Command<'_>>
     }
 }
 
-/// A command, from its verb on.
+/// Reads a command, from its verb on.
 fn command_in(text: &[u8]) -> Option<Command<'_>>
     ensures { option_map command_of result ≡ command_in text.now }
 {
@@ -180,7 +180,7 @@ fn command_in(text: &[u8]) -> Option<Command<'_>>
     }
 }
 
-/// The edge and the command of words with one space between them.
+/// Reads the edge and the command of words with one space between them.
 fn words_of(line: &[u8]) -> Option<(u64, Command<'_>)>
     ensures { option_map (λ l. (l.0, command_of l.1)) result ≡ words_of line.now }
 {
@@ -192,8 +192,8 @@ fn words_of(line: &[u8]) -> Option<(u64, Command<'_>)>
     }
 }
 
-/// The edge and the command of a line without its line feed, or nothing where it is outside the
-/// grammar. It takes no memory: hexadecimal digits stay as they are.
+/// Returns the edge and the command of a line without its line feed, or `None` if the line is
+/// outside the grammar. It allocates no memory: hexadecimal digits stay digits.
 pub fn parse(line: &[u8]) -> Option<(u64, Command<'_>)>
     ensures { option_map (λ l. (l.0, command_of l.1)) result ≡ line_of line.now }
 {

@@ -1,4 +1,4 @@
-//! What may be asked where a script is played: how the edges are, which no step changes.
+//! Queries in a script that is played: they print the state of the edges, and no step changes it.
 ghost use Rattle.std.specs.Prelude.{◌≡◌};
 ghost use Rattle.ev_script.specs.Script.{question_alone, question_with, edge_question_of, of_edge, question_of};
 
@@ -6,18 +6,18 @@ use crate::script::parsing::{number, station};
 use ether_wire::{Vni, parted};
 use ev_view::EdgeQuestion;
 
-/// A question.
+/// A query.
 #[derive(Clone, Copy, Debug)]
 pub enum Question {
-    /// Which lines there are.
+    /// Which kinds of lines exist.
     Help,
-    /// Which edges there are.
+    /// Which edges exist.
     Edges,
-    /// How the edge of this number is. There may be none.
+    /// A query about the edge of this number. The edge may not exist.
     OfEdge(u64, EdgeQuestion),
 }
 
-/// A question of one edge that is a verb alone.
+/// Reads a query about one edge that is only a verb.
 fn question_alone(text: &[u8]) -> Option<EdgeQuestion>
     ensures { result ≡ question_alone text.now }
 {
@@ -30,7 +30,7 @@ fn question_alone(text: &[u8]) -> Option<EdgeQuestion>
     None
 }
 
-/// A question of one edge by its verb, and what stands behind it.
+/// Reads a query about one edge by its verb and the text after it.
 fn question_with(verb: &[u8], text: &[u8]) -> Option<EdgeQuestion>
     ensures { result ≡ question_with verb.now text.now }
 {
@@ -44,8 +44,8 @@ fn question_with(verb: &[u8], text: &[u8]) -> Option<EdgeQuestion>
     None
 }
 
-/// The question of one edge that these words ask, if they ask one: a line from behind the edge's
-/// number. It takes no memory.
+/// Reads a query about one edge from the part of a line after the edge's number, or returns
+/// `None` if it is none. It allocates no memory.
 pub fn edge_question_of(text: &[u8]) -> Option<EdgeQuestion>
     ensures { result ≡ edge_question_of text.now }
 {
@@ -55,7 +55,7 @@ pub fn edge_question_of(text: &[u8]) -> Option<EdgeQuestion>
     }
 }
 
-/// The edge and the question of words with one space between them.
+/// Reads the edge and the query of words with one space between them.
 fn of_edge(line: &[u8]) -> Option<Question>
     ensures { result ≡ of_edge line.now }
 {
@@ -64,7 +64,7 @@ fn of_edge(line: &[u8]) -> Option<Question>
     Some(Question::OfEdge(edge, edge_question_of(rest)?))
 }
 
-/// The question of a line, if it is one. It takes no memory.
+/// Returns the query of a line, if it is one. It allocates no memory.
 pub fn question_of(line: &[u8]) -> Option<Question>
     ensures { result ≡ question_of line.now }
 {

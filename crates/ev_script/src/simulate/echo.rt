@@ -1,11 +1,11 @@
-//! A command's line, as it is printed where a script is played.
+//! Prints the line of a command or a query if a script is played.
 ghost use Rattle.ether_wire.specs.Ends.{IsOpen, Puts};
 ghost use Rattle.ev_script.specs.Inner.Shown.{shown_text};
 
 use crate::script::Mode;
 use ether_wire::{Device, Out};
 
-/// Writes a command's line, where it is played: `> LINE`.
+/// Writes the line of a command or a query if the script is played: `> LINE`.
 #[tactic(auto, using(ether_wire::proofs::Appending::with_text_twice, ether_wire::proofs::Appending::with_text_none))]
 pub(crate) fn put_shown<W: Out>(out: &mut W, mode: Mode, line: &[u8]) -> Result<(), Device>
     requires { IsOpen (W.end out.old) }

@@ -1,5 +1,5 @@
-//! What a simulation prints of each command, and what a console of edges that run does. Each line
-//! begins with the edge's number, but for those of a report.
+//! Prints the results of commands, for a simulation and for a console of running edges. Each line
+//! begins with the edge's number, except the lines of a report.
 ghost use Rattle.std.specs.Prelude.{◌≡◌, ◌++◌, codes, decimal};
 ghost use Rattle.std.specs.List.{flat_map};
 ghost use Rattle.bpdu_wire.specs.Writing.{octets_of};
@@ -23,8 +23,8 @@ const DIGITS: &[u8; 16] = b"0123456789abcdef";
 ///
 /// # Errors
 ///
-/// `Device` exactly where a call of the writer failed; then no further call is made. So it is of
-/// the other calls here.
+/// `Device` exactly if a call of the writer failed; then no further call is made. This holds for
+/// the other functions here too.
 pub fn put_report<W: Out>(out: &mut W, table: &Table) -> Result<(), Device>
     requires { IsOpen (W.end out.old) }
     ensures { Puts (W.end out.old) (W.end out.new) (report_of table.now) result }
@@ -32,7 +32,7 @@ pub fn put_report<W: Out>(out: &mut W, table: &Table) -> Result<(), Device>
     table.write_report(out)
 }
 
-/// Writes the edge's number and words behind it.
+/// Writes the edge's number and a text after it.
 #[tactic(auto, using(ether_wire::proofs::Appending::with_text_twice))]
 pub fn put_words<W: Out>(out: &mut W, edge: u64, words: &[u8]) -> Result<(), Device>
     requires { IsOpen (W.end out.old) }
@@ -53,7 +53,7 @@ pub fn put_number<W: Out>(out: &mut W, edge: u64, word: &[u8], number: u64) -> R
     out.put(b"\n")
 }
 
-/// The two digits of an octet.
+/// Returns the two digits of an octet.
 fn hex_digits(octet: u8) -> [u8; 2]
     ensures { result ≡ hex_digits octet }
 {
@@ -117,7 +117,7 @@ fn put_later_one<W: Out>(out: &mut W, address: Addr) -> Result<(), Device>
     put_addr(out, address)
 }
 
-/// Writes the addresses behind the first one, a comma before each.
+/// Writes the second and later addresses, a comma before each.
 fn put_later<W: Out>(out: &mut W, addresses: &[Addr]) -> Result<(), Device>
     requires { IsOpen (W.end out.old) }
     ensures { Puts (W.end out.old) (W.end out.new) (flat_map later_words addresses.now) result }
@@ -128,7 +128,7 @@ fn put_later<W: Out>(out: &mut W, addresses: &[Addr]) -> Result<(), Device>
     Ok(())
 }
 
-/// Writes addresses with commas between, or a dash where there is none.
+/// Writes addresses with commas between, or a dash if there is none.
 #[tactic(auto, using(ether_wire::proofs::Appending::with_text_twice))]
 fn put_addresses<W: Out>(out: &mut W, addresses: &[Addr]) -> Result<(), Device>
     requires { IsOpen (W.end out.old) }
@@ -156,7 +156,7 @@ fn put_decision<W: Out>(out: &mut W, edge: u64, decision: &Decision) -> Result<(
     out.put(b"\n")
 }
 
-/// Writes where a frame goes, if it is told.
+/// Writes where a frame goes, if the reply has it.
 #[tactic(auto, using(ether_wire::proofs::Appending::with_text_none))]
 fn put_place<W: Out>(out: &mut W, edge: u64, decision: &Option<Decision>) -> Result<(), Device>
     requires { IsOpen (W.end out.old) }
@@ -193,7 +193,7 @@ fn put_alert<W: Out>(out: &mut W, edge: u64, alert: Option<Alert>) -> Result<(),
     }
 }
 
-/// The part of an edge that refuses, between spaces.
+/// Returns `refused PART` between spaces, for the part of an edge that refuses.
 fn edge_part<'a>(refusal: &ev_edge::Refusal) -> &'a [u8]
     ensures { result.now ≡ edge_part refusal.now }
 {
@@ -205,7 +205,7 @@ fn edge_part<'a>(refusal: &ev_edge::Refusal) -> &'a [u8]
     }
 }
 
-/// The part that refuses, between spaces.
+/// Returns `refused PART` between spaces, for the part that refuses.
 fn part<'a>(refusal: &FabricRefusal) -> &'a [u8]
     ensures { result.now ≡ part_of refusal.now }
 {
@@ -225,8 +225,8 @@ pub fn put_refusal<W: Out>(out: &mut W, edge: u64, refusal: &FabricRefusal) -> R
     put_number(out, edge, part(refusal), u64::from(refusal.number()))
 }
 
-/// Writes what a step gives out: BPDUs, then where a frame goes or what an
-/// update was, then an alert.
+/// Writes the results of a step: BPDUs, then where a frame goes, then whether an update was newer
+/// or known, then an alert.
 #[tactic(auto, using(ether_wire::proofs::Appending::with_text_twice))]
 pub fn put_reply<W: Out>(out: &mut W, edge: u64, reply: &Reply) -> Result<(), Device>
     requires { IsOpen (W.end out.old) }
@@ -238,7 +238,7 @@ pub fn put_reply<W: Out>(out: &mut W, edge: u64, reply: &Reply) -> Result<(), De
     put_alert(out, edge, reply.alert)
 }
 
-/// What the spanning tree makes of a port.
+/// Returns the port's role in the spanning tree, as text after a space.
 fn role<'a>(role: Role) -> &'a [u8]
     ensures { result.now ≡ role_words role }
 {
@@ -251,7 +251,7 @@ fn role<'a>(role: Role) -> &'a [u8]
     }
 }
 
-/// How far a port has come.
+/// Returns the port's state, as text after a space.
 fn state<'a>(port: &PortState) -> &'a [u8]
     ensures { result.now ≡ state_words port.now }
 {
@@ -264,7 +264,7 @@ fn state<'a>(port: &PortState) -> &'a [u8]
     }
 }
 
-/// Whether frames pass, and the end of a line.
+/// Returns whether frames pass, as text, and the end of a line.
 fn passing<'a>(passes: bool) -> &'a [u8]
     ensures { result.now ≡ passing_words passes }
 {

@@ -1,4 +1,4 @@
-//! A fabric that is played, command by command.
+//! Plays commands on a fabric, one after the other.
 ghost use Rattle.std.specs.Prelude.{◌≡◌, ◌+◌, ◌<◌, ◌^◌, [], ◌∷◌, ◌++◌, length, true, false, ℕ, Option, Some, None};
 ghost use Rattle.ether_wire.specs.Ends.{IsOpen};
 ghost use Rattle.ev_report.specs.Ends.{Tells};
@@ -17,7 +17,7 @@ use ether_wire::{Addr, Device, Out};
 use ev_edge::{Edge, EdgeRefusal, Reply};
 use ev_fabric::{Fabric, FabricRefusal, LocalEvent, Step};
 
-/// The number of the refusal, and of the alert, that says that memory was refused.
+/// The number of the refusal and of the alert that report refused memory.
 const NO_MEMORY: u8 = 15;
 
 /// The first bad line of a script.
@@ -33,20 +33,21 @@ pub(crate) struct BadLine<'a> {
 #[derive(Drop)]
 pub(crate) struct Simulator {
     fabric: Fabric,
-    /// A step was refused memory.
+    /// Whether a step was refused memory.
     is_out_of_memory: bool,
-    /// Nothing that was to be printed was lost.
+    /// Whether no output was lost.
     is_told: bool,
 }
 
-/// A port's number, in an octet. There are 64 at most: those above 255 are as 255.
+/// Returns a port's number, in an octet. A number above 255 becomes 255: there are at most 64
+/// ports.
 pub fn port_number(port: u64) -> u8
     ensures { result ≡ port_number port }
 {
     if port <= 255 { port as u8 } else { 255 }
 }
 
-/// Whether a step was refused memory, or did something less for want of it.
+/// Returns `true` if a step was refused memory, or did less for want of memory.
 fn is_out_of_memory(answer: &Result<Reply, FabricRefusal>) -> bool
     ensures { result ≡ is_out_of_memory answer.now }
 {
@@ -59,7 +60,7 @@ fn is_out_of_memory(answer: &Result<Reply, FabricRefusal>) -> bool
     }
 }
 
-/// Prints what became of a step.
+/// Prints the result of a step.
 #[tactic(auto, using(crate::proofs::Putting::some_put))]
 fn put_answer<W: Out>(
     out: &mut W,
@@ -75,8 +76,8 @@ fn put_answer<W: Out>(
     }
 }
 
-/// Prints what became of a second, the first one (0) or a later one: where there is no such
-/// edge, that is told once.
+/// Prints the result of a second, the first one (0) or a later one. Prints a refusal only for the
+/// first one.
 #[tactic(auto, using(crate::proofs::Putting::some_put))]
 fn put_second<W: Out>(
     out: &mut W,
@@ -94,8 +95,8 @@ fn put_second<W: Out>(
     }
 }
 
-/// Prints the number in the pool of what was announced, if anything was. The
-/// pool's last update is it.
+/// Prints the number in the pool of the announced update, if one was announced. It is the pool's
+/// last update.
 #[tactic(auto, using(crate::proofs::Putting::some_put))]
 fn put_announced<W: Out>(
     out: &mut W,
@@ -115,7 +116,7 @@ fn put_announced<W: Out>(
     }
 }
 
-/// Prints how the spanning tree has an edge's port.
+/// Prints the role and state of an edge's port in the spanning tree.
 #[tactic(auto, using(crate::proofs::Putting::some_put))]
 fn put_port_of<W: Out>(out: &mut W, number: u64, edge: &Edge, port: u8) -> Result<(), Device>
     requires { IsOpen (W.end out.old) }
@@ -129,7 +130,8 @@ fn put_port_of<W: Out>(out: &mut W, number: u64, edge: &Edge, port: u8) -> Resul
     put_port(out, number, port, bridge.port(port), bridge.passes(port))
 }
 
-/// Prints how the spanning tree has a port.
+/// Prints the role and state of a port in the spanning tree, or a refusal if there is no edge of
+/// this number.
 #[tactic(auto, using(crate::proofs::Putting::some_put))]
 fn put_port_at<W: Out>(fabric: &Fabric, edge: u64, port: u64, out: &mut W) -> Result<(), Device>
     requires { IsOpen (W.end out.old) }
@@ -141,7 +143,7 @@ fn put_port_at<W: Out>(fabric: &Fabric, edge: u64, port: u64, out: &mut W) -> Re
     }
 }
 
-/// Prints the report of an edge's table.
+/// Prints the report of an edge's table, or a refusal if there is no edge of this number.
 #[tactic(auto, using(crate::proofs::Putting::some_put))]
 fn put_report_of<W: Out>(fabric: &Fabric, edge: u64, out: &mut W) -> Result<(), Device>
     requires { IsOpen (W.end out.old) }
@@ -159,7 +161,7 @@ impl Simulator {
     ghost use Rattle.ev_script.specs.Script.{command_of, octets_of, second, frame, tunnel};
     ghost use Rattle.ev_script.specs.Inner.Playing.{Makes, MakesOne, Performs, PlaysLine, PlaysTo, Answers};
 
-    /// A fabric of which nothing was asked yet.
+    /// Returns a simulator that has made no step yet.
     pub(crate) fn new(fabric: Fabric) -> Simulator
         ensures fabric { result.fabric ≡ fabric }
         ensures fed { result.is_out_of_memory ≡ false }
@@ -172,21 +174,21 @@ impl Simulator {
         }
     }
 
-    /// Whether a step was refused memory.
+    /// Returns `true` if a step was refused memory.
     pub(crate) fn is_out_of_memory(&self) -> bool
         ensures { result ≡ self.now.is_out_of_memory }
     {
         self.is_out_of_memory
     }
 
-    /// Whether nothing that was to be printed was lost.
+    /// Returns `true` if no output was lost.
     pub(crate) fn is_told(&self) -> bool
         ensures { result ≡ self.now.is_told }
     {
         self.is_told
     }
 
-    /// A step of the fabric.
+    /// Makes a step of the fabric.
     fn step(&mut self, step: &Step<'_>) -> Result<Reply, FabricRefusal>
         ensures made { Makes ((step.now, result) ∷ []) self.old self.new }
         ensures told { self.new.is_told ≡ self.old.is_told }
@@ -197,7 +199,7 @@ impl Simulator {
         answer
     }
 
-    /// A step, and what became of it.
+    /// Makes a step, and prints its result.
     fn single<W: Out>(&mut self, edge: u64, step: &Step<'_>, out: &mut W)
         requires { self.old.is_told ≡ true → IsOpen (W.end out.old) }
         ensures made { MakesOne step.now self.old self.new }
@@ -207,7 +209,7 @@ impl Simulator {
         self.is_told = self.is_told && put_answer(out, edge, &answer).is_ok();
     }
 
-    /// A second of an edge, the first one (0) of a command or a later one.
+    /// Lets a second pass at an edge, the first one (0) of a command or a later one.
     fn second<W: Out>(&mut self, edge: u64, turn: u64, out: &mut W)
         requires { self.old.is_told ≡ true → IsOpen (W.end out.old) }
         ensures made { MakesOne (Local edge Second) self.old self.new }
@@ -217,7 +219,7 @@ impl Simulator {
         self.is_told = self.is_told && put_second(out, edge, turn, &answer).is_ok();
     }
 
-    /// So many seconds of an edge.
+    /// Lets `seconds` seconds pass at an edge.
     fn seconds<W: Out>(&mut self, edge: u64, seconds: u64, out: &mut W)
         requires { self.old.is_told ≡ true → IsOpen (W.end out.old) }
         ensures made { Performs edge (second seconds) self.old self.new }
@@ -228,7 +230,7 @@ impl Simulator {
         }
     }
 
-    /// What an edge announces comes into the pool.
+    /// Announces the oldest pending update of an edge, which puts it into the pool.
     fn announce<W: Out>(&mut self, edge: u64, out: &mut W)
         requires { self.old.is_told ≡ true → IsOpen (W.end out.old) }
         ensures made { MakesOne (Announce edge) self.old self.new }
@@ -239,7 +241,7 @@ impl Simulator {
         self.is_told = self.is_told && put_announced(out, edge, last, &answer).is_ok();
     }
 
-    /// Octets come at a port.
+    /// Receives octets at a port.
     fn frame<W: Out>(&mut self, edge: u64, port: u64, hex: Hex<'_>, out: &mut W)
         requires { self.old.is_told ≡ true → IsOpen (W.end out.old) }
         ensures made { Performs edge
@@ -251,7 +253,7 @@ impl Simulator {
         self.single(edge, &Step::Local(edge as usize, event), out);
     }
 
-    /// A datagram comes from another edge.
+    /// Receives a datagram from another edge.
     fn tunnel<W: Out>(&mut self, edge: u64, from: Addr, hex: Hex<'_>, out: &mut W)
         requires { self.old.is_told ≡ true → IsOpen (W.end out.old) }
         ensures made { Performs edge
@@ -263,7 +265,7 @@ impl Simulator {
         self.single(edge, &Step::Local(edge as usize, event), out);
     }
 
-    /// How the spanning tree has a port.
+    /// Prints the role and state of a port in the spanning tree.
     fn port<W: Out>(&mut self, edge: u64, port: u64, out: &mut W)
         requires { self.old.is_told ≡ true → IsOpen (W.end out.old) }
         ensures made { Makes [] self.old self.new }
@@ -272,7 +274,7 @@ impl Simulator {
         self.is_told = self.is_told && put_port_at(&self.fabric, edge, port, out).is_ok();
     }
 
-    /// The report of an edge's table.
+    /// Prints the report of an edge's table.
     fn report<W: Out>(&mut self, edge: u64, out: &mut W)
         requires { self.old.is_told ≡ true → IsOpen (W.end out.old) }
         ensures made { Makes [] self.old self.new }
@@ -281,7 +283,7 @@ impl Simulator {
         self.is_told = self.is_told && put_report_of(&self.fabric, edge, out).is_ok();
     }
 
-    /// Does what a command asks of an edge, and prints what became of it.
+    /// Does a command at an edge, and prints its results.
     fn perform<W: Out>(&mut self, edge: u64, command: &Command<'_>, out: &mut W)
         requires { self.old.is_told ≡ true → IsOpen (W.end out.old) }
         ensures made { Performs edge (command_of command.now) self.old self.new }
@@ -329,7 +331,7 @@ impl Simulator {
         }
     }
 
-    /// Prints a command's line, where that is wanted.
+    /// Prints the line of a command or a query if the mode prints lines.
     fn show<W: Out>(&mut self, mode: Mode, line: &[u8], out: &mut W)
         requires { self.old.is_told ≡ true → IsOpen (W.end out.old) }
         ensures made { Makes [] self.old self.new }
@@ -339,7 +341,7 @@ impl Simulator {
         self.is_told = self.is_told && put_shown(out, mode, line).is_ok();
     }
 
-    /// Tells what a question asks for. No step is made.
+    /// Prints the answer to a query. No step is made.
     fn view<W: Out>(&mut self, question: &Question, out: &mut W)
         requires { self.old.is_told ≡ true → IsOpen (W.end out.old) }
         ensures made { Makes [] self.old self.new }
@@ -349,7 +351,7 @@ impl Simulator {
         self.is_told = self.is_told && put_view(out, &self.fabric, question).is_ok();
     }
 
-    /// Prints a question's line, and what it asks for. No step is made.
+    /// Prints the line of a query, and the answer. No step is made.
     fn answer<W: Out>(&mut self, mode: Mode, line: &[u8], question: &Question, out: &mut W)
         requires { self.old.is_told ≡ true → IsOpen (W.end out.old) }
         ensures made { Makes [] self.old self.new }
@@ -360,7 +362,7 @@ impl Simulator {
         self.view(question, out);
     }
 
-    /// Does what a line asks for: whether it isn't a bad one.
+    /// Runs a line. Returns `false` if it is a bad one.
     fn line<W: Out>(&mut self, mode: Mode, line: &[u8], out: &mut W) -> bool
         requires { self.old.is_told ≡ true → IsOpen (W.end out.old) }
         ensures played { PlaysLine mode line.now self.old self.new result }

@@ -1,4 +1,4 @@
-//! What is told of a question: how the fabric's edges are. It takes no memory, and no step is made.
+//! Answers queries about the edges of the fabric. It allocates no memory, and makes no step.
 ghost use Rattle.std.specs.Prelude.{◌≡◌, option_map};
 ghost use Rattle.ether_wire.specs.Ends.{IsOpen, Puts};
 ghost use Rattle.ev_fabric.specs.Fabric.{nth};
@@ -10,7 +10,7 @@ use ev_edge::Edge;
 use ev_fabric::Fabric;
 use ev_view::{EdgeQuestion, put_edge, put_edge_view};
 
-/// Writes which lines there are.
+/// Writes each kind of line.
 fn put_help<W: Out>(out: &mut W) -> Result<(), Device>
     requires { IsOpen (W.end out.old) }
     ensures { Puts (W.end out.old) (W.end out.new) help_text result }
@@ -49,7 +49,7 @@ fn put_edges<W: Out>(out: &mut W, fabric: &Fabric) -> Result<(), Device>
     Ok(())
 }
 
-/// The edge of this number, if there is one.
+/// Returns the edge of this number, if it exists.
 #[tactic(auto, using(crate::proofs::Each::none_past))]
 pub(crate) fn edge_of(fabric: &Fabric, edge: u64) -> Option<&Edge>
     ensures { option_map (λ e. e.now) result ≡ nth fabric.now.edges edge }
@@ -64,7 +64,7 @@ pub(crate) fn edge_of(fabric: &Fabric, edge: u64) -> Option<&Edge>
     Some(fabric.edge(place))
 }
 
-/// Writes that there is no such edge.
+/// Writes the refusal for an edge that doesn't exist.
 #[tactic(auto, using(ether_wire::proofs::Appending::with_text_twice))]
 fn put_no_edge<W: Out>(out: &mut W, number: u64) -> Result<(), Device>
     requires { IsOpen (W.end out.old) }
@@ -74,7 +74,7 @@ fn put_no_edge<W: Out>(out: &mut W, number: u64) -> Result<(), Device>
     out.put(b" refused fabric 18\n")
 }
 
-/// Writes what is told of a question of one edge.
+/// Writes the answer to a query about one edge.
 fn put_edge_answer<W: Out>(
     out: &mut W,
     fabric: &Fabric,
@@ -91,7 +91,7 @@ fn put_edge_answer<W: Out>(
     }
 }
 
-/// Writes what is told of a question.
+/// Writes the answer to a query.
 pub(crate) fn put_view<W: Out>(
     out: &mut W,
     fabric: &Fabric,

@@ -1,4 +1,4 @@
--- What becomes of a configuration's file.
+-- The check of a configuration's text.
 use Rattle.std.specs.Prelude.{ℕ, Result}
 use Rattle.ether_wire.specs.Ends.{End, Source}
 use Rattle.ev_config.specs.declared.whole.Config.{Config}
@@ -9,7 +9,7 @@ use Rattle.ev_config.specs.Config.{ConfigFor}
 use Rattle.evpnd.specs.declared.check.Purpose.{Purpose}
 use Rattle.evpnd.specs.Checks.{Checks}
 
--- the configuration of a text is checked, whatever the reader has
+-- the configuration of a text is checked, for any input
 abbrev pub ChecksText : Purpose → Text → End → End → End → End → ℕ → Type 0
 ChecksText purpose text out notes out' notes' status =
     (found : Result Config ConfigRefusal) × ConfigFor purpose.wanted text found

@@ -1,4 +1,4 @@
--- What becomes of a configuration that is wanted, to be used.
+-- The result of reading a configuration that is to be used.
 use Rattle.std.specs.Prelude.{◌≡◌, ℕ, Result, Ok, Err}
 use Rattle.ether_wire.specs.Ends.{End, Source}
 use Rattle.ev_config.specs.declared.config.ConfigRefusal.{ConfigRefusal}
@@ -7,11 +7,11 @@ use Rattle.evpnd.specs.Files.{Text, Shelf, IsTextOf}
 use Rattle.evpnd.specs.Checks.{desk, Gives, OfFile}
 use Rattle.evpnd.specs.Configured.{OfFound}
 
--- none is used
+-- no configuration is used
 abbrev pub Never : {X : Type 0} → X → Devices → Devices → ℕ → Type 0
 Never config before after status = ⊥
 
--- A text gives this configuration; or this status, and a report of its fault, whatever the input and the output have.
+-- A text gives this configuration; or this status, and a report of its fault, for any input and output.
 abbrev pub TextGives : {X : Type 0} → Gives X → Text → End → End → Result X ℕ → Type 0
 TextGives gives text notes notes' (Ok config) = (notes' ≡ notes) × gives text (Ok config)
 TextGives {X = X} gives text notes notes' (Err status) =

@@ -1,4 +1,4 @@
--- A run of the program, from its words to its status.
+-- A run of the program, from its arguments to its status.
 use Rattle.std.specs.Prelude.{◌≡◌, ℕ, ◌+◌, ◌⊎◌}
 use Rattle.ether_wire.specs.Ends.{End}
 use Rattle.ev_report.specs.Originators.{Text}

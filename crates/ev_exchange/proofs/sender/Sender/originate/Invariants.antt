@@ -2,7 +2,7 @@ use Rattle.std.proofs.Common.{false, ◌≡◌, take}
 use Rattle.ev_exchange.specs.Sending.{HasSaid, own_of}
 use Rattle.ev_exchange.proofs.sender.Sender.originate.Given as goal
 
--- those of the first ones were said; where a call has failed, all stays
+-- the own updates among the first ones were sent; if a call had failed before, nothing changes
 abbrev pub invariant-loop-update : goal.invariant-loop-update
 invariant-loop-update g l = record {
   shut : l.initial.self.is_open ≡ false → l.self ≡ l.initial.self;
