@@ -1,4 +1,4 @@
--- What is written is read again.
+-- A reader reads written octets as the same BPDU.
 use Rattle.std.proofs.Common.{◌≡◌, ℕ, ◌≤◌, Bool, true, false, nat_lt, cond, List, [], ◌∷◌, ◌++◌, length, Some, None, Ok}
 use Rattle.std.proofs.Common.{Err, refl, ap, ◌∙◌, arith}
 use Rattle.std.proofs.lemmas.Bool.Decides.{nat_tests}
@@ -46,7 +46,7 @@ message_again version type m after rest vector times =
 not_less : (a b : ℕ) → b ≤ a → nat_lt a b ≡ false
 not_less a b h = grind (arith, nat_tests)
 
--- the answer, where of the tests at most the last is met
+-- the result, if at most the last of the tests is met
 last_test : (a b f : Bool) (bpdu : Bpdu) → a ≡ false → b ≡ false
     → unless_refused (cond a (Some Short) (cond b (Some Short) (cond f (Some Aged) None))) bpdu
     ≡ cond f (Err Aged) (Ok bpdu)

@@ -1,4 +1,4 @@
--- The role that a BPDU says its sender's port has, and when it is too old (IEEE 802.1D-2004, 9.3.3 and 9.3.4).
+-- The role of the sender's port in a BPDU, and when a BPDU is too old (IEEE 802.1D-2004, 9.3.3 and 9.3.4).
 use Rattle.std.specs.Prelude.{ℕ, Bool, true, false, ◌&&◌, ◌==◌, nat_le, if◌then◌else◌, bit_and}
 use Rattle.bpdu_wire.specs.Numbers.{ALTERNATE_OR_BACKUP_ROLE, ROLE_BITS, ROOT_ROLE, UNKNOWN_ROLE}
 use Rattle.bpdu_wire.specs.declared.bpdu.SenderRole.{SenderRole}
@@ -23,7 +23,7 @@ is_designated _ = false
 abbrev pub is_expired : Message → Bool
 is_expired m = nat_le m.max_age m.message_age
 
--- A Configuration BPDU, or one of a designated port, is not to be older than it says.
+-- A Configuration BPDU, or a designated port's Rapid Spanning Tree BPDU, whose message age isn't below its max age.
 abbrev pub is_aged : Bpdu → Bool
 is_aged (Config m) = is_expired m
 is_aged (Rst m) = is_designated (role_of m.flags) && is_expired m

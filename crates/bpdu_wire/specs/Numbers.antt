@@ -1,9 +1,9 @@
--- The numbers of a BPDU (IEEE 802.1D-2004, clause 9), and those by which this crate tells why octets are none.
+-- The numbers of a BPDU (IEEE 802.1D-2004, clause 9), and this crate's numbers for the reasons that octets are no BPDU.
 use Rattle.std.specs.Prelude.{ℕ, ◌≡◌}
 use Rattle.bpdu_wire.specs.declared.bpdu.TheConstants as times
 use Rattle.bpdu_wire.specs.declared.flags.TheConstants as flags
 
--- ---- where each field begins, counted from 0 (9.3.1, 9.3.3)
+-- ---- the place of each field, counted from 0 (9.3.1, 9.3.3)
 
 abbrev pub VERSION_PLACE : ℕ
 VERSION_PLACE = 2
@@ -56,7 +56,7 @@ OLD_VERSION = 0
 abbrev pub RAPID_VERSION : ℕ
 RAPID_VERSION = 2
 
--- ---- how many octets each has at least
+-- ---- the least number of octets of each
 
 abbrev pub CONFIG_SIZE : ℕ
 CONFIG_SIZE = 35
@@ -67,7 +67,7 @@ TCN_SIZE = 4
 abbrev pub RST_SIZE : ℕ
 RST_SIZE = 36
 
--- ---- the flags (9.3.3; of them a Configuration BPDU has the first and the last, 9.3.1)
+-- ---- the flags (9.3.3; a Configuration BPDU has only the first and the last of them, 9.3.1)
 
 abbrev pub TOPOLOGY_CHANGE : ℕ
 TOPOLOGY_CHANGE = 0x01
@@ -102,7 +102,7 @@ AGREEMENT = 0x40
 abbrev pub CHANGE_ACKNOWLEDGEMENT : ℕ
 CHANGE_ACKNOWLEDGEMENT = 0x80
 
--- ---- times, two octets each: how many units are a second, and the greatest number (9.2.8)
+-- ---- times, two octets each: the number of units in a second, and the greatest number (9.2.8)
 
 abbrev pub TIME_UNITS : ℕ
 TIME_UNITS = 256
@@ -110,7 +110,7 @@ TIME_UNITS = 256
 abbrev pub MOST_TIME : ℕ
 MOST_TIME = 65535
 
--- ---- why octets are no BPDU
+-- ---- the reasons that octets are no BPDU
 
 abbrev pub TOO_SHORT : ℕ
 TOO_SHORT = 1
@@ -127,7 +127,7 @@ BAD_VERSION = 4
 abbrev pub OVER_AGE : ℕ
 OVER_AGE = 5
 
--- ---- the public constants of the sources: other crates write and read flags and times by them
+-- ---- the public constants of the sources: other crates read and write flags and times with them
 
 pub record AreStandard : Type 0 where
   pub topology_change : flags.TOPOLOGY_CHANGE ≡ TOPOLOGY_CHANGE

@@ -56,7 +56,7 @@ bpdu_of octets =
 
 -- ---- the refusals
 
--- Rapid Spanning Tree BPDUs came with version 2. Those of later versions begin as they do (9.3.4).
+-- The first version with Rapid Spanning Tree BPDUs is 2. BPDUs of later versions begin with the same fields (9.3.4).
 abbrev pub has_old_version : List ℕ → Bool
 has_old_version octets = type_of octets == RST_TYPE && nat_lt (version_of octets) RAPID_VERSION
 
@@ -78,6 +78,6 @@ abbrev pub unless_refused : Option BpduRefusal → Bpdu → Result Bpdu BpduRefu
 unless_refused None bpdu = Ok bpdu
 unless_refused (Some refusal) bpdu = Err refusal
 
--- what the octets say: the BPDU that they begin with, or why there is none
+-- the result of reading the octets: the BPDU that they begin with, or the refusal
 unfoldable pub reading : List ℕ → Result Bpdu BpduRefusal
 reading octets = unless_refused (first_of (refusal_tests octets)) (bpdu_of octets)

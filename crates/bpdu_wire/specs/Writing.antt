@@ -18,7 +18,7 @@ abbrev pub times_octets : Message → List ℕ
 times_octets m = big_bytes 2 m.message_age ++ (big_bytes 2 m.max_age
     ++ (big_bytes 2 m.hello ++ big_bytes 2 m.forward_delay))
 
--- protocol 0 in two octets, version, type, flags, the other fields, and then what follows them
+-- protocol 0 in two octets, version, type, flags, the other fields, and then the rest
 abbrev pub message_octets : ℕ → ℕ → Message → List ℕ → List ℕ
 message_octets version type m after = 0 ∷ 0 ∷ version ∷ type ∷ m.flags ∷ (vector_octets m ++ (times_octets m ++ after))
 
@@ -28,6 +28,6 @@ octets_of (Config m) = message_octets OLD_VERSION CONFIG_TYPE m []
 octets_of (Rst m) = message_octets RAPID_VERSION RST_TYPE m (0 ∷ [])
 octets_of Tcn = 0 ∷ 0 ∷ OLD_VERSION ∷ TCN_TYPE ∷ []
 
--- the answer of a reader to a BPDU's own octets
+-- the result of reading a BPDU's own octets
 abbrev pub read_again : Bpdu → Result Bpdu BpduRefusal
 read_again bpdu = if is_aged bpdu then Err Aged else Ok bpdu

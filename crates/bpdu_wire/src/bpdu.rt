@@ -1,9 +1,9 @@
-//! What a BPDU says: the fields of a message, and the three kinds.
+//! The content of a BPDU: the fields of a message, and the three kinds.
 
 use crate::flags::{ALTERNATE_OR_BACKUP_ROLE, ROLE_BITS, ROOT_ROLE, UNKNOWN_ROLE};
 use crate::id::{BridgeId, PortId};
 
-/// The role that a Rapid Spanning Tree BPDU says its sender's port has (IEEE 802.1D-2004, 9.3.3).
+/// The role of the sender's port in a Rapid Spanning Tree BPDU (IEEE 802.1D-2004, 9.3.3).
 #[derive(Clone, Copy, Debug, PartialEq, Eq)]
 pub enum SenderRole {
     Unknown,
@@ -12,18 +12,19 @@ pub enum SenderRole {
     Designated,
 }
 
-/// How many units of a message's times are a second (IEEE 802.1D-2004, 9.2.8).
+/// The number of units of a message's times in a second (IEEE 802.1D-2004, 9.2.8).
 pub const TIME_UNITS: u16 = 256;
-/// The greatest number that a field for a time holds.
+/// The greatest number that fits the field of a time.
 pub const MOST_TIME: u16 = 65535;
 
-/// What a Configuration or a Rapid Spanning Tree BPDU says (IEEE 802.1D-2004, 9.3.1 and 9.3.3). The
-/// fields are as they stand in the octets: times are in units of which `TIME_UNITS` are a second.
+/// The content of a Configuration or a Rapid Spanning Tree BPDU (IEEE 802.1D-2004, 9.3.1 and
+/// 9.3.3). The fields have the numbers of the octets: times are in units of which `TIME_UNITS` are
+/// a second.
 #[derive(Clone, Copy, Debug, PartialEq, Eq)]
 pub struct Message {
-    /// The flags of `flags.rt`, as they stand in the octet.
+    /// The flags of `flags.rt`, as in the octet.
     pub flags: u8,
-    /// The bridge that the sender takes for the root.
+    /// The bridge that is the root for the sender.
     pub root: BridgeId,
     /// The cost of the sender's path to the root.
     pub cost: u32,
@@ -31,13 +32,13 @@ pub struct Message {
     pub bridge: BridgeId,
     /// The sender's port.
     pub port: PortId,
-    /// How old the root's message is.
+    /// The age of the root's message.
     pub message_age: u16,
-    /// The age at which the message is to be forgotten.
+    /// The age at which bridges have to drop the message.
     pub max_age: u16,
-    /// How often the root sends.
+    /// The interval at which the root sends.
     pub hello: u16,
-    /// How long a port waits before it learns, and before it forwards.
+    /// The time that a port waits before it learns, and before it forwards.
     pub forward_delay: u16,
 }
 
@@ -45,7 +46,7 @@ impl Message {
     ghost use Rattle.std.specs.Prelude.{◌≡◌};
     ghost use Rattle.bpdu_wire.specs.Bpdu.{role_of, is_expired};
 
-    /// The role that the flags say.
+    /// Returns the role in the flags.
     pub fn role(&self) -> SenderRole
         ensures { result ≡ role_of self.now.flags }
     {
@@ -57,7 +58,7 @@ impl Message {
         }
     }
 
-    /// Whether the message is as old as it may get.
+    /// Returns `true` if the message age isn't below the max age.
     pub(crate) fn is_expired(&self) -> bool
         ensures { result ≡ is_expired self.now }
     {
@@ -81,8 +82,8 @@ impl Bpdu {
     ghost use Rattle.std.specs.Prelude.{◌≡◌};
     ghost use Rattle.bpdu_wire.specs.Bpdu.{is_aged};
 
-    /// Whether the BPDU is refused for its age: it speaks for the root, as a Configuration BPDU or
-    /// a designated port's Rapid Spanning Tree BPDU, and its message age isn't below its max age.
+    /// Returns `true` if the BPDU is refused for its age: it is a Configuration BPDU or a
+    /// designated port's Rapid Spanning Tree BPDU, and its message age isn't below its max age.
     pub(crate) fn is_aged(&self) -> bool
         ensures { result ≡ is_aged self.now }
     {

@@ -1,9 +1,9 @@
-//! The flags octet of a message (IEEE 802.1D-2004, 9.3.3). A Configuration BPDU has the first flag
-//! and the last one alone (9.3.1).
+//! The flags octet of a message (IEEE 802.1D-2004, 9.3.3). A Configuration BPDU has only the first
+//! flag and the last one (9.3.1).
 
-/// The sender tells of a topology change.
+/// The sender announces a topology change.
 pub const TOPOLOGY_CHANGE: u8 = 0x01;
-/// The sender asks for an agreement.
+/// The sender requests an agreement.
 pub const PROPOSAL: u8 = 0x02;
 /// The two bits of the role of the sender's port.
 pub const ROLE_BITS: u8 = 0x0c;
@@ -21,5 +21,5 @@ pub const LEARNING: u8 = 0x10;
 pub const FORWARDING: u8 = 0x20;
 /// The sender agrees.
 pub const AGREEMENT: u8 = 0x40;
-/// The sender has heard of the topology change.
+/// The sender acknowledges the topology change.
 pub const CHANGE_ACKNOWLEDGEMENT: u8 = 0x80;

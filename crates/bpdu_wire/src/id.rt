@@ -23,14 +23,14 @@ impl Model for BridgeId {
 }
 
 impl BridgeId {
-    /// The identifier whose eight octets are this number's, the highest first.
+    /// Returns the identifier with the eight octets of this number, the highest first.
     pub fn new(number: u64) -> Self
         ensures { result ≡ number }
     {
         BridgeId { number }
     }
 
-    /// The identifier of this priority and this address of six octets.
+    /// Returns the identifier with this priority and this address of six octets.
     pub fn from_parts(priority: u16, address: u64) -> Self
         requires { address < 2 ^ 48 }
         ensures { result ≡ priority * 2 ^ 48 + address }
@@ -40,21 +40,21 @@ impl BridgeId {
         }
     }
 
-    /// The number of all eight octets.
+    /// Returns the number of all eight octets.
     pub fn number(self) -> u64
         ensures { result ≡ self }
     {
         self.number
     }
 
-    /// The priority, the first two octets.
+    /// Returns the priority, the first two octets.
     pub fn priority(self) -> u16
         ensures { result ≡ bridge_priority self }
     {
         (self.number / 0x1_0000_0000_0000) as u16
     }
 
-    /// The bridge's address, as the number of the last six octets.
+    /// Returns the bridge's address, as the number of the last six octets.
     pub fn address(self) -> u64
         ensures value { result ≡ bridge_address self }
         ensures small { result < 2 ^ 48 }
@@ -82,14 +82,15 @@ impl Model for PortId {
 }
 
 impl PortId {
-    /// The identifier whose two octets are this number's, the higher first.
+    /// Returns the identifier with the two octets of this number, the higher first.
     pub fn new(number: u16) -> Self
         ensures { result ≡ number }
     {
         PortId { number }
     }
 
-    /// The identifier of this priority, of 0 to 240 in steps of 16, and this port's number.
+    /// Returns the identifier with this priority, of 0 to 240 in steps of 16, and this port's
+    /// number.
     pub fn from_parts(priority: u8, number: u16) -> Self
         requires steps { priority % 16 ≡ 0 }
         requires fits { number < 2 ^ 12 }
@@ -100,21 +101,21 @@ impl PortId {
         }
     }
 
-    /// The number of both octets.
+    /// Returns the number of both octets.
     pub fn number(self) -> u16
         ensures { result ≡ self }
     {
         self.number
     }
 
-    /// The priority, of 0 to 240 in steps of 16: the top four bits.
+    /// Returns the priority, of 0 to 240 in steps of 16: the top four bits.
     pub fn priority(self) -> u8
         ensures { result ≡ port_priority self }
     {
         (self.number / 0x1000 * 0x10) as u8
     }
 
-    /// The port's number, the low twelve bits.
+    /// Returns the port's number, the low twelve bits.
     pub fn port_number(self) -> u16
         ensures value { result ≡ port_number self }
         ensures small { result < 2 ^ 12 }

@@ -1,4 +1,4 @@
-//! That the public numbers of this crate are those of the standard.
+//! The law that this crate's public numbers are those of the standard.
 
 ghost use Rattle.bpdu_wire.specs.Numbers.{AreStandard};
 

@@ -13,7 +13,7 @@
 //! | 27 | 2 | message age, in 1/256 second, as the next three |
 //! | 29 | 2 | max age |
 //! | 31 | 2 | Hello time |
-//! | 33 | 2 | forward delay, where a Configuration BPDU ends |
+//! | 33 | 2 | forward delay, the last field of a Configuration BPDU |
 //! | 35 | 1 | Version 1 Length, 0, of a Rapid Spanning Tree BPDU |
 
 ghost use Rattle.std.specs.Prelude.{◌≡◌, ◌≤◌, true, length};
@@ -56,24 +56,24 @@ pub(crate) const TCN_TYPE: u8 = 0x80;
 
 /// The version of the older protocol's BPDUs.
 pub(crate) const OLD_VERSION: u8 = 0;
-/// The version with which Rapid Spanning Tree BPDUs came.
+/// The first version with Rapid Spanning Tree BPDUs.
 pub(crate) const RAPID_VERSION: u8 = 2;
 
-/// How many octets any BPDU has at least: those up to the type.
+/// The least number of octets of any BPDU: those up to the type.
 pub(crate) const TCN_SIZE: usize = 4;
-/// How many octets a Configuration BPDU has.
+/// The number of octets of a Configuration BPDU.
 pub(crate) const CONFIG_SIZE: usize = 35;
-/// How many octets a Rapid Spanning Tree BPDU has.
+/// The number of octets of a Rapid Spanning Tree BPDU.
 pub(crate) const RST_SIZE: usize = 36;
 
-/// Whether there are BPDUs of this type.
+/// Returns `true` if a kind of BPDU has this type.
 fn is_known(kind: u8) -> bool
     ensures { result ≡ is_known kind }
 {
     matches!(kind, CONFIG_TYPE | RST_TYPE | TCN_TYPE)
 }
 
-/// How many octets a BPDU of this type has.
+/// Returns the number of octets of a BPDU of this type.
 fn size(kind: u8) -> usize
     ensures { result ≡ size_of kind }
 {
@@ -84,7 +84,7 @@ fn size(kind: u8) -> usize
     }
 }
 
-/// Whether the BPDU is of the rapid protocol's type, and of a version before it.
+/// Returns `true` if the BPDU has the rapid protocol's type, and a version before that protocol.
 fn has_old_version(octets: &[u8]) -> bool
     requires { TCN_SIZE ≤ length octets.now }
     ensures { result ≡ has_old_version octets.now }
@@ -92,7 +92,7 @@ fn has_old_version(octets: &[u8]) -> bool
     octets[TYPE_PLACE] == RST_TYPE && octets[VERSION_PLACE] < RAPID_VERSION
 }
 
-/// The fields of a message.
+/// Returns the fields of a message.
 fn message_in(octets: &[u8]) -> Message
     requires { CONFIG_SIZE ≤ length octets.now }
     ensures { result ≡ message_of octets.now }
@@ -110,7 +110,7 @@ fn message_in(octets: &[u8]) -> Message
     }
 }
 
-/// The BPDU of the type, with its fields.
+/// Returns the BPDU of the type, with its fields.
 fn bpdu_in(octets: &[u8]) -> Bpdu
     requires head { TCN_SIZE ≤ length octets.now }
     requires whole { size_of (type_of octets.now) ≤ length octets.now }
@@ -123,13 +123,13 @@ fn bpdu_in(octets: &[u8]) -> Bpdu
     }
 }
 
-/// The BPDU that the octets begin with. Octets after it are ignored, and so are a version other
-/// than its own at types 0x00 and 0x80, and one above 2 at type 0x02: a later protocol's BPDU is
-/// read by what it has in common with ours (IEEE 802.1D-2004, 9.3.4).
+/// Returns the BPDU that the octets begin with. Ignores octets after it. Ignores the version at
+/// types 0x00 and 0x80, and accepts any version above 2 at type 0x02: a later protocol's BPDU is
+/// read by the fields that it shares with ours (IEEE 802.1D-2004, 9.3.4).
 ///
-/// The octets are refused, for the first cause that applies: `Short` where there are fewer
-/// than four, `BadProtocol`, `BadType`, `BadVersion`, `Short` where they are fewer than
-/// the type has, `Aged`.
+/// The error is the first refusal that applies, in this order: `Short` if there are fewer than four
+/// octets, `BadProtocol`, `BadType`, `BadVersion`, `Short` if there are fewer octets than the type
+/// has, `Aged`.
 #[tactic(auto, unfolding(crate::specs::Reading::reading))]
 pub fn read(octets: &[u8]) -> Result<Bpdu, BpduRefusal>
     ensures { result ≡ reading octets.now }

@@ -1,21 +1,23 @@
-//! Why octets are no BPDU, and by which number that is told.
+//! The reasons that octets are no BPDU, and the number of each.
 
-/// There are fewer than four octets: asked first. Or, once the type is known,
-/// fewer than its kind has.
+/// First test: there are fewer than four octets. Or, after the type is known, fewer than its kind
+/// has.
 pub const TOO_SHORT: u8 = 1;
-/// The protocol identifier isn't 0: asked behind four octets.
+/// Second test, with at least four octets: the protocol identifier isn't 0.
 pub const BAD_PROTOCOL: u8 = 2;
-/// Then: the type is none of 0x00, 0x02 and 0x80.
+/// Third test: the type is none of 0x00, 0x02 and 0x80.
 pub const BAD_TYPE: u8 = 3;
-/// Then: the type is 0x02 and the version below 2. Behind it the kind's length is asked.
+/// Fourth test: the type is 0x02 and the version below 2. The test of the kind's length follows.
 pub const BAD_VERSION: u8 = 4;
-/// Last: it speaks for the root, and its message age isn't below its max age.
+/// Last test: the BPDU is a Configuration BPDU, or a designated port's Rapid Spanning Tree BPDU,
+/// and its message age isn't below its max age.
 pub const OVER_AGE: u8 = 5;
 
-/// Why octets are no BPDU. The first cause in the order that `read` names is the one that is told.
+/// The reason that octets are no BPDU. `read` returns the first one that applies, in the order that
+/// it names.
 #[derive(Clone, Copy, Debug, PartialEq, Eq)]
 pub enum BpduRefusal {
-    /// There are fewer than four octets or, once the type is known, fewer than its kind has.
+    /// There are fewer than four octets or, after the type is known, fewer than its kind has.
     Short,
     /// The protocol identifier isn't 0.
     BadProtocol,
@@ -31,7 +33,7 @@ impl BpduRefusal {
     ghost use Rattle.std.specs.Prelude.{◌≡◌};
     ghost use Rattle.bpdu_wire.specs.Refusal.{refusal_number};
 
-    /// The number by which it is told.
+    /// Returns the number of the reason.
     pub fn number(self) -> u8
         ensures { result ≡ refusal_number self }
     {

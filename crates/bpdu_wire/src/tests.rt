@@ -1,8 +1,8 @@
-//! BPDUs of a bridge that comes up, as octets both ways, and each refusal.
+//! BPDUs of a bridge that comes up, as octets in both directions, and each refusal.
 use crate::{Bpdu, BridgeId, Message, PortId, SenderRole, read, write};
 
-/// What a designated port of bridge 8000.02:aa:00:00:00:01 first sends: it takes itself for
-/// the root, and proposes.
+/// The first message of a designated port of bridge 8000.02:aa:00:00:00:01: the bridge is its own
+/// root, and the port proposes.
 const FIRST_PROPOSAL: [u8; 36] = [
     0x00, 0x00, 0x02, 0x02, 0x0e, 0x80, 0x00, 0x02, 0xaa, 0x00, 0x00, 0x00, 0x01, 0x00, 0x00, 0x00,
     0x00, 0x80, 0x00, 0x02, 0xaa, 0x00, 0x00, 0x00, 0x01, 0x80, 0x01, 0x00, 0x00, 0x14, 0x00, 0x02,
@@ -24,7 +24,7 @@ fn first_proposal() -> Message {
     }
 }
 
-/// The first proposal with these ages in 1/256 of a second.
+/// Returns the first proposal with these ages in 1/256 of a second.
 fn aged(message_age: u16, max_age: u16) -> [u8; 36] {
     let mut octets = FIRST_PROPOSAL;
     let [a, b] = message_age.to_be_bytes();

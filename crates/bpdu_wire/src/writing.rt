@@ -11,7 +11,7 @@ use crate::bpdu::{Bpdu, Message};
 use crate::reading::{CONFIG_TYPE, OLD_VERSION, RAPID_VERSION, RST_TYPE, TCN_TYPE};
 use arrayvec::ArrayVec;
 
-/// Appends octets for which there is room.
+/// Appends octets for which the list has room.
 fn put(out: &mut ArrayVec<u8, 36>, octets: &[u8])
     requires { array_vec_len out.old + length octets.now ≤ 36 }
     ensures items { out.new.items ≡ out.old.items ++ octets.now }
@@ -50,7 +50,7 @@ fn put_u64(out: &mut ArrayVec<u8, 36>, number: u64)
     put(out, &number.to_be_bytes());
 }
 
-/// Appends what the message says of the root, of the way to it, and of the sender.
+/// Appends the message's root, cost of the path to it, bridge and port.
 fn put_vector(out: &mut ArrayVec<u8, 36>, message: &Message)
     requires { array_vec_len out.old + 22 ≤ 36 }
     ensures items { out.new.items ≡ out.old.items ++ vector_octets message.now }
@@ -76,7 +76,7 @@ fn put_times(out: &mut ArrayVec<u8, 36>, message: &Message)
     put_u16(out, message.forward_delay);
 }
 
-/// Appends a BPDU of this version and type, and what follows its fields.
+/// Appends a BPDU of this version and type, and then the octets after its fields.
 fn put_message(out: &mut ArrayVec<u8, 36>, version: u8, kind: u8, message: &Message, after: &[u8])
     requires { array_vec_len out.old + 35 + length after.now ≤ 36 }
     ensures items { out.new.items
@@ -90,9 +90,9 @@ fn put_message(out: &mut ArrayVec<u8, 36>, version: u8, kind: u8, message: &Mess
     put(out, after);
 }
 
-/// The octets of the BPDU: protocol 0, the kind's own version (0, or 2 for a Rapid Spanning Tree
-/// BPDU) and type, and then the fields. They are read again as this BPDU, whatever follows them, or
-/// refused as `Aged`.
+/// Returns the octets of the BPDU: protocol 0, the kind's own version (0, or 2 for a Rapid Spanning
+/// Tree BPDU) and type, and then the fields. With any octets after them, `read` reads them as this
+/// BPDU, or refuses them as `Aged`.
 pub fn write(bpdu: &Bpdu) -> ArrayVec<u8, 36>
     ensures octets { result.items ≡ octets_of bpdu.now }
     ensures again { (rest : List ℕ) → reading (result.items ++ rest) ≡ read_again bpdu.now }

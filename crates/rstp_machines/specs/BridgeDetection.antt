@@ -2,7 +2,7 @@
 use Rattle.std.specs.Prelude.{Bool, true, false, not, ◌&&◌, ◌||◌, ◌==◌}
 use Rattle.rstp_state.specs.declared.port.PortState.{PortState}
 
--- no bridge answers, though one was asked
+-- no bridge answers, although the port proposed
 abbrev pub finds_no_bridge : PortState → Bool
 finds_no_bridge port = port.edge_delay_while == 0 && port.auto_edge && port.send_rstp && port.proposing
 

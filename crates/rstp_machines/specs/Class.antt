@@ -1,4 +1,4 @@
--- What a received message is to its port (IEEE 802.1D-2004, 17.21.8, in this project's own table).
+-- The class of a received message at its port (IEEE 802.1D-2004, 17.21.8, in this project's own table).
 use Rattle.std.specs.Prelude.{Bool, true, false, ◌&&◌, if◌then◌else◌, Option, Some, None}
 use Rattle.bpdu_wire.specs.declared.bpdu.Message.{Message}
 use Rattle.bpdu_wire.specs.declared.bpdu.Bpdu.{Bpdu}

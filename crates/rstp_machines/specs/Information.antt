@@ -37,18 +37,18 @@ vector_or vector (Some (Config message)) = vector_of message
 vector_or vector (Some (Rst message)) = vector_of message
 vector_or vector _ = vector
 
--- the message proposes
+-- records whether the message proposes
 abbrev pub with_proposal : PortState → PortState
 with_proposal port = record port { proposed = port.proposed || rst_has PROPOSAL port.message }
 
--- the message tells of a topology change, or acknowledges one
+-- records whether the message announces a topology change, and whether it acknowledges one
 abbrev pub with_change_flags : PortState → PortState
 with_change_flags port = record port {
   received_topology_change = port.received_topology_change || message_has TOPOLOGY_CHANGE port.message;
   received_acknowledgement = port.received_acknowledgement || message_has CHANGE_ACKNOWLEDGEMENT port.message;
 }
 
--- how long information of these times is kept: three Hello times, unless it is too old
+-- the time for which a port keeps information with these times: three Hello times, or 0 if the information is too old
 abbrev pub info_time : Times → ℕ
 info_time times = if nat_lt times.message_age times.max_age then 3 * times.hello else 0
 
@@ -58,7 +58,7 @@ with_info_time port = record port { received_info_while = info_time port.port_ti
 abbrev pub with_info : Message → PortState → PortState
 with_info message port = record port { port_priority = vector_of message; port_times = times_of message }
 
--- the message's vector and times are the port's
+-- the message's vector and times become the port's
 abbrev pub with_info_of : Option Bpdu → PortState → PortState
 with_info_of (Some (Config message)) port = with_info message port
 with_info_of (Some (Rst message)) port = with_info message port
@@ -70,7 +70,7 @@ with_message_info port = with_info_of port.message port
 abbrev pub handled : PortState → PortState
 handled port = record port { received_message = false }
 
--- a port whose information is too old, or was none, asks for roles anew
+-- a port whose information is too old, or had none, requests selection again
 abbrev pub aging : PortState → PortState
 aging port = record port {
   information = information.Aged;
@@ -119,7 +119,7 @@ enabled_effect port = aging port
 abbrev pub update_guard : PortState → Bool
 update_guard port = not (is_out port.information) && port.selected && port.update_info
 
--- the port is still agreed to: what it had said is no worse than what it says now
+-- the agreement of the other end stays: the port's earlier vector is no worse than its new one
 abbrev pub keeps_agreed : PortState → Bool
 keeps_agreed port =
     port.agreed && (is_mine port.info_is && not (is_less port.port_priority port.designated_priority))
@@ -138,7 +138,7 @@ update_effect port = record port {
   information = information.Current;
 }
 
--- Aged: what was received is too old
+-- Aged: the received information is too old
 
 abbrev pub aged_guard : PortState → Bool
 aged_guard port =
@@ -148,7 +148,7 @@ aged_guard port =
 abbrev pub aged_effect : PortState → PortState
 aged_effect port = aging port
 
--- a message waits, and may be taken
+-- a message is pending, and may be taken
 abbrev pub may_take : PortState → Bool
 may_take port = is_current port.information && port.received_message && not port.update_info
 
@@ -157,7 +157,7 @@ may_take port = is_current port.information && port.received_message && not port
 abbrev pub superior_guard : PortState → Bool
 superior_guard port = may_take port && is_superior (class_of port)
 
--- the port still agrees: the new vector is no worse than the received one before
+-- the port's agreement stays: the new vector is no worse than the earlier received one
 abbrev pub keeps_agree : PortState → Bool
 keeps_agree port =
     port.agree && (is_received port.info_is && not (is_less port.port_priority
@@ -177,7 +177,7 @@ abbrev pub superior_effect : PortState → PortState
 superior_effect port =
     handled (with_info_time (with_message_info (with_superior_flags (with_change_flags (with_proposal port)))))
 
--- Repeated: the information that the port has already
+-- Repeated: the information that the port already has
 
 abbrev pub repeated_guard : PortState → Bool
 repeated_guard port = may_take port && is_repeated (class_of port)
@@ -210,7 +210,7 @@ with_answer port =
 abbrev pub not_designated_effect : PortState → PortState
 not_designated_effect port = handled (with_change_flags (with_answer port))
 
--- Other: any other message, of which a TCN is noted
+-- Other: any other message; a TCN is recorded
 
 abbrev pub other_guard : PortState → Bool
 other_guard port = may_take port && is_other (class_of port)

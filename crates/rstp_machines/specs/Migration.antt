@@ -4,7 +4,7 @@ use Rattle.rstp_state.specs.declared.port.PortState.{PortState}
 use Rattle.rstp_state.specs.declared.port.Migration.TheVariants as migration
 use Rattle.rstp_state.specs.Port.{is_checking, is_selecting, is_sensing}
 
--- what a port does as it enters a state
+-- the actions of a port when it enters a state
 
 abbrev pub enter_checking : PortState → PortState
 enter_checking port = record port {

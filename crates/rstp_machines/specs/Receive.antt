@@ -8,7 +8,7 @@ abbrev pub is_rst : Option Bpdu → Bool
 is_rst (Some (Rst _)) = true
 is_rst _ = false
 
--- Discard: a port that is not enabled forgets what came
+-- Discard: a port that is not enabled drops its received message and restarts its edge delay
 
 abbrev pub discard_guard : PortState → Bool
 discard_guard port = (port.received_bpdu || not (port.edge_delay_while == 3)) && not port.enabled
@@ -22,7 +22,7 @@ discard_effect port = record port {
   edge_delay_while = 3;
 }
 
--- Receive: the stored message goes to the other machines, and the port is no edge
+-- Receive: the stored message goes to the other machines, and the port is not an edge
 
 abbrev pub receive_guard : PortState → Bool
 receive_guard port = port.received_bpdu && port.enabled && not port.received_message

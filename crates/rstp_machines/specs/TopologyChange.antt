@@ -11,7 +11,7 @@ use Rattle.rstp_state.specs.Port.{is_root, is_designated, is_inactive, is_learni
 abbrev pub is_in_tree : PortState → Bool
 is_in_tree port = is_root port.role || is_designated port.role
 
--- some change was received, or is to be passed on
+-- a change was received or acknowledged, or has to be passed on
 abbrev pub has_changes : PortState → Bool
 has_changes port =
     port.received_topology_change || port.received_notification || port.received_acknowledgement
@@ -25,7 +25,7 @@ without_changes port = record port {
   propagate_topology_change = false;
 }
 
--- the time in which the change is told is begun, unless it runs
+-- starts the time in which the port sends the change, unless it is running
 abbrev pub with_change_timer : Timing → PortState → PortState
 with_change_timer timing port =
     if port.topology_change_while == 0
@@ -37,7 +37,7 @@ with_change_timer timing port =
 abbrev pub with_propagation : PortState → PortState
 with_propagation port = record port { propagate_topology_change = true }
 
--- port p changes so, and every other port is to pass a change on
+-- port p changes by this function, and every other port has to pass on a change
 abbrev pub telling_others : ℕ → (PortState → PortState) → List PortState → List PortState
 telling_others p change ports =
     option_map_or (λ port. slice_set (map with_propagation ports) p (change port)) (slice_get ports p) ports
@@ -62,7 +62,7 @@ detected_at timing port =
 abbrev pub detected_effect : Timing → ℕ → List PortState → List PortState
 detected_effect timing p ports = telling_others p (detected_at timing) ports
 
--- TcClear: a port that is not in the tree hears of no changes
+-- TcClear: a port that is not active clears its changes
 
 abbrev pub tc_clear_guard : PortState → Bool
 tc_clear_guard port = is_learning port.topology && has_changes port && not (detected_guard port)
@@ -70,7 +70,7 @@ tc_clear_guard port = is_learning port.topology && has_changes port && not (dete
 abbrev pub tc_clear_effect : PortState → PortState
 tc_clear_effect port = without_changes port
 
--- TcInactive: the port learns no longer, so what was learnt is forgotten
+-- TcInactive: the port no longer learns, so its learnt addresses are flushed
 
 abbrev pub tc_inactive_guard : PortState → Bool
 tc_inactive_guard port =
@@ -93,7 +93,7 @@ tc_back_guard port = is_active port.topology && (not (is_in_tree port) || port.o
 abbrev pub tc_back_effect : PortState → PortState
 tc_back_effect port = record (without_changes port) { topology = topology.Learning }
 
--- NotifiedTcn: a bridge of the older protocol tells of a change
+-- NotifiedTcn: a bridge of the older protocol announces a change
 
 abbrev pub notified_tcn_guard : PortState → Bool
 notified_tcn_guard port = is_active port.topology && port.received_notification
@@ -111,7 +111,7 @@ notified_tcn_at timing port = notified_at (with_change_timer timing port)
 abbrev pub notified_tcn_effect : Timing → ℕ → List PortState → List PortState
 notified_tcn_effect timing p ports = telling_others p (notified_tcn_at timing) ports
 
--- NotifiedTc: a message tells of a change
+-- NotifiedTc: a message announces a change
 
 abbrev pub notified_tc_guard : PortState → Bool
 notified_tc_guard port = is_active port.topology && port.received_topology_change
@@ -119,7 +119,7 @@ notified_tc_guard port = is_active port.topology && port.received_topology_chang
 abbrev pub notified_tc_effect : ℕ → List PortState → List PortState
 notified_tc_effect p ports = telling_others p notified_at ports
 
--- Propagating: the port passes a change on
+-- Propagating: the port passes on a change
 
 abbrev pub propagating_guard : PortState → Bool
 propagating_guard port = is_active port.topology && port.propagate_topology_change && not port.oper_edge
@@ -128,7 +128,7 @@ abbrev pub propagating_effect : Timing → PortState → PortState
 propagating_effect timing port =
     record (with_change_timer timing port) { flush = true; propagate_topology_change = false }
 
--- Acknowledged: the other end knows of the change
+-- Acknowledged: the other end acknowledged the change
 
 abbrev pub acknowledged_guard : PortState → Bool
 acknowledged_guard port = is_active port.topology && port.received_acknowledgement
@@ -136,7 +136,7 @@ acknowledged_guard port = is_active port.topology && port.received_acknowledgeme
 abbrev pub acknowledged_effect : PortState → PortState
 acknowledged_effect port = record port { topology_change_while = 0; received_acknowledgement = false }
 
--- Flush: what was learnt at the port is forgotten, which the event's answer tells
+-- Flush: the addresses learnt at the port are flushed, and the event's result reports the flush
 
 abbrev pub flush_guard : PortState → Bool
 flush_guard port = port.flush

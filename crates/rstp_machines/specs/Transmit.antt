@@ -13,7 +13,7 @@ use Rattle.rstp_state.specs.declared.port.Role.{Role}
 use Rattle.rstp_state.specs.declared.port.Role.TheVariants as role
 use Rattle.rstp_state.specs.Port.{may_act, is_disabled, is_root, is_designated}
 
--- seconds in the units of a message; what does not fit the field is written as its greatest number
+-- seconds in the units of a message; a value that does not fit the field is written as the field's greatest number
 abbrev pub field_of : ℕ → ℕ
 field_of seconds = if nat_lt seconds TIME_UNITS then seconds * TIME_UNITS else MOST_TIME
 
@@ -31,7 +31,7 @@ message_with flags port = record {
   forward_delay = field_of port.designated_times.forward_delay;
 }
 
--- the flag, where it is wanted
+-- the flag, if it is wanted, else 0
 abbrev pub flag_if : Bool → ℕ → ℕ
 flag_if wanted flag = if wanted then flag else 0
 
@@ -60,7 +60,7 @@ abbrev pub is_ready : Timing → PortState → Bool
 is_ready timing port =
     may_send timing port && is_none port.slot && port.enabled && not (is_disabled port.role)
 
--- a message lies in the slot, and is counted
+-- puts a message into the slot, and counts it
 abbrev pub sending : Timing → Bpdu → PortState → PortState
 sending timing bpdu port = record port {
   slot = Some bpdu;
@@ -92,7 +92,7 @@ send_config_effect timing port =
       acknowledge_topology_change = false;
     }
 
--- SendTcn: the root port tells a bridge of the older protocol of a change
+-- SendTcn: the root port announces a change to a bridge of the older protocol
 
 abbrev pub send_tcn_guard : Timing → PortState → Bool
 send_tcn_guard timing port = is_ready timing port && not port.send_rstp && is_root port.role

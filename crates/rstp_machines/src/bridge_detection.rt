@@ -11,35 +11,35 @@ ghost use Rattle.rstp_machines.specs.BridgeDetection.{
 
 use rstp_state::port::PortState;
 
-/// Whether a port that asked for an agreement has waited in vain for a bridge (17.25).
+/// Returns `true` if the port requested an agreement and no bridge answered in time (17.25).
 fn finds_no_bridge(port: &PortState) -> bool
     ensures { result ≡ finds_no_bridge port.now }
 {
     port.edge_delay_while == 0 && port.auto_edge && port.send_rstp && port.proposing
 }
 
-/// Whether a port that isn't an edge is one by its settings, or has found no bridge.
+/// Returns `true` if a port that isn't an edge is one by its settings, or has found no bridge.
 pub fn edge_guard(port: &PortState) -> bool
     ensures { result ≡ edge_guard port.now }
 {
     !port.oper_edge && ((!port.enabled && port.admin_edge) || finds_no_bridge(port))
 }
 
-/// The port leads to no bridge.
+/// Makes the port an edge: it leads to no bridge.
 pub fn edge(port: &mut PortState)
     ensures { port.new ≡ edge_effect port.old }
 {
     port.oper_edge = true;
 }
 
-/// Whether an edge went down that isn't one by its settings.
+/// Returns `true` if the port is an edge that went down and isn't an edge by its settings.
 pub fn not_edge_guard(port: &PortState) -> bool
     ensures { result ≡ not_edge_guard port.now }
 {
     port.oper_edge && !port.enabled && !port.admin_edge
 }
 
-/// A port that went down is an edge only by its settings.
+/// Ends the edge state of a port that went down and isn't an edge by its settings.
 pub fn not_edge(port: &mut PortState)
     ensures { port.new ≡ not_edge_effect port.old }
 {

@@ -1,4 +1,4 @@
-//! What a received message is to its port (17.21.8).
+//! The class of a received message at its port (17.21.8).
 
 ghost use Rattle.std.specs.Prelude.{◌≡◌};
 ghost use Rattle.rstp_machines.specs.Class.{designated_class, answering_class, is_answer, rst_class, class_of};
@@ -7,18 +7,18 @@ use bpdu_wire::{Bpdu, Message, SenderRole};
 use rstp_state::port::PortState;
 use rstp_state::vector::{Times, Vector, superior as is_superior_to};
 
-/// What a received message is to the port (17.21.8).
+/// The class of a received message at its port (17.21.8).
 #[derive(Clone, Copy, Debug, PartialEq, Eq)]
 pub enum Class {
     /// Better information of a designated port.
     Superior,
-    /// The information that the port has already.
+    /// The information that the port already has.
     Repeated,
     /// Worse information of a designated port.
     Inferior,
     /// The answer of a root, alternate or backup port.
     NotDesignated,
-    /// Anything else, a notification among it.
+    /// Any other message, including a notification.
     Other,
 }
 
@@ -31,35 +31,35 @@ impl Class {
       is_other,
     };
 
-    /// Whether the message is better information.
+    /// Returns `true` if the message is better information.
     pub fn is_superior(self) -> bool
         ensures { result ≡ is_superior self }
     {
         matches!(self, Class::Superior)
     }
 
-    /// Whether the message is the information that the port has.
+    /// Returns `true` if the message is the information that the port has.
     pub fn is_repeated(self) -> bool
         ensures { result ≡ is_repeated self }
     {
         matches!(self, Class::Repeated)
     }
 
-    /// Whether the message is worse information.
+    /// Returns `true` if the message is worse information.
     pub fn is_inferior(self) -> bool
         ensures { result ≡ is_inferior self }
     {
         matches!(self, Class::Inferior)
     }
 
-    /// Whether the message is an answer.
+    /// Returns `true` if the message is an answer.
     pub fn is_not_designated(self) -> bool
         ensures { result ≡ is_not_designated self }
     {
         matches!(self, Class::NotDesignated)
     }
 
-    /// Whether the message is anything else.
+    /// Returns `true` if the message has no other class.
     pub fn is_other(self) -> bool
         ensures { result ≡ is_other self }
     {
@@ -67,7 +67,7 @@ impl Class {
     }
 }
 
-/// The class of a designated port's message.
+/// Returns the class of a designated port's message.
 fn designated_class(port: &PortState, message: &Message) -> Class
     ensures { result ≡ designated_class port.now message.now }
 {
@@ -86,7 +86,7 @@ fn designated_class(port: &PortState, message: &Message) -> Class
     }
 }
 
-/// The class of a root, alternate or backup port's message.
+/// Returns the class of a root, alternate or backup port's message.
 fn answering_class(port: &PortState, message: &Message) -> Class
     ensures { result ≡ answering_class port.now message.now }
 {
@@ -97,14 +97,14 @@ fn answering_class(port: &PortState, message: &Message) -> Class
     }
 }
 
-/// Whether the sender's role is Alternate, Backup or Root.
+/// Returns `true` if the sender's role is Alternate, Backup or Root.
 fn is_answer(role: SenderRole) -> bool
     ensures { result ≡ is_answer role }
 {
     matches!(role, SenderRole::AlternateOrBackup | SenderRole::Root)
 }
 
-/// The class of a message of the rapid protocol.
+/// Returns the class of a message of the rapid protocol.
 fn rst_class(port: &PortState, message: &Message) -> Class
     ensures { result ≡ rst_class port.now message.now }
 {
@@ -115,7 +115,7 @@ fn rst_class(port: &PortState, message: &Message) -> Class
     }
 }
 
-/// The class of the stored message.
+/// Returns the class of the stored message.
 pub fn class_of(port: &PortState) -> Class
     ensures { result ≡ class_of port.now }
 {

@@ -1,4 +1,5 @@
-//! The information rules (17.27): what a received message says of the tree.
+//! The information rules (17.27): how a port takes over information about the tree from a received
+//! message.
 
 ghost use Rattle.std.specs.Prelude.{◌≡◌};
 ghost use Rattle.rstp_state.specs.Port.{is_current, is_mine, is_out};
@@ -50,28 +51,28 @@ use bpdu_wire::{
 use rstp_state::port::{InfoIs, Information, PortState, has_flag};
 use rstp_state::vector::{Times, Vector};
 
-/// Whether the machine is in its state Disabled.
+/// Returns `true` if the machine is in its state Disabled.
 pub fn is_out(state: Information) -> bool
     ensures { result ≡ is_out state }
 {
     matches!(state, Information::Disabled)
 }
 
-/// Whether the machine is in its state Current.
+/// Returns `true` if the machine is in its state Current.
 fn is_current(state: Information) -> bool
     ensures { result ≡ is_current state }
 {
     matches!(state, Information::Current)
 }
 
-/// Whether the information is the port's own.
+/// Returns `true` if the information is the port's own.
 fn is_mine(info: InfoIs) -> bool
     ensures { result ≡ is_mine info }
 {
     matches!(info, InfoIs::Mine)
 }
 
-/// Whether a message with fields is stored that has the flag.
+/// Returns `true` if a message with fields is stored that has the flag.
 fn message_has(flag: u8, message: Option<Bpdu>) -> bool
     ensures { result ≡ message_has flag message }
 {
@@ -82,7 +83,7 @@ fn message_has(flag: u8, message: Option<Bpdu>) -> bool
     }
 }
 
-/// Whether a message of the rapid protocol is stored that has the flag.
+/// Returns `true` if a message of the rapid protocol is stored that has the flag.
 fn rst_has(flag: u8, message: Option<Bpdu>) -> bool
     ensures { result ≡ rst_has flag message }
 {
@@ -92,14 +93,14 @@ fn rst_has(flag: u8, message: Option<Bpdu>) -> bool
     }
 }
 
-/// The message may ask for an agreement.
+/// Records whether the message requests an agreement.
 fn note_proposal(port: &mut PortState)
     ensures { port.new ≡ with_proposal port.old }
 {
     port.proposed = port.proposed || rst_has(PROPOSAL, port.message);
 }
 
-/// The message may tell of a topology change, or acknowledge one.
+/// Records whether the message announces a topology change, and whether it acknowledges one.
 fn note_change_flags(port: &mut PortState)
     ensures { port.new ≡ with_change_flags port.old }
 {
@@ -109,7 +110,8 @@ fn note_change_flags(port: &mut PortState)
         || message_has(CHANGE_ACKNOWLEDGEMENT, port.message);
 }
 
-/// How long information of these times is kept, in seconds (17.21.23, updtRcvdInfoWhile).
+/// Returns the time in seconds for which a port keeps information with these times (17.21.23,
+/// updtRcvdInfoWhile).
 fn info_time(times: &Times) -> u32
     ensures { result ≡ info_time times.now }
 {
@@ -120,14 +122,14 @@ fn info_time(times: &Times) -> u32
     }
 }
 
-/// The time in which the port's information is kept is begun.
+/// Starts the time for which the port keeps its information.
 fn start_info_time(port: &mut PortState)
     ensures { port.new ≡ with_info_time port.old }
 {
     port.received_info_while = info_time(&port.port_times);
 }
 
-/// The message's vector and times are the port's (17.21.11, recordPriority, recordTimes).
+/// Sets the port's vector and times to the message's (17.21.11, recordPriority, recordTimes).
 fn take_message_info(port: &mut PortState)
     ensures { port.new ≡ with_message_info port.old }
 {
@@ -138,7 +140,7 @@ fn take_message_info(port: &mut PortState)
     }
 }
 
-/// The message's vector and times are the port's.
+/// Sets the port's vector and times to the message's.
 fn set_info(port: &mut PortState, message: &Message)
     ensures { port.new ≡ with_info message.now port.old }
 {
@@ -146,7 +148,7 @@ fn set_info(port: &mut PortState, message: &Message)
     port.port_times = Times::of_message(message);
 }
 
-/// The port's information is no longer good: roles are to be selected anew.
+/// Marks the port's information as aged and requests selection again.
 fn age(port: &mut PortState)
     ensures { port.new ≡ aging port.old }
 {
@@ -156,14 +158,14 @@ fn age(port: &mut PortState)
     port.selected = false;
 }
 
-/// Whether a port went down whose machine isn't Disabled yet.
+/// Returns `true` if the port went down and its machine isn't Disabled yet.
 pub fn disabled_guard(port: &PortState) -> bool
     ensures { result ≡ disabled_guard port.now }
 {
     !port.enabled && !is_out(port.information)
 }
 
-/// The port went down.
+/// Disables the machine: the port went down.
 pub fn disabled(port: &mut PortState)
     ensures { port.new ≡ disabled_effect port.old }
 {
@@ -179,49 +181,50 @@ pub fn disabled(port: &mut PortState)
     port.selected = false;
 }
 
-/// Whether a message waits at a port that is down.
+/// Returns `true` if a message is pending at a port that is down.
 pub fn drop_guard(port: &PortState) -> bool
     ensures { result ≡ drop_guard port.now }
 {
     is_out(port.information) && port.received_message
 }
 
-/// A message at a port that is down is dropped.
+/// Drops the message of a port that is down.
 pub fn drop_message(port: &mut PortState)
     ensures { port.new ≡ drop_effect port.old }
 {
     port.received_message = false;
 }
 
-/// Whether a port came up whose machine is Disabled still.
+/// Returns `true` if the port came up and its machine is still Disabled.
 pub fn enabled_guard(port: &PortState) -> bool
     ensures { result ≡ enabled_guard port.now }
 {
     is_out(port.information) && port.enabled
 }
 
-/// The port came up.
+/// Starts the machine: the port came up.
 pub fn enabled(port: &mut PortState)
     ensures { port.new ≡ enabled_effect port.old }
 {
     age(port);
 }
 
-/// Whether the port's designated vector and times wait to be taken over.
+/// Returns `true` if the port has yet to take over its designated vector and times.
 pub fn update_guard(port: &PortState) -> bool
     ensures { result ≡ update_guard port.now }
 {
     !is_out(port.information) && port.selected && port.update_info
 }
 
-/// Whether the other end still agrees: it agreed to the port's own vector, which gets no worse.
+/// Returns `true` if the other end still agrees: it agreed to the port's own vector, which gets no
+/// worse.
 fn keeps_agreed(port: &PortState) -> bool
     ensures { result ≡ keeps_agreed port.now }
 {
     port.agreed && is_mine(port.info_is) && !port.port_priority.is_less(&port.designated_priority)
 }
 
-/// The port takes over its designated vector and times.
+/// Takes over the port's designated vector and times.
 pub fn update(port: &mut PortState)
     ensures { port.new ≡ update_effect port.old }
 {
@@ -237,7 +240,7 @@ pub fn update(port: &mut PortState)
     port.information = Information::Current;
 }
 
-/// Whether received information is too old, and nothing newer waits.
+/// Returns `true` if received information is too old, and no newer message is pending.
 pub fn aged_guard(port: &PortState) -> bool
     ensures { result ≡ aged_guard port.now }
 {
@@ -248,36 +251,36 @@ pub fn aged_guard(port: &PortState) -> bool
         && !port.received_message
 }
 
-/// What was received is too old.
+/// Marks the received information as too old.
 pub fn aged(port: &mut PortState)
     ensures { port.new ≡ aged_effect port.old }
 {
     age(port);
 }
 
-/// Whether a message waits that may be looked at.
+/// Returns `true` if a message is pending that may be taken.
 pub fn may_take(port: &PortState) -> bool
     ensures { result ≡ may_take port.now }
 {
     is_current(port.information) && port.received_message && !port.update_info
 }
 
-/// Whether a message waits that is better information of a designated port.
+/// Returns `true` if a pending message is better information of a designated port.
 pub fn superior_guard(port: &PortState) -> bool
     ensures { result ≡ superior_guard port.now }
 {
     may_take(port) && class_of(port).is_superior()
 }
 
-/// Whether the port still agrees: it agreed to received information, and the
-/// message says none worse.
+/// Returns `true` if the port still agrees: it agreed to received information, and the message's
+/// vector is no worse.
 fn keeps_agree(port: &PortState) -> bool
     ensures { result ≡ keeps_agree port.now }
 {
     port.agree && port.info_is.is_received() && !is_worse(port, port.message)
 }
 
-/// Whether the message's vector is worse than the port's.
+/// Returns `true` if the message's vector is worse than the port's.
 fn is_worse(port: &PortState, message: Option<Bpdu>) -> bool
     ensures { result ≡ is_less port.now.port_priority (vector_or port.now.port_priority message) }
 {
@@ -288,7 +291,7 @@ fn is_worse(port: &PortState, message: Option<Bpdu>) -> bool
     }
 }
 
-/// The port is the other end's now: roles are to be selected anew.
+/// Marks the port's information as received from the other end and requests selection again.
 fn set_superior_flags(port: &mut PortState)
     ensures { port.new ≡ with_superior_flags port.old }
 {
@@ -300,7 +303,7 @@ fn set_superior_flags(port: &mut PortState)
     port.selected = false;
 }
 
-/// Better information of a designated port is taken over.
+/// Takes over better information of a designated port.
 pub fn superior(port: &mut PortState)
     ensures { port.new ≡ superior_effect port.old }
 {
@@ -312,14 +315,14 @@ pub fn superior(port: &mut PortState)
     port.received_message = false;
 }
 
-/// Whether a message waits that says what the port knows.
+/// Returns `true` if a pending message repeats the port's information.
 pub fn repeated_guard(port: &PortState) -> bool
     ensures { result ≡ repeated_guard port.now }
 {
     may_take(port) && class_of(port).is_repeated()
 }
 
-/// The information that the port has already is kept on.
+/// Keeps the information that the port already has for another period.
 pub fn repeated(port: &mut PortState)
     ensures { port.new ≡ repeated_effect port.old }
 {
@@ -329,14 +332,14 @@ pub fn repeated(port: &mut PortState)
     port.received_message = false;
 }
 
-/// Whether a message waits that is worse information of a designated port.
+/// Returns `true` if a pending message is worse information of a designated port.
 pub fn inferior_guard(port: &PortState) -> bool
     ensures { result ≡ inferior_guard port.now }
 {
     may_take(port) && class_of(port).is_inferior()
 }
 
-/// Worse information of a designated port is disputed if that port learns.
+/// Marks the port as disputed if the message is worse information of a designated port that learns.
 pub fn inferior(port: &mut PortState)
     ensures { port.new ≡ inferior_effect port.old }
 {
@@ -347,14 +350,14 @@ pub fn inferior(port: &mut PortState)
     port.received_message = false;
 }
 
-/// Whether a message waits that a root, alternate or backup port sent.
+/// Returns `true` if a pending message is from a root, alternate or backup port.
 pub fn not_designated_guard(port: &PortState) -> bool
     ensures { result ≡ not_designated_guard port.now }
 {
     may_take(port) && class_of(port).is_not_designated()
 }
 
-/// An answer on a point to point link may be an agreement.
+/// Records whether an answer on a point to point link is an agreement.
 fn take_answer(port: &mut PortState)
     ensures { port.new ≡ with_answer port.old }
 {
@@ -366,7 +369,7 @@ fn take_answer(port: &mut PortState)
     }
 }
 
-/// The answer of a root, alternate or backup port may be an agreement.
+/// Processes the answer of a root, alternate or backup port, which may be an agreement.
 pub fn not_designated(port: &mut PortState)
     ensures { port.new ≡ not_designated_effect port.old }
 {
@@ -375,14 +378,14 @@ pub fn not_designated(port: &mut PortState)
     port.received_message = false;
 }
 
-/// Whether any other message waits.
+/// Returns `true` if any other message is pending.
 pub fn other_guard(port: &PortState) -> bool
     ensures { result ≡ other_guard port.now }
 {
     may_take(port) && class_of(port).is_other()
 }
 
-/// Of any other message a notification is noted.
+/// Processes any other message: records a notification.
 pub fn other(port: &mut PortState)
     ensures { port.new ≡ other_effect port.old }
 {

@@ -1,5 +1,6 @@
-//! The machines of a bridge's ports that are not of the roles (IEEE 802.1D-2004, clause 17, in this
-//! project's own table): what each of their rules asks and does. `rstp_run` fires them.
+//! The machines of a bridge's ports other than the role machines (IEEE 802.1D-2004, clause 17, in
+//! this project's own table): the guard and the effect of each of their rules. `rstp_run` fires the
+//! rules.
 #![tactic(auto)]
 
 pub mod bridge_detection;

@@ -15,28 +15,28 @@ ghost use Rattle.rstp_machines.specs.Migration.{
 
 use rstp_state::port::{Migration, PortState};
 
-/// Whether the machine is in its state Checking.
+/// Returns `true` if the machine is in its state Checking.
 pub fn is_checking(state: Migration) -> bool
     ensures { result ≡ is_checking state }
 {
     matches!(state, Migration::Checking)
 }
 
-/// Whether the machine is in its state Selecting.
+/// Returns `true` if the machine is in its state Selecting.
 fn is_selecting(state: Migration) -> bool
     ensures { result ≡ is_selecting state }
 {
     matches!(state, Migration::Selecting)
 }
 
-/// Whether the machine is in its state Sensing.
+/// Returns `true` if the machine is in its state Sensing.
 fn is_sensing(state: Migration) -> bool
     ensures { result ≡ is_sensing state }
 {
     matches!(state, Migration::Sensing)
 }
 
-/// The port sends the rapid protocol, and waits before it listens for the other.
+/// Sends the rapid protocol, and waits before the port listens for the older one.
 pub fn enter_checking(port: &mut PortState)
     ensures { port.new ≡ enter_checking port.old }
 {
@@ -46,7 +46,7 @@ pub fn enter_checking(port: &mut PortState)
     port.migration_delay_while = 3;
 }
 
-/// The port sends the older protocol, and waits before it listens for the rapid one.
+/// Sends the older protocol, and waits before the port listens for the rapid one.
 pub fn enter_selecting(port: &mut PortState)
     ensures { port.new ≡ enter_selecting port.old }
 {
@@ -55,7 +55,7 @@ pub fn enter_selecting(port: &mut PortState)
     port.migration_delay_while = 3;
 }
 
-/// The port listens for the other protocol.
+/// Makes the port listen for the other protocol.
 pub fn enter_sensing(port: &mut PortState)
     ensures { port.new ≡ enter_sensing port.old }
 {
@@ -64,21 +64,21 @@ pub fn enter_sensing(port: &mut PortState)
     port.received_stp = false;
 }
 
-/// A port that is not enabled goes on checking.
+/// Continues checking: the port is not enabled.
 pub fn recheck_guard(port: &PortState) -> bool
     ensures { result ≡ recheck_guard port.now }
 {
     is_checking(port.migration) && port.migration_delay_while != 3 && !port.enabled
 }
 
-/// Checking is over.
+/// Ends checking.
 pub fn checked_guard(port: &PortState) -> bool
     ensures { result ≡ checked_guard port.now }
 {
     is_checking(port.migration) && port.migration_delay_while == 0 && port.enabled
 }
 
-/// Selecting is over.
+/// Ends selecting.
 pub fn selected_guard(port: &PortState) -> bool
     ensures { result ≡ selected_guard port.now }
 {
@@ -86,7 +86,7 @@ pub fn selected_guard(port: &PortState) -> bool
         && (port.migration_delay_while == 0 || !port.enabled || port.check_migration)
 }
 
-/// The port goes back to the rapid protocol.
+/// Moves the port back to the rapid protocol.
 pub fn to_rstp_guard(port: &PortState) -> bool
     ensures { result ≡ to_rstp_guard port.now }
 {
@@ -94,7 +94,7 @@ pub fn to_rstp_guard(port: &PortState) -> bool
         && (!port.enabled || port.check_migration || (!port.send_rstp && port.received_rstp))
 }
 
-/// The port goes over to the older protocol.
+/// Changes the port to the older protocol.
 pub fn to_stp_guard(port: &PortState) -> bool
     ensures { result ≡ to_stp_guard port.now }
 {

@@ -6,14 +6,14 @@ ghost use Rattle.rstp_machines.specs.Receive.{discard_guard, discard_effect, rec
 use bpdu_wire::Bpdu;
 use rstp_state::port::PortState;
 
-/// Whether a port that isn't enabled has something to forget.
+/// Returns `true` if a port that isn't enabled has a message to drop, or an edge delay to restart.
 pub fn discard_guard(port: &PortState) -> bool
     ensures { result ≡ discard_guard port.now }
 {
     (port.received_bpdu || port.edge_delay_while != 3) && !port.enabled
 }
 
-/// A port that is not enabled forgets what came.
+/// Drops the received message of a port that is not enabled, and restarts its edge delay.
 pub fn discard(port: &mut PortState)
     ensures { port.new ≡ discard_effect port.old }
 {
@@ -24,14 +24,15 @@ pub fn discard(port: &mut PortState)
     port.edge_delay_while = 3;
 }
 
-/// Whether a message came that may be handed on: the one before it is done with.
+/// Returns `true` if a message arrived that may go to the other machines: the previous one is
+/// processed.
 pub fn receive_guard(port: &PortState) -> bool
     ensures { result ≡ receive_guard port.now }
 {
     port.received_bpdu && port.enabled && !port.received_message
 }
 
-/// The stored message goes to the other machines, and the port is no edge.
+/// Passes the stored message to the other machines, and makes the port no edge.
 pub fn receive(port: &mut PortState)
     ensures { port.new ≡ receive_effect port.old }
 {

@@ -1,5 +1,5 @@
-//! The topology change rules (17.31): what was learnt is forgotten where the tree has changed, and
-//! the bridges tell each other so.
+//! The topology change rules (17.31): bridges flush learnt addresses if the tree has changed, and
+//! announce the change to each other.
 
 ghost use Rattle.std.specs.Prelude.{◌≡◌, ◌<◌, length, map};
 ghost use Rattle.rstp_state.specs.Port.{is_active, is_inactive, is_learning};
@@ -38,35 +38,36 @@ ghost use Rattle.rstp_machines.specs.TopologyChange.{
 
 use rstp_state::port::{PortState, Timing, Topology};
 
-/// Whether the machine is in its state Inactive.
+/// Returns `true` if the machine is in its state Inactive.
 fn is_inactive(state: Topology) -> bool
     ensures { result ≡ is_inactive state }
 {
     matches!(state, Topology::Inactive)
 }
 
-/// Whether the machine is in its state Learning.
+/// Returns `true` if the machine is in its state Learning.
 fn is_learning(state: Topology) -> bool
     ensures { result ≡ is_learning state }
 {
     matches!(state, Topology::Learning)
 }
 
-/// Whether the machine is in its state Active.
+/// Returns `true` if the machine is in its state Active.
 pub fn is_active(state: Topology) -> bool
     ensures { result ≡ is_active state }
 {
     matches!(state, Topology::Active)
 }
 
-/// Whether the port's role has it in the tree: root or designated.
+/// Returns `true` if the port is in the tree by its role: root or designated.
 fn is_in_tree(port: &PortState) -> bool
     ensures { result ≡ is_in_tree port.now }
 {
     port.role.is_root() || port.role.is_designated()
 }
 
-/// Whether the port was told of a change that it hasn't dealt with.
+/// Returns `true` if the port has a change that it hasn't processed: received, acknowledged, or to
+/// be passed on.
 fn has_changes(port: &PortState) -> bool
     ensures { result ≡ has_changes port.now }
 {
@@ -76,7 +77,7 @@ fn has_changes(port: &PortState) -> bool
         || port.propagate_topology_change
 }
 
-/// Forgets what the port was told of changes.
+/// Clears the port's changes: received, acknowledged, and to be passed on.
 fn clear_changes(port: &mut PortState)
     ensures { port.new ≡ without_changes port.old }
 {
@@ -86,7 +87,7 @@ fn clear_changes(port: &mut PortState)
     port.propagate_topology_change = false;
 }
 
-/// The time in which the change is told is begun, unless it runs (17.21.7, newTcWhile).
+/// Starts the time in which the port sends the change, unless it is running (17.21.7, newTcWhile).
 fn start_change_timer(timing: &Timing, port: &mut PortState)
     ensures { port.new ≡ with_change_timer timing.now port.old }
 {
@@ -101,14 +102,14 @@ fn start_change_timer(timing: &Timing, port: &mut PortState)
     }
 }
 
-/// The port is to pass a change on.
+/// Marks the port to pass on a change.
 fn propagate_change(port: &mut PortState)
     ensures { port.new ≡ with_propagation port.old }
 {
     port.propagate_topology_change = true;
 }
 
-/// Every port is to pass a change on.
+/// Marks every port to pass on a change.
 fn propagate_changes(ports: &mut [PortState])
     ensures { ports.new ≡ map with_propagation ports.old }
 {
@@ -117,14 +118,14 @@ fn propagate_changes(ports: &mut [PortState])
     }
 }
 
-/// Whether the machine is Inactive at a port that begins to learn.
+/// Returns `true` if the machine is Inactive at a port that begins to learn.
 pub fn tc_learning_guard(port: &PortState) -> bool
     ensures { result ≡ tc_learning_guard port.now }
 {
     is_inactive(port.topology) && port.learn && !port.flush
 }
 
-/// The port begins to learn.
+/// Enters Learning: the port begins to learn.
 pub fn tc_learning(port: &mut PortState)
     ensures { port.new ≡ tc_learning_effect port.old }
 {
@@ -132,14 +133,14 @@ pub fn tc_learning(port: &mut PortState)
     port.topology = Topology::Learning;
 }
 
-/// Whether a port of the tree begins to forward: a change.
+/// Returns `true` if a port of the tree begins to forward, which is a change.
 pub fn detected_guard(port: &PortState) -> bool
     ensures { result ≡ detected_guard port.now }
 {
     is_learning(port.topology) && is_in_tree(port) && port.forward && !port.oper_edge
 }
 
-/// The port is active now, which is a change: it tells of it for a while.
+/// Makes the port active, which is a change: the port sends it for some time.
 fn detect(timing: &Timing, port: &mut PortState)
     ensures { port.new ≡ detected_at timing.now port.old }
 {
@@ -148,7 +149,8 @@ fn detect(timing: &Timing, port: &mut PortState)
     port.new_info = true;
 }
 
-/// The port begins to forward, which is a change that every other port is to pass on.
+/// Makes the port active as it begins to forward, and marks every other port to pass on this
+/// change.
 pub fn detected(timing: &Timing, ports: &mut [PortState], p: usize)
     requires { p < length ports.old }
     ensures { ports.new ≡ detected_effect timing.now p ports.old }
@@ -159,21 +161,21 @@ pub fn detected(timing: &Timing, ports: &mut [PortState], p: usize)
     ports[p] = port;
 }
 
-/// Whether a port that isn't active was told of a change.
+/// Returns `true` if a port that isn't active has a change to clear.
 pub fn tc_clear_guard(port: &PortState) -> bool
     ensures { result ≡ tc_clear_guard port.now }
 {
     is_learning(port.topology) && has_changes(port) && !detected_guard(port)
 }
 
-/// A port that is not in the tree hears of no changes.
+/// Clears the changes of a port that is not active.
 pub fn tc_clear(port: &mut PortState)
     ensures { port.new ≡ tc_clear_effect port.old }
 {
     clear_changes(port);
 }
 
-/// Whether a port out of the tree learns no longer.
+/// Returns `true` if a port outside the tree no longer learns.
 pub fn tc_inactive_guard(port: &PortState) -> bool
     ensures { result ≡ tc_inactive_guard port.now }
 {
@@ -184,7 +186,7 @@ pub fn tc_inactive_guard(port: &PortState) -> bool
         && !has_changes(port)
 }
 
-/// The port learns no longer, so what was learnt is forgotten.
+/// Enters Inactive: the port no longer learns, so its learnt addresses have to be flushed.
 pub fn tc_inactive(port: &mut PortState)
     ensures { port.new ≡ tc_inactive_effect port.old }
 {
@@ -194,14 +196,14 @@ pub fn tc_inactive(port: &mut PortState)
     port.acknowledge_topology_change = false;
 }
 
-/// Whether an active port left the tree, or is an edge.
+/// Returns `true` if an active port left the tree, or is an edge.
 pub fn tc_back_guard(port: &PortState) -> bool
     ensures { result ≡ tc_back_guard port.now }
 {
     is_active(port.topology) && (!is_in_tree(port) || port.oper_edge)
 }
 
-/// The port left the tree, or is an edge.
+/// Goes back to Learning: the port left the tree, or is an edge.
 pub fn tc_back(port: &mut PortState)
     ensures { port.new ≡ tc_back_effect port.old }
 {
@@ -209,14 +211,14 @@ pub fn tc_back(port: &mut PortState)
     port.topology = Topology::Learning;
 }
 
-/// Whether a bridge of the older protocol told an active port of a change.
+/// Returns `true` if an active port received a change from a bridge of the older protocol.
 pub fn notified_tcn_guard(port: &PortState) -> bool
     ensures { result ≡ notified_tcn_guard port.now }
 {
     is_active(port.topology) && port.received_notification
 }
 
-/// What was told is dealt with; a designated port is to acknowledge it.
+/// Clears the received change; a designated port has to acknowledge it.
 fn note(port: &mut PortState)
     ensures { port.new ≡ notified_at port.old }
 {
@@ -226,7 +228,7 @@ fn note(port: &mut PortState)
         || port.role.is_designated();
 }
 
-/// The port tells the change for a while, and what it was told is dealt with.
+/// Starts the time in which the port sends the change, and clears the received change.
 fn note_notification(timing: &Timing, port: &mut PortState)
     ensures { port.new ≡ notified_tcn_at timing.now port.old }
 {
@@ -234,7 +236,8 @@ fn note_notification(timing: &Timing, port: &mut PortState)
     note(port);
 }
 
-/// A bridge of the older protocol tells of a change, which every other port is to pass on.
+/// Processes a change that a bridge of the older protocol announced: every other port has to pass
+/// it on.
 pub fn notified_tcn(timing: &Timing, ports: &mut [PortState], p: usize)
     requires { p < length ports.old }
     ensures { ports.new ≡ notified_tcn_effect timing.now p ports.old }
@@ -245,14 +248,14 @@ pub fn notified_tcn(timing: &Timing, ports: &mut [PortState], p: usize)
     ports[p] = port;
 }
 
-/// Whether a message told an active port of a change.
+/// Returns `true` if a message announced a change to an active port.
 pub fn notified_tc_guard(port: &PortState) -> bool
     ensures { result ≡ notified_tc_guard port.now }
 {
     is_active(port.topology) && port.received_topology_change
 }
 
-/// A message tells of a change, which every other port is to pass on.
+/// Processes a change that a message announced: every other port has to pass it on.
 pub fn notified_tc(ports: &mut [PortState], p: usize)
     requires { p < length ports.old }
     ensures { ports.new ≡ notified_tc_effect p ports.old }
@@ -263,14 +266,14 @@ pub fn notified_tc(ports: &mut [PortState], p: usize)
     ports[p] = port;
 }
 
-/// Whether an active port that isn't an edge is to pass a change on.
+/// Returns `true` if an active port that isn't an edge has to pass on a change.
 pub fn propagating_guard(port: &PortState) -> bool
     ensures { result ≡ propagating_guard port.now }
 {
     is_active(port.topology) && port.propagate_topology_change && !port.oper_edge
 }
 
-/// The port passes a change on, and what was learnt at it is forgotten.
+/// Passes on a change; the addresses learnt at the port have to be flushed.
 pub fn propagating(timing: &Timing, port: &mut PortState)
     ensures { port.new ≡ propagating_effect timing.now port.old }
 {
@@ -279,14 +282,14 @@ pub fn propagating(timing: &Timing, port: &mut PortState)
     port.propagate_topology_change = false;
 }
 
-/// Whether an active port's change was acknowledged.
+/// Returns `true` if an active port's change was acknowledged.
 pub fn acknowledged_guard(port: &PortState) -> bool
     ensures { result ≡ acknowledged_guard port.now }
 {
     is_active(port.topology) && port.received_acknowledgement
 }
 
-/// The other end knows of the change.
+/// Ends the sending of the change: the other end acknowledged it.
 pub fn acknowledged(port: &mut PortState)
     ensures { port.new ≡ acknowledged_effect port.old }
 {
@@ -294,14 +297,14 @@ pub fn acknowledged(port: &mut PortState)
     port.received_acknowledgement = false;
 }
 
-/// Whether what was learnt at the port is to be forgotten.
+/// Returns `true` if the addresses learnt at the port have to be flushed.
 pub fn flush_guard(port: &PortState) -> bool
     ensures { result ≡ flush_guard port.now }
 {
     port.flush
 }
 
-/// What was learnt at the port is forgotten; the event's answer tells so.
+/// Flushes the addresses learnt at the port; the event's result reports the flush.
 pub fn flush(port: &mut PortState)
     ensures { port.new ≡ flush_effect port.old }
 {

@@ -1,4 +1,4 @@
-//! The transmit rules (17.26): what a port sends, and when.
+//! The transmit rules (17.26): which messages a port sends, and when.
 
 ghost use Rattle.std.specs.Prelude.{◌≡◌, ◌<◌, ◌≤◌};
 ghost use Rattle.rstp_machines.specs.Transmit.{
@@ -29,7 +29,8 @@ use bpdu_wire::{
 };
 use rstp_state::port::{PortState, Role, Timing};
 
-/// Seconds in the units of a message. What doesn't fit the field is written as its greatest number.
+/// Returns seconds in the units of a message. A value that doesn't fit the field becomes the
+/// field's greatest number.
 fn field_of(seconds: u16) -> u16
     ensures { result ≡ field_of seconds }
 {
@@ -40,7 +41,7 @@ fn field_of(seconds: u16) -> u16
     }
 }
 
-/// The port's designated vector and times, with these flags.
+/// Returns a message with the port's designated vector and times, and these flags.
 fn message_with(flags: u8, port: &PortState) -> Message
     ensures { result ≡ message_with flags port.now }
 {
@@ -57,7 +58,7 @@ fn message_with(flags: u8, port: &PortState) -> Message
     }
 }
 
-/// The flag, where it is wanted.
+/// Returns the flag if it is wanted, else 0.
 fn flag_if(wanted: bool, flag: u8) -> u8
     ensures value { result ≡ flag_if wanted flag }
     ensures small { result ≤ flag }
@@ -65,7 +66,7 @@ fn flag_if(wanted: bool, flag: u8) -> u8
     if wanted { flag } else { 0 }
 }
 
-/// The flags of a message of the older protocol.
+/// Returns the flags of a message of the older protocol.
 fn config_flags(port: &PortState) -> u8
     ensures { result ≡ config_flags port.now }
 {
@@ -73,7 +74,7 @@ fn config_flags(port: &PortState) -> u8
         + flag_if(port.acknowledge_topology_change, CHANGE_ACKNOWLEDGEMENT)
 }
 
-/// The role as two bits of the flags (9.3.3).
+/// Returns the role as two bits of the flags (9.3.3).
 fn role_flags(role: Role) -> u8
     ensures value { result ≡ role_flags role }
     ensures small { result ≤ ROLE_BITS }
@@ -85,7 +86,7 @@ fn role_flags(role: Role) -> u8
     }
 }
 
-/// The flags of a message of the rapid protocol.
+/// Returns the flags of a message of the rapid protocol.
 fn rst_flags(port: &PortState) -> u8
     ensures { result ≡ rst_flags port.now }
 {
@@ -97,21 +98,21 @@ fn rst_flags(port: &PortState) -> u8
         + flag_if(port.agree, AGREEMENT)
 }
 
-/// Whether the port has something new to send, and has sent few enough messages.
+/// Returns `true` if the port has something new to send, and has not sent too many messages lately.
 fn may_send(timing: &Timing, port: &PortState) -> bool
     ensures { result ≡ may_send timing.now port.now }
 {
     port.may_act() && port.new_info && port.hello_when != 0 && port.transmit_count < timing.hold
 }
 
-/// Whether the port may send, has not sent at this event, and has a part in the tree.
+/// Returns `true` if the port may send, has not sent at this event, and has a part in the tree.
 fn is_ready(timing: &Timing, port: &PortState) -> bool
     ensures { result ≡ is_ready timing.now port.now }
 {
     may_send(timing, port) && port.slot.is_none() && port.enabled && !port.role.is_disabled()
 }
 
-/// A message is put into the slot, and counted.
+/// Puts a message into the slot, and counts it.
 fn send(timing: &Timing, bpdu: Bpdu, port: &mut PortState)
     requires { port.old.transmit_count < timing.now.hold }
     ensures { port.new ≡ sending timing.now bpdu port.old }
@@ -123,15 +124,15 @@ fn send(timing: &Timing, bpdu: Bpdu, port: &mut PortState)
     port.hello_when = u32::from(timing.hello);
 }
 
-/// Whether a Hello time is over.
+/// Returns `true` if a Hello time is over.
 pub fn periodic_guard(port: &PortState) -> bool
     ensures { result ≡ periodic_guard port.now }
 {
     port.may_act() && port.hello_when == 0
 }
 
-/// A Hello time passed, so a designated port says again what it says, and a root port that it
-/// knows of a change.
+/// Requests the periodic message after a Hello time: a designated port repeats its information, and
+/// a root port its topology change.
 pub fn periodic(timing: &Timing, port: &mut PortState)
     ensures { port.new ≡ periodic_effect timing.now port.old }
 {
@@ -141,14 +142,14 @@ pub fn periodic(timing: &Timing, port: &mut PortState)
         || (port.role.is_root() && port.topology_change_while != 0);
 }
 
-/// Whether a designated port is to send by the older protocol.
+/// Returns `true` if a designated port has to send by the older protocol.
 pub fn send_config_guard(timing: &Timing, port: &PortState) -> bool
     ensures { result ≡ send_config_guard timing.now port.now }
 {
     is_ready(timing, port) && !port.send_rstp && port.role.is_designated()
 }
 
-/// A designated port sends a message of the older protocol.
+/// Sends a message of the older protocol from a designated port.
 pub fn send_config(timing: &Timing, port: &mut PortState)
     requires { port.old.transmit_count < timing.now.hold }
     ensures { port.new ≡ send_config_effect timing.now port.old }
@@ -158,14 +159,14 @@ pub fn send_config(timing: &Timing, port: &mut PortState)
     port.acknowledge_topology_change = false;
 }
 
-/// Whether the root port is to tell of a change by the older protocol.
+/// Returns `true` if the root port has to announce a change by the older protocol.
 pub fn send_tcn_guard(timing: &Timing, port: &PortState) -> bool
     ensures { result ≡ send_tcn_guard timing.now port.now }
 {
     is_ready(timing, port) && !port.send_rstp && port.role.is_root()
 }
 
-/// The root port tells a bridge of the older protocol of a change.
+/// Announces a change from the root port to a bridge of the older protocol.
 pub fn send_tcn(timing: &Timing, port: &mut PortState)
     requires { port.old.transmit_count < timing.now.hold }
     ensures { port.new ≡ send_tcn_effect timing.now port.old }
@@ -173,14 +174,14 @@ pub fn send_tcn(timing: &Timing, port: &mut PortState)
     send(timing, Bpdu::Tcn, port);
 }
 
-/// Whether the port is to send by the rapid protocol.
+/// Returns `true` if the port has to send by the rapid protocol.
 pub fn send_rst_guard(timing: &Timing, port: &PortState) -> bool
     ensures { result ≡ send_rst_guard timing.now port.now }
 {
     is_ready(timing, port) && port.send_rstp
 }
 
-/// The port sends a message of the rapid protocol.
+/// Sends a message of the rapid protocol.
 pub fn send_rst(timing: &Timing, port: &mut PortState)
     requires { port.old.transmit_count < timing.now.hold }
     ensures { port.new ≡ send_rst_effect timing.now port.old }

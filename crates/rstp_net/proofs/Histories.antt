@@ -1,4 +1,4 @@
--- Bridges that come from their starts by events, each with the rules that fire at it.
+-- Bridges that events led to from their starts, each event with the rules that fire at it.
 use Rattle.std.proofs.Common.{◌≡◌, ◌≤◌, Bool, true, false, ◌&&◌, List, [], ◌∷◌, length, inl, refl, arith}
 use Rattle.std.specs.Prelude.{ℕ, map}
 use Rattle.rstp_state.specs.declared.start.PortSettings.{PortSettings}
@@ -32,7 +32,7 @@ abbrev pub runs : List Firing → Tree → Tree
 runs [] s = s
 runs (f ∷ earlier) s = after f.rule (runs earlier s) f.place
 
--- each may fire where those before it have led
+-- each rule may fire in the state that the earlier firings led to
 abbrev pub all_fire : List Firing → Tree → Bool
 all_fire [] s = true
 all_fire (f ∷ earlier) s = all_fire earlier s && guard f.rule (runs earlier s) f.place
@@ -44,12 +44,12 @@ run_is (f ∷ earlier) s h =
 
 -- ---- histories
 
--- an event, and what fires at it
+-- an event, and the firings at it
 pub record Happening : Type 0 where
   pub event : Event
   pub firings : List Firing
 
--- the bridge after these, the newest first
+-- the bridge after these events and firings, the newest first
 abbrev pub come_to : List Happening → Tree → Tree
 come_to [] s = s
 come_to (h ∷ earlier) s = runs h.firings (direct h.event (come_to earlier s))
@@ -75,18 +75,18 @@ comes law (h ∷ earlier) s e =
       happens,
     )
 
--- so it is one that these settings may come to
+-- so a bridge with these settings may reach this state
 pub can_be : RunsHappen → (settings : Settings) (ports : List PortSettings) (history : List Happening)
     → all_happen history (start settings ports) ≡ true
     → CanBe settings ports (come_to history (start settings ports))
 can_be law settings ports history e = (map (λ h. h.event) history, comes law history (start settings ports) e)
 
--- ---- what fires
+-- ---- the firings
 
 abbrev fire : Rule → ℕ → Firing
 fire rule p = record { rule = rule; place = p }
 
--- as an edge port comes up
+-- when an edge port comes up
 abbrev pub coming_up : ℕ → List Firing
 coming_up p =
     fire (rules.Transmit transmit_rule.SendRst) p ∷ fire (rules.Topology topology_rule.TcLearning) p
@@ -96,7 +96,7 @@ coming_up p =
     ∷ fire (rules.Information information_rule.Update) p ∷ fire rules.Select 0
     ∷ fire (rules.Information information_rule.Enabled) p ∷ []
 
--- as a bridge hears of the root at its first port
+-- when a bridge receives the root at its first port
 abbrev pub hearing : List Firing
 hearing =
     fire (rules.Transmit transmit_rule.SendRst) 0 ∷ fire (rules.Topology topology_rule.Detected) 0
@@ -104,7 +104,8 @@ hearing =
     ∷ fire rules.Select 0 ∷ fire (rules.Information information_rule.Superior) 0
     ∷ fire (rules.Receive receive_rule.Receive) 0 ∷ []
 
--- as it hears at its second port of a bridge that is as near to the root, and takes that one's port for the segment's
+-- when the bridge receives, at its second port, from a bridge that is as near to the root, and takes that bridge's port
+-- for the segment's designated port
 abbrev pub blocking : List Firing
 blocking =
     fire (rules.Transmit transmit_rule.SendRst) 1 ∷ fire (rules.Topology topology_rule.Flush) 1

@@ -1,4 +1,5 @@
--- A ring of three bridges at rest, with one blocked port: the laws' premises can be met where a circle would be.
+-- A ring of three bridges at rest, with one blocked port: it meets the laws' premises, and without the blocked port it
+-- would be a circle.
 use Rattle.std.proofs.Common.{◌≡◌, ℕ, zero, suc, ◌+◌, ◌-◌, true, false, ◌&&◌, List, [], ◌∷◌, length, Some, slice_get}
 use Rattle.std.proofs.Common.{◌⊎◌, inl, inr, refl, sym, ap, subst, ◌∙◌, arith}
 use Rattle.bpdu_wire.specs.declared.bpdu.Bpdu.{Bpdu}
@@ -24,12 +25,11 @@ use Rattle.rstp_net.proofs.Histories.{Happening, come_to, all_happen, can_be, co
 no : {A : Type 0} → false ≡ true → A
 no h = let e : ⊥ = cc in absurd e
 
--- ---- what is asked of the three bridges
+-- ---- the conditions on the three bridges
 
--- Each has two ports. The first one is the root, and its ports lead to the two others' first ones, by which they take
--- it
--- for the root; of the ports of the segment between these the second bridge's is designated, and the third's passes no
--- frame.
+-- Each bridge has two ports. The first bridge is the root. Its ports lead to the first ports of the two other bridges,
+-- which are their root ports. The segment between these two bridges joins their second ports: the second bridge's is
+-- designated, and the third's passes no frame.
 pub record IsRing (a b c : Tree) (a0 a1 b0 b1 c0 c1 : PortState) : Type 0 where
   pub a_reached : IsReached a
   pub b_reached : IsReached b
@@ -67,7 +67,7 @@ pub record IsRing (a b c : Tree) (a0 a1 b0 b1 c0 c1 : PortState) : Type 0 where
 abbrev spot : ℕ → ℕ → Spot
 spot b p = record { bridge = b; place = p }
 
--- the segment of a port, by the places of its bridge and of itself
+-- the segment of a port, by the place of its bridge and its own place
 abbrev segment_of : ℕ → ℕ → ℕ
 segment_of zero zero = 0
 segment_of zero (suc p) = 1
@@ -79,7 +79,7 @@ segment_of (suc (suc b)) (suc p) = 2
 abbrev pub ring_of : Tree → Tree → Tree → Network
 ring_of a b c = record { bridges = a ∷ b ∷ c ∷ []; segment = λ x. segment_of x.bridge x.place }
 
--- the spot is that one, and its port this one
+-- the spot has this bridge and place, and its port is the known one
 record IsSpot (b p : ℕ) (known : PortState) (x : Spot) (port : PortState) : Type 0 where
   pub bridge : x.bridge ≡ b
   pub place : x.place ≡ p
@@ -113,7 +113,7 @@ module _ (a b c : Tree) (a0 a1 b0 b1 c0 c1 : PortState) (is : IsRing a b c a0 a1
         | inr k ↦ inr (record { bridge = here; place = k.0; same = k.1 })
       ]
 
-  -- a designated port is one of three
+  -- a designated port is one of three ports
   AreDesignated : Spot → PortState → Type 0
   AreDesignated x port = IsSpot 0 0 a0 x port ⊎ (IsSpot 0 1 a1 x port ⊎ IsSpot 1 1 b1 x port)
 
@@ -143,7 +143,7 @@ module _ (a b c : Tree) (a0 a1 b0 b1 c0 c1 : PortState) (is : IsRing a b c a0 a1
       → segment_of x.bridge x.place ≡ segment_of y.bridge y.place → (m ≡ n → ⊥) → ⊥
   apart m n x y at_x at_y same differ = differ (sym at_x ∙ same ∙ at_y)
 
-  -- a port has heard itself
+  -- if both ports are the known one: its own vector is no better than the vector that it has
   both_at : (known p d : PortState) → known ≡ p → known ≡ d
       → is_less known.designated_priority known.port_priority ≡ false
       → is_less d.designated_priority p.port_priority ≡ false
@@ -174,7 +174,8 @@ module _ (a b c : Tree) (a0 a1 b0 b1 c0 c1 : PortState) (is : IsRing a b c a0 a1
       → is_root port.role ≡ true → A
   not_root known port off same on = no (sym off ∙ ap (λ (p : PortState). is_root p.role) same ∙ on)
 
-  -- the root bridge's port at place p tells the root port known, which is at the first place of the bridge at place n
+  -- the known root port, at the first place of the bridge at place n, has the times of the root bridge's port at place
+  -- p
   told_by : (n p : ℕ) (teller known : PortState) (x : Spot) (port : PortState) → IsSpot n 0 known x port
       → slice_get a.ports p ≡ Some teller
       → segment_of 0 p ≡ segment_of n 0 → is_designated teller.role ≡ true → HasTimesOf teller known
@@ -339,7 +340,7 @@ module _ (a b c : Tree) (a0 a1 b0 b1 c0 c1 : PortState) (is : IsRing a b c a0 a1
   pub some_rests : CanBeAtRest
   some_rests = (ring_of a b c, spot 1 1, spot 0 0, network, at_rest, over_second)
 
--- ---- three such bridges
+-- ---- three bridges that meet the conditions
 
 abbrev pub settings_of : ℕ → Settings
 settings_of id = record { identifier = id; hello = 2; max_age = 20; forward_delay = 15; hold = 6 }
@@ -350,7 +351,7 @@ edge_port = record { priority = 128; cost = 20000; admin_edge = true; auto_edge 
 abbrev pub two_ports : List PortSettings
 two_ports = edge_port ∷ edge_port ∷ []
 
--- what a designated port says
+-- the message of a designated port
 abbrev proposal : ℕ → ℕ → ℕ → ℕ → Bpdu
 proposal cost bridge port age =
     Rst (record {

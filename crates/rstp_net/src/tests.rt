@@ -1,5 +1,6 @@
 //! A ring of four bridges whose messages take a second from bridge to bridge, and a plain function
-//! that says whether its passing ports hold a circle. What passes at each second is from outside.
+//! that returns whether its passing ports form a circle. The expected passing ports at each second
+//! are from outside.
 
 use arrayvec::ArrayVec;
 use bpdu_wire::{Bpdu, BridgeId};
@@ -16,7 +17,7 @@ struct Spot {
 }
 
 impl Spot {
-    /// The other end of the link: port 1 leads to port 2 of the next bridge.
+    /// Returns the other end of the link: port 1 leads to port 2 of the next bridge.
     fn far_end(self) -> Spot {
         if self.port == 1 {
             Spot {
@@ -31,7 +32,7 @@ impl Spot {
         }
     }
 
-    /// The other port of the same bridge.
+    /// Returns the other port of the same bridge.
     fn beside(self) -> Spot {
         Spot {
             bridge: self.bridge,
@@ -39,14 +40,14 @@ impl Spot {
         }
     }
 
-    /// Whether the port is an end of the link from the first bridge to the second.
+    /// Returns `true` if the port is an end of the link from the first bridge to the second.
     fn is_on_first_link(self) -> bool {
         let first = Spot { bridge: 0, port: 1 };
         self == first || self.far_end() == first
     }
 }
 
-/// A message on its way to a port.
+/// A message in flight to a port.
 #[derive(Clone, Copy)]
 struct Letter {
     to: Spot,
@@ -57,12 +58,12 @@ struct Letter {
 #[derive(Drop)]
 struct Ring {
     bridges: [Bridge; 4],
-    /// Whether the link from the first bridge to the second is cut.
+    /// The link from the first bridge to the second is cut.
     is_cut: bool,
     under_way: ArrayVec<Option<Letter>, 16>,
 }
 
-/// The bridge of this address, whose two ports may be edges by their settings.
+/// Returns the bridge with this address. Its two ports are edges by their settings if `admin_edge`.
 fn bridge_of_ring(address: u64, admin_edge: bool) -> Bridge {
     let port = PortSettings {
         priority: 128,
@@ -83,7 +84,7 @@ fn bridge_of_ring(address: u64, admin_edge: bool) -> Bridge {
     })
 }
 
-/// The event at a bridge that has its port.
+/// Processes the event. Returns `None` if the bridge lacks the event's port.
 fn happen(bridge: &mut Bridge, event: Event) -> Option<Outcome> {
     let ports = bridge.len();
     let is_there = match event {
@@ -100,7 +101,7 @@ fn happen(bridge: &mut Bridge, event: Event) -> Option<Outcome> {
 }
 
 impl Ring {
-    /// Four bridges all of whose ports came up at once.
+    /// Returns four bridges whose ports all came up at once.
     fn new(admin_edge: bool) -> Self {
         let mut ring = Ring {
             bridges: [
@@ -119,12 +120,12 @@ impl Ring {
         ring
     }
 
-    /// Whether messages and frames can't leave the port, since its link is cut.
+    /// Returns `true` if messages and frames can't leave the port because its link is cut.
     fn is_cut_at(&self, spot: Spot) -> bool {
         self.is_cut && spot.is_on_first_link()
     }
 
-    /// The event at the bridge. What it sends is on its way.
+    /// Processes the event at the bridge, and puts the bridge's messages onto the links.
     fn event(&mut self, bridge: usize, event: Event) {
         let outcome = match self.bridges.get_mut(bridge) {
             Some(there) => happen(there, event),
@@ -135,7 +136,7 @@ impl Ring {
         }
     }
 
-    /// Puts what a bridge sent onto the links.
+    /// Puts the messages of a bridge onto the links.
     fn post(&mut self, bridge: usize, outcome: &Outcome) {
         for (port, bpdu) in outcome.out.iter() {
             let from = Spot {
@@ -152,7 +153,7 @@ impl Ring {
         }
     }
 
-    /// What was sent in the last second comes, and a second passes at each bridge.
+    /// Delivers the messages of the last second, and applies a second at each bridge.
     fn pass_second(&mut self) {
         let letters = self.under_way.take();
         for letter in letters.iter() {
@@ -167,14 +168,14 @@ impl Ring {
         }
     }
 
-    /// The link from the first bridge to the second is cut, which both see at once.
+    /// Cuts the link from the first bridge to the second; both detect it at once.
     fn cut(&mut self) {
         self.is_cut = true;
         self.event(0, Event::PortDown(1));
         self.event(1, Event::PortDown(2));
     }
 
-    /// Whether frames pass at the port.
+    /// Returns `true` if the port passes frames.
     fn passes(&self, spot: Spot) -> bool {
         match self.bridges.get(spot.bridge) {
             Some(bridge) => {
@@ -184,7 +185,8 @@ impl Ring {
         }
     }
 
-    /// Where a frame comes in next that comes in at the port, if it passes on.
+    /// Returns the next port where a frame enters that entered at this port, or `None` if it
+    /// doesn't get there.
     fn next(&self, at: Spot) -> Option<Spot> {
         let out = at.beside();
         let next = out.far_end();
@@ -196,7 +198,7 @@ impl Ring {
         }
     }
 
-    /// Whether a frame that comes in at the port comes back to it after four crossings.
+    /// Returns `true` if a frame that enters at the port returns to it after four crossings.
     fn comes_back(&self, start: Spot) -> bool {
         let mut at = start;
         for _crossing in 0..4 {
@@ -208,12 +210,13 @@ impl Ring {
         at == start
     }
 
-    /// Whether a frame can run in a circle, one way round or the other.
+    /// Returns `true` if a frame can run in a circle, in one direction or the other.
     fn holds_circle(&self) -> bool {
         self.comes_back(Spot { bridge: 0, port: 1 }) || self.comes_back(Spot { bridge: 0, port: 2 })
     }
 
-    /// Which ports pass at each bridge: 0 for none, 1 or 2 for that port alone, 3 for both.
+    /// Returns the ports that pass frames at each bridge: 0 for none, 1 or 2 for only that port, 3
+    /// for both.
     fn passing(&self) -> [u8; 4] {
         [
             self.passing_at(0),
@@ -235,7 +238,7 @@ impl Ring {
     }
 }
 
-/// What passes at each of four bridges in the seconds after the ports came up, and
+/// The ports that pass frames at each of four bridges in the seconds after the ports came up, and
 /// after the link was cut.
 const COMING_UP: [[u8; 4]; 3] = [[0, 2, 2, 1], [3, 3, 2, 1], [3, 3, 2, 3]];
 
@@ -263,8 +266,8 @@ fn ring_rests_three_seconds_after_it_came_up_and_after_a_cut(rt: HostRuntime) ->
     Ok(())
 }
 
-/// Ports that are edges by their settings pass as they come up: the circle is there until the
-/// bridges hear of one another.
+/// Ports that are edges by their settings pass frames as soon as they come up: the circle exists
+/// until the bridges receive each other's messages.
 #[test]
 fn unheard_edges_hold_a_circle(rt: HostRuntime) -> Result<(), Fail> {
     let mut ring = Ring::new(true);

@@ -1,4 +1,4 @@
--- What a rule of one port asks of, or sets at, the other ports.
+-- The values that a rule of one port reads from, or sets at, all other ports.
 use Rattle.std.specs.Prelude.{ℕ, Bool, true, ◌&&◌, ◌||◌, ◌==◌, ◌+◌, List, take, drop}
 use Rattle.std.specs.List.{list_all}
 use Rattle.rstp_state.specs.declared.port.PortState.{PortState}
@@ -14,13 +14,13 @@ with_re_root port = record port { re_root = true }
 abbrev pub is_in_step : PortState → Bool
 is_in_step port = may_act port && has_role port && (is_root port.role || port.synced)
 
--- every port is in step
+-- every port has taken its role, and is the root port or synced
 abbrev pub all_synced : List PortState → Bool
 all_synced ports = list_all is_in_step ports
 
 abbrev pub is_not_recent : PortState → Bool
 is_not_recent port = port.recent_root_while == 0
 
--- no other port was the root port lately
+-- no other port was a root port recently
 abbrev pub re_rooted : ℕ → List PortState → Bool
 re_rooted p ports = list_all is_not_recent (take p ports) && list_all is_not_recent (drop (p + 1) ports)

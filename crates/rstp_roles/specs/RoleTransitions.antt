@@ -1,5 +1,5 @@
--- The role transitions (IEEE 802.1D-2004, 17.29, in this project's own table): what each rule asks
--- of its port, and what it does, in the order in which they are tried.
+-- The role transitions (IEEE 802.1D-2004, 17.29, in this project's own table): the guard and the effect of each rule,
+-- in the order in which the bridge tries them.
 use Rattle.std.specs.Prelude.{ℕ, Bool, true, false, not, ◌&&◌, ◌||◌, ◌==◌, ◌*◌, List, map}
 use Rattle.rstp_state.specs.declared.port.PortState.{PortState}
 use Rattle.rstp_state.specs.declared.port.Timing.{Timing}
@@ -27,17 +27,17 @@ acts_as_backup port = may_act port && is_backup port.role && is_backup port.sele
 
 -- parts of guards
 
--- a discarding port has something to put back
+-- a discarding port has something to reset
 abbrev pub is_unrested : PortState → ℕ → Bool
 is_unrested port delay =
     not (port.forward_delay_while == delay) || port.sync || port.re_root || not port.synced
     || not (port.recent_root_while == 0)
 
--- all are synced and the port has not agreed yet, or it is asked again
+-- all ports are synced and the port has not agreed yet, or it is proposed to again
 abbrev pub may_agree : PortState → Bool → Bool
 may_agree port all_synced = (all_synced && not port.agree) || (port.proposed && port.agree)
 
--- the root port has waited, or no other port is or was of its kind lately
+-- the root port has waited; or no other port was a root port recently, and this port was not a backup port recently
 abbrev pub may_go_on_as_root : PortState → Bool → Bool
 may_go_on_as_root port re_rooted =
     port.forward_delay_while == 0 || (re_rooted && port.recent_backup_while == 0)
@@ -49,7 +49,7 @@ abbrev pub must_discard : PortState → Bool
 must_discard port =
     (port.sync && not port.synced) || (port.re_root && not (port.recent_root_while == 0)) || port.disputed
 
--- the designated port has waited or need not, and no other port holds it back
+-- the designated port has waited or need not wait, and no request to sync or to leave the old root holds it back
 abbrev pub may_go_on : PortState → Bool
 may_go_on port =
     not port.sync && (port.forward_delay_while == 0 || port.agreed || port.oper_edge)
@@ -78,7 +78,7 @@ disabled_port_effect timing port = record port {
   re_root = false;
 }
 
--- Root: the port becomes the root port, or is so still
+-- Root: the port becomes the root port, or is still the root port
 
 abbrev pub root_guard : Timing → PortState → Bool
 root_guard timing port =
@@ -88,7 +88,7 @@ root_guard timing port =
 abbrev pub root_effect : Timing → PortState → PortState
 root_effect timing port = record port { role = role.Root; recent_root_while = timing.forward_delay }
 
--- RootProposed: the designated bridge proposes, so every port is to be synced
+-- RootProposed: the designated bridge proposes, so every port has to be synced
 
 abbrev pub root_proposed_guard : PortState → Bool
 root_proposed_guard port = acts_as_root port && port.proposed && not port.agree
@@ -107,7 +107,7 @@ root_agreed_guard port all_synced = acts_as_root port && may_agree port all_sync
 abbrev pub root_agreed_effect : PortState → PortState
 root_agreed_effect port = record port { proposed = false; sync = false; agree = true; new_info = true }
 
--- Reroot: every port is to leave the old root
+-- Reroot: every port has to leave the old root
 
 abbrev pub reroot_guard : PortState → Bool
 reroot_guard port = acts_as_root port && not port.forward && not port.re_root
@@ -115,7 +115,7 @@ reroot_guard port = acts_as_root port && not port.forward && not port.re_root
 abbrev pub reroot_effect : List PortState → List PortState
 reroot_effect ports = map with_re_root ports
 
--- Rerooted: the root port forwards, so it leaves nothing
+-- Rerooted: the root port forwards, so it has no old root to leave
 
 abbrev pub rerooted_guard : PortState → Bool
 rerooted_guard port = acts_as_root port && port.forward && port.re_root
@@ -148,7 +148,7 @@ designated_guard port = may_act port && is_designated port.selected_role && not 
 abbrev pub designated_effect : PortState → PortState
 designated_effect port = record port { role = role.Designated }
 
--- Propose: a designated port asks to be agreed to
+-- Propose: a designated port requests an agreement
 
 abbrev pub propose_guard : PortState → Bool
 propose_guard port =
@@ -237,7 +237,7 @@ alternate_effect timing port = record port {
   re_root = false;
 }
 
--- AlternateProposed: the designated bridge proposes, so every port is to be synced
+-- AlternateProposed: the designated bridge proposes, so every port has to be synced
 
 abbrev pub alternate_proposed_guard : PortState → Bool
 alternate_proposed_guard port = acts_as_blocked port && port.proposed && not port.agree
@@ -253,7 +253,7 @@ alternate_agreed_guard port all_synced = acts_as_blocked port && may_agree port 
 abbrev pub alternate_agreed_effect : PortState → PortState
 alternate_agreed_effect port = record port { proposed = false; agree = true; new_info = true }
 
--- Backup: a Backup port was one lately
+-- Backup: the port was recently a Backup port
 
 abbrev pub backup_guard : Timing → PortState → Bool
 backup_guard timing port = acts_as_backup port && not (port.recent_backup_while == 2 * timing.hello)

@@ -1,4 +1,4 @@
--- The table of the role and state transitions, by the rules' names.
+-- The table of the role and state transitions, by the names of the rules.
 use Rattle.std.specs.Prelude.{ℕ, Bool, List}
 use Rattle.rstp_state.specs.declared.port.PortState.{PortState}
 use Rattle.rstp_state.specs.declared.port.Timing.{Timing}
@@ -33,7 +33,7 @@ use Rattle.rstp_roles.specs.AllPorts.{all_synced, re_rooted}
 use Rattle.rstp_roles.specs.RoleTransitions as roles
 use Rattle.rstp_roles.specs.StateTransitions as states
 
--- what the rule asks of the ports, and of port p among them
+-- the rule's guard: a condition on all ports, and on port p among them
 abbrev pub role_asks : RoleRule → Timing → List PortState → ℕ → PortState → Bool
 role_asks Disable timing ports p port = roles.disable_guard port
 role_asks DisabledPort timing ports p port = roles.disabled_port_guard timing port

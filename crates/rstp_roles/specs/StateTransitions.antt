@@ -1,4 +1,4 @@
--- The state transitions (IEEE 802.1D-2004, 17.30): the port does what its role wants.
+-- The state transitions (IEEE 802.1D-2004, 17.30): the port learns and forwards as its role requires.
 use Rattle.std.specs.Prelude.{Bool, true, false, not, ◌&&◌, ◌||◌}
 use Rattle.rstp_state.specs.declared.port.PortState.{PortState}
 

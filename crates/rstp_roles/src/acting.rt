@@ -1,4 +1,5 @@
-//! What the role transitions ask of a port (17.29): the role it acts in, what it may and must do.
+//! Conditions on a port for the role transitions (17.29): the role in which it acts, and the steps
+//! that it may or must take.
 
 ghost use Rattle.std.specs.Prelude.{◌≡◌};
 ghost use Rattle.rstp_state.specs.Port.{edge_delay, has_role, is_backup, is_blocked, is_discarding};
@@ -18,35 +19,35 @@ ghost use Rattle.rstp_roles.specs.RoleTransitions.{
 
 use rstp_state::port::{PortState, Role, Timing};
 
-/// Whether the role is Backup.
+/// Returns `true` if the role is Backup.
 fn is_backup(role: Role) -> bool
     ensures { result ≡ is_backup role }
 {
     matches!(role, Role::Backup)
 }
 
-/// Whether the role is Alternate or Backup.
+/// Returns `true` if the role is Alternate or Backup.
 pub(crate) fn is_blocked(role: Role) -> bool
     ensures { result ≡ is_blocked role }
 {
     matches!(role, Role::Alternate | Role::Backup)
 }
 
-/// The port has taken its selected role.
+/// Returns `true` if the port has taken its selected role.
 pub(crate) fn has_role(port: &PortState) -> bool
     ensures { result ≡ has_role port.now }
 {
     port.role == port.selected_role
 }
 
-/// The port neither learns nor forwards.
+/// Returns `true` if the port neither learns nor forwards.
 pub(crate) fn is_discarding(port: &PortState) -> bool
     ensures { result ≡ is_discarding port.now }
 {
     !port.learning && !port.forwarding
 }
 
-/// How long the port waits before it may be an edge, in seconds (17.20.4).
+/// Returns the time in seconds that the port waits before it may become an edge (17.20.4).
 pub(crate) fn edge_delay(port: &PortState, timing: &Timing) -> u32
     ensures { result ≡ edge_delay timing.now port.now }
 {
@@ -57,43 +58,43 @@ pub(crate) fn edge_delay(port: &PortState, timing: &Timing) -> u32
     }
 }
 
-/// Whether the port is a Disabled port, and is to be one.
+/// Returns `true` if the port is a Disabled port, and has to stay one.
 pub(crate) fn acts_as_disabled(port: &PortState) -> bool
     ensures { result ≡ acts_as_disabled port.now }
 {
     port.may_act() && port.role.is_disabled() && port.selected_role.is_disabled()
 }
 
-/// Whether the port is the root port, and is to be it.
+/// Returns `true` if the port is the root port, and has to stay the root port.
 pub(crate) fn acts_as_root(port: &PortState) -> bool
     ensures { result ≡ acts_as_root port.now }
 {
     port.may_act() && port.role.is_root() && port.selected_role.is_root()
 }
 
-/// Whether the port is Designated, and is to be so.
+/// Returns `true` if the port is Designated, and has to stay Designated.
 pub(crate) fn acts_as_designated(port: &PortState) -> bool
     ensures { result ≡ acts_as_designated port.now }
 {
     port.may_act() && port.role.is_designated() && port.selected_role.is_designated()
 }
 
-/// Whether the port is Alternate or Backup, as is selected.
+/// Returns `true` if the port is Alternate or Backup, as selected.
 pub(crate) fn acts_as_blocked(port: &PortState) -> bool
     ensures { result ≡ acts_as_blocked port.now }
 {
     port.may_act() && has_role(port) && is_blocked(port.role)
 }
 
-/// Whether the port is Backup, and is to be so.
+/// Returns `true` if the port is Backup, and has to stay Backup.
 pub(crate) fn acts_as_backup(port: &PortState) -> bool
     ensures { result ≡ acts_as_backup port.now }
 {
     port.may_act() && is_backup(port.role) && is_backup(port.selected_role)
 }
 
-/// Whether a discarding port has yet something to lay down: a timer that isn't at this delay, a
-/// wish to sync or to leave the old root, or that it isn't synced.
+/// Returns `true` if a discarding port still has something to reset: a timer that isn't at this
+/// delay, a request to sync or to leave the old root, or that it isn't synced.
 pub(crate) fn is_unrested(port: &PortState, delay: u32) -> bool
     ensures { result ≡ is_unrested port.now delay }
 {
@@ -104,35 +105,38 @@ pub(crate) fn is_unrested(port: &PortState, delay: u32) -> bool
         || port.recent_root_while != 0
 }
 
-/// Whether the port has to agree: all are synced and it hasn't, or it is asked once more.
+/// Returns `true` if the port has to agree: all ports are synced and it hasn't agreed, or it is
+/// proposed to again.
 pub(crate) fn may_agree(port: &PortState, all_synced: bool) -> bool
     ensures { result ≡ may_agree port.now all_synced }
 {
     (all_synced && !port.agree) || (port.proposed && port.agree)
 }
 
-/// Whether the root port has waited long enough, or needn't wait, as no other port was it lately.
+/// Returns `true` if the root port has waited long enough, or needn't wait: no other port was a
+/// root port recently, and this port was not a backup port recently.
 pub(crate) fn may_go_on_as_root(port: &PortState, re_rooted: bool) -> bool
     ensures { result ≡ may_go_on_as_root port.now re_rooted }
 {
     port.forward_delay_while == 0 || (re_rooted && port.recent_backup_while == 0)
 }
 
-/// Whether a port that isn't synced has what makes it so: it discards, is agreed to, or is an edge.
+/// Returns `true` if a port that isn't synced can become synced: it discards, the other end agrees,
+/// or it is an edge.
 pub(crate) fn may_be_synced(port: &PortState) -> bool
     ensures { result ≡ may_be_synced port.now }
 {
     !port.synced && (is_discarding(port) || port.agreed || port.oper_edge)
 }
 
-/// Whether a port that isn't an edge has to go back to discarding.
+/// Returns `true` if a port that isn't an edge has to return to discarding.
 pub(crate) fn must_discard(port: &PortState) -> bool
     ensures { result ≡ must_discard port.now }
 {
     (port.sync && !port.synced) || (port.re_root && port.recent_root_while != 0) || port.disputed
 }
 
-/// Whether a designated port may take its next step to forwarding.
+/// Returns `true` if a designated port may take its next step to forwarding.
 pub(crate) fn may_go_on(port: &PortState) -> bool
     ensures { result ≡ may_go_on port.now }
 {

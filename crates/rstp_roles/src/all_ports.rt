@@ -1,4 +1,4 @@
-//! What a rule of one port asks of, or sets at, the other ports.
+//! The values that a rule of one port reads from, or sets at, all other ports.
 
 ghost use Rattle.std.specs.Prelude.{◌≡◌, ◌<◌, length, map};
 ghost use Rattle.std.specs.List.{list_all};
@@ -14,21 +14,21 @@ ghost use Rattle.rstp_roles.specs.AllPorts.{
 use crate::acting::has_role;
 use rstp_state::port::PortState;
 
-/// The port is to come in step: sync.
+/// Requests the port to come in step: sync.
 fn want_sync(port: &mut PortState)
     ensures { port.new ≡ with_sync port.old }
 {
     port.sync = true;
 }
 
-/// The port is to leave the old root: reRoot.
+/// Requests the port to leave the old root: reRoot.
 fn want_re_root(port: &mut PortState)
     ensures { port.new ≡ with_re_root port.old }
 {
     port.re_root = true;
 }
 
-/// Every port is to be synced (17.21.14, setSyncTree).
+/// Requests every port to come in step (17.21.14, setSyncTree).
 pub(crate) fn set_sync(ports: &mut [PortState])
     ensures { ports.new ≡ map with_sync ports.old }
 {
@@ -37,7 +37,7 @@ pub(crate) fn set_sync(ports: &mut [PortState])
     }
 }
 
-/// Every port is to leave the old root (17.21.15, setReRootTree).
+/// Requests every port to leave the old root (17.21.15, setReRootTree).
 pub(crate) fn set_re_root(ports: &mut [PortState])
     ensures { ports.new ≡ map with_re_root ports.old }
 {
@@ -46,28 +46,29 @@ pub(crate) fn set_re_root(ports: &mut [PortState])
     }
 }
 
-/// Whether the port has taken its role and is, unless it is the root port, synced.
+/// Returns `true` if the port has taken its role and is, unless it is the root port, synced.
 fn is_in_step(port: &PortState) -> bool
     ensures { result ≡ is_in_step port.now }
 {
     port.may_act() && has_role(port) && (port.role.is_root() || port.synced)
 }
 
-/// Whether every port has taken its role and is, unless it is the root port, synced (17.20.3).
+/// Returns `true` if every port has taken its role and is, unless it is the root port, synced
+/// (17.20.3).
 pub(crate) fn all_synced(ports: &[PortState]) -> bool
     ensures { result ≡ all_synced ports.now }
 {
     ports.iter().all(|port| is_in_step(port))
 }
 
-/// Whether none of these ports was the root port lately.
+/// Returns `true` if none of these ports was a root port recently.
 fn are_not_recent(ports: &[PortState]) -> bool
     ensures { result ≡ list_all is_not_recent ports.now }
 {
     ports.iter().all(|port| port.recent_root_while == 0)
 }
 
-/// Whether no other port was the root port lately (17.20.10).
+/// Returns `true` if no other port was a root port recently (17.20.10).
 pub(crate) fn re_rooted(ports: &[PortState], p: usize) -> bool
     requires { p < length ports.now }
     ensures { result ≡ re_rooted p ports.now }

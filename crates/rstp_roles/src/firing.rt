@@ -1,4 +1,4 @@
-//! The rules by their names: whether one is enabled at a port, and its firing.
+//! The rules by name: the guard of each rule at a port, and its firing.
 
 ghost use Rattle.std.specs.Prelude.{◌≡◌, ◌<◌, length};
 ghost use Rattle.rstp_state.specs.Port.{test_at};
@@ -22,7 +22,7 @@ use crate::state_transitions::{
 };
 use rstp_state::port::{PortState, Timing};
 
-/// Whether the rule's guard holds at the port at place `p`.
+/// Returns `true` if the rule's guard holds at the port at place `p`.
 pub fn role_is_enabled(timing: &Timing, ports: &[PortState], rule: RoleRule, p: usize) -> bool
     requires { p < length ports.now }
     ensures { result ≡ test_at p (role_asks rule timing.now ports.now p) ports.now }
@@ -83,7 +83,7 @@ pub fn fire_role(timing: &Timing, ports: &mut [PortState], rule: RoleRule, p: us
     }
 }
 
-/// Whether the rule's guard holds at the port.
+/// Returns `true` if the rule's guard holds at the port.
 pub fn state_is_enabled(port: &PortState, rule: StateRule) -> bool
     ensures { result ≡ state_asks rule port.now }
 {

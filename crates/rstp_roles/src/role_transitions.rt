@@ -1,5 +1,5 @@
-//! The role transitions: a port takes its selected role and does what comes with it (17.29). For
-//! each rule, in the table's order, its guard and then what it does.
+//! The role transitions: a port takes its selected role and acts in it (17.29). Each rule has a
+//! guard and an effect; the rules are in the table's order.
 
 ghost use Rattle.std.specs.Prelude.{◌≡◌, ◌<◌, length};
 ghost use Rattle.rstp_roles.specs.RoleTransitions.{
@@ -55,14 +55,14 @@ use crate::acting::{
 use crate::all_ports::{set_re_root, set_sync};
 use rstp_state::port::{PortState, Role, Timing};
 
-/// Whether the port is to become Disabled.
+/// Returns `true` if the port has to become Disabled.
 pub fn disable_guard(port: &PortState) -> bool
     ensures { result ≡ disable_guard port.now }
 {
     port.may_act() && port.selected_role.is_disabled() && !port.role.is_disabled()
 }
 
-/// The port becomes Disabled.
+/// Makes the port Disabled.
 pub fn disable(port: &mut PortState)
     ensures { port.new ≡ disable_effect port.old }
 {
@@ -71,14 +71,14 @@ pub fn disable(port: &mut PortState)
     port.forward = false;
 }
 
-/// Whether a Disabled port hasn't come to rest.
+/// Returns `true` if a Disabled port hasn't come to rest.
 pub fn disabled_port_guard(timing: &Timing, port: &PortState) -> bool
     ensures { result ≡ disabled_port_guard timing.now port.now }
 {
     acts_as_disabled(port) && is_discarding(port) && is_unrested(port, u32::from(timing.max_age))
 }
 
-/// A Disabled port comes to rest.
+/// Brings a Disabled port to rest.
 pub fn disabled_port(timing: &Timing, port: &mut PortState)
     ensures { port.new ≡ disabled_port_effect timing.now port.old }
 {
@@ -89,7 +89,7 @@ pub fn disabled_port(timing: &Timing, port: &mut PortState)
     port.re_root = false;
 }
 
-/// Whether the port is to become the root port, or its time as such is to be begun anew.
+/// Returns `true` if the port has to become the root port, or has to restart its time as root port.
 pub fn root_guard(timing: &Timing, port: &PortState) -> bool
     ensures { result ≡ root_guard timing.now port.now }
 {
@@ -98,7 +98,7 @@ pub fn root_guard(timing: &Timing, port: &PortState) -> bool
         && (!port.role.is_root() || port.recent_root_while != u32::from(timing.forward_delay))
 }
 
-/// The port becomes the root port, or is so still.
+/// Makes the port the root port, or restarts its time as root port.
 pub fn root(timing: &Timing, port: &mut PortState)
     ensures { port.new ≡ root_effect timing.now port.old }
 {
@@ -106,14 +106,14 @@ pub fn root(timing: &Timing, port: &mut PortState)
     port.recent_root_while = u32::from(timing.forward_delay);
 }
 
-/// Whether the root port is proposed to, and hasn't agreed.
+/// Returns `true` if the root port is proposed to, and hasn't agreed.
 pub fn root_proposed_guard(port: &PortState) -> bool
     ensures { result ≡ root_proposed_guard port.now }
 {
     acts_as_root(port) && port.proposed && !port.agree
 }
 
-/// The designated bridge proposes: every port is to be synced.
+/// Requests every port to come in step: the designated bridge proposes.
 pub fn root_proposed(ports: &mut [PortState], p: usize)
     requires { p < length ports.old }
     ensures { ports.new ≡ root_proposed_effect p ports.old }
@@ -122,14 +122,14 @@ pub fn root_proposed(ports: &mut [PortState], p: usize)
     ports[p].proposed = false;
 }
 
-/// Whether the root port has to agree.
+/// Returns `true` if the root port has to agree.
 pub fn root_agreed_guard(port: &PortState, all_synced: bool) -> bool
     ensures { result ≡ root_agreed_guard port.now all_synced }
 {
     acts_as_root(port) && may_agree(port, all_synced)
 }
 
-/// The root port agrees.
+/// Makes the root port agree.
 pub fn root_agreed(port: &mut PortState)
     ensures { port.new ≡ root_agreed_effect port.old }
 {
@@ -139,42 +139,42 @@ pub fn root_agreed(port: &mut PortState)
     port.new_info = true;
 }
 
-/// Whether the root port doesn't forward, and no port was told to leave the old root.
+/// Returns `true` if the root port doesn't forward and isn't requested to leave the old root.
 pub fn reroot_guard(port: &PortState) -> bool
     ensures { result ≡ reroot_guard port.now }
 {
     acts_as_root(port) && !port.forward && !port.re_root
 }
 
-/// Every port is to leave the old root.
+/// Requests every port to leave the old root.
 pub fn reroot(ports: &mut [PortState])
     ensures { ports.new ≡ reroot_effect ports.old }
 {
     set_re_root(ports);
 }
 
-/// Whether the root port forwards, and is told to leave the old root.
+/// Returns `true` if the root port forwards, and is requested to leave the old root.
 pub fn rerooted_guard(port: &PortState) -> bool
     ensures { result ≡ rerooted_guard port.now }
 {
     acts_as_root(port) && port.forward && port.re_root
 }
 
-/// The root port forwards, so it leaves nothing.
+/// Clears the request to leave the old root: the root port forwards.
 pub fn rerooted(port: &mut PortState)
     ensures { port.new ≡ rerooted_effect port.old }
 {
     port.re_root = false;
 }
 
-/// Whether the root port may begin to learn.
+/// Returns `true` if the root port may begin to learn.
 pub fn root_learn_guard(port: &PortState, re_rooted: bool) -> bool
     ensures { result ≡ root_learn_guard port.now re_rooted }
 {
     acts_as_root(port) && !port.learn && may_go_on_as_root(port, re_rooted)
 }
 
-/// The root port is to learn.
+/// Makes the root port learn.
 pub fn root_learn(timing: &Timing, port: &mut PortState)
     ensures { port.new ≡ root_learn_effect timing.now port.old }
 {
@@ -182,14 +182,14 @@ pub fn root_learn(timing: &Timing, port: &mut PortState)
     port.learn = true;
 }
 
-/// Whether the root port may begin to forward.
+/// Returns `true` if the root port may begin to forward.
 pub fn root_forward_guard(port: &PortState, re_rooted: bool) -> bool
     ensures { result ≡ root_forward_guard port.now re_rooted }
 {
     acts_as_root(port) && port.learn && !port.forward && may_go_on_as_root(port, re_rooted)
 }
 
-/// The root port is to forward.
+/// Makes the root port forward.
 pub fn root_forward(port: &mut PortState)
     ensures { port.new ≡ root_forward_effect port.old }
 {
@@ -197,28 +197,28 @@ pub fn root_forward(port: &mut PortState)
     port.forward = true;
 }
 
-/// Whether the port is to become Designated.
+/// Returns `true` if the port has to become Designated.
 pub fn designated_guard(port: &PortState) -> bool
     ensures { result ≡ designated_guard port.now }
 {
     port.may_act() && port.selected_role.is_designated() && !port.role.is_designated()
 }
 
-/// The port becomes Designated.
+/// Makes the port Designated.
 pub fn designated(port: &mut PortState)
     ensures { port.new ≡ designated_effect port.old }
 {
     port.role = Role::Designated;
 }
 
-/// Whether a designated port hasn't asked yet to be agreed to.
+/// Returns `true` if a designated port hasn't yet requested an agreement.
 pub fn propose_guard(port: &PortState) -> bool
     ensures { result ≡ propose_guard port.now }
 {
     acts_as_designated(port) && !port.forward && !port.agreed && !port.proposing && !port.oper_edge
 }
 
-/// A designated port asks to be agreed to.
+/// Requests an agreement for a designated port.
 pub fn propose(timing: &Timing, port: &mut PortState)
     ensures { port.new ≡ propose_effect timing.now port.old }
 {
@@ -227,14 +227,14 @@ pub fn propose(timing: &Timing, port: &mut PortState)
     port.edge_delay_while = edge_delay(port, timing);
 }
 
-/// Whether a designated port is in step with the tree, and isn't marked so.
+/// Returns `true` if a designated port is in step with the tree, and isn't marked as synced.
 pub fn synced_guard(port: &PortState) -> bool
     ensures { result ≡ synced_guard port.now }
 {
     acts_as_designated(port) && (may_be_synced(port) || (port.sync && port.synced))
 }
 
-/// A designated port is synced.
+/// Marks a designated port as synced.
 pub fn synced(port: &mut PortState)
     ensures { port.new ≡ synced_effect port.old }
 {
@@ -243,21 +243,21 @@ pub fn synced(port: &mut PortState)
     port.sync = false;
 }
 
-/// Whether a designated port still leaves an old root that is no longer recent.
+/// Returns `true` if a designated port still leaves an old root that is no longer recent.
 pub fn retired_guard(port: &PortState) -> bool
     ensures { result ≡ retired_guard port.now }
 {
     acts_as_designated(port) && port.recent_root_while == 0 && port.re_root
 }
 
-/// A designated port is no longer a recent root port.
+/// Ends a designated port's time as a recent root port.
 pub fn retired(port: &mut PortState)
     ensures { port.new ≡ retired_effect port.old }
 {
     port.re_root = false;
 }
 
-/// Whether a designated port that learns or forwards has to go back.
+/// Returns `true` if a designated port that learns or forwards has to return to discarding.
 pub fn designated_discard_guard(port: &PortState) -> bool
     ensures { result ≡ designated_discard_guard port.now }
 {
@@ -267,7 +267,7 @@ pub fn designated_discard_guard(port: &PortState) -> bool
         && must_discard(port)
 }
 
-/// A designated port goes back to discarding.
+/// Moves a designated port back to discarding.
 pub fn designated_discard(timing: &Timing, port: &mut PortState)
     ensures { port.new ≡ designated_discard_effect timing.now port.old }
 {
@@ -277,14 +277,14 @@ pub fn designated_discard(timing: &Timing, port: &mut PortState)
     port.forward_delay_while = port.forward_delay(timing);
 }
 
-/// Whether a designated port may begin to learn.
+/// Returns `true` if a designated port may begin to learn.
 pub fn designated_learn_guard(port: &PortState) -> bool
     ensures { result ≡ designated_learn_guard port.now }
 {
     acts_as_designated(port) && !port.learn && may_go_on(port)
 }
 
-/// A designated port is to learn.
+/// Makes a designated port learn.
 pub fn designated_learn(timing: &Timing, port: &mut PortState)
     ensures { port.new ≡ designated_learn_effect timing.now port.old }
 {
@@ -292,14 +292,14 @@ pub fn designated_learn(timing: &Timing, port: &mut PortState)
     port.forward_delay_while = port.forward_delay(timing);
 }
 
-/// Whether a designated port may begin to forward.
+/// Returns `true` if a designated port may begin to forward.
 pub fn designated_forward_guard(port: &PortState) -> bool
     ensures { result ≡ designated_forward_guard port.now }
 {
     acts_as_designated(port) && port.learn && !port.forward && may_go_on(port)
 }
 
-/// A designated port is to forward.
+/// Makes a designated port forward.
 pub fn designated_forward(port: &mut PortState)
     ensures { port.new ≡ designated_forward_effect port.old }
 {
@@ -308,14 +308,14 @@ pub fn designated_forward(port: &mut PortState)
     port.agreed = port.send_rstp;
 }
 
-/// Whether the port is to become Alternate or Backup.
+/// Returns `true` if the port has to become Alternate or Backup.
 pub fn block_guard(port: &PortState) -> bool
     ensures { result ≡ block_guard port.now }
 {
     port.may_act() && is_blocked(port.selected_role) && !has_role(port)
 }
 
-/// The port becomes Alternate or Backup.
+/// Makes the port Alternate or Backup.
 pub fn block(port: &mut PortState)
     ensures { port.new ≡ block_effect port.old }
 {
@@ -324,14 +324,14 @@ pub fn block(port: &mut PortState)
     port.forward = false;
 }
 
-/// Whether an Alternate or Backup port hasn't come to rest.
+/// Returns `true` if an Alternate or Backup port hasn't come to rest.
 pub fn alternate_guard(timing: &Timing, port: &PortState) -> bool
     ensures { result ≡ alternate_guard timing.now port.now }
 {
     acts_as_blocked(port) && is_discarding(port) && is_unrested(port, port.forward_delay(timing))
 }
 
-/// An Alternate or Backup port comes to rest.
+/// Brings an Alternate or Backup port to rest.
 pub fn alternate(timing: &Timing, port: &mut PortState)
     ensures { port.new ≡ alternate_effect timing.now port.old }
 {
@@ -342,14 +342,14 @@ pub fn alternate(timing: &Timing, port: &mut PortState)
     port.re_root = false;
 }
 
-/// Whether a blocked port is proposed to, and hasn't agreed.
+/// Returns `true` if a blocked port is proposed to, and hasn't agreed.
 pub fn alternate_proposed_guard(port: &PortState) -> bool
     ensures { result ≡ alternate_proposed_guard port.now }
 {
     acts_as_blocked(port) && port.proposed && !port.agree
 }
 
-/// The designated bridge proposes: every port is to be synced.
+/// Requests every port to come in step: the designated bridge proposes.
 pub fn alternate_proposed(ports: &mut [PortState], p: usize)
     requires { p < length ports.old }
     ensures { ports.new ≡ alternate_proposed_effect p ports.old }
@@ -358,14 +358,14 @@ pub fn alternate_proposed(ports: &mut [PortState], p: usize)
     ports[p].proposed = false;
 }
 
-/// Whether a blocked port has to agree.
+/// Returns `true` if a blocked port has to agree.
 pub fn alternate_agreed_guard(port: &PortState, all_synced: bool) -> bool
     ensures { result ≡ alternate_agreed_guard port.now all_synced }
 {
     acts_as_blocked(port) && may_agree(port, all_synced)
 }
 
-/// The blocked port agrees.
+/// Makes the blocked port agree.
 pub fn alternate_agreed(port: &mut PortState)
     ensures { port.new ≡ alternate_agreed_effect port.old }
 {
@@ -374,14 +374,14 @@ pub fn alternate_agreed(port: &mut PortState)
     port.new_info = true;
 }
 
-/// Whether the time of a Backup port isn't at its whole.
+/// Returns `true` if the time of a Backup port isn't at its full value.
 pub fn backup_guard(timing: &Timing, port: &PortState) -> bool
     ensures { result ≡ backup_guard timing.now port.now }
 {
     acts_as_backup(port) && port.recent_backup_while != 2 * u32::from(timing.hello)
 }
 
-/// A Backup port was one lately.
+/// Restarts the time for which the port counts as a recent backup port.
 pub fn backup(timing: &Timing, port: &mut PortState)
     ensures { port.new ≡ backup_effect timing.now port.old }
 {

@@ -1,4 +1,4 @@
-//! The state transitions: a port comes to learn and forward as its role wants (17.30).
+//! The state transitions: a port learns and forwards as its role requires (17.30).
 
 ghost use Rattle.std.specs.Prelude.{◌≡◌};
 ghost use Rattle.rstp_roles.specs.StateTransitions.{
@@ -12,42 +12,42 @@ ghost use Rattle.rstp_roles.specs.StateTransitions.{
 
 use rstp_state::port::PortState;
 
-/// Whether the port is to learn and doesn't.
+/// Returns `true` if the port should learn and doesn't.
 pub fn to_learning_guard(port: &PortState) -> bool
     ensures { result ≡ to_learning_guard port.now }
 {
     port.learn && !port.learning
 }
 
-/// The port begins to learn.
+/// Starts learning.
 pub fn to_learning(port: &mut PortState)
     ensures { port.new ≡ to_learning_effect port.old }
 {
     port.learning = true;
 }
 
-/// Whether the port learns, is to forward, and doesn't.
+/// Returns `true` if the port learns, should forward, and doesn't.
 pub fn to_forwarding_guard(port: &PortState) -> bool
     ensures { result ≡ to_forwarding_guard port.now }
 {
     port.learning && port.forward && !port.forwarding
 }
 
-/// The port begins to forward.
+/// Starts forwarding.
 pub fn to_forwarding(port: &mut PortState)
     ensures { port.new ≡ to_forwarding_effect port.old }
 {
     port.forwarding = true;
 }
 
-/// Whether the port learns or forwards, and is to do so no longer.
+/// Returns `true` if the port learns or forwards, and should no longer do so.
 pub fn to_discarding_guard(port: &PortState) -> bool
     ensures { result ≡ to_discarding_guard port.now }
 {
     (port.learning && !port.learn) || (port.forwarding && !port.forward)
 }
 
-/// The port learns and forwards no longer.
+/// Stops learning and forwarding.
 pub fn to_discarding(port: &mut PortState)
     ensures { port.new ≡ to_discarding_effect port.old }
 {

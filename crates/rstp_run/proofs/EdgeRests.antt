@@ -1,10 +1,10 @@
--- Edge and NotEdge don't go round at a port where Discard has been.
+-- Edge and NotEdge don't enable each other at a port that Discard has processed.
 use Rattle.std.proofs.Common.{◌≡◌, Bool, true, false, not, ◌&&◌, ◌||◌, ◌==◌, refl}
 use Rattle.std.proofs.lemmas.Bool.{eqb-true, or_parts, not-false}
 use Rattle.rstp_machines.specs.BridgeDetection.{finds_no_bridge}
 use Rattle.rstp_run.specs.Laws.{EdgeRests}
 
--- neither way to an edge is open, or it is the one by the settings
+-- neither condition for an edge holds, or only the one by the settings
 choose : (oper enabled admin finds : Bool) → enabled ≡ false → finds ≡ false
     → ((oper && not enabled && not admin) ≡ true → (not false && ((not enabled && admin) || finds)) ≡ false)
     × ((not oper && ((not enabled && admin) || finds)) ≡ true → (true && not enabled && not admin) ≡ false)

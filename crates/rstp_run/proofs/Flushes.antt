@@ -1,4 +1,4 @@
--- The mask has the ports at which the flush rule fired.
+-- The mask has exactly the ports at which the flush rule fired.
 use Rattle.std.proofs.Common.{◌≡◌, ℕ, ◌≤◌, ◌<◌, ◌-◌, ◌^◌, ◌&&◌, ◌||◌, ◌==◌, Bool, true, false, List, [], ◌∷◌, length}
 use Rattle.std.proofs.Common.{refl, sym, arith, if◌then◌else◌, bit_or, max, ◌≢◌, ◌+◌, ◌⊎◌, inl, inr, subst, ap, ◌∙◌}
 use Rattle.std.specs.Int.{bit_at}
@@ -55,7 +55,7 @@ has_port-flushed [] p = has_port-none (p + 1)
 has_port-flushed (f ∷ earlier) p =
     step (is_flush f.rule) (flushed earlier 0) f.place p (flushes p earlier) (has_port-flushed earlier p)
 
--- what a run from no firings says of an event
+-- a run from no firings meets the definition of an event
 pub happens-from_goes : (event : Event) (limit : ℕ) (s m t : Tree) (b : Count) (settled : Bool) → m ≡ direct event s
     → Goes swept_on done m (record { fired = 0; limit = limit; flush = 0 }) t b
     → (settled ≡ true → IsSettled t) → (settled ≡ false → IsSettled t → ⊥) → (settled ≡ false → b.fired ≡ b.limit)
@@ -98,7 +98,7 @@ any_run event limit s t firings run few ends =
     full goes_on (inl all) = all
     full goes_on (inr rests) = absurd (goes_on rests)
 
--- a whole sweep from no firings is what the definition says
+-- a whole sweep from no firings meets the definition
 pub swept-from_goes : (event : Event) (limit : ℕ) (s m t : Tree) (b : Count) → m ≡ direct event s
     → Goes swept_on done m (record { fired = 0; limit = limit; flush = 0 }) t b → IsSwept event limit s t b.flush
 swept-from_goes event limit s m t b start goes =

@@ -1,4 +1,4 @@
--- Where a machine isn't busy at a port, none of its rules is enabled there.
+-- If a machine isn't busy at a port, none of its rules is enabled there.
 use Rattle.std.proofs.Common.{◌≡◌, ℕ, Bool, true, false, not, ◌&&◌, ◌||◌, ◌==◌, Option, Some, None, List, [], ◌∷◌}
 use Rattle.std.proofs.Common.{slice_get, refl}
 use Rattle.std.specs.List.{list_any, list_all}
@@ -47,14 +47,14 @@ use Rattle.rstp_run.specs.Inner.Runs.{rules_of}
 use Rattle.rstp_machines.specs.Transmit.{is_ready}
 use Rattle.rstp_run.proofs.Settled.{not-true, not-false}
 
--- of two tests neither holds
+-- neither of two tests holds
 left : (x y : Bool) → (x || y) ≡ false → x ≡ false
 left x y h = (or_parts x y h).0
 
 right : (x y : Bool) → (x || y) ≡ false → y ≡ false
 right x y h = (or_parts x y h).1
 
--- a test that begins with one that doesn't hold
+-- a conjunction whose first test fails
 and_left : (x y : Bool) → x ≡ false → (x && y) ≡ false
 and_left x y h = rw h refl
 
@@ -75,7 +75,7 @@ detection_off : (port : PortState) → detection_is_busy port ≡ false → (rul
 detection_off port h detection_rule.Edge = left _ _ h
 detection_off port h detection_rule.NotEdge = right _ _ h
 
--- no message waits that may be taken
+-- no message is pending that may be taken
 untaken : (port : PortState) → information_is_busy port ≡ false → may_take port ≡ false
 untaken port h = right
     (disabled_guard port || drop_guard port || enabled_guard port || update_guard port || aged_guard port) _ h
@@ -115,7 +115,7 @@ topology_off port h topology_rule.Propagating = right _ _ (left _ _ (left _ _ (r
 topology_off port h topology_rule.Acknowledged = right _ _ (left _ _ (right _ _ h))
 topology_off port h topology_rule.Flush = right _ _ (right _ _ h)
 
--- what a designated port that keeps forwarding is known to be
+-- the fields of a designated port that keeps forwarding
 record Keeps (port : PortState) : Type 0 where
   role : port.role ≡ roles.Designated
   selected_role : port.selected_role ≡ roles.Designated
@@ -238,7 +238,7 @@ abbrev is_main : Rule → Bool
 is_main (rules.Transmit rule) = false
 is_main _ = true
 
--- what port_is_busy asks, machine by machine
+-- the tests of port_is_busy, machine by machine
 record Idle (port : PortState) : Type 0 where
   receive : receive_is_busy port ≡ false
   migration : migration_is_busy port ≡ false
@@ -267,7 +267,7 @@ idle port h =
     }
 
 module _ (s : Tree) (p : ℕ) where
-  -- no rule but those that send is enabled at this port
+  -- only rules that send can be enabled at this port
   asks_off : (port : PortState) → ((p == 0 && list_any wants_selection s.ports) || port_is_busy port) ≡ false
       → (rule : Rule) → is_main rule ≡ true → asks rule s p port ≡ false
   asks_off port h rules.Select main = left _ _ h
@@ -292,7 +292,7 @@ module _ (s : Tree) (p : ℕ) where
   sends_off port h (rules.Topology rule) sends = cc
   sends_off port h (rules.Transmit rule) sends = transmit_off port h rule (timing_in s)
 
-  -- whether the port is there or not
+  -- the port may or may not exist
   off_there : (test : PortState → Bool) (rule : Rule)
       → ((port : PortState) → test port ≡ false → asks rule s p port ≡ false) → (o : Option PortState)
       → option_map_or test o false ≡ false → option_map_or (asks rule s p) o false ≡ false
@@ -305,7 +305,7 @@ module _ (s : Tree) (p : ℕ) where
   all_off is (rule ∷ list) all off =
       let parts = and_parts (is rule) (list_all is list) all in rw (off rule parts.0) (all_off is list parts.1 off)
 
-  -- none of a part's rules is enabled at a port where none may be
+  -- if no rule of a part may be enabled at a port, none of its rules is enabled there
   pub busy-off : (part : Part) → is_busy part s.ports p ≡ false → AreOffAt (rules_of part) p s
   busy-off parts.Main h = all_off is_main MAIN refl
       (λ rule main. off_there (λ port. (p == 0 && list_any wants_selection s.ports) || port_is_busy port) rule

@@ -1,4 +1,4 @@
--- What every event keeps: each port is sound and has its number, and one role at most is selected as root.
+-- The invariant of every event: each port is sound and has its number, and at most one port has the selected role Root.
 use Rattle.std.proofs.Common.{◌≡◌, ℕ, zero, suc, ◌+◌, ◌*◌, ◌/◌, ◌%◌, ◌^◌, Bool, true, false, not, ◌&&◌, ◌||◌, ◌==◌}
 use Rattle.std.proofs.Common.{List, [], ◌∷◌, Option, Some, None, slice_get, map, refl, sym, ap, subst, ◌∙◌, arith}
 use Rattle.std.proofs.lemmas.Bool.Decides.{nat_tests}
@@ -41,7 +41,7 @@ pub record IsKept (ports : List PortState) : Type 0 where
   pub roots : OneRoot (roles_of ports)
   pub numbered : AreNumberedFrom 1 ports
 
--- ---- where each port is kept
+-- ---- if each port keeps the invariant
 
 each_role : (a b : List PortState) → Each Keeps a b → roles_of a ≡ roles_of b
 each_role [] [] h = refl

@@ -1,4 +1,4 @@
--- Parts of the sweep: where one changes nothing, and how one follows another.
+-- Parts of the sweep: parts that change nothing, and the order of parts.
 use Rattle.std.proofs.Common.{◌≡◌, ℕ, zero, suc, ◌+◌, ◌≤◌, ◌<◌, ◌&&◌, ◌==◌, Bool, true, false, List, [], ◌∷◌, ◌++◌}
 use Rattle.std.proofs.Common.{length, take, get_or, refl, sym, ◌∙◌, ap, subst, arith, if◌then◌else◌}
 use Rattle.std.proofs.lemmas.Bool.{le-ltb, lt-ltb, or_parts, eqb-true}
@@ -21,7 +21,7 @@ off_too : (b : Bool) (x y : Going) → (if b && false then x else y) ≡ y
 off_too true x y = refl
 off_too false x y = refl
 
--- ---- where as many fired as may
+-- ---- if the limit is reached
 
 abbrev pub IsFull : ℕ → Going → Type 0
 IsFull limit g = limit ≤ length g.firings
@@ -42,7 +42,7 @@ tries_below-full rules (suc n) limit g full =
 pub pass-full : (rules : List Rule) (limit : ℕ) (g : Going) → IsFull limit g → pass rules limit g ≡ g
 pass-full rules limit g full = tries_below-full rules (length g.tree.ports) limit g full
 
--- ---- where nothing is enabled
+-- ---- if nothing is enabled
 
 pub tries-off : (rule : Rule) (p limit : ℕ) (g : Going) → guard rule g.tree p ≡ false → tries rule p limit g ≡ g
 tries-off rule p limit g off = rw off (off_too _ _ g)
@@ -64,7 +64,7 @@ tries_below-off rules (suc n) limit g off =
 pub pass-off : (rules : List Rule) (limit : ℕ) (g : Going) → AreOff rules g.tree → pass rules limit g ≡ g
 pass-off rules limit g off = tries_below-off rules (length g.tree.ports) limit g off
 
--- ---- again and again
+-- ---- repetition
 
 until-still : (n : ℕ) (f : Going → Going) (g : Going) → f g ≡ g → until_idle n f g ≡ g
 until-still zero f g still = refl
@@ -162,13 +162,13 @@ goes-none part rest s a within order = record {
   order = order;
 }
 
--- a part, before another
+-- a part, before another part
 pub goes-first : (part rest : Walk) (s t : Tree) (a b : Count) → Goes part done s a t b
     → Goes (and_then part rest) rest s a t b
 goes-first part rest s t a b goes =
     goes-as part done (and_then part rest) rest s t a b goes (λ before is. ap (rest a.limit) (goes.order before is))
 
--- how many fired, once all that goes on from so many did
+-- the number of firings after a part goes on from earlier ones
 pub tally : (part rest : Walk) (s t : Tree) (a b : Count) (goes : Goes part rest s a t b) (before : List Firing)
     → length before ≡ a.fired → length (goes.firings ++ before) ≡ b.fired
 tally part rest s t a b goes before is =
@@ -180,7 +180,7 @@ abbrev pub again : ℕ → Walk → Walk
 again n part limit g = until_idle n (part limit) g
 
 module _ (part : Walk) (is_full : (limit : ℕ) (g : Going) → IsFull limit g → part limit g ≡ g) where
-  -- the last time: then the part changes nothing
+  -- the last time: after it the part changes nothing
   pub goes-last : (n : ℕ) (s t : Tree) (a b : Count) → Goes part done s a t b → a.limit ≤ n + a.fired
       → ((before : List Firing) → length before ≡ b.fired
       → part b.limit (record { tree = t; firings = before }) ≡ record { tree = t; firings = before })

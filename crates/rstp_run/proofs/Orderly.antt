@@ -67,7 +67,7 @@ pub and_right : (a b : Bool) → a && b ≡ true → b ≡ true
 and_right true b h = h
 and_right false b h = cc
 
--- a port in the tree may want what it will
+-- in a conjunction whose port is in the tree, a term beside 'in the tree' may be replaced
 pub in_tree : (a t x y : Bool) → t ≡ true → a && (t || x) ≡ true → a && (t || y) ≡ true
 in_tree a true x y is h = h
 in_tree a false x y is h = cc
@@ -210,7 +210,7 @@ designated-in_tree port h =
     or_right true b e = refl
     or_right false b e = e
 
--- a port that is to learn and forward no longer
+-- a port that should no longer learn and forward
 pub orderly-stopped : (a t : Bool) → (x : Bool) → a && (t || x) ≡ true → a && (t || true) ≡ true
 orderly-stopped true true x h = refl
 orderly-stopped true false x h = refl
@@ -221,7 +221,7 @@ orderly-stopped_as true t true x h = refl
 orderly-stopped_as true t false x h = refl
 orderly-stopped_as false t u x h = cc
 
--- a port that is Root or Designated now, or wants nothing
+-- a port that is now Root or Designated, or has neither learn nor forward
 pub orderly-joined : (a t x : Bool) → a && (t || x) ≡ true → a && true ≡ true
 orderly-joined true t x h = refl
 orderly-joined false t x h = cc
@@ -288,7 +288,7 @@ orderly-role role_rule.AlternateProposed timing ports p holds all =
 orderly-role role_rule.AlternateAgreed timing ports p holds all = orderly-changing _ ports p (λ port h. h) all
 orderly-role role_rule.Backup timing ports p holds all = orderly-changing _ ports p (λ port h. h) all
 
--- a port that learns and forwards as it is to
+-- a port that learns and forwards as it should
 pub orderly-learning : (f l x : Bool) → (not f || l) && x ≡ true → (not f || true) && x ≡ true
 orderly-learning true true x h = h
 orderly-learning true false x h = cc

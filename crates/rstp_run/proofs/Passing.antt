@@ -1,4 +1,4 @@
--- What is true of a port that passes.
+-- Facts about a port that passes frames.
 use Rattle.std.proofs.Common.{◌≡◌, ℕ, ◌-◌, ◌&&◌, ◌||◌, not, Bool, true, false, refl, inl, inr}
 use Rattle.std.proofs.lemmas.Option.{slice_get_cases}
 use Rattle.rstp_roles.specs.StateTransitions.{to_discarding_guard}

@@ -1,4 +1,4 @@
--- What a port knows of its tree, and the rules that leave it alone: all but selection and those of information.
+-- The tree information of a port, and the rules that don't change it: all except selection and those of information.
 use Rattle.std.proofs.Common.{◌≡◌, ℕ, ◌+◌, Bool, true, false, ◌==◌, cond, List, Some, map, refl, ◌∙◌}
 use Rattle.bpdu_wire.specs.declared.bpdu.Bpdu.{Bpdu}
 use Rattle.rstp_state.specs.declared.port.PortState.{PortState}
@@ -63,7 +63,7 @@ known_of port = record {
   received_info_while = port.received_info_while;
 }
 
--- the port knows what it knew
+-- the port's tree information stays
 abbrev pub IsQuiet : PortState → PortState → Type 0
 IsQuiet port next = known_of next ≡ known_of port
 

@@ -42,7 +42,7 @@ none_asks (x ∷ xs) zero port h at = let same : x ≡ port = cc in
     sym (ap (λ (y : PortState). y.reselect) same) ∙ (neither x.reselect (list_any wants_selection xs) h).0
 none_asks (x ∷ xs) (suc p) port h at = none_asks xs p port (neither x.reselect (list_any wants_selection xs) h).1 at
 
--- the first port, which is there, is asked whether any port wants selection
+-- the first port exists, and its test is whether any port requests selection
 first_asked : (ports : List PortState) (p : ℕ) (port : PortState) (b : Bool) → slice_get ports p ≡ Some port
     → test_at 0 (λ x. b) ports ≡ false → b ≡ false
 first_asked [] p port b at h = cc
@@ -65,12 +65,12 @@ acts true true h k = cc
 acts true false h k = refl
 acts false u h k = cc
 
--- what a role's rule leaves, where the port may act
+-- the remaining condition of a role's rule, if the port may act
 pub left_over : (m a b : Bool) → m ≡ true → m && a && b ≡ false → a && b ≡ false
 left_over true a b h g = g
 left_over false a b h g = cc
 
--- A port of role Root has no other role selected, where no rule takes it there.
+-- A port of role Root has the selected role Root, if no rule would change its role.
 root_selected : (r s : Role) → is_disabled s && not (is_disabled r) ≡ false
     → is_designated s && not (is_designated r) ≡ false
     → is_blocked s && not (same_role r s) ≡ false → is_root r ≡ true → is_root s ≡ true

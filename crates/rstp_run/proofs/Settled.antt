@@ -1,4 +1,4 @@
--- A bridge is settled where no rule of the two tables is enabled at a port that is there.
+-- A bridge is settled if no rule of the two tables is enabled at an existing port.
 use Rattle.std.proofs.Common.{◌≡◌, ℕ, ◌≤◌, Bool, true, false, Some, List, [], ◌∷◌, length, slice_get, zero, suc, ◌<◌}
 use Rattle.std.proofs.Common.{below_more, arith, refl, ◌⊎◌, inl, inr, ◌↔◌, IsTrue, not}
 use Rattle.std.specs.List.{list_any}
@@ -20,7 +20,7 @@ use Rattle.rstp_run.specs.declared.rule.TheConstants.{MAIN, SENDS}
 use Rattle.rstp_run.specs.Rules.{Tree, guard}
 use Rattle.rstp_run.specs.Runs.{AreOffAt, AreOffBelow, AreOff, IsSettled}
 
--- each rule stands in one of the tables
+-- each rule is in one of the tables
 pub covered : (rule : Rule) → ((k : ℕ) × (slice_get MAIN k ≡ Some rule)) ⊎ ((k : ℕ) × (slice_get SENDS k ≡ Some rule))
 covered Select = inl (0, refl)
 covered (Receive receive_rule.Discard) = inl (1, refl)

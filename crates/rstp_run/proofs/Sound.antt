@@ -1,4 +1,4 @@
--- What makes a port sound, and that the rules of information keep it so.
+-- The condition for a sound port; the rules of information keep it.
 use Rattle.std.proofs.Common.{◌≡◌, Bool, true, false, not, ◌&&◌, ◌||◌, Option, Some, None, refl, sym, ap, subst}
 use Rattle.bpdu_wire.specs.declared.bpdu.Bpdu.{Bpdu}
 use Rattle.bpdu_wire.specs.declared.bpdu.Bpdu.TheVariants.{Config, Rst, Tcn}
@@ -15,13 +15,13 @@ use Rattle.rstp_machines.specs.Information.{with_proposal}
 use Rattle.rstp_run.specs.Machines.{information_asks, information_does}
 use Rattle.rstp_run.proofs.Quiet.{IsQuiet, Known, answer_quiet, inferior_quiet, known_of}
 
--- the port has no information, since it is not enabled
+-- the port has no information, because it is not enabled
 abbrev pub is_down : InfoIs → Bool
 is_down info_is.Disabled = true
 is_down _ = false
 
--- A port whose role isn't selected asks for selection. The information machine is out only where there
--- is no information, and then nothing waits to be taken over.
+-- A port whose role isn't selected requests selection. The information machine is out only if the port has no
+-- information, and then no update is pending while the role is selected.
 abbrev pub IsSoundOf : Known → Type 0
 IsSoundOf known =
     (known.selected || known.reselect ≡ true)
@@ -31,7 +31,7 @@ IsSoundOf known =
 abbrev pub IsSound : PortState → Type 0
 IsSound port = IsSoundOf (known_of port)
 
--- the port stays sound, and its selected role and its identifier stay
+-- the port stays sound, and keeps its selected role and its identifier
 abbrev pub Keeps : PortState → PortState → Type 0
 Keeps port next =
     (IsSound port → IsSound next) × (next.selected_role ≡ port.selected_role) × (next.identifier ≡ port.identifier)

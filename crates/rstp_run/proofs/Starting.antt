@@ -1,4 +1,4 @@
--- At its start a bridge is settled, where its Hello time isn't 0.
+-- At its start a bridge is settled if its Hello time isn't 0.
 use Rattle.std.proofs.Common.{◌≡◌, ℕ, ◌+◌, ◌≤◌, ◌==◌, ◌&&◌, ◌||◌, not, Bool, true, false, List, [], ◌∷◌, refl, inl, inr}
 use Rattle.std.proofs.Common.{arith}
 use Rattle.std.specs.Prelude.{All}
@@ -82,7 +82,7 @@ test_off test ports p all =
       | inr (past, none) ↦ rw none refl
     ]
 
--- no rule asks for a port as it starts
+-- no rule is enabled at a port in its start state
 asks_off : (rule : Rule) (settings : Settings) (ports : List PortSettings) (p : ℕ) → 1 ≤ settings.hello
     → (port : PortSettings) (m : ℕ) → asks rule (start settings ports) p (start_port settings port m) ≡ false
 asks_off Select settings ports p h port m = and_off (p == 0) _ (none_wants 1 settings ports)

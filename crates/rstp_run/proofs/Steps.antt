@@ -84,7 +84,7 @@ length-ports_after (Topology topology_rule.Acknowledged) s p = length-change_at 
 length-ports_after (Topology topology_rule.Flush) s p = length-change_at p _ s.ports
 length-ports_after (Transmit rule) s p = length-change_at p _ s.ports
 
--- one firing goes on from a state
+-- one firing from a state
 pub goes-one : (s t : Tree) (a : Count) (rule : Rule) (p : ℕ) → guard rule s p ≡ true → t ≡ after rule s p
     → a.fired < a.limit → Goes (tries rule p) done s a t (counted a rule p)
 goes-one s t a rule p holds is below = record {
@@ -108,7 +108,7 @@ pub flushed-append : (fs gs : List Firing) (before : ℕ) → flushed (gs ++ fs)
 flushed-append fs [] before = refl
 flushed-append fs (g ∷ gs) before = ap (flush_after g.rule g.place) (flushed-append fs gs before)
 
--- two goes make one
+-- two consecutive parts make one
 pub goes-both : (part rest end : Walk) (s t u : Tree) (a b c : Count) → Goes part rest s a t b → Goes rest end t b u c
     → Goes part end s a u c
 goes-both part rest end s t u a b c first second = record {
@@ -153,7 +153,7 @@ sweeps-none part P s a within holds still = record {
   ports = refl;
 }
 
--- two sweeps make one
+-- two consecutive sweeps make one
 pub sweeps-both : (first_part second_part : Walk) (P Q R : Tree → Type 0) (s t u : Tree) (a b c : Count)
     → Sweeps first_part P s a t b → Sweeps second_part Q t b u c
     → (P s → Q s → R s) → Sweeps (and_then first_part second_part) R s a u c

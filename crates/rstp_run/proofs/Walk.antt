@@ -1,4 +1,4 @@
--- One walk over all rules and events: a fact of a bridge that stays where each port goes on by a relation.
+-- One induction over all rules and events: a fact about a bridge stays if each port changes by a relation.
 use Rattle.std.proofs.Common.{◌≡◌, ℕ, ◌-◌, Bool, true, false, ◌||◌, List, [], ◌∷◌, map, refl, sym, subst}
 use Rattle.rstp_state.specs.declared.port.PortState.{PortState}
 use Rattle.rstp_state.specs.Direct.{with_enabled, with_message, with_migration_check, with_second, without_slot}
@@ -19,8 +19,8 @@ use Rattle.rstp_run.proofs.Each.{Each, each_map, each_weaker, each_change, each_
 use Rattle.rstp_run.proofs.Quiet.{IsQuiet, receive_quiet, migration_quiet, detection_quiet, state_quiet, transmit_quiet}
 use Rattle.rstp_run.proofs.Quiet.{role_quiet, topology_quiet, message_quiet}
 
--- P stays where each port goes on by R, which allows what leaves alone what a port knows, the rules of information,
--- and a second; and P stays over selection.
+-- P stays if each port changes by R. R allows changes that keep a port's tree information, the rules of information,
+-- and a second. P stays after selection.
 pub record Walks (P : Tree → Type 0) (R : Tree → PortState → PortState → Type 0) : Type 0 where
   pub by : (s : Tree) (ports : List PortState) → Each (R s) s.ports ports → P s → P (record s { ports = ports })
   pub quiet : (s : Tree) (a b : PortState) → IsQuiet a b → R s a b
@@ -29,7 +29,7 @@ pub record Walks (P : Tree → Type 0) (R : Tree → PortState → PortState →
   pub second : (s : Tree) (port : PortState) → R s port (with_second port)
   pub chosen : (s : Tree) (p : ℕ) → P s → P (after rules.Select s p)
 
--- a rule of one port that leaves alone what it knows
+-- a rule of one port that keeps the port's tree information
 quiet_at : (asks : PortState → Bool) (does : PortState → PortState) (ports : List PortState) (p : ℕ)
     → ((port : PortState) → asks port ≡ true → IsQuiet port (does port)) → test_at p asks ports ≡ true
     → Each IsQuiet ports (change_at p does ports)
@@ -85,7 +85,7 @@ module _ (P : Tree → Type 0) (R : Tree → PortState → PortState → Type 0)
   happens_holds event limit s t settled mask happens k =
       run_holds happens.firings (direct event s) t happens.run (direct_holds event s k)
 
-  -- it holds of all that comes by events from a bridge of which it holds
+  -- if it holds of a bridge, it holds of every bridge that events lead to from there
   pub comes_holds : (history : List Event) (s t : Tree) → Comes history s t → P s → P t
   comes_holds [] s t comes k = subst P (sym comes) k
   comes_holds (event ∷ earlier) s t comes k =

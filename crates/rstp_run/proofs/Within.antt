@@ -1,4 +1,4 @@
--- What an event answers is about ports that are there.
+-- The result of an event refers only to existing ports.
 use Rattle.std.proofs.Common.{◌≡◌, ℕ, zero, suc, ◌+◌, ◌-◌, ◌%◌, ◌^◌, ◌<◌, ◌≤◌, ◌&&◌, ◌||◌, ◌==◌, ◌⊎◌, inl, inr, Bool}
 use Rattle.std.proofs.Common.{true, false, List, [], ◌∷◌, Option, Some, None, All, length, slice_get, refl, sym, ap}
 use Rattle.std.proofs.Common.{◌∙◌, arith}
@@ -28,7 +28,7 @@ right : (a b : Bool) → a && b ≡ true → b ≡ true
 right true b h = h
 right false b h = cc
 
--- a rule is enabled only at a place where there is a port
+-- a rule is enabled only at a place that has a port
 place_within : (rule : Rule) (s : Tree) (p : ℕ) → guard rule s p ≡ true → p < length s.ports
 place_within rule s p holds =
     elim (slice_get_cases s.ports p).1 [
@@ -55,7 +55,7 @@ flushes_within (f ∷ earlier) s t p (mid, run, fires) h =
       | inr before ↦ flushes_within earlier s mid p run before
     ]
 
--- the set has ports alone that are there
+-- the set has only existing ports
 pub flush-within : (event : Event) (limit : ℕ) (s t : Tree) (settled : Bool) (mask : ℕ)
     → Happens event limit s t settled mask
     → (p : ℕ) → has_port mask p ≡ true → IsPort p (length t.ports)
@@ -68,7 +68,7 @@ flush-within event limit s t settled mask happens (suc p) there =
     let same = run_length happens.firings _ t happens.run in
     (omega arith, omega arith)
 
--- a message at one of so many ports, of which the first has this number
+-- a message at one of `many` ports; the first has the number n
 abbrev IsFrom : ℕ → ℕ → ℕ × Bpdu → Type 0
 IsFrom n many sent = (n ≤ sent.0) × (sent.0 < n + many)
 
@@ -107,7 +107,7 @@ at_ports ports (e ∷ es) h =
       omega arith,
     ) (at_ports ports es (All-tail (IsFrom 1 (length ports)) e es h))
 
--- what is sent is sent at ports that are there
+-- messages are sent only at existing ports
 pub sent-at_ports : (ports : List PortState) → All (λ e. IsPort e.0 (length ports)) (sent_from 1 ports)
 sent-at_ports ports = at_ports ports (sent_from 1 ports) (sent_within 1 ports)
 

@@ -1,4 +1,4 @@
--- What an event may do to a bridge, and what it answers.
+-- The possible effects of an event on a bridge, and its result.
 use Rattle.std.specs.Prelude.{ℕ, Bool, true, false, ◌≡◌, ◌⊎◌, ◌↔◌, ◌+◌, ◌*◌, ◌≤◌, ◌&&◌, ◌==◌, List, [], ◌∷◌, length}
 use Rattle.std.specs.Prelude.{map, Option, Some, None, IsTrue}
 use Rattle.std.specs.List.{list_any}
@@ -17,11 +17,11 @@ use Rattle.rstp_run.specs.Sweep.{swept}
 use Rattle.rstp_run.specs.declared.event.Event.{Event}
 use Rattle.rstp_run.specs.declared.event.Event.TheVariants as events
 
--- there is a port of this number
+-- a port with this number exists
 abbrev pub IsPort : ℕ → ℕ → Type 0
 IsPort p ports = (1 ≤ p) × (p ≤ ports)
 
--- the event is at a port that is there, of so many
+-- the event's port, if it has one, is among this many ports
 abbrev pub IsAt : Event → ℕ → Type 0
 IsAt (events.Bpdu p message) ports = IsPort p ports
 IsAt events.Second ports = Unit {0}
@@ -45,8 +45,8 @@ direct event s = record s { ports = ports_at event (map without_slot s.ports) }
 abbrev pub flushes : ℕ → List Firing → Bool
 flushes p firings = list_any (λ f. is_flush f.rule && f.place == p) firings
 
--- The bridge goes from s to t by the event and at most limit firings. It is settled exactly where
--- no rule is enabled in t, and isn't only after as many firings as it may have.
+-- The bridge changes from s to t by the event and at most limit firings. It is settled exactly if no rule is enabled in
+-- t. It is unsettled only after exactly limit firings.
 pub record Happens (event : Event) (limit : ℕ) (s t : Tree) (settled : Bool) (mask : ℕ) : Type 0 where
   pub firings : List Firing
   pub run : Run firings (direct event s) t
@@ -55,15 +55,15 @@ pub record Happens (event : Event) (limit : ℕ) (s t : Tree) (settled : Bool) (
   pub unsettled : settled ≡ false → length firings ≡ limit
   pub flush : (p : ℕ) → has_port mask (p + 1) ≡ flushes p firings
 
--- Firings that lead on from the event's direct effect are what the event may do: as many as the
--- limit, or fewer to where the bridge is settled.
+-- A run from the event's direct effect is a possible effect of the event, if it has exactly limit firings, or fewer and
+-- ends in a settled bridge.
 abbrev pub RunsHappen : Type 0
 RunsHappen =
     (event : Event) (limit : ℕ) (s t : Tree) (firings : List Firing) → Run firings (direct event s) t
     → length firings ≤ limit → (length firings ≡ limit) ⊎ IsSettled t
     → (settled : Bool) × Happens event limit s t settled (flushed firings 0)
 
--- what the sweep does at the event: the bridge afterwards, and the ports at which it flushes
+-- the effect of the sweep at the event: the bridge after it, and the ports at which it flushes
 pub record IsSwept (event : Event) (limit : ℕ) (s t : Tree) (mask : ℕ) : Type 0 where
   pub bridge : t ≡ (swept limit (direct event s)).tree
   pub flush : mask ≡ flushed (swept limit (direct event s)).firings 0
@@ -76,20 +76,20 @@ abbrev pub with_sent : ℕ → Option bpdu.Bpdu → List (ℕ × bpdu.Bpdu) → 
 with_sent p None rest = rest
 with_sent p (Some message) rest = (p, message) ∷ rest
 
--- what lies in the slots of the ports, of which the first has this number
+-- the messages in the slots of the ports; the first port has this number
 abbrev pub sent_from : ℕ → List PortState → List (ℕ × bpdu.Bpdu)
 sent_from p [] = []
 sent_from p (port ∷ ports) = with_sent p port.slot (sent_from (p + 1) ports)
 
--- frames pass at port p: the bridge is settled, and the port enabled and forwarding
+-- port p passes frames: the bridge is settled, and the port enabled and forwarding
 abbrev pub Passes : Tree → ℕ → Type 0
 Passes s p = IsSettled s × IsTrue (test_at (place_of_port p) (λ port. port.enabled && port.forwarding) s.ports)
 
--- addresses are learnt at port p: the bridge is settled, and the port enabled and learning
+-- port p learns addresses: the bridge is settled, and the port enabled and learning
 abbrev pub Learns : Tree → ℕ → Type 0
 Learns s p = IsSettled s × IsTrue (test_at (place_of_port p) (λ port. port.enabled && port.learning) s.ports)
 
--- a bridge before its first event, its own root
+-- a bridge before its first event; it is its own root
 abbrev pub start : Settings → List PortSettings → Tree
 start settings ports = record {
   settings = settings;

@@ -1,4 +1,4 @@
--- The table of this crate's machines, by the rules' names.
+-- The table of this crate's machines, by the names of the rules.
 use Rattle.std.specs.Prelude.{ℕ, Bool, List}
 use Rattle.rstp_state.specs.declared.port.PortState.{PortState}
 use Rattle.rstp_state.specs.declared.port.Timing.{Timing}
@@ -22,7 +22,7 @@ use Rattle.rstp_machines.specs.Information as information
 use Rattle.rstp_machines.specs.TopologyChange as topology
 use Rattle.rstp_machines.specs.Transmit as transmit
 
--- what each rule asks of its port, and what it does
+-- the guard and the effect of each rule at its port
 
 abbrev pub receive_asks : ReceiveRule → PortState → Bool
 receive_asks receive_rule.Discard port = receive.discard_guard port

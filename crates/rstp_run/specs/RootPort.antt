@@ -1,4 +1,4 @@
--- What holds of every bridge that came from its start by events.
+-- Laws of every bridge that events led to from its start.
 use Rattle.std.specs.Prelude.{ℕ, Bool, true, ◌≡◌, List, [], ◌∷◌, Some, slice_get}
 use Rattle.rstp_state.specs.declared.port.PortState.{PortState}
 use Rattle.rstp_state.specs.declared.start.PortSettings.{PortSettings}
@@ -16,7 +16,7 @@ Comes (event ∷ earlier) s t =
     (mid : Tree) × (limit : ℕ) × (settled : Bool) × (mask : ℕ) × Comes earlier s mid
     × Happens event limit mid t settled mask
 
--- a bridge of these settings may come to this state
+-- a bridge with these settings may reach this state
 abbrev pub CanBe : Settings → List PortSettings → Tree → Type 0
 CanBe settings ports s = (events : List Event) × Comes events (start settings ports) s
 
@@ -24,7 +24,7 @@ CanBe settings ports s = (events : List Event) × Comes events (start settings p
 abbrev pub IsAtPlace : Tree → ℕ → PortState → Type 0
 IsAtPlace s p port = slice_get s.ports p ≡ Some port
 
--- a settled bridge has one root port at most
+-- a settled bridge has at most one root port
 abbrev pub OneRootPort : Type 0
 OneRootPort =
     (settings : Settings) (ports : List PortSettings) (s : Tree) → CanBe settings ports s → IsSettled s

@@ -1,4 +1,4 @@
--- A bridge, and what each rule of the table asks and does.
+-- A bridge, and the guard and the effect of each rule of the table.
 use Rattle.std.specs.Prelude.{ℕ, Bool, ◌&&◌, ◌==◌, List}
 use Rattle.std.specs.List.{list_any}
 use Rattle.rstp_state.specs.declared.port.PortState.{PortState}
@@ -30,7 +30,7 @@ pub record Tree : Type 0 where
   pub root : Root
   pub ports : List PortState
 
--- what the rules of a port read of the bridge
+-- the values of the bridge that the rules of a port read
 abbrev pub timing_of : Settings → Root → Timing
 timing_of settings root = record {
   hello = settings.hello;
@@ -45,7 +45,7 @@ timing_in s = timing_of s.settings s.root
 abbrev pub wants_selection : PortState → Bool
 wants_selection port = port.reselect
 
--- what the rule asks of the bridge and of its port at place p
+-- the rule's condition on the bridge and on its port at place p
 abbrev pub asks : Rule → Tree → ℕ → PortState → Bool
 asks Select s p port = p == 0 && list_any wants_selection s.ports
 asks (Receive rule) s p port = receive_asks rule port
@@ -57,7 +57,7 @@ asks (InState rule) s p port = state_asks rule port
 asks (Topology rule) s p port = topology_asks rule port
 asks (Transmit rule) s p port = transmit_asks rule (timing_in s) port
 
--- the rule's guard holds at the port at place p, which is there
+-- the port at place p exists, and the rule's guard holds there
 abbrev pub guard : Rule → Tree → ℕ → Bool
 guard rule s p = test_at p (asks rule s p) s.ports
 

@@ -1,4 +1,4 @@
--- Runs of a bridge, and what an event may answer.
+-- Runs of a bridge, and the possible results of an event.
 use Rattle.std.specs.Prelude.{ℕ, Bool, true, false, ◌≡◌, ◌+◌, ◌<◌, if◌then◌else◌, List, [], ◌∷◌, length}
 use Rattle.std.specs.List.{list_any}
 use Rattle.ether_wire.specs.Ports.{with_port}
@@ -16,7 +16,7 @@ pub record Firing : Type 0 where
 abbrev pub IsEnabled : Rule → ℕ → Tree → Type 0
 IsEnabled rule p s = guard rule s p ≡ true
 
--- the rule may fire in s, and leaves t
+-- the rule may fire in s, and leads to t
 abbrev pub Fires : Firing → Tree → Tree → Type 0
 Fires f s t = IsEnabled f.rule f.place s × (t ≡ after f.rule s f.place)
 
@@ -33,11 +33,11 @@ abbrev pub is_flush : Rule → Bool
 is_flush (Topology Flush) = true
 is_flush _ = false
 
--- the ports that were flushed, after one more firing
+-- the flushed ports after one more firing
 abbrev pub flush_after : Rule → ℕ → ℕ → ℕ
 flush_after rule p before = if is_flush rule then with_port before (p + 1) else before
 
--- the ports that were flushed, with those before
+-- the flushed ports, including earlier ones
 abbrev pub flushed : List Firing → ℕ → ℕ
 flushed [] before = before
 flushed (f ∷ earlier) before = flush_after f.rule f.place (flushed earlier before)

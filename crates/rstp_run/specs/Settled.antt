@@ -1,4 +1,5 @@
--- What the ports of a settled bridge know and send, of every bridge that came from its start by events.
+-- Laws of the ports of a settled bridge that events led to from its start: the information that they have and the
+-- messages that they send.
 use Rattle.std.specs.Prelude.{ℕ, true, ◌≡◌, ◌+◌, ◌<◌, ◌%◌, ◌^◌, List}
 use Rattle.bpdu_wire.specs.Id.{port_number}
 use Rattle.rstp_state.specs.declared.port.PortState.{PortState}
@@ -13,16 +14,16 @@ use Rattle.rstp_run.specs.RootPort.{CanBe, IsAtPlace}
 use Rattle.rstp_run.specs.Rules.{Tree}
 use Rattle.rstp_run.specs.Runs.{AreOff, IsSettled}
 
--- the bridge came from its start by events
+-- events led to the bridge from its start
 abbrev pub IsReached : Tree → Type 0
 IsReached s = (settings : Settings) × (ports : List PortSettings) × CanBe settings ports s
 
--- a fact of each port of a settled bridge
+-- a fact about each port of a settled bridge
 abbrev pub OfSettledPorts : (Tree → PortState → Type 0) → Type 0
 OfSettledPorts fact = (s : Tree) → IsReached s → IsSettled s → (p : ℕ) (port : PortState) → IsAtPlace s p port
     → fact s port
 
--- it sends the root's vector, as its bridge and itself, and the root's times
+-- the port sends the root's vector with its bridge and itself as sender, and the root's times
 pub record Sends (s : Tree) (port : PortState) : Type 0 where
   pub vector : port.designated_priority ≡ designated_vector s.settings s.root port.identifier
   pub times : port.designated_times ≡ designated_times s.settings s.root
@@ -31,7 +32,7 @@ pub record Sends (s : Tree) (port : PortState) : Type 0 where
 abbrev pub HasWhatItSends : Tree → PortState → Type 0
 HasWhatItSends s port = is_designated port.role ≡ true → port.port_priority ≡ port.designated_priority
 
--- the root's times are those of the root port, one bridge further, and the root port's aren't too old
+-- the root's times are those of the root port, one bridge further, and the root port's times aren't too old
 pub record IsFollowed (s : Tree) (port : PortState) : Type 0 where
   pub further : s.root.times ≡ times_beyond port.port_times
   pub young : port.port_times.message_age < port.port_times.max_age
@@ -39,7 +40,7 @@ pub record IsFollowed (s : Tree) (port : PortState) : Type 0 where
 abbrev pub IsFollowedAsRoot : Tree → PortState → Type 0
 IsFollowedAsRoot s port = is_root port.role ≡ true → IsFollowed s port
 
--- what passes is the root port or a designated one
+-- a port that passes frames is the root port or a designated port
 abbrev pub PassingIsInTree : Type 0
 PassingIsInTree = (s : Tree) → IsReached s → (p : ℕ) → Passes s p → IsInTree s p
 
@@ -49,6 +50,6 @@ PortsAreNumbered =
     (s : Tree) → IsReached s → (p : ℕ) (port : PortState) → IsAtPlace s p port
     → port_number port.identifier ≡ (p + 1) % 2 ^ 12
 
--- a bridge is settled where no rule of the two lists is enabled at any of its ports
+-- a bridge is settled if no rule of the two lists is enabled at any of its ports
 abbrev pub SettledByLists : Type 0
 SettledByLists = (s : Tree) → AreOff MAIN s → AreOff SENDS s → IsSettled s

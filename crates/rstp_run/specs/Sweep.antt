@@ -1,4 +1,4 @@
--- The order of firing: passes over the ports, ascending, each with the rules in the order of the table.
+-- The order of firing: passes over the ports in ascending order, each with the rules in the order of the table.
 use Rattle.std.specs.Prelude.{ℕ, ◌&&◌, ◌==◌, nat_lt, if◌then◌else◌, List, [], ◌∷◌, length, zero, suc}
 use Rattle.rstp_roles.specs.declared.rule.RoleRule.TheVariants as role_rule
 use Rattle.rstp_roles.specs.declared.rule.StateRule.TheVariants as state_rule
@@ -15,7 +15,7 @@ use Rattle.rstp_run.specs.declared.rule.TransmitRule.TheVariants as transmit_rul
 
 -- ---- the rules in their order
 
--- all but those that send
+-- all rules except those that send
 abbrev pub main_order : List Rule
 main_order =
     rules.Select
@@ -45,7 +45,7 @@ main_order =
     ∷ rules.Topology topology_rule.NotifiedTc ∷ rules.Topology topology_rule.Propagating
     ∷ rules.Topology topology_rule.Acknowledged ∷ rules.Topology topology_rule.Flush ∷ []
 
--- those that send
+-- the rules that send
 abbrev pub sending_order : List Rule
 sending_order =
     rules.Transmit transmit_rule.Periodic ∷ rules.Transmit transmit_rule.SendConfig
@@ -53,12 +53,12 @@ sending_order =
 
 -- ---- the sweep
 
--- a bridge on its way through an event, with the firings so far, the newest first
+-- a bridge during an event, with the firings so far, the newest first
 pub record Going : Type 0 where
   pub tree : Tree
   pub firings : List Firing
 
--- a part of the sweep, at an event that may have so many firings
+-- a part of the sweep, at an event with this limit of firings
 abbrev pub Walk : Type 0
 Walk = ℕ → Going → Going
 
@@ -66,34 +66,34 @@ Walk = ℕ → Going → Going
 abbrev pub fired : Rule → ℕ → Going → Going
 fired rule p g = record { tree = after rule g.tree p; firings = record { rule = rule; place = p } ∷ g.firings }
 
--- the rule is reached at place p: it fires if it is enabled, and if there may be one more firing
+-- the sweep reaches the rule at place p: the rule fires if it is enabled and the limit of firings is not reached
 abbrev pub tries : Rule → ℕ → Walk
 tries rule p limit g = if nat_lt (length g.firings) limit && guard rule g.tree p then fired rule p g else g
 
--- each rule of the list is reached once at place p, in the list's order
+-- the sweep reaches each rule of the list once at place p, in the list's order
 abbrev pub tries_all : List Rule → ℕ → Walk
 tries_all [] p limit g = g
 tries_all (rule ∷ rules) p limit g = tries_all rules p limit (tries rule p limit g)
 
--- so at each place below n, ascending
+-- the sweep does this at each place below n, in ascending order
 abbrev pub tries_below : List Rule → ℕ → Walk
 tries_below rules zero limit g = g
 tries_below rules (suc n) limit g = tries_all rules n limit (tries_below rules n limit g)
 
--- a pass: so at every port
+-- a pass: the sweep does this at every port
 abbrev pub pass : List Rule → Walk
 pass rules limit g = tries_below rules (length g.tree.ports) limit g
 
--- a part of the sweep again and again, up to the first time that nothing fires by it, or n times
+-- repeats a part of the sweep up to the first time that it fires nothing, or n times
 abbrev pub until_idle : ℕ → (Going → Going) → Going → Going
 until_idle zero f g = g
 until_idle (suc n) f g = if length (f g).firings == length g.firings then f g else until_idle n f (f g)
 
--- Passes up to one that fires nothing. Each other one fires something, so that there are no more of them than firings.
+-- Passes up to one that fires nothing. Every other pass fires something, so there are no more of these than firings.
 abbrev pub passes : List Rule → Walk
 passes rules limit g = until_idle limit (pass rules limit) g
 
--- a round: passes with the rules that don't send, and then passes with those that send
+-- a round: passes with the rules that don't send, then passes with the rules that send
 abbrev pub round : Walk
 round limit g = passes sending_order limit (passes main_order limit g)
 

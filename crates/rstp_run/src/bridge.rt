@@ -26,7 +26,7 @@ use rstp_state::port::PortState;
 use rstp_state::start::{PortSettings, Settings};
 use std::marker::Model;
 
-/// What a bridge is made from.
+/// The configuration of a bridge and its ports.
 #[derive(Clone, Copy)]
 pub struct BridgeConfig<'a> {
     pub settings: Settings,
@@ -35,9 +35,9 @@ pub struct BridgeConfig<'a> {
 }
 
 /// A bridge of 1 to 64 ports, numbered from 1, with the rules of the rapid spanning tree. Events
-/// come one after the other; each fires rules until none is enabled, or until there were as many
-/// firings as an event may have. In the latter case the bridge isn't settled, no port passes or
-/// learns, and the next event goes on.
+/// come one after the other. Each event fires rules until none is enabled, or until it reaches its
+/// limit of firings. In the latter case the bridge isn't settled, no port passes frames or learns,
+/// and the next event continues.
 #[derive(Drop)]
 pub struct Bridge {
     engine: Engine,
@@ -53,7 +53,7 @@ impl Model for Bridge {
         × AreNumbered b.engine × (1 ≤ length b.engine.ports) };
 }
 
-/// Whether frames pass at the port of a bridge that is or isn't settled.
+/// Returns `true` if the port passes frames, given whether the bridge is settled.
 fn is_passing(engine: &Engine, settled: bool, p: u8) -> bool
     requires there { IsPort p (length engine.now.ports) }
     requires known { IsTrue settled ↔ IsSettled engine.now }
@@ -64,8 +64,8 @@ fn is_passing(engine: &Engine, settled: bool, p: u8) -> bool
 }
 
 impl Bridge {
-    /// A bridge before its first event: no port is up and, with a Hello time of at least 1, no rule
-    /// is enabled. It takes no memory.
+    /// Returns a bridge before its first event: no port is up and, with a Hello time of at least 1,
+    /// no rule is enabled. Takes no memory.
     pub fn new(config: BridgeConfig) -> Self
         requires some { 1 ≤ length config.ports.now }
         requires few { length config.ports.now ≤ 64 }
@@ -77,7 +77,7 @@ impl Bridge {
         Bridge { engine, settled }
     }
 
-    /// How many ports there are.
+    /// Returns the number of ports.
     pub fn len(&self) -> usize
         ensures value { result ≡ length self.now.ports }
         ensures some { 1 ≤ result }
@@ -86,7 +86,8 @@ impl Bridge {
         self.engine.len()
     }
 
-    /// The event, and at most so many firings. What is sent takes the place of what is listed.
+    /// Processes the event with at most `limit` firings. Replaces the content of `out` by the
+    /// messages to send.
     fn go_within(
         &mut self,
         event: Event,
@@ -108,7 +109,7 @@ impl Bridge {
         effect
     }
 
-    /// As many firings as an event may have: 64 for each port and 64 more.
+    /// Returns the greatest number of firings at an event: 64 for each port and 64 more.
     fn most_firings(&self) -> usize
         ensures value { result ≡ firings_at self.now }
         ensures some { 1 ≤ result }
@@ -116,8 +117,8 @@ impl Bridge {
         64 * (self.len() + 1)
     }
 
-    /// The event's direct effect, and then rules that fire one after the other, up to the limit.
-    /// It takes no memory.
+    /// Applies the event's direct effect, and then fires rules one after the other, up to the
+    /// limit. Takes no memory.
     pub fn event_within(&mut self, event: Event, limit: usize) -> Outcome
         requires at { IsAt event (length self.old.ports) }
         requires some { 1 ≤ limit }
@@ -128,7 +129,7 @@ impl Bridge {
         ensures out { result.out.items ≡ sent_from 1 self.new.ports }
         ensures ports { length self.new.ports ≡ length self.old.ports }
 
-        // The ports that are flushed, and those at which is sent, are there.
+        // The flushed ports, and the ports that send, exist.
         ensures flushed_at { (p : ℕ) → has_port result.flush p ≡ true
             → IsPort p (length self.new.ports) }
         ensures sent_at { All (λ sent. IsPort sent.0 (length self.new.ports)) result.out.items }
@@ -142,7 +143,7 @@ impl Bridge {
         }
     }
 
-    /// The event, with as many firings as an event may have: 64 for each port and 64 more.
+    /// Processes the event with the greatest limit of firings: 64 for each port and 64 more.
     pub fn event(&mut self, event: Event) -> Outcome
         requires { IsAt event (length self.old.ports) }
         ensures happens { Happens event (firings_at self.old) self.old self.new
@@ -152,7 +153,7 @@ impl Bridge {
         ensures out { result.out.items ≡ sent_from 1 self.new.ports }
         ensures ports { length self.new.ports ≡ length self.old.ports }
 
-        // The ports that are flushed, and those at which is sent, are there.
+        // The flushed ports, and the ports that send, exist.
         ensures flushed_at { (p : ℕ) → has_port result.flush p ≡ true
             → IsPort p (length self.new.ports) }
         ensures sent_at { All (λ sent. IsPort sent.0 (length self.new.ports)) result.out.items }
@@ -161,8 +162,8 @@ impl Bridge {
         self.event_within(event, limit)
     }
 
-    /// The same, with what is sent in the place of what is listed: a caller that keeps one list
-    /// spares the clearing and the copies of a whole one, 4 KiB each.
+    /// Processes the event like `event`, but replaces the content of `out` by the messages to send.
+    /// A caller that keeps one list avoids clearing and copying a whole list, 4 KiB each.
     pub fn event_into(&mut self, event: Event, out: &mut ArrayVec<(u8, Bpdu), 64>) -> Effect
         requires { IsAt event (length self.old.ports) }
         ensures happens { Happens event (firings_at self.old) self.old self.new
@@ -172,7 +173,7 @@ impl Bridge {
         ensures out { out.new.items ≡ sent_from 1 self.new.ports }
         ensures ports { length self.new.ports ≡ length self.old.ports }
 
-        // The ports that are flushed, and those at which is sent, are there.
+        // The flushed ports, and the ports that send, exist.
         ensures flushed_at { (p : ℕ) → has_port result.flush p ≡ true
             → IsPort p (length self.new.ports) }
         ensures sent_at { All (λ sent. IsPort sent.0 (length self.new.ports)) out.new.items }
@@ -181,19 +182,20 @@ impl Bridge {
         self.go_within(event, limit, out)
     }
 
-    /// Whether frames pass at the port: the bridge is settled, and the port enabled and forwarding.
+    /// Returns `true` if the port passes frames: the bridge is settled, and the port enabled and
+    /// forwarding.
     pub fn passes(&self, p: u8) -> bool
         requires { IsPort p (length self.now.ports) }
         ensures exact { IsTrue result ↔ Passes self.now p }
 
-        // What passes learns, and is the root port or a designated one.
+        // A port that passes frames learns, and is the root port or a designated port.
         ensures learns { IsTrue result → Learns self.now p }
         ensures in_tree { IsTrue result → IsInTree self.now p }
     {
         is_passing(&self.engine, self.settled, p)
     }
 
-    /// Whether addresses are learnt at the port: the bridge is settled, and the port enabled and
+    /// Returns `true` if the port learns addresses: the bridge is settled, and the port enabled and
     /// learning.
     pub fn learns(&self, p: u8) -> bool
         requires { IsPort p (length self.now.ports) }
@@ -203,7 +205,7 @@ impl Bridge {
         self.settled && port.enabled && port.learning
     }
 
-    /// The state of the port.
+    /// Returns the state of the port.
     pub fn port(&self, p: u8) -> &PortState
         requires { IsPort p (length self.now.ports) }
         ensures value { slice_get self.now.ports (place_of_port p) ≡ Some result.now }

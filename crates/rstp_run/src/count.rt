@@ -1,11 +1,11 @@
-//! How many rules fired in an event, and which ports were flushed.
+//! The number of rules that fired in an event, and the flushed ports.
 
 ghost use Rattle.std.specs.Prelude.{◌≡◌, ◌<◌};
 
 use crate::rule::Rule;
 use ether_wire::with_port;
 
-/// How many firings there were, of how many at most, and which ports were flushed.
+/// The number of firings, its limit, and the flushed ports.
 #[derive(Clone, Copy)]
 pub(crate) struct Count {
     pub(crate) fired: usize,
@@ -16,7 +16,7 @@ pub(crate) struct Count {
 impl Count {
     ghost use Rattle.rstp_run.specs.Inner.Runs.{counted};
 
-    /// One more firing, of this rule at the port at place `p`.
+    /// Counts one more firing, of this rule at the port at place `p`.
     pub(crate) fn add(&mut self, rule: Rule, p: usize)
         requires bit { p < 64 }
         requires below { self.old.fired < self.old.limit }

@@ -34,7 +34,7 @@ use rstp_state::selection::{Root, select_roles};
 use rstp_state::start::{PortSettings, Settings, start_ports};
 use std::marker::Model;
 
-/// A bridge that doesn't know whether it is settled.
+/// A bridge that doesn't record whether it is settled.
 #[derive(Drop)]
 pub(crate) struct Engine {
     settings: Settings,
@@ -50,7 +50,7 @@ impl Model for Engine {
     ghost invariant = { λ b. length b.ports.items ≤ 64 };
 }
 
-/// What the rules of a port read of the bridge.
+/// Returns the values of the bridge that the rules of a port read.
 fn timing_of(settings: &Settings, root: &Root) -> Timing
     ensures { result ≡ timing_of settings.now root.now }
 {
@@ -62,7 +62,7 @@ fn timing_of(settings: &Settings, root: &Root) -> Timing
     }
 }
 
-/// No port has anything to send.
+/// Empties the slots of all ports.
 fn clear_slots(ports: &mut [PortState])
     ensures { ports.new ≡ map without_slot ports.old }
 {
@@ -71,7 +71,7 @@ fn clear_slots(ports: &mut [PortState])
     }
 }
 
-/// A second passes at every port.
+/// Applies a second at every port.
 fn pass_seconds(ports: &mut [PortState])
     ensures { ports.new ≡ map with_second ports.old }
 {
@@ -80,7 +80,7 @@ fn pass_seconds(ports: &mut [PortState])
     }
 }
 
-/// The event's direct effect on the ports.
+/// Applies the event's direct effect to the ports.
 fn take_in(ports: &mut [PortState], event: Event)
     requires { IsAt event (length ports.old) }
     ensures { ports.new ≡ ports_at event ports.old }
@@ -94,7 +94,7 @@ fn take_in(ports: &mut [PortState], event: Event)
     }
 }
 
-/// Lists what lies in the slots, in the place of what was listed before.
+/// Replaces the content of the list by the messages in the slots.
 fn list_sent(ports: &[PortState], out: &mut ArrayVec<(u8, Bpdu), 64>)
     requires { length ports.now ≤ 64 }
     ensures { out.new.items ≡ sent_from 1 ports.now }
@@ -107,7 +107,7 @@ fn list_sent(ports: &[PortState], out: &mut ArrayVec<(u8, Bpdu), 64>)
     }
 }
 
-/// Whether the rule's guard holds at the port at place `p`.
+/// Returns `true` if the rule's guard holds at the port at place `p`.
 fn is_enabled_in(
     settings: &Settings,
     root: &Root,
@@ -164,7 +164,7 @@ impl Engine {
     ghost use Rattle.rstp_run.specs.Inner.Runs.{done, Goes, Sweeps, IsOff, rules_of, swept_on};
     ghost use Rattle.rstp_run.specs.Sweep.{passes, tries, tries_all, tries_below};
 
-    /// A bridge before its first event.
+    /// Returns a bridge before its first event.
     pub(crate) fn new(settings: Settings, ports: &[PortSettings]) -> Self
         requires { length ports.now ≤ 64 }
         ensures { result ≡ start settings ports.now }
@@ -176,7 +176,7 @@ impl Engine {
         }
     }
 
-    /// How many ports there are.
+    /// Returns the number of ports.
     pub(crate) fn len(&self) -> usize
         ensures value { result ≡ length self.now.ports }
         ensures few { result ≤ 64 }
@@ -184,7 +184,7 @@ impl Engine {
         self.ports.len()
     }
 
-    /// Whether the rule's guard holds at the port at place `p`.
+    /// Returns `true` if the rule's guard holds at the port at place `p`.
     fn is_enabled(&self, rule: Rule, p: usize) -> bool
         requires { p < length self.now.ports }
         ensures { result ≡ guard rule self.now p }
@@ -227,7 +227,7 @@ impl Engine {
         }
     }
 
-    /// Whether a rule of the part may be enabled at the port at place `p`.
+    /// Returns `true` if a rule of the part may be enabled at the port at place `p`.
     fn is_busy(&self, part: Part, p: usize) -> bool
         requires { p < length self.now.ports }
         ensures { result ≡ is_busy part self.now.ports p }
@@ -263,7 +263,7 @@ impl Engine {
         }
     }
 
-    /// Passes go on until one fires nothing, or the limit is reached.
+    /// Repeats passes until one fires nothing, or the limit is reached.
     fn settle(&mut self, part: Part, count: &mut Count)
         requires { count.old.fired ≤ count.old.limit }
         ensures goes { Goes (passes (rules_of part)) done self.old count.old self.new count.new }
@@ -280,7 +280,7 @@ impl Engine {
         }
     }
 
-    /// Whether one of these rules is enabled at the port at place `p`.
+    /// Returns `true` if one of these rules is enabled at the port at place `p`.
     fn has_enabled_at(&self, rules: &[Rule], p: usize) -> bool
         requires { p < length self.now.ports }
         ensures { result ≡ list_any (λ rule. guard rule self.now p) rules.now }
@@ -288,7 +288,7 @@ impl Engine {
         rules.iter().any(|rule| self.is_enabled(*rule, p))
     }
 
-    /// Whether one of these rules is enabled at any port.
+    /// Returns `true` if one of these rules is enabled at any port.
     fn has_enabled(&self, rules: &[Rule]) -> bool
         ensures off { result ≡ false → AreOff rules.now self.now }
         ensures on { result ≡ true → ¬ AreOff rules.now self.now }
@@ -301,7 +301,7 @@ impl Engine {
         false
     }
 
-    /// Whether no rule is enabled.
+    /// Returns `true` if no rule is enabled.
     pub(crate) fn is_settled(&self) -> bool
         ensures yes { result ≡ true → IsSettled self.now }
         ensures no { result ≡ false → ¬ IsSettled self.now }
@@ -309,7 +309,8 @@ impl Engine {
         !self.has_enabled(&MAIN) && !self.has_enabled(&SENDS)
     }
 
-    /// Fires rules until none is enabled, or the limit is reached.
+    /// Fires rules until none is enabled, or the limit is reached. Returns `true` if the bridge is
+    /// settled.
     fn run(&mut self, count: &mut Count) -> bool
         requires { count.old.fired ≤ count.old.limit }
         ensures goes { Goes swept_on done self.old count.old self.new count.new }
@@ -331,7 +332,7 @@ impl Engine {
         }
     }
 
-    /// The event's direct effect.
+    /// Applies the event's direct effect.
     fn start(&mut self, event: Event)
         requires { IsAt event (length self.old.ports) }
         ensures { self.new ≡ direct event self.old }
@@ -340,7 +341,8 @@ impl Engine {
         take_in(&mut self.ports, event);
     }
 
-    /// The event, and at most so many firings. What is sent takes the place of what is listed.
+    /// Processes the event with at most `limit` firings. Replaces the content of `out` by the
+    /// messages to send.
     pub(crate) fn event_within(
         &mut self,
         event: Event,
@@ -369,7 +371,7 @@ impl Engine {
         }
     }
 
-    /// The port of this number.
+    /// Returns the port with this number.
     pub(crate) fn port(&self, p: u8) -> &PortState
         requires { IsPort p (length self.now.ports) }
         ensures { slice_get self.now.ports (place_of_port p) ≡ Some result.now }

@@ -1,12 +1,12 @@
-//! What may happen to a bridge, and what comes of it.
+//! The events of a bridge, and their results.
 
 use arrayvec::ArrayVec;
 use bpdu_wire::Bpdu;
 
-/// What may happen to a bridge. Ports are numbered from 1.
+/// An event at a bridge. Ports are numbered from 1.
 #[derive(Clone, Copy, Debug, PartialEq, Eq)]
 pub enum Event {
-    /// The message comes at the port.
+    /// The port receives the message.
     Bpdu(u8, Bpdu),
     /// A second passes.
     Second,
@@ -14,26 +14,26 @@ pub enum Event {
     PortUp(u8),
     /// The port goes down.
     PortDown(u8),
-    /// The administrator asks for the port's protocol to be found out anew.
+    /// The administrator requests that the port detect the other end's protocol again.
     Mcheck(u8),
 }
 
-/// What came of an event, but for what is sent.
+/// The result of an event, without the messages to send.
 #[derive(Clone, Copy, Debug, PartialEq, Eq)]
 pub struct Effect {
     /// No rule is enabled any more.
     pub settled: bool,
-    /// The ports at which what was learnt is to be forgotten: a set of `ether_wire`'s.
+    /// The ports whose learnt addresses have to be flushed: a set of ports of `ether_wire`.
     pub flush: u64,
 }
 
-/// What came of an event.
+/// The result of an event.
 #[derive(Drop)]
 pub struct Outcome {
     /// No rule is enabled any more.
     pub settled: bool,
-    /// The ports at which what was learnt is to be forgotten: a set of `ether_wire`'s.
+    /// The ports whose learnt addresses have to be flushed: a set of ports of `ether_wire`.
     pub flush: u64,
-    /// The messages to be sent, with their ports' numbers, by ascending ports.
+    /// The messages to send, with the numbers of their ports, in ascending order of ports.
     pub out: ArrayVec<(u8, Bpdu), 64>,
 }

@@ -1,4 +1,4 @@
-//! The rules by their names: whether one is enabled at a port, and its firing.
+//! The rules by name: the guard of each rule at a port, and its firing.
 
 ghost use Rattle.std.specs.Prelude.{◌≡◌, ◌<◌, length, true};
 ghost use Rattle.rstp_run.specs.Machines.{
@@ -42,7 +42,7 @@ use rstp_machines::transmit::{
 };
 use rstp_state::port::{PortState, Timing};
 
-/// Whether a receive rule is enabled at a port.
+/// Returns `true` if a receive rule is enabled at a port.
 pub(crate) fn receive_is_enabled(port: &PortState, rule: ReceiveRule) -> bool
     ensures { result ≡ receive_asks rule port.now }
 {
@@ -62,7 +62,7 @@ pub(crate) fn fire_receive(port: &mut PortState, rule: ReceiveRule)
     }
 }
 
-/// Whether a rule of protocol migration is enabled at a port.
+/// Returns `true` if a rule of protocol migration is enabled at a port.
 pub(crate) fn migration_is_enabled(port: &PortState, rule: MigrationRule) -> bool
     ensures { result ≡ migration_asks rule port.now }
 {
@@ -88,7 +88,7 @@ pub(crate) fn fire_migration(port: &mut PortState, rule: MigrationRule)
     }
 }
 
-/// Whether a rule of bridge detection is enabled at a port.
+/// Returns `true` if a rule of bridge detection is enabled at a port.
 pub(crate) fn detection_is_enabled(port: &PortState, rule: DetectionRule) -> bool
     ensures { result ≡ detection_asks rule port.now }
 {
@@ -108,7 +108,7 @@ pub(crate) fn fire_detection(port: &mut PortState, rule: DetectionRule)
     }
 }
 
-/// Whether an information rule is enabled at a port.
+/// Returns `true` if an information rule is enabled at a port.
 pub(crate) fn information_is_enabled(port: &PortState, rule: InformationRule) -> bool
     ensures { result ≡ information_asks rule port.now }
 {
@@ -144,7 +144,7 @@ pub(crate) fn fire_information(port: &mut PortState, rule: InformationRule)
     }
 }
 
-/// Whether a rule of topology change is enabled at a port.
+/// Returns `true` if a rule of topology change is enabled at a port.
 pub(crate) fn topology_is_enabled(port: &PortState, rule: TopologyRule) -> bool
     ensures { result ≡ topology_asks rule port.now }
 {
@@ -181,7 +181,7 @@ pub(crate) fn fire_topology(timing: &Timing, ports: &mut [PortState], rule: Topo
     }
 }
 
-/// Whether a transmit rule is enabled at a port.
+/// Returns `true` if a transmit rule is enabled at a port.
 pub(crate) fn transmit_is_enabled(timing: &Timing, port: &PortState, rule: TransmitRule) -> bool
     ensures { result ≡ transmit_asks rule timing.now port.now }
 {

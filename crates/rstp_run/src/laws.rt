@@ -1,4 +1,4 @@
-//! What holds of every bridge that came from its start by events.
+//! Laws of every bridge that events led to from its start.
 
 ghost use Rattle.rstp_run.specs.Events.{RunsHappen};
 ghost use Rattle.rstp_run.specs.Laws.{EdgeRests};
@@ -13,7 +13,7 @@ ghost use Rattle.rstp_run.specs.Settled.{
   SettledByLists,
 };
 
-/// A settled bridge has one root port at most, whatever the events were that led to it.
+/// A settled bridge has at most one root port, for all events that led to it.
 pub fn one_root_port()
     ensures { OneRootPort }
 {}
@@ -28,12 +28,13 @@ pub fn designated_port_has()
     ensures { OfSettledPorts HasWhatItSends }
 {}
 
-/// The bridge is one further from the root than what its root port has heard, which isn't too old.
+/// The bridge is one further from the root than its root port's received information, which isn't
+/// too old.
 pub fn root_port_is_followed()
     ensures { OfSettledPorts IsFollowedAsRoot }
 {}
 
-/// A port that passes is the root port or a designated one.
+/// A port that passes frames is the root port or a designated port.
 pub fn passing_is_in_tree()
     ensures { PassingIsInTree }
 {}
@@ -43,18 +44,18 @@ pub fn ports_are_numbered()
     ensures { PortsAreNumbered }
 {}
 
-/// A bridge is settled where no rule is enabled at any of its ports.
+/// A bridge is settled if no rule is enabled at any of its ports.
 pub fn settled_by_lists()
     ensures { SettledByLists }
 {}
 
-/// Firings that lead on from an event's direct effect are what the event may do: as many as the
-/// limit, or fewer to where the bridge is settled.
+/// A run from the event's direct effect is a possible effect of the event, if it has exactly
+/// `limit` firings, or fewer and ends in a settled bridge.
 pub fn runs_happen()
     ensures { RunsHappen }
 {}
 
-/// At a port that is down, Edge and NotEdge don't enable each other once Discard has been there.
+/// At a port that is down, Edge and NotEdge don't enable each other after Discard has fired there.
 pub fn edge_rests()
     ensures { EdgeRests }
 {}

@@ -1,5 +1,5 @@
 //! A bridge of the rapid spanning tree (IEEE 802.1D-2004, clause 17, in this project's own table):
-//! the machines that are not of the roles, and the sweep that fires all rules in their order.
+//! the names of all rules, and the sweep that fires them in their order.
 #![tactic(auto)]
 
 pub mod bridge;

@@ -1,5 +1,5 @@
-//! A look at a port before its rules are tried one by one: in most seconds no machine has anything
-//! to do there. A machine that isn't busy has no rule that is enabled.
+//! A quick test of a port before the sweep tries its rules one by one: in most seconds no machine
+//! has anything to do there. A machine that isn't busy has no enabled rule.
 
 ghost use Rattle.std.specs.Prelude.{◌≡◌, ◌<◌, length};
 ghost use Rattle.rstp_run.specs.Inner.Rest.{receive_is_busy, migration_is_busy, detection_is_busy, information_is_busy, keeps_forwarding, role_is_busy, state_is_busy, change_is_busy, topology_is_busy, port_is_busy, main_is_busy, port_sends, is_busy};
@@ -23,14 +23,14 @@ use rstp_roles::role_transitions::synced_guard;
 use rstp_roles::state_transitions::{to_discarding_guard, to_forwarding_guard, to_learning_guard};
 use rstp_state::port::PortState;
 
-/// Whether a rule of the receive machine is enabled.
+/// Returns `true` if a rule of the receive machine is enabled.
 fn receive_is_busy(port: &PortState) -> bool
     ensures { result ≡ receive_is_busy port.now }
 {
     discard_guard(port) || receive_guard(port)
 }
 
-/// Whether a rule of protocol migration is enabled.
+/// Returns `true` if a rule of protocol migration is enabled.
 fn migration_is_busy(port: &PortState) -> bool
     ensures { result ≡ migration_is_busy port.now }
 {
@@ -41,14 +41,14 @@ fn migration_is_busy(port: &PortState) -> bool
         || to_stp_guard(port)
 }
 
-/// Whether a rule of bridge detection is enabled.
+/// Returns `true` if a rule of bridge detection is enabled.
 fn detection_is_busy(port: &PortState) -> bool
     ensures { result ≡ detection_is_busy port.now }
 {
     edge_guard(port) || not_edge_guard(port)
 }
 
-/// Whether a rule of the information machine is enabled, or a message waits for it.
+/// Returns `true` if a rule of the information machine is enabled, or a message is pending for it.
 fn information_is_busy(port: &PortState) -> bool
     ensures { result ≡ information_is_busy port.now }
 {
@@ -60,15 +60,16 @@ fn information_is_busy(port: &PortState) -> bool
         || may_take(port)
 }
 
-/// Whether the port is to forward, and nothing asks it to come in step or to go back.
+/// Returns `true` if the port should learn and forward, and is neither requested to come in step or
+/// leave the old root, nor disputed.
 fn keeps_forwarding(port: &PortState) -> bool
     ensures { result ≡ keeps_forwarding port.now }
 {
     port.learn && port.forward && !port.sync && !port.re_root && !port.disputed
 }
 
-/// Whether the port is anything but a designated port that keeps forwarding: its role may have
-/// something to do.
+/// Returns `true` if the port isn't a designated port that keeps forwarding, or has to be marked as
+/// synced: its role may have something to do.
 fn role_is_busy(port: &PortState) -> bool
     ensures { result ≡ role_is_busy port.now }
 {
@@ -78,14 +79,15 @@ fn role_is_busy(port: &PortState) -> bool
         || synced_guard(port)
 }
 
-/// Whether a rule of the state transitions is enabled.
+/// Returns `true` if a rule of the state transitions is enabled.
 fn state_is_busy(port: &PortState) -> bool
     ensures { result ≡ state_is_busy port.now }
 {
     to_learning_guard(port) || to_forwarding_guard(port) || to_discarding_guard(port)
 }
 
-/// Whether an active port was told of a change, or passes one on.
+/// Returns `true` if an active port received a change or an acknowledgement, or has to pass on a
+/// change; or if addresses have to be flushed.
 fn change_is_busy(port: &PortState) -> bool
     ensures { result ≡ change_is_busy port.now }
 {
@@ -96,7 +98,7 @@ fn change_is_busy(port: &PortState) -> bool
         || flush_guard(port)
 }
 
-/// Whether a rule of topology change is enabled.
+/// Returns `true` if a rule of topology change is enabled.
 fn topology_is_busy(port: &PortState) -> bool
     ensures { result ≡ topology_is_busy port.now }
 {
@@ -108,7 +110,7 @@ fn topology_is_busy(port: &PortState) -> bool
         || change_is_busy(port)
 }
 
-/// Whether a machine is busy at the port, but for selection and what sends.
+/// Returns `true` if a machine is busy at the port, apart from selection and the rules that send.
 fn port_is_busy(port: &PortState) -> bool
     ensures { result ≡ port_is_busy port.now }
 {
@@ -121,15 +123,15 @@ fn port_is_busy(port: &PortState) -> bool
         || topology_is_busy(port)
 }
 
-/// Whether a port asks for roles to be selected anew.
+/// Returns `true` if a port requests selection.
 pub(crate) fn wants_selection(ports: &[PortState]) -> bool
     ensures { result ≡ list_any wants_selection ports.now }
 {
     ports.iter().any(|port| port.reselect)
 }
 
-/// Whether roles are to be selected, which is asked at the first port alone, or a machine is busy
-/// at the port at place `p`, but for what sends.
+/// Returns `true` if a port requests selection (tested only at the first port), or a machine is
+/// busy at the port at place `p`, apart from the rules that send.
 fn main_is_busy(ports: &[PortState], p: usize) -> bool
     requires { p < length ports.now }
     ensures { result ≡ main_is_busy ports.now p }
@@ -138,14 +140,14 @@ fn main_is_busy(ports: &[PortState], p: usize) -> bool
     (p == 0 && wants_selection(ports)) || port_is_busy(port)
 }
 
-/// Whether a Hello time is over at the port, or there is something new to send.
+/// Returns `true` if a Hello time is over at the port, or the port has something new to send.
 fn port_sends(port: &PortState) -> bool
     ensures { result ≡ port_sends port.now }
 {
     port.hello_when == 0 || port.new_info
 }
 
-/// Whether a rule of this part of the table may be enabled at the port at place `p`.
+/// Returns `true` if a rule of this part of the table may be enabled at the port at place `p`.
 pub(crate) fn is_busy(part: Part, ports: &[PortState], p: usize) -> bool
     requires { p < length ports.now }
     ensures { result ≡ is_busy part ports.now p }

@@ -1,4 +1,4 @@
-//! The rules by name, and the order in which they are tried.
+//! The rules by name, and the order in which the sweep tries them.
 
 ghost use Rattle.std.specs.Prelude.{◌≡◌};
 
@@ -70,7 +70,7 @@ pub enum TransmitRule {
 /// A rule of the table.
 #[derive(Clone, Copy, Debug, PartialEq, Eq)]
 pub enum Rule {
-    /// The root and the roles are chosen anew. It is asked at the first port alone.
+    /// Selects the root and the roles again. The sweep tests its guard only at the first port.
     Select,
     Receive(ReceiveRule),
     Migration(MigrationRule),
@@ -82,7 +82,7 @@ pub enum Rule {
     Transmit(TransmitRule),
 }
 
-/// The two parts of the table: the rules that send come after all others.
+/// The two parts of the table: the rules that send come after all other rules.
 #[derive(Clone, Copy, Debug, PartialEq, Eq)]
 pub(crate) enum Part {
     Main,
@@ -92,7 +92,7 @@ pub(crate) enum Part {
 impl Rule {
     ghost use Rattle.rstp_run.specs.Runs.{is_flush};
 
-    /// Whether this is the rule that empties what was learnt at a port.
+    /// Returns `true` for the rule that flushes the addresses learnt at a port.
     pub(crate) fn is_flush(self) -> bool
         ensures { result ≡ is_flush self }
     {
@@ -100,7 +100,7 @@ impl Rule {
     }
 }
 
-/// All rules but those that send, in their order.
+/// All rules except those that send, in their order.
 pub const MAIN: [Rule; 54] = [
     Rule::Select,
     Rule::Receive(ReceiveRule::Discard),

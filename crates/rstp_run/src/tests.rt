@@ -1,4 +1,4 @@
-//! What the definitions don't show by themselves: whole runs, with the octets that are sent.
+//! Whole runs with the sent octets, which the definitions don't show by themselves.
 
 mod lone_port;
 mod order;
@@ -11,15 +11,15 @@ use arrayvec::ArrayVec;
 use bpdu_wire::{BridgeId, read, write};
 use rstp_state::start::{PortSettings, Settings};
 
-/// What a designated port of bridge 8000.02:aa:00:00:00:01 first sends: it takes itself for
-/// the root, and proposes.
+/// The first message of a designated port of bridge 8000.02:aa:00:00:00:01: the bridge is its own
+/// root, and the port proposes.
 const FIRST_PROPOSAL: [u8; 36] = [
     0x00, 0x00, 0x02, 0x02, 0x0e, 0x80, 0x00, 0x02, 0xaa, 0x00, 0x00, 0x00, 0x01, 0x00, 0x00, 0x00,
     0x00, 0x80, 0x00, 0x02, 0xaa, 0x00, 0x00, 0x00, 0x01, 0x80, 0x01, 0x00, 0x00, 0x14, 0x00, 0x02,
     0x00, 0x0f, 0x00, 0x00,
 ];
 
-/// A port with the usual settings.
+/// Returns a port with the usual settings.
 const USUAL_PORT: PortSettings = PortSettings {
     priority: 128,
     cost: 20000,
@@ -28,7 +28,7 @@ const USUAL_PORT: PortSettings = PortSettings {
     point_to_point: true,
 };
 
-/// A bridge of the usual priority and times, and of one port.
+/// Returns a bridge with the usual priority and times, and one port.
 fn bridge_of_one(address: u64, port: PortSettings) -> Bridge {
     let settings = Settings {
         identifier: BridgeId::new(0x8000_0000_0000_0000 | address),
@@ -43,7 +43,8 @@ fn bridge_of_one(address: u64, port: PortSettings) -> Bridge {
     })
 }
 
-/// The event, and at most so many firings, at a bridge that has the event's port.
+/// Processes the event with at most `limit` firings. Returns `None` if the bridge lacks the event's
+/// port or `limit` is out of range.
 fn happen_within(bridge: &mut Bridge, event: Event, limit: usize) -> Option<Outcome> {
     let ports = bridge.len();
     let is_there = match event {
@@ -59,13 +60,13 @@ fn happen_within(bridge: &mut Bridge, event: Event, limit: usize) -> Option<Outc
     }
 }
 
-/// The event at a bridge that has its port.
+/// Processes the event. Returns `None` if the bridge lacks the event's port.
 fn happen(bridge: &mut Bridge, event: Event) -> Option<Outcome> {
     let limit = 64 * (bridge.len() + 1);
     happen_within(bridge, event, limit)
 }
 
-/// The octets that came of the event at port 1: none where nothing was sent.
+/// Returns the octets of the event's first message, if it is sent at port 1; otherwise none.
 fn sent_by(outcome: Option<Outcome>) -> ArrayVec<u8, 36> {
     match outcome {
         Some(outcome) => match outcome.out.first() {
@@ -76,12 +77,12 @@ fn sent_by(outcome: Option<Outcome>) -> ArrayVec<u8, 36> {
     }
 }
 
-/// The octets that the bridge sends at port 1 as this many seconds pass, one after the other.
+/// Returns the octets that the bridge sends at port 1 when a second passes.
 fn sent_in_second(bridge: &mut Bridge) -> ArrayVec<u8, 36> {
     sent_by(happen(bridge, Event::Second))
 }
 
-/// The message of these octets comes at the port.
+/// Processes the message with these octets at the port.
 fn receive_at(bridge: &mut Bridge, port: u8, octets: &[u8]) -> Option<Outcome> {
     match read(octets) {
         Ok(bpdu) => happen(bridge, Event::Bpdu(port, bpdu)),
@@ -89,7 +90,7 @@ fn receive_at(bridge: &mut Bridge, port: u8, octets: &[u8]) -> Option<Outcome> {
     }
 }
 
-/// The message of these octets comes at port 1.
+/// Processes the message with these octets at port 1.
 fn receive(bridge: &mut Bridge, octets: &[u8]) -> Option<Outcome> {
     receive_at(bridge, 1, octets)
 }

@@ -1,4 +1,4 @@
--- The least of a list by a total order, as one pass finds it.
+-- The least element of a list by a total order, as one pass finds it.
 use Rattle.std.proofs.Common.{◌≡◌, zero, suc, Bool, true, false, not, ◌&&◌, cond, List, [], ◌∷◌, Some, unwrap_or, find}
 use Rattle.std.proofs.Common.{Contains, refl, sym, ap, ◌∙◌, arith}
 use Rattle.std.specs.Cmp.{IsTotalOrder}
@@ -47,7 +47,7 @@ all_at test (y ∷ xs) x h (suc k, within, at) = all_at test xs x (both (test y)
   at,
 )
 
--- the first element passes, and is then the only one, or the rest decides
+-- if the first element passes, it is the only one; otherwise the rest decides
 find_after : {X : Type 0} (test : X → Bool) (y : X) (xs : List X) (x d : X) (b : Bool) → b ≡ test y
     → Contains (y ∷ xs) x → test x ≡ true
     → (test y ≡ true → y ≡ x) → (Contains xs x → unwrap_or (find test xs) d ≡ x)
@@ -57,7 +57,7 @@ find_after test y xs x d false e (zero, within, at) passes only rest = let no : 
     ∙ passes in cc
 find_after test y xs x d false e (suc k, within, at) passes only rest = rest (k, omega arith, at)
 
--- the only element that passes is found
+-- the test finds the only element that passes
 pub find_only : {X : Type 0} (test : X → Bool) (xs : List X) (x d : X) → Contains xs x → test x ≡ true
     → ((y : X) → Contains xs y → test y ≡ true → y ≡ x) → unwrap_or (find test xs) d ≡ x
 find_only test [] x d (k, within, at) passes only = absurd (omega arith)
@@ -129,7 +129,7 @@ module _ {X : Type 0} {R : X → X → Ordering} (o : IsTotalOrder R) where
   tie_at a b Greater e h k = let less : true ≡ false = sym (ap is_lt (o.antisymm b a ∙ ap ordering_reverse (sym e)))
       ∙ k in cc
 
-  -- two elements than which none is less are as good as each other
+  -- two elements are equally good if no element is less than either of them
   pub tie : (xs : List X) (a b : X) → Contains xs a → list_all (λ y. not (is_lt (R y a))) xs ≡ true
       → Contains xs b → list_all (λ y. not (is_lt (R y b))) xs ≡ true → R a b ≡ Equal
   tie xs a b in_a least_a in_b least_b =

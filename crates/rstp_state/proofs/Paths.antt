@@ -1,4 +1,4 @@
--- The order of ways to the root is total, and the one that a pass finds is the least candidate.
+-- The order of paths to the root is total, and the path that a pass finds is the least candidate.
 use Rattle.std.proofs.Common.{◌≡◌, ℕ, List, Option, Some, None, refl, sym, ap}
 use Rattle.std.specs.Cmp.{IsTotalOrder}
 use Rattle.std.specs.Cmp.Lexicographic.{options_total}

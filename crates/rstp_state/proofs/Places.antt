@@ -1,4 +1,4 @@
--- A loop that writes over each element of a list, by its place.
+-- A loop that overwrites each element of a list, by its place.
 use Rattle.std.proofs.Common.{◌≡◌, ℕ, zero, suc, ◌+◌, ◌<◌, List, [], ◌∷◌, ◌++◌, length, get_or, take, drop, map}
 use Rattle.std.proofs.Common.{length-take, ap, ◌∙◌, arith}
 use Rattle.std.proofs.Math.ListN.{set}
@@ -17,7 +17,7 @@ by_suc f n (x ∷ xs) (suc i) d lt =
     (ap (λ k. set (map f (enumerate_from (n + 1) (take i xs)) ++ drop i xs) i (f (k, get_or xs i d))) e
     ∙ by_suc f (n + 1) xs i d (omega arith))
 
--- one more element is written
+-- writes one more element
 enumerate_over_more : {X : Type 0} (f : ℕ × X → X) (xs : List X) (i : ℕ) (d : X) → i < length xs
     → set (map f (enumerate_from 0 (take i xs)) ++ drop i xs) i (f (i, get_or xs i d))
     ≡ map f (enumerate_from 0 (take (i + 1) xs)) ++ drop (i + 1) xs
@@ -27,7 +27,7 @@ enumerate_over_more f xs i d lt =
     ap (λ k. set (map f (enumerate_from 0 (take i xs)) ++ drop i xs) i (f (k, get_or xs i d))) e
     ∙ by_suc f 0 xs i d lt ∙ ap (λ k. map f (enumerate_from 0 (take k xs)) ++ drop k xs) s
 
--- the same, as a loop has it: ys is the list so far, and x its element at i
+-- writes one more element, in the form of a loop: ys is the list so far, and x its element at i
 pub places_more : {X : Type 0} (f : ℕ × X → X) (xs ys : List X) (i : ℕ) (x : X) → i < length xs
     → ys ≡ map f (enumerate_from 0 (take i xs)) ++ drop i xs → x ≡ get_or ys i x
     → set ys i (f (i, x)) ≡ map f (enumerate_from 0 (take (i + 1) xs)) ++ drop (i + 1) xs

@@ -1,4 +1,4 @@
--- The order of vectors is total: two vectors, neither of which is less, are the same.
+-- The order of vectors is total: two vectors are equal if neither of them is less.
 use Rattle.std.proofs.Common.{◌≡◌, true, false, refl, sym, ap, ◌∙◌}
 use Rattle.std.specs.Cmp.{IsTotalOrder}
 use Rattle.std.specs.FinMap.{nat_cmp-IsAntisymmetric}

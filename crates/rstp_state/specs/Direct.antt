@@ -1,9 +1,9 @@
--- What an event does to a port at once.
+-- The direct effects of an event on a port.
 use Rattle.std.specs.Prelude.{Bool, true, ◌||◌, ◌-◌, if◌then◌else◌, Some, None}
 use Rattle.bpdu_wire.specs.declared.bpdu.Bpdu.{Bpdu}
 use Rattle.rstp_state.specs.declared.port.PortState.{PortState}
 
--- nothing was sent at this event
+-- the slot is empty: nothing was sent at this event
 abbrev pub without_slot : PortState → PortState
 without_slot port = record port { slot = None }
 
@@ -27,7 +27,7 @@ with_enabled enabled port = record port { enabled = enabled }
 abbrev pub with_migration_check : PortState → PortState
 with_migration_check port = record port { check_migration = true }
 
--- the message is stored, unless an earlier one still waits
+-- stores the message, unless an earlier message is still pending
 abbrev pub with_message : Bpdu → PortState → PortState
 with_message message port =
     if port.received_bpdu || port.received_message then port

@@ -1,4 +1,4 @@
--- What the rules ask of a port and of its bridge, and how a rule changes ports of a list.
+-- The values that rules read from a port and its bridge, and the change of one port of a list by a rule.
 use Rattle.std.specs.Prelude.{ℕ, Bool, true, false, not, ◌&&◌, ◌==◌, bit_and, if◌then◌else◌, List, slice_get, slice_set}
 use Rattle.std.specs.Option.{option_map_or}
 use Rattle.rstp_state.specs.declared.port.PortState.{PortState}
@@ -90,7 +90,7 @@ is_mine _ = false
 
 -- tests of a port
 
--- the roles are chosen, and nothing waits to be taken over: the table's 'selected, not updtInfo'
+-- the roles are selected, and no update is pending: the table's 'selected, not updtInfo'
 abbrev pub may_act : PortState → Bool
 may_act port = port.selected && not port.update_info
 
@@ -102,22 +102,22 @@ has_role port = same_role port.role port.selected_role
 abbrev pub is_discarding : PortState → Bool
 is_discarding port = not port.learning && not port.forwarding
 
--- how long a port waits in each state: a Hello time with the rapid protocol, else the root's delay
+-- the time that a port waits in each state: a Hello time with the rapid protocol, otherwise the root's forward delay
 abbrev pub forward_delay : Timing → PortState → ℕ
 forward_delay timing port = if port.send_rstp then timing.hello else timing.forward_delay
 
--- how long a port waits before it may be an edge
+-- the time that a port waits before it may become an edge
 abbrev pub edge_delay : Timing → PortState → ℕ
 edge_delay timing port = if port.point_to_point then 3 else timing.max_age
 
--- the flags have one of the flags in this mask
+-- the flags include a flag of this mask
 abbrev pub has_flag : ℕ → ℕ → Bool
 has_flag flags mask = not (bit_and flags mask == 0)
 
--- whether the port is there and passes the test
+-- the port exists and passes the test
 abbrev pub test_at : ℕ → (PortState → Bool) → List PortState → Bool
 test_at p test ports = option_map_or test (slice_get ports p) false
 
--- the change of one port of a list, where there is such a port
+-- changes one port of a list, if that port exists
 abbrev pub change_at : ℕ → (PortState → PortState) → List PortState → List PortState
 change_at p change ports = option_map_or (λ port. slice_set ports p (change port)) (slice_get ports p) ports

@@ -23,13 +23,12 @@ use Rattle.rstp_state.specs.Vector.{vector_cmp, is_less, same_vector, same_times
 
 -- ---- the candidates
 
--- The vectors decide, and then the receiving ports' identifiers. Only where these were the same too
--- would the places decide.
+-- The vectors decide, and then the identifiers of the receiving ports. The places decide only if both are equal.
 abbrev pub path_cmp : Path → Path → Ordering
 path_cmp a b = ordering_then (vector_cmp a.vector b.vector)
     (ordering_then (nat_cmp a.port b.port) (option_cmp nat_cmp a.place b.place))
 
--- the root of a bridge that takes itself for it
+-- the root of a bridge that is its own root
 abbrev pub own_root : Settings → Root
 own_root s = record { priority = own_vector s 0; times = own_times s }
 
@@ -37,12 +36,12 @@ own_root s = record { priority = own_vector s 0; times = own_times s }
 abbrev pub own_path : Settings → Path
 own_path s = record { vector = own_vector s 0; port = 0; place = None }
 
--- the port was told of a root by another bridge
+-- the port received a root from another bridge
 abbrev pub is_told : Settings → PortState → Bool
 is_told s port = is_received port.info_is && not (bridge_address port.port_priority.bridge == bridge_address
     s.identifier)
 
--- the port's vector with the port's cost added; sums stop at the greatest cost
+-- the port's vector plus the port's cost; sums stop at the greatest cost
 abbrev pub path_through : ℕ → PortState → Path
 path_through place port = record {
   vector = record port.port_priority { cost = min (port.port_priority.cost + port.cost) 4294967295 };
@@ -53,30 +52,30 @@ path_through place port = record {
 abbrev pub path_at : Settings → ℕ × PortState → Option Path
 path_at s e = if is_told s e.1 then Some (path_through e.0 e.1) else None
 
--- the bridge itself, and each port that was told of a root
+-- the bridge itself, and each port that received a root
 abbrev pub candidates : Settings → List PortState → List Path
 candidates s ports = own_path s ∷ filter_map (path_at s) (enumerate_from 0 ports)
 
 -- ---- the root
 
--- none of the paths is less
+-- no path is less
 abbrev pub is_least : List Path → Path → Bool
 is_least paths path = list_all (λ other. not (is_lt (path_cmp other path))) paths
 
--- one of the paths, than which none is less
+-- one of the paths, and no path is less
 pub record IsLeastOf (paths : List Path) (path : Path) : Type 0 where
   pub among : Contains paths path
   pub least : is_least paths path ≡ true
 
--- the candidate than which none is less
+-- the candidate such that no candidate is less
 unfoldable pub best_path : Settings → List PortState → Path
 best_path s ports = unwrap_or (find (is_least (candidates s ports)) (candidates s ports)) (own_path s)
 
--- a bridge further from the root, the message age is 1 more
+-- one bridge further from the root, the message age is 1 greater
 abbrev pub times_beyond : Times → Times
 times_beyond t = record t { message_age = min (t.message_age + 1) MOST_TIME }
 
--- the root's times: those of the root port, one bridge further, or the bridge's own
+-- the root's times: those of the root port, one bridge further, or the bridge's own times
 abbrev pub root_along : Settings → List PortState → Path → Root
 root_along s ports path = record {
   priority = path.vector;
@@ -86,7 +85,7 @@ root_along s ports path = record {
 
 -- ---- the ports
 
--- what the bridge itself sends at the port with this identifier
+-- the vector that the bridge itself sends at the port with this identifier
 abbrev pub designated_vector : Settings → Root → ℕ → Vector
 designated_vector s root port = record {
   root = root.priority.root;
@@ -99,8 +98,8 @@ designated_vector s root port = record {
 abbrev pub designated_times : Settings → Root → Times
 designated_times s root = record root.times { hello = s.hello }
 
--- The role of a port: by the source of what it knows, whether it is the root port, whether what the
--- bridge sends is better than what the port knows, and whether the port knows it from this bridge.
+-- The role of a port. It depends on the source of the port's information, on whether the port is the root port, on
+-- whether the bridge sends a better vector than the port's, and on whether the port's information is from this bridge.
 abbrev pub role_by : InfoIs → Bool → Bool → Bool → Role
 role_by info_is.Disabled is_root_port is_better is_own = role.Disabled
 role_by info_is.Aged is_root_port is_better is_own = role.Designated
@@ -111,22 +110,22 @@ role_by info_is.Received is_root_port is_better is_own =
     else if is_own then role.Backup
     else role.Alternate
 
--- whether the port is to take over what the bridge sends
+-- the port has to take over the vector and times that the bridge sends
 abbrev pub updates_by : InfoIs → Bool → Bool → Bool → Bool
 updates_by info_is.Disabled is_root_port is_better is_same = false
 updates_by info_is.Aged is_root_port is_better is_same = true
 updates_by info_is.Mine is_root_port is_better is_same = not is_same
 updates_by info_is.Received is_root_port is_better is_same = not is_root_port && is_better
 
--- what the bridge sends at the port is better than what the port knows
+-- the vector that the bridge sends at the port is better than the port's vector
 abbrev pub is_better : Settings → Root → PortState → Bool
 is_better s root port = is_less (designated_vector s root port.identifier) port.port_priority
 
--- the port knows what it knows from this bridge
+-- the port's vector is from this bridge
 abbrev pub is_own : Settings → PortState → Bool
 is_own s port = bridge_address port.port_priority.bridge == bridge_address s.identifier
 
--- what the bridge sends at the port is what the port knows
+-- the vector and times that the bridge sends at the port are the port's own
 abbrev pub is_same : Settings → Root → PortState → Bool
 is_same s root port =
     same_vector port.port_priority (designated_vector s root port.identifier)
@@ -142,7 +141,7 @@ with_choice s root is_root_port port = record port {
   selected = true;
 }
 
--- the path comes through the port at this place
+-- the path goes through the port at this place
 abbrev pub is_through : Path → ℕ → Bool
 is_through path place = option_map_or (λ at. at == place) path.place false
 

@@ -1,4 +1,4 @@
--- The state in which a port starts.
+-- The start state of a port.
 use Rattle.std.specs.Prelude.{ℕ, true, false, ◌+◌, ◌*◌, ◌/◌, None, List, [], ◌∷◌}
 use Rattle.rstp_state.specs.declared.port.PortState.{PortState}
 use Rattle.rstp_state.specs.declared.port.Migration.TheVariants as migration
@@ -29,7 +29,7 @@ own_vector settings port = record {
   port = port;
 }
 
--- the top four bits are the priority's, the low twelve the port's number (IEEE 802.1D-2004, 9.2.7)
+-- the top four bits are the priority, the low twelve the port's number (IEEE 802.1D-2004, 9.2.7)
 abbrev pub port_identifier : ℕ → ℕ → ℕ
 port_identifier priority number = priority / 16 * 4096 + number
 
@@ -93,7 +93,7 @@ start_port settings port number = record {
   slot = None;
 }
 
--- the ports as they start, of which the first has this number
+-- the ports in their start state; the first one has this number
 abbrev pub ports_from : ℕ → Settings → List PortSettings → List PortState
 ports_from p settings [] = []
 ports_from p settings (port ∷ ports) = start_port settings port p ∷ ports_from (p + 1) settings ports

@@ -1,4 +1,4 @@
--- Vectors and times, and when a message is superior to what a port knows.
+-- Vectors and times, and when a message is superior to a port's information.
 use Rattle.std.specs.Prelude.{◌≡◌, ℕ, Bool, false, not, ◌&&◌, ◌||◌, ◌==◌, ◌+◌, ◌-◌, ◌/◌, max}
 use Rattle.std.specs.declared.cmp.Ordering.{Ordering}
 use Rattle.std.specs.Ordering.{nat_cmp, ordering_then, is_lt}
@@ -42,7 +42,7 @@ times_of m = record {
   forward_delay = seconds_of m.forward_delay;
 }
 
--- from the same port of the same bridge, whatever their priorities
+-- from the same port number and bridge address, with any priorities
 abbrev pub same_sender : Vector → Vector → Bool
 same_sender a b = bridge_address a.bridge == bridge_address b.bridge && port_number a.port == port_number b.port
 
@@ -50,6 +50,6 @@ same_sender a b = bridge_address a.bridge == bridge_address b.bridge && port_num
 abbrev pub superior : Vector → Times → Vector → Times → Bool
 superior v t w u = is_less v w || (same_sender v w && (not (same_vector v w) || not (same_times t u)))
 
--- of two different vectors one is better
+-- of two different vectors, one is better
 abbrev pub NeverEquallyGood : Type 0
 NeverEquallyGood = (a b : Vector) → is_less a b ≡ false → is_less b a ≡ false → a ≡ b

@@ -1,4 +1,4 @@
-//! What an event does to a port at once, before any rule fires.
+//! The direct effects of an event on a port, before any rule fires.
 
 ghost use Rattle.std.specs.Prelude.{◌≡◌};
 ghost use Rattle.rstp_state.specs.Direct.{
@@ -12,14 +12,14 @@ ghost use Rattle.rstp_state.specs.Direct.{
 use crate::port::PortState;
 use bpdu_wire::Bpdu;
 
-/// What was sent at the event before is gone.
+/// Empties the slot: removes the message that the previous event sent.
 pub fn clear_slot(port: &mut PortState)
     ensures { port.new ≡ without_slot port.old }
 {
     port.slot = None;
 }
 
-/// A second passes: each timer that runs, and the count of messages, is lowered by one.
+/// Lowers each running timer and the count of messages by one: a second passes.
 pub fn pass_second(port: &mut PortState)
     ensures { port.new ≡ with_second port.old }
 {
@@ -34,22 +34,23 @@ pub fn pass_second(port: &mut PortState)
     port.transmit_count = port.transmit_count.saturating_sub(1);
 }
 
-/// The port comes up, or goes down.
+/// Sets the port up or down.
 pub fn set_enabled(port: &mut PortState, enabled: bool)
     ensures { port.new ≡ with_enabled enabled port.old }
 {
     port.enabled = enabled;
 }
 
-/// The administrator asks for the other end's protocol to be found out anew.
+/// Requests a new migration check: the administrator wants the port to detect the other end's
+/// protocol again.
 pub fn ask_migration_check(port: &mut PortState)
     ensures { port.new ≡ with_migration_check port.old }
 {
     port.check_migration = true;
 }
 
-/// A message comes. It is dropped while an earlier one still waits, which is so only at a bridge
-/// that is not settled.
+/// Stores a received message. Drops it if an earlier message is still pending, which happens only
+/// at a bridge that is not settled.
 pub fn store(port: &mut PortState, message: Bpdu)
     ensures { port.new ≡ with_message message port.old }
 {

@@ -12,8 +12,8 @@ use bpdu_wire::PortId;
 #[cfg(test)]
 mod tests;
 
-/// What a bridge takes for its root: the vector of its way there, and the root's times as they are
-/// to be given on, in seconds.
+/// The root that a bridge selected: the vector of the bridge's path there, and the root's times in
+/// seconds, as the bridge sends them.
 #[derive(Clone, Copy, Debug, PartialEq, Eq)]
 pub struct Root {
     pub priority: Vector,
@@ -21,7 +21,7 @@ pub struct Root {
 }
 
 impl Root {
-    /// The root of a bridge that takes itself for it.
+    /// Returns the root of a bridge that is its own root.
     pub fn own(settings: &Settings) -> Self
         ensures { result ≡ own_root settings.now }
     {
@@ -32,19 +32,19 @@ impl Root {
     }
 }
 
-/// A way to the root that a bridge may choose. The lesser is the better one: vectors decide, then
-/// the receiving ports' identifiers.
+/// A path to the root that a bridge may choose. The lesser path is better: vectors decide, then the
+/// identifiers of the receiving ports.
 #[derive(Clone, Copy, Debug, PartialEq, Eq, PartialOrd, Ord)]
 pub struct Path {
-    /// The way's vector, with the cost of the receiving port.
+    /// The vector of the path, including the cost of the receiving port.
     pub vector: Vector,
-    /// The receiving port's identifier, 0 where the bridge is itself the root.
+    /// The identifier of the receiving port, or 0 if the bridge is the root.
     pub port: PortId,
-    /// The receiving port's place in the list of ports, none where the bridge is itself the root.
+    /// The place of the receiving port in the list of ports, or `None` if the bridge is the root.
     pub place: Option<usize>,
 }
 
-/// The way of a bridge that is itself the root.
+/// Returns the path of a bridge that is the root.
 fn own_path(settings: &Settings) -> Path
     ensures { result ≡ own_path settings.now }
 {
@@ -56,7 +56,7 @@ fn own_path(settings: &Settings) -> Path
     }
 }
 
-/// Whether the port was told of a root by another bridge.
+/// Returns `true` if the port received a root from another bridge.
 fn is_told(settings: &Settings, port: &PortState) -> bool
     ensures { result ≡ is_told settings.now port.now }
 {
@@ -64,7 +64,7 @@ fn is_told(settings: &Settings, port: &PortState) -> bool
         && port.port_priority.bridge.address() != settings.identifier.address()
 }
 
-/// The way through the port. Its cost stops at the greatest number.
+/// Returns the path through the port. Its cost stops at the greatest number.
 fn path_through(port: &PortState, place: usize) -> Path
     ensures { result ≡ path_through place port.now }
 {
@@ -77,7 +77,7 @@ fn path_through(port: &PortState, place: usize) -> Path
     }
 }
 
-/// The best way to the root: that of the bridge itself, or one through a port.
+/// Returns the best path to the root: that of the bridge itself, or one through a port.
 fn best_path(settings: &Settings, ports: &[PortState]) -> Path
     ensures value { result ≡ best_path settings.now ports.now }
     ensures least { IsLeastOf (candidates settings.now ports.now) result }
@@ -92,8 +92,8 @@ fn best_path(settings: &Settings, ports: &[PortState]) -> Path
 }
 
 impl Times {
-    /// The times as the next bridge has them. The message age stops at the greatest number, which
-    /// no message reaches.
+    /// Returns the times as the next bridge has them. The message age stops at the greatest number,
+    /// which no message reaches.
     fn beyond(&self) -> Times
         ensures { result ≡ times_beyond self.now }
     {
@@ -103,7 +103,7 @@ impl Times {
     }
 }
 
-/// What the bridge takes for its root, if it chooses this way.
+/// Returns the bridge's root if it chooses this path.
 fn root_along(settings: &Settings, ports: &[PortState], path: &Path) -> Root
     ensures { result ≡ root_along settings.now ports.now path.now }
 {
@@ -118,7 +118,7 @@ fn root_along(settings: &Settings, ports: &[PortState], path: &Path) -> Root
 }
 
 impl Root {
-    /// The vector that the bridge itself sends at the port.
+    /// Returns the vector that the bridge itself sends at the port.
     fn designated_vector(&self, settings: &Settings, port: PortId) -> Vector
         ensures { result ≡ designated_vector settings.now self.now port }
     {
@@ -130,7 +130,8 @@ impl Root {
         }
     }
 
-    /// The times that the bridge itself sends: the root's, with its own Hello time.
+    /// Returns the times that the bridge itself sends: the root's times, with the bridge's own
+    /// Hello time.
     fn designated_times(&self, settings: &Settings) -> Times
         ensures { result ≡ designated_times settings.now self.now }
     {
@@ -140,9 +141,9 @@ impl Root {
     }
 }
 
-/// The role of a port by the source of what it knows, by whether it is the root port, by whether
-/// what the bridge would send is better than what the port knows, and by whether it knows it from
-/// this very bridge.
+/// Returns the role of a port. It depends on the source of the port's information, on whether the
+/// port is the root port, on whether the bridge sends a better vector than the port's, and on
+/// whether the port's information is from this bridge.
 fn role_by(info_is: InfoIs, is_root_port: bool, is_better: bool, is_own: bool) -> Role
     ensures { result ≡ role_by info_is is_root_port is_better is_own }
 {
@@ -163,8 +164,9 @@ fn role_by(info_is: InfoIs, is_root_port: bool, is_better: bool, is_own: bool) -
     }
 }
 
-/// Whether the port is to take over what the bridge sends: it differs from what the port knows, and
-/// is better than what others say.
+/// Returns `true` if the port has to take over the vector and times that the bridge sends: if the
+/// port's information is too old, if they differ from the port's own, or if they are better than
+/// received information and the port isn't the root port.
 fn updates_by(info_is: InfoIs, is_root_port: bool, is_better: bool, is_same: bool) -> bool
     ensures { result ≡ updates_by info_is is_root_port is_better is_same }
 {
@@ -176,7 +178,7 @@ fn updates_by(info_is: InfoIs, is_root_port: bool, is_better: bool, is_same: boo
     }
 }
 
-/// Gives the port its role, and what the bridge sends there.
+/// Sets the port's role and the vector and times that the bridge sends there.
 fn choose(settings: &Settings, root: &Root, is_root_port: bool, port: &mut PortState)
     ensures { port.new ≡ with_choice settings.now root.now is_root_port port.old }
 {
@@ -194,7 +196,7 @@ fn choose(settings: &Settings, root: &Root, is_root_port: bool, port: &mut PortS
 }
 
 impl Path {
-    /// Whether the way comes through the port at this place.
+    /// Returns `true` if the path goes through the port at this place.
     fn is_through(&self, place: usize) -> bool
         ensures { result ≡ is_through self.now place }
     {
@@ -205,7 +207,7 @@ impl Path {
     }
 }
 
-/// Gives each port its role, given the root and the way there.
+/// Sets each port's role, given the root and the path to it.
 fn choose_all(settings: &Settings, root: &Root, path: &Path, ports: &mut [PortState])
     ensures { ports.new ≡ map (λ e. with_choice settings.now root.now (is_through path.now e.0) e.1)
         (enumerate_from 0 ports.old) }
@@ -215,9 +217,9 @@ fn choose_all(settings: &Settings, root: &Root, path: &Path, ports: &mut [PortSt
     }
 }
 
-/// Selects the root and gives each port its role: the root is the least of what the bridge itself
-/// and its neighbours offer, and the port through which it is reached is the root port. What each
-/// port is to send follows from the root.
+/// Selects the root and sets each port's role. The root is the least candidate of the bridge itself
+/// and its neighbours; the root port is the port through which the bridge reaches it. The vector
+/// and times that each port sends follow from the root.
 #[tactic(auto, unfolding(crate::specs::Selection::selected_root, crate::specs::Selection::selected_ports))]
 pub fn select_roles(settings: &Settings, ports: &mut [PortState]) -> Root
     ensures root { result ≡ selected_root settings.now ports.old }

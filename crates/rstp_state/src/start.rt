@@ -1,4 +1,4 @@
-//! What a bridge is configured with, and the state in which its ports start.
+//! The configuration of a bridge, and the start state of its ports.
 
 ghost use Rattle.std.specs.Prelude.{◌≡◌, ◌≤◌, length};
 ghost use Rattle.rstp_state.specs.Start.{own_times, own_vector, port_identifier, ports_from, start_port};
@@ -8,38 +8,38 @@ use crate::vector::{Times, Vector};
 use arrayvec::ArrayVec;
 use bpdu_wire::{BridgeId, PortId};
 
-/// What a bridge is configured with. Times are in seconds.
+/// The configuration of a bridge. Times are in seconds.
 #[derive(Clone, Copy, Debug, PartialEq, Eq)]
 pub struct Settings {
     /// The bridge's own identifier.
     pub identifier: BridgeId,
-    /// How often the bridge sends.
+    /// The interval at which the bridge sends.
     pub hello: u16,
-    /// How old a message may grow.
+    /// The greatest age of a message.
     pub max_age: u16,
-    /// How long a port waits in each state on its way to forwarding.
+    /// The time that a port waits in each state on its way to forwarding.
     pub forward_delay: u16,
-    /// How many messages a port may send in a second.
+    /// The number of messages that a port may send in a second.
     pub hold: u32,
 }
 
-/// What a port is configured with.
+/// The configuration of a port.
 #[derive(Clone, Copy, Debug, PartialEq, Eq)]
 pub struct PortSettings {
-    /// The port's priority, of which the top four bits count.
+    /// The port's priority; only the top four bits count.
     pub priority: u8,
-    /// Path cost.
+    /// The path cost.
     pub cost: u32,
-    /// The port leads to no bridge, as the administrator says.
+    /// The administrator configured that the port leads to no bridge.
     pub admin_edge: bool,
-    /// The port may find out by itself that it leads to no bridge.
+    /// The port may detect by itself that it leads to no bridge.
     pub auto_edge: bool,
-    /// There is one bridge at most at the other end.
+    /// At most one bridge is at the other end.
     pub point_to_point: bool,
 }
 
 impl Settings {
-    /// The times of a root: no message age, and the configured others.
+    /// Returns the times of the bridge as root: message age 0, and the configured times.
     pub(crate) fn own_times(&self) -> Times
         ensures { result ≡ own_times self.now }
     {
@@ -51,7 +51,7 @@ impl Settings {
         }
     }
 
-    /// The vector by which the bridge, as root, would send at the port.
+    /// Returns the vector that the bridge would send at the port as root.
     pub(crate) fn own_vector(&self, port: PortId) -> Vector
         ensures { result ≡ own_vector self.now port }
     {
@@ -64,14 +64,14 @@ impl Settings {
     }
 }
 
-/// The identifier of the port with this number.
+/// Returns the identifier of the port with this number.
 fn port_identifier(priority: u8, number: u8) -> PortId
     ensures { result ≡ port_identifier priority number }
 {
     PortId::new(u16::from(priority / 16) * 0x1000 + u16::from(number))
 }
 
-/// A port before its first event: not enabled, and with nothing to do.
+/// Returns a port before its first event: not enabled, and with nothing to do.
 pub(crate) fn start_port(settings: &Settings, port: &PortSettings, number: u8) -> PortState
     ensures { result ≡ start_port settings.now port.now number }
 {
@@ -139,7 +139,7 @@ pub(crate) fn start_port(settings: &Settings, port: &PortSettings, number: u8) -
     }
 }
 
-/// Sets each port as it starts, the first as port 1.
+/// Sets each port to its start state, the first as port 1.
 fn set_ports(settings: &Settings, ports: &[PortSettings], started: &mut [PortState])
     requires few { length ports.now ≤ 64 }
     requires same { length started.old ≡ length ports.now }
@@ -150,7 +150,7 @@ fn set_ports(settings: &Settings, ports: &[PortSettings], started: &mut [PortSta
     }
 }
 
-/// The ports before their first event, numbered from 1.
+/// Returns the ports before their first event, numbered from 1.
 pub fn start_ports(settings: &Settings, ports: &[PortSettings]) -> ArrayVec<PortState, 64>
     requires { length ports.now ≤ 64 }
     ensures value { result.items ≡ ports_from 1 settings.now ports.now }

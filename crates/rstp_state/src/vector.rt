@@ -5,24 +5,24 @@ ghost use Rattle.rstp_state.specs.Vector.{is_less, vector_of, times_of, superior
 
 use bpdu_wire::{BridgeId, Message, PortId, TIME_UNITS};
 
-/// A priority vector: what a bridge says of its way to the root. Vectors are compared field by
-/// field in this order, and the lesser one is the better (IEEE 802.1D-2004, 17.5).
+/// A priority vector: a bridge's path to the root, as the bridge sends it. Vectors are compared
+/// field by field in this order, and the lesser one is better (IEEE 802.1D-2004, 17.5).
 #[derive(Clone, Copy, Debug, Default, PartialEq, Eq, PartialOrd, Ord)]
 pub struct Vector {
-    /// The bridge that is taken for the root.
+    /// The bridge that is the root.
     pub root: BridgeId,
     /// The cost of the path to the root.
     pub cost: u32,
-    /// The designated bridge, which says so.
+    /// The designated bridge, which sends the vector.
     pub bridge: BridgeId,
     /// That bridge's port.
     pub port: PortId,
 }
 
-/// The times that a root gives out, in seconds.
+/// The times that a root sends, in seconds.
 #[derive(Clone, Copy, Debug, Default, PartialEq, Eq)]
 pub struct Times {
-    /// How many bridges a message has come through.
+    /// The number of bridges that a message has passed.
     pub message_age: u16,
     pub max_age: u16,
     pub hello: u16,
@@ -30,7 +30,7 @@ pub struct Times {
 }
 
 impl Vector {
-    /// What the message says of its sender's way to the root.
+    /// Returns the vector in the message: its sender's path to the root.
     pub fn of_message(message: &Message) -> Self
         ensures { result ≡ vector_of message.now }
     {
@@ -42,7 +42,7 @@ impl Vector {
         }
     }
 
-    /// Whether this vector is better than the other.
+    /// Returns `true` if this vector is better than the other.
     pub fn is_less(&self, other: &Vector) -> bool
         ensures { result ≡ is_less self.now other.now }
     {
@@ -51,7 +51,7 @@ impl Vector {
 }
 
 impl Times {
-    /// The times that the message says, in seconds: each is rounded up, and Hello is at least 1.
+    /// Returns the times in the message, in seconds: each is rounded up, and Hello is at least 1.
     pub fn of_message(message: &Message) -> Self
         ensures { result ≡ times_of message.now }
     {
@@ -64,9 +64,9 @@ impl Times {
     }
 }
 
-/// Whether a message of this vector and these times is superior to a port's: its vector is the
-/// better one, or it comes from the very bridge and port that the port's vector names, and says
-/// something else (IEEE 802.1D-2004, 17.6).
+/// Returns `true` if a message with this vector and these times is superior to a port's: its vector
+/// is better, or it comes from exactly the bridge and port that the port's vector names, and has a
+/// different vector or different times (IEEE 802.1D-2004, 17.6).
 pub fn superior(vector: &Vector, times: &Times, port_vector: &Vector, port_times: &Times) -> bool
     ensures { result ≡ superior vector.now times.now port_vector.now port_times.now }
 {

@@ -1,4 +1,4 @@
--- What a network needs of its bridges: laws of `rstp_run` and `rstp_state`.
+-- The laws of bridges that the laws of networks need, from `rstp_run` and `rstp_state`.
 use Rattle.rstp_state.specs.Vector.{NeverEquallyGood}
 use Rattle.rstp_run.specs.RootPort.{OneRootPort}
 use Rattle.rstp_run.specs.Settled.{OfSettledPorts, Sends, HasWhatItSends, IsFollowedAsRoot, PassingIsInTree}

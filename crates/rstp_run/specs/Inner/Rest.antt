@@ -1,4 +1,4 @@
--- Whether a machine may have something to do at a port: where it isn't busy, none of its rules is enabled.
+-- Whether a machine may have something to do at a port: if it isn't busy, none of its rules is enabled.
 use Rattle.std.specs.Prelude.{ℕ, Bool, not, ◌&&◌, ◌||◌, ◌==◌, List}
 use Rattle.std.specs.List.{list_any}
 use Rattle.rstp_state.specs.declared.port.PortState.{PortState}
@@ -27,17 +27,17 @@ migration_is_busy port =
 abbrev pub detection_is_busy : PortState → Bool
 detection_is_busy port = edge_guard port || not_edge_guard port
 
--- a rule is enabled, or a message waits
+-- a rule is enabled, or a message is pending
 abbrev pub information_is_busy : PortState → Bool
 information_is_busy port =
     disabled_guard port || drop_guard port || enabled_guard port || update_guard port || aged_guard port
     || may_take port
 
--- the port is to forward, and nothing asks it to come in step or to go back
+-- the port should learn and forward, and is neither requested to come in step or leave the old root, nor disputed
 abbrev pub keeps_forwarding : PortState → Bool
 keeps_forwarding port = port.learn && port.forward && not port.sync && not port.re_root && not port.disputed
 
--- anything but a designated port that keeps forwarding
+-- the port isn't a designated port that keeps forwarding, or it has to be marked as synced
 abbrev pub role_is_busy : PortState → Bool
 role_is_busy port =
     not (is_designated port.role) || not (is_designated port.selected_role) || not (keeps_forwarding port)
@@ -46,7 +46,7 @@ role_is_busy port =
 abbrev pub state_is_busy : PortState → Bool
 state_is_busy port = to_learning_guard port || to_forwarding_guard port || to_discarding_guard port
 
--- an active port was told of a change, or passes one on
+-- an active port received a change or an acknowledgement, or has to pass on a change; or addresses have to be flushed
 abbrev pub change_is_busy : PortState → Bool
 change_is_busy port =
     notified_tcn_guard port || notified_tc_guard port || propagating_guard port || acknowledged_guard port
@@ -57,17 +57,18 @@ topology_is_busy port =
     tc_learning_guard port || detected_guard port || tc_clear_guard port || tc_inactive_guard port
     || tc_back_guard port || change_is_busy port
 
--- a machine is busy at the port, but for selection and what sends
+-- a machine is busy at the port, apart from selection and the rules that send
 abbrev pub port_is_busy : PortState → Bool
 port_is_busy port =
     receive_is_busy port || migration_is_busy port || detection_is_busy port || information_is_busy port
     || role_is_busy port || state_is_busy port || topology_is_busy port
 
--- roles are to be selected, which is asked at the first port alone, or a machine is busy at port p, but for what sends
+-- a port requests selection (tested only at the first port), or a machine is busy at port p, apart from the rules that
+-- send
 abbrev pub main_is_busy : List PortState → ℕ → Bool
 main_is_busy ports p = test_at p (λ port. (p == 0 && list_any wants_selection ports) || port_is_busy port) ports
 
--- a Hello time is over, or there is something new to send
+-- a Hello time is over, or the port has something new to send
 abbrev pub port_sends : PortState → Bool
 port_sends port = port.hello_when == 0 || port.new_info
 

@@ -1,4 +1,4 @@
--- Runs of a bridge, and what an event may answer.
+-- Runs of a bridge, and the possible results of an event.
 use Rattle.std.specs.Prelude.{ℕ, false, ◌≡◌, ◌+◌, ◌≤◌, ◌<◌, List, ◌++◌, length}
 use Rattle.rstp_run.specs.Rules.{Tree, guard}
 use Rattle.rstp_run.specs.declared.rule.Rule.{Rule}
@@ -12,16 +12,16 @@ use Rattle.rstp_run.specs.Sweep.{Walk, main_order, sending_order, until_idle, ro
 abbrev pub counted : Count → Rule → ℕ → Count
 counted a rule p = record { fired = a.fired + 1; limit = a.limit; flush = flush_after rule p a.flush }
 
--- nothing of the sweep is left
+-- the empty rest of the sweep
 abbrev pub done : Walk
 done limit g = g
 
--- one part of the sweep, and then another
+-- one part of the sweep, then another
 abbrev pub and_then : Walk → Walk → Walk
 and_then first second limit g = second limit (first limit g)
 
--- Some firings lead from one state and count to another. They are the sweep's: what this part of it comes to from the
--- first state, whatever fired before, is what the rest of it comes to from the second.
+-- Some firings lead from one state and count to another, and they are firings of the sweep: this part from the first
+-- state has the same result as the rest from the second state, for all earlier firings.
 pub record Goes (part rest : Walk) (s : Tree) (a : Count) (t : Tree) (b : Count) : Type 0 where
   pub firings : List Firing
   pub run : Run firings s t
@@ -33,7 +33,7 @@ pub record Goes (part rest : Walk) (s : Tree) (a : Count) (t : Tree) (b : Count)
       → part a.limit (record { tree = s; firings = before })
       ≡ rest a.limit (record { tree = t; firings = firings ++ before })
 
--- nothing fired, though more might have
+-- nothing fired, although the limit is not reached
 pub record IsIdle (a b : Count) : Type 0 where
   pub same : b.fired ≡ a.fired
   pub below : b.fired < b.limit

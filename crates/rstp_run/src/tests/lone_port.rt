@@ -1,4 +1,4 @@
-//! A bridge with one port that nobody answers.
+//! A bridge with one port that receives no message.
 use super::{
     FIRST_PROPOSAL, USUAL_PORT, bridge_of_one, happen, learns, passes, sent_by, sent_in_second,
 };
@@ -8,7 +8,7 @@ use std::test::Fail;
 
 const FIRST: u64 = 0x02aa_0000_0001;
 
-/// The first proposal with these flags.
+/// Returns the first proposal with these flags.
 fn with_flags(flags: u8) -> [u8; 36] {
     let mut octets = FIRST_PROPOSAL;
     octets[4] = flags;

@@ -1,5 +1,5 @@
-//! The order in which rules fire, by octets from outside. The contract of an event has it as a
-//! definition; each test says which wrong order it tells from the right one.
+//! The order in which rules fire, by octets from outside. The contract of an event has the order as
+//! a definition; each test names the wrong order that it detects.
 
 use super::{
     USUAL_PORT, bridge_of_one, happen, happen_within, receive, receive_at, sent_in_second,
@@ -23,7 +23,7 @@ const CONFIG: [u8; 35] = [
     0x00, 0x0f, 0x00,
 ];
 
-/// The value of a digit of base 16.
+/// Returns the value of a digit of base 16.
 fn digit(character: u8) -> u8 {
     match character {
         b'0'..=b'9' => character - b'0',
@@ -32,7 +32,7 @@ fn digit(character: u8) -> u8 {
     }
 }
 
-/// The octets that are written so, two digits an octet.
+/// Returns the octets of a text with two digits per octet.
 fn octets(text: &str) -> ArrayVec<u8, 36> {
     let mut octets = ArrayVec::new();
     for pair in text.as_bytes().chunks(2) {
@@ -43,7 +43,7 @@ fn octets(text: &str) -> ArrayVec<u8, 36> {
     octets
 }
 
-/// Whether exactly these octets are sent, at these ports.
+/// Returns `true` if the outcome sends exactly these octets, at these ports.
 fn sends(outcome: Option<Outcome>, expected: &[(u8, &str)]) -> bool {
     let Some(outcome) = outcome else {
         return false;
@@ -55,7 +55,7 @@ fn sends(outcome: Option<Outcome>, expected: &[(u8, &str)]) -> bool {
     is_so
 }
 
-/// The table has 58 rules, each of which stands in one place of the order.
+/// The table has 58 rules, and each has exactly one place in the order.
 #[test]
 fn each_of_fifty_eight_rules_has_one_place(rt: HostRuntime) -> Result<(), Fail> {
     let mut rules = 0u8;
@@ -69,8 +69,8 @@ fn each_of_fifty_eight_rules_has_one_place(rt: HostRuntime) -> Result<(), Fail> 
     Ok(())
 }
 
-/// Whether selection, each machine but that of the topology, and the detected change have come to
-/// port 1, in the order in which they come to a port that goes down.
+/// Returns `true` if selection, each machine but that of the topology, and the detected change have
+/// processed port 1, in the order in which they process a port that goes down.
 fn have_come(bridge: &Bridge) -> [bool; 8] {
     if bridge.len() < 1 {
         return [false; 8];
@@ -88,8 +88,8 @@ fn have_come(bridge: &Bridge) -> [bool; 8] {
     ]
 }
 
-/// A bridge of one port, which had found that the port leads to no bridge, once the port went down
-/// and this many rules fired.
+/// Returns a bridge of one port, which had found that the port leads to no bridge, after the port
+/// went down and this many rules fired.
 fn falling(firings: usize) -> Bridge {
     let mut bridge = bridge_of_one(0x02aa_0000_0001, USUAL_PORT);
     let _up = happen(&mut bridge, Event::PortUp(1));
@@ -116,7 +116,7 @@ fn machines_come_to_a_falling_port_in_turn(rt: HostRuntime) -> Result<(), Fail> 
     Ok(())
 }
 
-/// Selection is asked before the receive machine, and so not last.
+/// The sweep tries selection before the receive machine, and so not last.
 #[test]
 fn selection_comes_before_receive(rt: HostRuntime) -> Result<(), Fail> {
     let mut bridge = falling(4);
@@ -129,8 +129,8 @@ fn selection_comes_before_receive(rt: HostRuntime) -> Result<(), Fail> {
     Ok(())
 }
 
-/// The information machine comes before the role transitions: an edge port that hears a better
-/// bridge of a change that it may not yet pass on proposes with flags 0e, and not with 0f.
+/// The information machine comes before the role transitions: an edge port that receives, from a
+/// better bridge, a change that it may not yet pass on proposes with flags 0e, and not with 0f.
 #[test]
 fn information_comes_before_role(rt: HostRuntime) -> Result<(), Fail> {
     let port = PortSettings {
@@ -146,8 +146,8 @@ fn information_comes_before_role(rt: HostRuntime) -> Result<(), Fail> {
     Ok(())
 }
 
-/// The port's own message of its role as a root port is not sent within the pass, but after all
-/// else: its flags are 44, and not 45.
+/// The port's own message in its role as root port is sent not within the pass, but after all other
+/// rules: its flags are 44, and not 45.
 #[test]
 fn transmit_comes_after_all_else(rt: HostRuntime) -> Result<(), Fail> {
     let mut bridge = Bridge::new(BridgeConfig {
@@ -174,7 +174,8 @@ fn transmit_comes_after_all_else(rt: HostRuntime) -> Result<(), Fail> {
     Ok(())
 }
 
-/// A port of the usual priority and cost, that may find out by itself that it leads to no bridge.
+/// Returns a port with the usual priority and cost that may detect by itself that it leads to no
+/// bridge.
 fn usual_port(admin_edge: bool, point_to_point: bool) -> PortSettings {
     PortSettings {
         admin_edge,
@@ -183,7 +184,7 @@ fn usual_port(admin_edge: bool, point_to_point: bool) -> PortSettings {
     }
 }
 
-/// A bridge of three ports: on a shared link, point to point, and an edge.
+/// Returns a bridge of three ports: on a shared link, point to point, and an edge.
 fn bridge_of_three() -> Bridge {
     Bridge::new(BridgeConfig {
         settings: Settings {
@@ -201,7 +202,7 @@ fn bridge_of_three() -> Bridge {
     })
 }
 
-/// Whether the port has this role, and frames pass there or not.
+/// Returns `true` if the port has this role and passes frames as given.
 fn is_so(bridge: &Bridge, port: u8, role: Role, passes: bool) -> bool {
     1 <= port
         && usize::from(port) <= bridge.len()
@@ -209,8 +210,8 @@ fn is_so(bridge: &Bridge, port: u8, role: Role, passes: bool) -> bool {
         && bridge.passes(port) == passes
 }
 
-/// Ports are tried in ascending order: at the last event port 3 alone sends,
-/// and not port 2 as well.
+/// The sweep tries ports in ascending order: at the last event only port 3 sends, not port 2 as
+/// well.
 #[test]
 fn ports_come_in_ascending_order(rt: HostRuntime) -> Result<(), Fail> {
     let mut bridge = bridge_of_three();
@@ -237,8 +238,9 @@ fn ports_come_in_ascending_order(rt: HostRuntime) -> Result<(), Fail> {
     Ok(())
 }
 
-/// The order in which rules fire shows in the flags of the first message of the older protocol that
-/// the port sends once its neighbour is too old: it tells of a change, and acknowledges one.
+/// The order in which rules fire shows in the flags of one message: the first message of the older
+/// protocol that the port sends after its neighbour's information is too old. It announces a
+/// change, and acknowledges one.
 #[test]
 fn firing_order_shows_in_flags(rt: HostRuntime) -> Result<(), Fail> {
     let mut bridge = bridge_of_one(0x02aa_0000_0002, USUAL_PORT);

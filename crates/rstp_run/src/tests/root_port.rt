@@ -1,4 +1,4 @@
-//! A bridge with one port that hears a root.
+//! A bridge with one port that receives messages from a root.
 use super::{FIRST_PROPOSAL, USUAL_PORT, bridge_of_one, happen, passes, receive, sent_by};
 use crate::bridge::Bridge;
 use crate::event::Event;
@@ -7,15 +7,15 @@ use std::test::Fail;
 
 const SECOND: u64 = 0x02aa_0000_0002;
 
-/// What the second bridge answers to the first proposal: its port is the root port, forwards, tells
-/// of a change, and agrees.
+/// The second bridge's answer to the first proposal: its port is the root port, forwards, announces
+/// a change, and agrees.
 const ANSWER: [u8; 36] = [
     0x00, 0x00, 0x02, 0x02, 0x79, 0x80, 0x00, 0x02, 0xaa, 0x00, 0x00, 0x00, 0x01, 0x00, 0x00, 0x4e,
     0x20, 0x80, 0x00, 0x02, 0xaa, 0x00, 0x00, 0x00, 0x02, 0x80, 0x01, 0x01, 0x00, 0x14, 0x00, 0x02,
     0x00, 0x0f, 0x00, 0x00,
 ];
 
-/// These octets, with others from a place on.
+/// Returns these octets, with others from a place on.
 fn changed(octets: [u8; 36], place: usize, change: &[u8]) -> [u8; 36] {
     let mut octets = octets;
     for (i, octet) in change.iter().enumerate() {

@@ -1,4 +1,4 @@
-//! Two bridges that send each other what they say.
+//! Two bridges that send each other their messages.
 use super::{USUAL_PORT, happen};
 use crate::bridge::{Bridge, BridgeConfig};
 use crate::event::{Event, Outcome};
@@ -22,7 +22,7 @@ fn bridge_of_two(address: u64) -> Bridge {
     })
 }
 
-/// Whether the port has this role, and frames pass there or not.
+/// Returns `true` if the port has this role and passes frames as given.
 fn is_so(bridge: &Bridge, port: u8, role: Role, passes: bool) -> bool {
     1 <= port
         && usize::from(port) <= bridge.len()
@@ -30,7 +30,7 @@ fn is_so(bridge: &Bridge, port: u8, role: Role, passes: bool) -> bool {
         && bridge.passes(port) == passes
 }
 
-/// A message on its way along the link of this number.
+/// A message in flight on the link with this number.
 #[derive(Clone, Copy)]
 struct Letter {
     to_right: bool,
@@ -43,7 +43,7 @@ struct Letter {
 struct Pair {
     left: Bridge,
     right: Bridge,
-    /// Whether the first link is cut.
+    /// The first link is cut.
     is_cut: bool,
     under_way: ArrayVec<Option<Letter>, 16>,
 }
@@ -58,7 +58,8 @@ impl Pair {
         }
     }
 
-    /// Puts what a bridge sent onto the links. Whether there was room, and the bridge has settled.
+    /// Puts the messages of a bridge onto the links. Returns `true` if there was room and the
+    /// bridge is settled.
     fn post(&mut self, to_right: bool, outcome: &Outcome) -> bool {
         let mut is_well = outcome.settled;
         for (link, bpdu) in outcome.out.iter() {
@@ -74,7 +75,8 @@ impl Pair {
         is_well
     }
 
-    /// The event at one bridge. Whether it has settled, and its messages are on their way.
+    /// Processes the event at one bridge. Returns `true` if the bridge is settled and its messages
+    /// are in flight.
     fn event(&mut self, at_right: bool, event: Event) -> bool {
         let outcome = if at_right {
             happen(&mut self.right, event)
@@ -87,7 +89,8 @@ impl Pair {
         }
     }
 
-    /// Delivers what is under way, and what comes of it. Whether the links fall silent.
+    /// Delivers the messages in flight and all that follow from them. Returns `true` if the links
+    /// become silent.
     fn deliver(&mut self) -> bool {
         for _ in 0..16 {
             if self.under_way.is_empty() {
@@ -102,7 +105,8 @@ impl Pair {
         false
     }
 
-    /// The event at both bridges, and all that comes of it.
+    /// Processes the event at both bridges, and delivers all messages that follow. Returns `true`
+    /// if all of this succeeds.
     fn both(&mut self, event: &Event) -> bool {
         let left = self.event(false, *event);
         let right = self.event(true, *event);

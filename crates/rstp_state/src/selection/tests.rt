@@ -1,4 +1,4 @@
-//! Roots and roles chosen among a few ports.
+//! Roots and roles selected among a few ports.
 use crate::port::{InfoIs, PortState, Role};
 use crate::selection::{Root, select_roles};
 use crate::start::{PortSettings, Settings, start_port};
@@ -20,7 +20,7 @@ fn settings() -> Settings {
     }
 }
 
-/// What a bridge says of its way to bridge 1.
+/// Returns the vector that a bridge sends about its path to bridge 1.
 fn vector(cost: u32, last_octet: u8, port: u16) -> Vector {
     Vector {
         root: bridge(1),
@@ -30,7 +30,7 @@ fn vector(cost: u32, last_octet: u8, port: u16) -> Vector {
     }
 }
 
-/// The port with this number, of cost 20,000, that was told so.
+/// Returns the port with this number, of cost 20,000, after it received this vector.
 fn told(number: u8, port_priority: Vector) -> PortState {
     let port_settings = PortSettings {
         priority: 128,

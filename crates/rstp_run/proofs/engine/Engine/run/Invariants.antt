@@ -4,7 +4,7 @@ use Rattle.rstp_run.specs.Sweep.{round}
 use Rattle.rstp_run.proofs.Ordered.{again}
 use Rattle.rstp_run.proofs.engine.Engine.run.Given as goal
 
--- what is left to do are so many rounds, at most
+-- at most n rounds remain
 abbrev pub invariant-rounds : goal.invariant-rounds
 invariant-rounds l =
     (n : ℕ) × (l.count.limit ≤ n + l.count.fired)

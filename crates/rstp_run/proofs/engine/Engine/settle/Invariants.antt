@@ -4,7 +4,7 @@ use Rattle.rstp_run.specs.Sweep.{pass, passes}
 use Rattle.rstp_run.proofs.Ordered.{again}
 use Rattle.rstp_run.proofs.engine.Engine.settle.Given as goal
 
--- what is left to do are so many passes, at most
+-- at most n passes remain
 abbrev pub invariant-passes : goal.invariant-passes
 invariant-passes l =
     (n : ℕ) × (l.count.limit ≤ n + l.count.fired)
