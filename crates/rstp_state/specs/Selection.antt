@@ -1,4 +1,4 @@
--- How a bridge selects its root and its ports' roles (IEEE 802.1D-2004, 17.21.25).
+-- The selection of a bridge's root and of its ports' roles (IEEE 802.1D-2004, 17.21.25).
 use Rattle.std.specs.Prelude.{◌≡◌, ℕ, Bool, true, false, not, ◌&&◌, ◌==◌, ◌+◌, min, if◌then◌else◌, List, ◌∷◌}
 use Rattle.std.specs.Prelude.{map, find, Option, Some, None, unwrap_or, option_and_then, slice_get, Contains}
 use Rattle.std.specs.Option.{option_map_or, option_cmp}

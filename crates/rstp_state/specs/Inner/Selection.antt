@@ -1,4 +1,4 @@
--- How a bridge selects its root and its ports' roles (IEEE 802.1D-2004, 17.21.25).
+-- The selection of a bridge's root and of its ports' roles (IEEE 802.1D-2004, 17.21.25).
 use Rattle.std.specs.Prelude.{◌≡◌, length, List}
 use Rattle.std.proofs.Common.{◌∙◌}
 use Rattle.std.proofs.lemmas.List.{length-map}
