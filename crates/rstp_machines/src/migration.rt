@@ -36,7 +36,8 @@ fn is_sensing(state: Migration) -> bool
     matches!(state, Migration::Sensing)
 }
 
-/// Sends the rapid protocol, and waits before the port listens for the older one.
+/// Makes the port send the rapid protocol, and starts the delay before it listens for the older
+/// one.
 pub fn enter_checking(port: &mut PortState)
     ensures { port.new ≡ enter_checking port.old }
 {
@@ -46,7 +47,8 @@ pub fn enter_checking(port: &mut PortState)
     port.migration_delay_while = 3;
 }
 
-/// Sends the older protocol, and waits before the port listens for the rapid one.
+/// Makes the port send the older protocol, and starts the delay before it listens for the rapid
+/// one.
 pub fn enter_selecting(port: &mut PortState)
     ensures { port.new ≡ enter_selecting port.old }
 {

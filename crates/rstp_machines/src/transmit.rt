@@ -98,14 +98,16 @@ fn rst_flags(port: &PortState) -> u8
         + flag_if(port.agree, AGREEMENT)
 }
 
-/// Returns `true` if the port has something new to send, and has not sent too many messages lately.
+/// Returns `true` if the port may act, has something new to send before its next Hello time, and
+/// has sent fewer messages than the hold count.
 fn may_send(timing: &Timing, port: &PortState) -> bool
     ensures { result ≡ may_send timing.now port.now }
 {
     port.may_act() && port.new_info && port.hello_when != 0 && port.transmit_count < timing.hold
 }
 
-/// Returns `true` if the port may send, has not sent at this event, and has a part in the tree.
+/// Returns `true` if the port may send, has not sent at this event, is enabled, and its role isn't
+/// Disabled.
 fn is_ready(timing: &Timing, port: &PortState) -> bool
     ensures { result ≡ is_ready timing.now port.now }
 {
