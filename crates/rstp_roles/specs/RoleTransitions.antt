@@ -33,7 +33,7 @@ is_unrested port delay =
     not (port.forward_delay_while == delay) || port.sync || port.re_root || not port.synced
     || not (port.recent_root_while == 0)
 
--- all ports are synced and the port has not agreed yet, or it is proposed to again
+-- all ports are synced and the port has not agreed yet, or it has agreed and received a new proposal
 abbrev pub may_agree : PortState → Bool → Bool
 may_agree port all_synced = (all_synced && not port.agree) || (port.proposed && port.agree)
 

@@ -58,43 +58,44 @@ pub(crate) fn edge_delay(port: &PortState, timing: &Timing) -> u32
     }
 }
 
-/// Returns `true` if the port is a Disabled port, and has to stay one.
+/// Returns `true` if the port may act, and its role and selected role are Disabled.
 pub(crate) fn acts_as_disabled(port: &PortState) -> bool
     ensures { result ≡ acts_as_disabled port.now }
 {
     port.may_act() && port.role.is_disabled() && port.selected_role.is_disabled()
 }
 
-/// Returns `true` if the port is the root port, and has to stay the root port.
+/// Returns `true` if the port may act, and its role and selected role are Root.
 pub(crate) fn acts_as_root(port: &PortState) -> bool
     ensures { result ≡ acts_as_root port.now }
 {
     port.may_act() && port.role.is_root() && port.selected_role.is_root()
 }
 
-/// Returns `true` if the port is Designated, and has to stay Designated.
+/// Returns `true` if the port may act, and its role and selected role are Designated.
 pub(crate) fn acts_as_designated(port: &PortState) -> bool
     ensures { result ≡ acts_as_designated port.now }
 {
     port.may_act() && port.role.is_designated() && port.selected_role.is_designated()
 }
 
-/// Returns `true` if the port is Alternate or Backup, as selected.
+/// Returns `true` if the port may act, and its role is the selected role, Alternate or Backup.
 pub(crate) fn acts_as_blocked(port: &PortState) -> bool
     ensures { result ≡ acts_as_blocked port.now }
 {
     port.may_act() && has_role(port) && is_blocked(port.role)
 }
 
-/// Returns `true` if the port is Backup, and has to stay Backup.
+/// Returns `true` if the port may act, and its role and selected role are Backup.
 pub(crate) fn acts_as_backup(port: &PortState) -> bool
     ensures { result ≡ acts_as_backup port.now }
 {
     port.may_act() && is_backup(port.role) && is_backup(port.selected_role)
 }
 
-/// Returns `true` if a discarding port still has something to reset: a timer that isn't at this
-/// delay, a request to sync or to leave the old root, or that it isn't synced.
+/// Returns `true` if a discarding port still has something to reset: a forward delay timer that
+/// isn't at this delay, a recent root timer that is running, a request to sync or to leave the old
+/// root, or that it isn't synced.
 pub(crate) fn is_unrested(port: &PortState, delay: u32) -> bool
     ensures { result ≡ is_unrested port.now delay }
 {
@@ -105,8 +106,8 @@ pub(crate) fn is_unrested(port: &PortState, delay: u32) -> bool
         || port.recent_root_while != 0
 }
 
-/// Returns `true` if the port has to agree: all ports are synced and it hasn't agreed, or it is
-/// proposed to again.
+/// Returns `true` if the port has to agree: all ports are synced and it hasn't agreed, or it has
+/// agreed and received a new proposal.
 pub(crate) fn may_agree(port: &PortState, all_synced: bool) -> bool
     ensures { result ≡ may_agree port.now all_synced }
 {
@@ -129,7 +130,8 @@ pub(crate) fn may_be_synced(port: &PortState) -> bool
     !port.synced && (is_discarding(port) || port.agreed || port.oper_edge)
 }
 
-/// Returns `true` if a port that isn't an edge has to return to discarding.
+/// Returns `true` if the port, unless it is an edge, has to return to discarding: to sync, to leave
+/// the old root, or because it is disputed.
 pub(crate) fn must_discard(port: &PortState) -> bool
     ensures { result ≡ must_discard port.now }
 {

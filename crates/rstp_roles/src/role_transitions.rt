@@ -106,7 +106,7 @@ pub fn root(timing: &Timing, port: &mut PortState)
     port.recent_root_while = u32::from(timing.forward_delay);
 }
 
-/// Returns `true` if the root port is proposed to, and hasn't agreed.
+/// Returns `true` if the root port received a proposal, and hasn't agreed.
 pub fn root_proposed_guard(port: &PortState) -> bool
     ensures { result ≡ root_proposed_guard port.now }
 {
@@ -342,7 +342,7 @@ pub fn alternate(timing: &Timing, port: &mut PortState)
     port.re_root = false;
 }
 
-/// Returns `true` if a blocked port is proposed to, and hasn't agreed.
+/// Returns `true` if a blocked port received a proposal, and hasn't agreed.
 pub fn alternate_proposed_guard(port: &PortState) -> bool
     ensures { result ≡ alternate_proposed_guard port.now }
 {
