@@ -4,7 +4,7 @@ use Rattle.std.proofs.lemmas.Bool.{eqb-true, or_parts, not-false}
 use Rattle.rstp_machines.specs.BridgeDetection.{finds_no_bridge}
 use Rattle.rstp_run.specs.Laws.{EdgeRests}
 
--- neither condition for an edge holds, or only the one by the settings
+-- if the port is down and finds no bridge, neither of the two rules enables the other
 choose : (oper enabled admin finds : Bool) → enabled ≡ false → finds ≡ false
     → ((oper && not enabled && not admin) ≡ true → (not false && ((not enabled && admin) || finds)) ≡ false)
     × ((not oper && ((not enabled && admin) || finds)) ≡ true → (true && not enabled && not admin) ≡ false)

@@ -168,7 +168,7 @@ pub goes-first : (part rest : Walk) (s t : Tree) (a b : Count) → Goes part don
 goes-first part rest s t a b goes =
     goes-as part done (and_then part rest) rest s t a b goes (λ before is. ap (rest a.limit) (goes.order before is))
 
--- the number of firings after a part goes on from earlier ones
+-- the count after a part is the number of its firings and of the earlier ones together
 pub tally : (part rest : Walk) (s t : Tree) (a b : Count) (goes : Goes part rest s a t b) (before : List Firing)
     → length before ≡ a.fired → length (goes.firings ++ before) ≡ b.fired
 tally part rest s t a b goes before is =

@@ -67,7 +67,7 @@ pub and_right : (a b : Bool) → a && b ≡ true → b ≡ true
 and_right true b h = h
 and_right false b h = cc
 
--- in a conjunction whose port is in the tree, a term beside 'in the tree' may be replaced
+-- if the port is in the tree (t), the conditions x and y don't matter
 pub in_tree : (a t x y : Bool) → t ≡ true → a && (t || x) ≡ true → a && (t || y) ≡ true
 in_tree a true x y is h = h
 in_tree a false x y is h = cc
