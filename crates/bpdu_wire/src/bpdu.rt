@@ -18,8 +18,8 @@ pub const TIME_UNITS: u16 = 256;
 pub const MOST_TIME: u16 = 65535;
 
 /// The content of a Configuration or a Rapid Spanning Tree BPDU (IEEE 802.1D-2004, 9.3.1 and
-/// 9.3.3). The fields have the numbers of the octets: times are in units of which `TIME_UNITS` are
-/// a second.
+/// 9.3.3). Each field has its value in the octets: times are in units of which `TIME_UNITS` are a
+/// second.
 #[derive(Clone, Copy, Debug, PartialEq, Eq)]
 pub struct Message {
     /// The flags of `flags.rt`, as in the octet.
