@@ -37,11 +37,11 @@ vector_or vector (Some (Config message)) = vector_of message
 vector_or vector (Some (Rst message)) = vector_of message
 vector_or vector _ = vector
 
--- records whether the message proposes
+-- sets `proposed` if the message proposes
 abbrev pub with_proposal : PortState → PortState
 with_proposal port = record port { proposed = port.proposed || rst_has PROPOSAL port.message }
 
--- records whether the message announces a topology change, and whether it acknowledges one
+-- records a topology change or an acknowledgement in the message
 abbrev pub with_change_flags : PortState → PortState
 with_change_flags port = record port {
   received_topology_change = port.received_topology_change || message_has TOPOLOGY_CHANGE port.message;
@@ -119,7 +119,7 @@ enabled_effect port = aging port
 abbrev pub update_guard : PortState → Bool
 update_guard port = not (is_out port.information) && port.selected && port.update_info
 
--- the agreement of the other end stays: the port's earlier vector is no worse than its new one
+-- the other end still agrees: it agreed to the port's own vector, and the new vector is no worse
 abbrev pub keeps_agreed : PortState → Bool
 keeps_agreed port =
     port.agreed && (is_mine port.info_is && not (is_less port.port_priority port.designated_priority))

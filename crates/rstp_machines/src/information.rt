@@ -93,14 +93,14 @@ fn rst_has(flag: u8, message: Option<Bpdu>) -> bool
     }
 }
 
-/// Records whether the message requests an agreement.
+/// Sets `proposed` if the message requests an agreement.
 fn note_proposal(port: &mut PortState)
     ensures { port.new ≡ with_proposal port.old }
 {
     port.proposed = port.proposed || rst_has(PROPOSAL, port.message);
 }
 
-/// Records whether the message announces a topology change, and whether it acknowledges one.
+/// Records a topology change or an acknowledgement in the message.
 fn note_change_flags(port: &mut PortState)
     ensures { port.new ≡ with_change_flags port.old }
 {
