@@ -85,7 +85,7 @@ module _ (P : Tree → Type 0) (R : Tree → PortState → PortState → Type 0)
   happens_holds event limit s t settled mask happens k =
       run_holds happens.firings (direct event s) t happens.run (direct_holds event s k)
 
-  -- if it holds of a bridge, it holds of every bridge that events lead to from there
+  -- if it holds of a bridge, it holds of every bridge that is reachable from there by events
   pub comes_holds : (history : List Event) (s t : Tree) → Comes history s t → P s → P t
   comes_holds [] s t comes k = subst P (sym comes) k
   comes_holds (event ∷ earlier) s t comes k =

@@ -1,4 +1,4 @@
--- Laws of every bridge that events led to from its start.
+-- Laws of every bridge that is reachable from its start by events.
 use Rattle.std.specs.Prelude.{ℕ, Bool, true, ◌≡◌, List, [], ◌∷◌, Some, slice_get}
 use Rattle.rstp_state.specs.declared.port.PortState.{PortState}
 use Rattle.rstp_state.specs.declared.start.PortSettings.{PortSettings}

@@ -1,5 +1,5 @@
--- Laws of the ports of a settled bridge that events led to from its start: the information that they have and the
--- messages that they send.
+-- Laws of the ports of a settled bridge that is reachable from its start by events: the information that they have and
+-- the messages that they send.
 use Rattle.std.specs.Prelude.{ℕ, true, ◌≡◌, ◌+◌, ◌<◌, ◌%◌, ◌^◌, List}
 use Rattle.bpdu_wire.specs.Id.{port_number}
 use Rattle.rstp_state.specs.declared.port.PortState.{PortState}
@@ -14,7 +14,7 @@ use Rattle.rstp_run.specs.RootPort.{CanBe, IsAtPlace}
 use Rattle.rstp_run.specs.Rules.{Tree}
 use Rattle.rstp_run.specs.Runs.{AreOff, IsSettled}
 
--- events led to the bridge from its start
+-- the bridge is reachable from its start by events
 abbrev pub IsReached : Tree → Type 0
 IsReached s = (settings : Settings) × (ports : List PortSettings) × CanBe settings ports s
 

@@ -1,4 +1,4 @@
-//! Laws of every bridge that events led to from its start.
+//! Laws of every bridge that is reachable from its start by events.
 
 ghost use Rattle.rstp_run.specs.Events.{RunsHappen};
 ghost use Rattle.rstp_run.specs.Laws.{EdgeRests};
