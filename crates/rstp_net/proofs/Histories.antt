@@ -1,4 +1,4 @@
--- Bridges that events led to from their starts, each event with the rules that fire at it.
+-- Bridges that are reachable from their starts by events, each event with the rules that fire at it.
 use Rattle.std.proofs.Common.{◌≡◌, ◌≤◌, Bool, true, false, ◌&&◌, List, [], ◌∷◌, length, inl, refl, arith}
 use Rattle.std.specs.Prelude.{ℕ, map}
 use Rattle.rstp_state.specs.declared.start.PortSettings.{PortSettings}
