@@ -103,8 +103,8 @@ pub swept-from_goes : (event : Event) (limit : ℕ) (s m t : Tree) (b : Count) �
     → Goes swept_on done m (record { fired = 0; limit = limit; flush = 0 }) t b → IsSwept event limit s t b.flush
 swept-from_goes event limit s m t b start goes =
     let order : swept limit (direct event s) ≡ record { tree = t; firings = goes.firings } =
-        ap (swept limit) (sym start) ∙ goes.order [] refl
-        ∙ ap (λ list. record { tree = t; firings = list }) (append-nil goes.firings) in
+    ap (swept limit) (sym start) ∙ goes.order [] refl
+    ∙ ap (λ list. record { tree = t; firings = list }) (append-nil goes.firings) in
     record {
       bridge = ap (λ (g : Going). g.tree) (sym order);
       flush = goes.flush ∙ ap (λ (g : Going). flushed g.firings 0) (sym order);

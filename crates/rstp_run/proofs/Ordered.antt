@@ -213,5 +213,5 @@ module _ (part : Walk) (is_full : (limit : ℕ) (g : Going) → IsFull limit g �
           let g' : Going = record { tree = t; firings = goes.firings ++ before } in
           let now : part a.limit g ≡ g' = goes.order before is in
           let many : length (part a.limit g).firings ≡ b.fired =
-              ap (λ (x : Going). length x.firings) now ∙ tally part done s t a b goes before is in
+          ap (λ (x : Going). length x.firings) now ∙ tally part done s t a b goes before is in
           until-more n (part a.limit) g (omega (arith, many, is, more)) ∙ ap (until_idle n (part a.limit)) now

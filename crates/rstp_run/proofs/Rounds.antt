@@ -16,8 +16,7 @@ abbrev pub IsOver : Count → Count → Type 0
 IsOver b c = (c.fired ≡ b.fired) ⊎ (c.fired ≡ c.limit)
 
 module _ (rules : List Rule) (s t u : Tree) (a b c : Count)
-  (sweep : Sweeps (tries_below rules (length t.ports)) (AreOff rules) t b u c) where
-
+    (sweep : Sweeps (tries_below rules (length t.ports)) (AreOff rules) t b u c) where
   one_pass : Goes (pass rules) done t b u c
   one_pass = goes-as (tries_below rules (length t.ports)) done (pass rules) done t u b c sweep.goes sweep.goes.order
 
@@ -49,19 +48,20 @@ module _ (rules : List Rule) (s t u : Tree) (a b c : Count)
       absurd (full (omega arith))
   passes-on (suc m) goes enough some full =
       let f : c.fired ≡ b.fired + length sweep.goes.firings = sweep.goes.fired in
-      let l : c.limit ≡ b.limit = sweep.goes.limit in
-      (m, omega (arith, f, l, enough, some),
-      goes-both (passes rules) (again (suc m) (pass rules)) (again m (pass rules)) s t u a b c goes
-      (goes-more (pass rules) (pass-full rules) m t u b c one_pass (omega (arith, f, some))))
+      let l : c.limit ≡ b.limit = sweep.goes.limit in (
+        m,
+        omega (arith, f, l, enough, some),
+        goes-both (passes rules) (again (suc m) (pass rules)) (again m (pass rules)) s t u a b c goes
+            (goes-more (pass rules) (pass-full rules) m t u b c one_pass (omega (arith, f, some))),
+      )
 
 -- the first part of a round from t to m, the second one from m to u
 module _ (s t m u : Tree) (a b d c : Count) (main : Goes (passes main_order) done t b m d)
-  (sends : Goes (passes sending_order) done m d u c) where
-
+    (sends : Goes (passes sending_order) done m d u c) where
   one_round : Goes round done t b u c
   one_round =
       let both = goes-both (and_then (passes main_order) (passes sending_order)) (passes sending_order) done t m u b d c
-          (goes-first (passes main_order) (passes sending_order) t m b d main) sends in
+      (goes-first (passes main_order) (passes sending_order) t m b d main) sends in
       goes-as (and_then (passes main_order) (passes sending_order)) done round done t u b c both both.order
 
   rests : (c.fired ≡ c.limit) ⊎ (AreOff main_order u × AreOff sending_order u) → (before : List Firing)
@@ -87,7 +87,9 @@ module _ (s t m u : Tree) (a b d c : Count) (main : Goes (passes main_order) don
   rounds-on (suc k) goes enough some full =
       let f : d.fired ≡ b.fired + length main.firings = main.fired in
       let g : c.fired ≡ d.fired + length sends.firings = sends.fired in
-      let l : c.limit ≡ b.limit = one_round.limit in
-      (k, omega (arith, f, g, l, enough, some),
-      goes-both swept_on (again (suc k) round) (again k round) s t u a b c goes
-      (goes-more round round-full k t u b c one_round (omega (arith, f, g, some))))
+      let l : c.limit ≡ b.limit = one_round.limit in (
+        k,
+        omega (arith, f, g, l, enough, some),
+        goes-both swept_on (again (suc k) round) (again k round) s t u a b c goes
+            (goes-more round round-full k t u b c one_round (omega (arith, f, g, some))),
+      )

@@ -129,7 +129,7 @@ goes-both part rest end s t u a b c first second = record {
         let mid : List Firing = first.firings ++ before in
         let next = second.order mid (tally part rest s t a b first before many) in
         let P : ℕ → Type 0 = λ n. rest n (record { tree = t; firings = mid })
-            ≡ end n (record { tree = u; firings = second.firings ++ mid }) in
+        ≡ end n (record { tree = u; firings = second.firings ++ mid }) in
         first.order before many ∙ subst P first.limit next
         ∙ ap (λ list. end a.limit (record { tree = u; firings = list }))
         (sym (append_assoc second.firings first.firings before))
@@ -159,8 +159,8 @@ pub sweeps-both : (first_part second_part : Walk) (P Q R : Tree → Type 0) (s t
     → (P s → Q s → R s) → Sweeps (and_then first_part second_part) R s a u c
 sweeps-both first_part second_part P Q R s t u a b c first second joins =
     let goes : Goes (and_then first_part second_part) done s a u c =
-        goes-both (and_then first_part second_part) second_part done s t u a b c
-        (goes-first first_part second_part s t a b first.goes) second.goes in
+    goes-both (and_then first_part second_part) second_part done s t u a b c
+    (goes-first first_part second_part s t a b first.goes) second.goes in
     record {
       goes = goes;
       idle = λ none.

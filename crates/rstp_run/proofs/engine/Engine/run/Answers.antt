@@ -41,5 +41,5 @@ pub rounds-preserved : goal.rounds-preserved
 rounds-preserved c =
     let (n, enough, goes, ports) = c.rounds.invariant in
     let (m, next, more) = rounds-on _ _ _ _ _ _ _ _ c.settle.ensures.goes c.settle-in-rounds.ensures.goes n goes
-        enough c.if-count-before.false c.if-count.false in
+    enough c.if-count-before.false c.if-count.false in
     (m, next, more, c.settle-in-rounds.ensures.ports ∙ c.settle.ensures.ports ∙ ports)

@@ -26,5 +26,5 @@ pub passes-preserved : goal.passes-preserved
 passes-preserved c =
     let (n, enough, goes, ports) = c.passes.invariant in
     let (m, next, more) = passes-on (rules_of c.args.part) _ _ _ _ _ _ c.pass.ensures n goes enough
-        c.if-count-before.false c.if-count.false in
+    c.if-count-before.false c.if-count.false in
     (m, next, more, c.pass.ensures.ports ∙ ports)
