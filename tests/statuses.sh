@@ -33,11 +33,11 @@ run() {
 
 gives() { [ "$status" = "$1" ] && cmp -s "$2" "$work/out" && [ "$(cat "$work/notes")" = "$3" ]; }
 
-# which stream failed, as it is told
+# the failed stream, as the program reports it
 unread="standard input: it can't be read"
 unwritten="standard output: it can't be written"
 
-# fails TEXT: status 4, and this alone is told
+# fails TEXT: status 4, and only this message
 fails() { [ "$status" = 4 ] && [ "$(cat "$work/notes")" = "$1" ]; }
 
 is_usage() { [ "$status" = 2 ] && [ ! -s "$work/out" ] && [ -s "$work/notes" ]; }
@@ -71,7 +71,7 @@ tell "an empty list" is_usage
 run report --originators $'10.0.0.1\xff'
 tell "a word that isn't UTF-8" tells "isn't UTF-8"
 
-# ---- 2: the word that is wrong, and what was expected
+# ---- 2: the wrong argument, and what was expected
 run reports --originators 10.0.0.1
 tell "a subcommand of another name" tells "'reports'" "'report'" "Usage: ${evpnd##*/}"
 run report --originator 10.0.0.1
@@ -149,7 +149,7 @@ tell "a leading zero, for a migration" tells "'10.0.0.01' has a number that begi
 run migrate --help
 tell "help on migrate" tells "--originators <LIST>" "standard input" "standard output" "Standard error" "  0  " "  4  " "Example:"
 
-# ---- a configuration: what is told of it, and the status
+# ---- a configuration: its messages, and the status
 named='address = "10.0.0.1"
 bridge = "02:aa:00:00:00:01"
 vnis = [5001]'
@@ -158,7 +158,7 @@ conf=$work/fabric.toml
 # edge EDGE_LINES PORT_LINES: a table of an edge with one port
 edge() { printf '[[edge]]\n%s\n[[edge.port]]\n%s\n' "$1" "$2"; }
 
-# opened: the status and what is told where an empty script is run on the configuration in $conf
+# opened: the status and the messages of an empty script on the configuration in $conf
 opened() { run simulate --config "$conf"; }
 
 is_fine() { [ "$status" = 0 ] && [ ! -s "$work/notes" ] && [ ! -s "$work/out" ]; }
@@ -171,7 +171,7 @@ says() { is_usage && [ "$(cat "$work/notes")" = "$(printf '%s\n' "$@")" ]; }
 # begins LINE: a usage whose first line is this
 begins() { is_usage && [ "$(head -n 1 "$work/notes")" = "$1" ]; }
 
-# names KEY COUNT: a usage of so many lines, the first of which says what stands at the key
+# names KEY COUNT: a usage of COUNT lines, the first of which shows the key's value
 names() {
   is_usage && [ "$(wc -l < "$work/notes")" = "$2" ] &&
     head -n 1 "$work/notes" | grep -qE "^((edge|peer) [0-9]+(, port [0-9]+)?: )?$1 is .*, (allowed|which) "
@@ -184,7 +184,7 @@ ok() {
   [ -z "${2-}" ] || tell "$1, summed up" [ "$(cat "$work/out")" = "$2" ]
 }
 
-# wrong NAME LINE..: the configuration in $conf is wrong, and these faults are told
+# wrong NAME LINE..: the configuration in $conf is wrong, and these faults are printed
 wrong() {
   run check --config "$conf"
   tell "$1, checked" says "${@:2}"
@@ -204,7 +204,7 @@ fine() {
   ok "$1"
 }
 
-# faulty NAME TEXT EDGE_LINES PORT_LINES [COUNT]: one edge of these lines has one fault, or so many, and the note has
+# faulty NAME TEXT EDGE_LINES PORT_LINES [COUNT]: one edge of these lines has one fault, or COUNT, and the note has
 # this text
 faulty() {
   edge "$3" "$4" > "$conf"
@@ -362,7 +362,7 @@ wrong "a cost of the third port of the second edge" "edge 2, port 3: cost is 0, 
 sed -i '$d' "$conf"
 ok "the third port of the second edge put right" "ok: 2 edges, 4 ports, 1 VNI"
 
-# what is wrong with a value, and which key was meant
+# the fault of a value, and the key that was meant
 an_address="allowed is an IPv4 address that no edge before has, as '10.0.0.1'"
 a_bridge="allowed is a MAC address of one station that no edge before has, as '02:aa:00:00:00:01'"
 a_place="allowed is an IPv4 address with a UDP port, as '127.0.0.1:5000'"
@@ -510,7 +510,7 @@ status=0
 "$evpnd" simulate --config "$work/none" < "$work/in" > "$work/out" 2> /dev/full || status=$?
 tell "an unread file that can't be told" [ "$status" = 4 ]
 
-# ---- the version, which stands in CHANGELOG.md too
+# ---- the version, which CHANGELOG.md has too
 sed -n 's/^## \([0-9][^,]*\).*/evpnd \1/p' "$tests/../CHANGELOG.md" | head -n 1 > "$work/version"
 run version
 case $(sed -n 2p "$work/out") in
@@ -572,7 +572,7 @@ tell "play: a faulty configuration" says "config vni" "edge 1, port 1: vni is 50
 run play --help
 tell "help on play" tells "--config <FILE>" "  0  " "  1  " "  4  " "Example:"
 
-# ---- check --script: each bad line is told, with its place and why
+# ---- check --script: each invalid line is printed, with its place and the cause
 script=$work/story
 edge "$named" "vni = 5001" > "$conf"
 summary="ok: 1 edge, 1 port, 1 VNI"
@@ -634,7 +634,7 @@ looked "a script behind a faulty configuration" 2 "" "edge 1, port 1: vni is 500
 run check --script "$script"
 tell "a script without its configuration" tells "--config <FILE>"
 
-# ---- a run: loopback addresses of this run's own. Where both edges are to hear each other, its input doesn't end at once
+# ---- a run: loopback addresses of this run's own. If both edges are to receive each other's updates, its input doesn't end at once
 host=127.$((64 + RANDOM % 64)).$((RANDOM % 254 + 1))
 ends=$'local = "HOST.1:20001"\nremote = "HOST.1:30001"'
 runs() { edge "${named/10.0.0/$host}" $'vni = 5001\n'"${1//HOST/$host}" > "$conf"; }
@@ -734,7 +734,7 @@ status=0
 "$evpnd" run --config "$conf" < "$work/in" > "$work/out" 2> /dev/full || status=$?
 tell "an address that can't be bound, which can't be told" [ "$status" = 4 ]
 
-# ---- edges that are asked while they run (what clients are told stands in tools/test_serve.py)
+# ---- edges that answer queries while they run (tools/test_serve.py has the clients' answers)
 # serves PATH: a configuration with a control socket there
 serves() { runs "$ends" && sed -i "1i control = \"$1\"" "$conf"; }
 control=$work/control
@@ -770,7 +770,7 @@ runs "$ends"
 run serve --config "$conf"
 tell "edges to be served without a control socket" tells "config control"
 
-# ---- peers, edges that run elsewhere, and check --serve, which tells the same faults
+# ---- peers, edges that run elsewhere, and check --serve, which prints the same faults
 # peers LINE..: a configuration to be served, with a peer of each of these lines
 peers() {
   serves "$control"
@@ -778,7 +778,7 @@ peers() {
   for line in "$@"; do printf '[[peer]]\n%s\n' "$line" >> "$conf"; done
 }
 
-# unserved NAME KEY LINE..: the configuration in $conf can't be served: the key is told, and by a check these lines
+# unserved NAME KEY LINE..: the configuration in $conf can't be served: the key is printed, and by a check these lines
 unserved() {
   run serve --config "$conf"
   tell "$1" says "config $2" "${@:3}"
@@ -848,7 +848,7 @@ peers "${many[@]:1}"
 run check --serve --config "$conf"
 tell "63 peers beside an edge" [ "$status $(head -n 1 "$work/out")" = "0 ok: 1 edge, 1 port, 1 VNI, 63 peers" ]
 
-# which fault is told first: the file's keys, an unknown key, the edges, the peers
+# the first fault: the file's keys, an unknown key, the edges, the peers
 peers "address = 1"
 sed -i 's/^vnis.*/vnis = 1/' "$conf"
 wrong_vnis="edge 1: vnis is 1, allowed are 1 to 64 different numbers, 0 to 16777215"
@@ -912,7 +912,7 @@ status=0
 (cat "$record" && printf 'EW') | "$evpnd" report --originators 10.0.0.1 > /dev/full 2> "$work/notes" || status=$?
 tell "a full output and a fault: the greater status" fails "fault 1 at record 2"$'\n'"$unwritten"
 
-# ---- 3 and 4: each allocation refused, each read and each write failed, where there is a C compiler
+# ---- 3 and 4: each allocation refused, each read and each write failed, if there is a C compiler
 status=0
 for test in refused_growth failing_ends; do
   tell "$test" env EVPND="$evpnd" python3 -B "$tests/tools/test_$test.py" 2> "$work/notes"

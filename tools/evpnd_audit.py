@@ -2,7 +2,7 @@
 """Says where a running fabric forwards a MAC to another edge than the owner by RFC 7432, 15 and 15.2.
 
     evpnd_audit.py [--vni N[,N]]           on the host itself: runs vtysh, bridge and ip, each once for all VNIs
-    evpnd_audit.py [--vni N] VIEW ..       of directories, one a router, that hold what they printed:
+    evpnd_audit.py [--vni N] VIEW ..       of directories, one a router, that hold its outputs:
         routes.json    vtysh -c 'show bgp l2vpn evpn route json'
         best.json      vtysh -c 'show bgp vni all json', before FRR 10 'show bgp l2vpn evpn route vni all json'
         vnis.json      vtysh -c 'show evpn vni json'
@@ -29,7 +29,7 @@ The routes become records (evpnd_records.py), `evpnd report` gives the owners, a
 where zebra and the kernel send it, each flood list with the inclusive multicast routes, and each ARP and ND
 entry with the routes that name an IP address. All files but routes.json and one of macs.json and fdb.json may
 be missing; what can't be compared then is said. Several views give one report, of all their routes together;
-with --routes, the routes of that directory (a route reflector's, say) alone are the truth.
+with --routes, only the routes of that directory (a route reflector's, say) are the truth.
 
 Each difference is a line, with the adverts in order of preference and what mends it below, then sums. Status
 0: all agree; 1: something differs; 2: usage, or nothing that can be read; 3: nothing differs, and a VNI could
@@ -59,7 +59,7 @@ from audit_report import program_of, read_report, report_of
 from audit_views import View
 from update_records import Unreadable
 
-MONITORED = 30  # seconds between two looks where monitoring is asked for
+MONITORED = 30  # seconds between two looks for monitoring
 
 
 # ---- looks -------------------------------------------------------------------------------------------------------
@@ -138,7 +138,7 @@ def status_of(told: Told, arguments: argparse.Namespace) -> int:
     return audit_print.status_of(told.results, arguments.accept_unjudged, told.causes.values())
 
 
-# ---- what the words ask for ---------------------------------------------------------------------------------------
+# ---- the arguments ------------------------------------------------------------------------------------------------
 
 
 def audit(arguments: argparse.Namespace) -> int:
@@ -325,7 +325,7 @@ def days_word(text: str) -> float:
     return days
 
 
-# What stands behind each command: how many words at least and at most, and their names.
+# The arguments of each command: how many at least and at most, and their names.
 OPERANDS = {
     "mac": (2, None, "VNI MAC [VIEW ..]"),
     "record": (1, None, "DIRECTORY [VIEW ..]"),

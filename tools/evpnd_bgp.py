@@ -4,7 +4,7 @@
     evpnd_bgp.py --watch [SECONDS]            the fabric's routes and their changes, as records on standard output
     evpnd_bgp.py --own LIST --stdio           the same; records on standard input are announced, until it ends
     evpnd_bgp.py --own LIST --socket PATH     the same at the control socket of edges that run (`evpnd serve`)
-    evpnd_bgp.py --own LIST --withdraw        withdraws what a gateway that has ended announced, and ends
+    evpnd_bgp.py --own LIST --withdraw        withdraws the routes of an earlier gateway, and ends
 
 LIST has the addresses of our edges, with commas: all that speak records there, also those of other hosts. A record of
 one of them becomes a route of BGP; of any other it is never announced, since it is the fabric's own. A route whose next
@@ -38,11 +38,11 @@ from gobgp import PROTOS, Daemon, Declined, Event, NoDaemon
 from update_records import Fault, Refused, Register, Unreadable, Update, address_text
 from update_records import read_address, read_records, record_of, register_of, update_of_report
 
-HOLD = 10  # seconds in which what an earlier life left may be said anew, before it is withdrawn
+HOLD = 10  # seconds in which routes of an earlier life may be announced again, before they are withdrawn
 KEEP = 60  # seconds for which the fabric's routes are kept after gobgpd has ended, until it says them again
 LOOK = 30  # seconds between two looks at what gobgpd and the edges have
-SHARE = 20  # a look that took one second is followed by no other for so many
-TICK = 1  # seconds between two glances at what is due
+SHARE = 20  # a look that took one second is followed by no other for this many seconds
+TICK = 1  # seconds between two checks for due work
 AGAIN = 1  # seconds between two tries to reach gobgpd
 CONNECT = 0.2  # seconds between two tries to reach the edges
 LONGEST = 30  # seconds between two tries, at most, while the edges answer that they are busy
@@ -160,7 +160,7 @@ class Gateway:
             out.write(octets)
             out.flush()
 
-    # ---- what is due
+    # ---- due work
 
     def tend(self) -> None:
         """Does what is due, each second."""
@@ -217,7 +217,7 @@ class Gateway:
         begun = time.monotonic()
         with self.lock:
             said = dict(self.heard.updates)
-        self.stopping.wait(TICK)  # in which the edges take what is on its way to them
+        self.stopping.wait(TICK)  # in which the edges take the updates that are on their way
         try:
             tables = reported(self.control)
         except (OSError, ValueError, Unreadable) as fault:
@@ -584,11 +584,11 @@ def parser() -> argparse.ArgumentParser:
     way.add_argument("--watch", nargs="?", type=float, const=None, default=False, metavar="SECONDS", help=told)
     way.add_argument("--stdio", action="store_true", help="records at standard input and output")
     way.add_argument("--socket", metavar="PATH", help="records at a Unix socket, as its client")
-    way.add_argument("--withdraw", action="store_true", help="withdraw what an earlier gateway announced, and end")
+    way.add_argument("--withdraw", action="store_true", help="withdraw the routes of an earlier gateway, and end")
     words.add_argument("--own", type=own_of, default=[], metavar="LIST", help="our edges: their records are announced")
     words.add_argument("--gobgp", default="127.0.0.1:50051", metavar="HOST:PORT", help="the daemon's API")
-    words.add_argument("--protos", default=PROTOS, metavar="FOLDER", help="GoBGP's protos, where they aren't Debian's")
-    words.add_argument("--vni", type=vnis_of, default=EVERY_VNI, metavar="N[,N]", help="take these VNIs' routes alone")
+    words.add_argument("--protos", default=PROTOS, metavar="FOLDER", help="GoBGP's protos, if they aren't Debian's")
+    words.add_argument("--vni", type=vnis_of, default=EVERY_VNI, metavar="N[,N]", help="take only these VNIs' routes")
     words.add_argument("--auto-rt", action="store_true", help="announce route targets in RFC 8365's automatic form")
     words.add_argument("--metrics", metavar="PATH", help="write figures there each second, as Prometheus' text format")
     add_route_words(words)

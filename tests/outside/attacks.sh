@@ -2,13 +2,13 @@
 # Needs Linux, root, /dev/net/tun, iproute2 (ip, ss, tc), util-linux (prlimit) and python3; takes two minutes, in some of which it
 # keeps two processors busy. It is no part of the gate.
 #
-# What a run was attacked with, and what it should do then. As long as anything differs the status is 1. Two attacks have scripts of
+# Attacks on a run, and the expected reactions. If anything differs the status is 1. Two attacks have scripts of
 # their own: storm.sh (a storm of broadcasts), rounds.sh (stations that come back again and again).
 set -u
 . "$(dirname "$0")/lab.sh"
 needs ip ss tc prlimit python3 sysctl
 
-# edge NUMBER PORTS: an edge with so many ports, which says a BPDU a second at each
+# edge NUMBER PORTS: an edge with PORTS ports, which sends a BPDU a second at each
 edge() {
   cat << TOML
 [[edge]]
@@ -28,10 +28,10 @@ TOML
 
 probe() { python3 "$outside/port_probe.py" "$@" 7>&-; }
 
-# hears SAYING HEARING SECONDS: what is said at the first one of two ports of edge 1 comes out at the second one, within this time
+# hears SAYING HEARING SECONDS: frames at the first of two ports of edge 1 come out at the second one, within this time
 hears() { probe hears "127.0.0.1:$((30000 + $1))" "127.0.0.1:$((20000 + $1))" "127.0.0.1:$((30000 + $2))" "$3"; }
 
-# notes LINES PATTERN: so many lines on standard error, one of which is like this
+# notes LINES PATTERN: LINES lines on standard error, one of which matches PATTERN
 notes() { [ "$(wc -l < "$work/notes")" = "$1" ] && grep -qE "$2" "$work/notes"; }
 
 edge 1 2 > "$work/edges.toml"
@@ -100,7 +100,7 @@ plug "$host" eth 127.0.0.1:30003 127.0.0.1:20003
 sleep 15
 tell "broadcasts come once" once "$leaf" "$host" 10
 ss -K -u -a src 127.0.0.1:20002 > "$work/ss"
-# so long as the root's last message lives, and twice the forward delay
+# the life of the root's last message, and twice the forward delay
 sleep 15
 tell "they come once when it has failed" once "$leaf" "$host" 10
 for device in p1 p2; do unplug "$bridge" $device; done
@@ -137,7 +137,7 @@ wait "$listening"
 lost=$(awk '$2 ~ /:4E21$/ { print $NF }' /proc/net/udp)
 echo "$(cat "$work/sent") frames, of which the system lost $lost at the port; $(cat "$work/longest") ms between two BPDUs at most"
 tell "a BPDU comes each second, and half a second late at most" [ "$(cat "$work/longest")" -le 1500 ]
-# what waits for the cable may go now
+# the queued frames may go over the cable now
 tc qdisc del dev cable root
 stop > "$work/stopped"
 tell "what the system lost at a port is told" grep -qx "edge 1 port 1: $lost datagrams dropped by the system" "$work/notes"

@@ -1,5 +1,5 @@
 # Sourced by the scripts here that need Linux, root and network namespaces: namespaces, hosts, bridges, relays and a running evpnd.
-# Namespaces, folders, processes and the loopback device with its ports are this run's alone, and go with it. EVPND names the
+# Namespaces, folders, processes and the loopback device with its ports are only this run's, and go with it. EVPND names the
 # program; by default it is the one that `rt run` leaves.
 outside=$(cd "$(dirname "${BASH_SOURCE[0]}")" && pwd)
 evpnd=${EVPND:-$outside/../../crates/evpnd/out/evpnd}
@@ -99,7 +99,7 @@ ovs_bridge() {
   ip -n "$netns" link set "$name" up
 }
 
-# ovs_shows NAME: what the bridge says of its spanning tree
+# ovs_shows NAME: the spanning tree of the bridge, as it shows it
 ovs_shows() { ovs-appctl -t "$work/ovs/ctl" rstp/show "$1" | sed -n '/Interface/,$p'; }
 
 # plug NETNS DEVICE HERE THERE: a cable from the device to an edge's port
@@ -127,7 +127,7 @@ unplug() {
   done
 }
 
-# once FROM TO COUNT: so many broadcasts from a host's device come to another's exactly once
+# once FROM TO COUNT: COUNT broadcasts from a host's device come to another's exactly once
 once() {
   : > "$work/count"
   ip netns exec "$2" python3 "$outside/bridge_probe.py" count eth 3 > "$work/count" 7>&- &
@@ -139,7 +139,7 @@ once() {
   [ "$(tail -n 1 "$work/count")" = "$3 $3" ]
 }
 
-# start [COMMAND..]: evpnd on $work/edges.toml, behind these words, until `stop`
+# start [COMMAND..]: evpnd on $work/edges.toml, after these words, until `stop`
 start() {
   mkfifo "$work/input"
   "$@" "$evpnd" run --config "$work/edges.toml" < "$work/input" > "$work/report" 2> "$work/notes" &
@@ -162,7 +162,7 @@ stop() {
   cat "$work/report" "$work/notes"
 }
 
-# tell WHAT CONDITION..: says whether the condition holds
+# tell WHAT CONDITION..: prints whether the condition holds
 tell() {
   local what=$1
   shift

@@ -3,15 +3,15 @@
 # some five minutes, and little of a processor. It is no part of the gate.
 #
 # Two rings, each cut and healed at two places in turn. In each there are four hosts. Each sends fifty broadcasts a second, and
-# counts what comes from the other three:
+# counts the frames of the other three:
 #
 # - of two edges and two Linux bridges with their spanning tree (802.1D): edge 1, bridge 1, edge 2, bridge 2. The edges serve two
-#   networks, so that there is no tunnel between them: a site at two edges of one network isn't supported. A host stands at each.
+#   networks, so that there is no tunnel between them: a site at two edges of one network isn't supported. A host is attached to each.
 #   Linux has no RSTP of its own: that wants mstpd, which Debian 12 hasn't;
-# - of three bridges, one edge and two of Open vSwitch, with RSTP. A host stands at each, and the fourth one at a second edge,
+# - of three bridges, one edge and two of Open vSwitch, with RSTP. A host is attached to each, and the fourth one to a second edge,
 #   behind the tunnel.
 #
-# No frame may come twice, at any time, but for what stands below. None may be lost while nothing is cut or healed. When a cable is
+# No frame may come twice, at any time, except as stated below. None may be lost while nothing is cut or healed. When a cable is
 # cut or healed, none may come for as long as the spanning tree needs, at most: with 802.1D until the root's last message is too old,
 # 6 seconds, and twice the forward delay, 8 seconds; with RSTP three hellos of 2 seconds. A busy machine has 2 seconds more. After
 # that all come again.
@@ -19,7 +19,7 @@
 # While a cable to a bridge of Open vSwitch is healed, frames may come twice to the hosts of these bridges, within 2 seconds. They are
 # counted and told. The bridge has to close its old root port before it opens the new one, and by its log Open vSwitch (3.1.0) does so.
 # But its datapath passes frames by flows that it keeps. Six that came twice it had taken in and passed by the old root port 1 to 20
-# milliseconds after that was closed, before it wrote the flow anew, to drop. Rings of three bridges of Open vSwitch did so too, with no
+# milliseconds after that was closed, before it wrote the flow again, to drop. Rings of three bridges of Open vSwitch did so too, with no
 # edge of ours and the same cables: 0.3 to 24 milliseconds after, and 170 on a busier machine. There the root's end of the cable was
 # cut, too, and nine frames came twice since one of the two ways was slow: they came by the new root port once it was open.
 #
@@ -27,7 +27,7 @@
 # given it. Nor may one come twice to a host of an edge, unless the bridges gave it to edge 1 twice while a cable was healed.
 #
 # Between a cut and the next healing lie 13 seconds or more. In rings that changed every 2 to 4 seconds, Open vSwitch's datapath
-# sometimes went on dropping what came by a port that its RSTP had opened, until the next change; in its own ring, too.
+# sometimes went on dropping frames of a port that its RSTP had opened, until the next change; in its own ring, too.
 set -u
 . "$(dirname "$0")/lab.sh"
 needs ip ping python3 sysctl
@@ -37,7 +37,7 @@ names=()
 hosts=()
 watched=
 
-# edge NUMBER NETWORK PRIORITY PORTS: an edge with so many ports, of which the last one is a host's, and quick timers
+# edge NUMBER NETWORK PRIORITY PORTS: an edge with PORTS ports, of which the last one is a host's, and quick timers
 edge() {
   cat << TOML
 [[edge]]
@@ -119,8 +119,8 @@ talk() {
   done > "$work/heard"
 }
 
-# looks WHAT SILENCE [none|healed]: no frame was doubled, none came for so many seconds at most, and the end of what was sent came,
-# from each host to each other; and where none may be lost, none was. Where a cable was healed in the ring with Open vSwitch, some
+# looks WHAT SILENCE [none|healed]: no frame was doubled, silence lasted at most SILENCE seconds, and the last frames came,
+# from each host to each other; and if none may be lost, none was. If a cable was healed in the ring with Open vSwitch, some
 # may have been doubled by its bridges
 looks() {
   local before=$differs lost edges bridges silence pair
@@ -136,7 +136,7 @@ looks() {
   [ "$differs" = "$before" ] || sed 's/^/lost, doubled, silence, end: /' "$work/heard"
 }
 
-# sees WHAT SILENCE [none|healed]: what `looks` says of doubled frames, where all devices were watched
+# sees WHAT SILENCE [none|healed]: the result of `looks` for doubled frames, if all devices were watched
 sees() {
   local frames more again twice within
   read -r frames more again twice within < <(tail -n 1 "$work/watched")
