@@ -2,6 +2,7 @@
 
 import os
 import subprocess
+import sys
 import tempfile
 import unittest
 
@@ -392,6 +393,22 @@ class Simulations(unittest.TestCase):
     @needs_program
     def test_questions(self):
         self.runs("play", played())
+
+    @needs_program
+    def test_recorded_session(self):
+        """The session in the tutorial's animated picture is what the program prints."""
+        with open(os.path.join(EXAMPLES, "sites.script"), "rb") as script:
+            words = [PROGRAM, "play", "--config", os.path.join(EXAMPLES, "sites.toml")]
+            done = subprocess.run(words, stdin=script, capture_output=True, timeout=60, check=True)
+        with open(os.path.join(TOP, "docs", "move.txt"), encoding="utf-8") as session:
+            self.assertEqual(done.stdout.decode(), session.read().split("\n", 1)[1])
+
+    def test_drawn_session(self):
+        """The animated picture is drawn from the recorded session."""
+        words = [sys.executable, "-B", os.path.join(TOP, "tools", "session_svg.py"), os.path.join(TOP, "docs", "move.txt")]
+        drawn = subprocess.run(words, capture_output=True, encoding="utf-8", check=True).stdout
+        with open(os.path.join(TOP, "docs", "move.svg"), encoding="utf-8") as drawing:
+            self.assertEqual(drawn, drawing.read())
 
 
 if __name__ == "__main__":
