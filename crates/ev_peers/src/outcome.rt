@@ -1,65 +1,40 @@
-//! The outcome of an edge whose workers have ended, with their faults.
-ghost use Rattle.std.specs.Prelude.{◌≡◌};
-ghost use Rattle.ev_peers.specs.Inner.Outcome.{no_faults, both_faults, is_device, is_memory, with_end, with_memory, with_sent};
+//! What an edge comes to when its workers have ended, and what these ended with.
 
 use crate::shared_edge::Ended;
 use ev_book::Totals;
 use ev_edge::Edge;
 
-/// The outcome of an edge whose workers have ended.
+/// What an edge comes to when its workers have ended.
 #[derive(Drop)]
 pub struct Outcome {
     /// The edge.
     pub edge: Edge,
-    /// The number of counted calls of each worker.
+    /// How many calls of each worker were counted.
     pub totals: Totals,
-    /// The faults of its workers.
+    /// What its workers ended with.
     pub faults: Faults,
-    /// The number of frames without room on each line: the tunnel's line first, then those of the
+    /// How many frames found no room: on the line of the tunnel, and behind it on those of the
     /// ports, port 1 first.
     pub dropped: Vec<u64>,
 }
 
-/// The faults that the workers of an edge ended with.
+/// What the workers of an edge ended with.
 #[derive(Clone, Copy, Debug, PartialEq, Eq)]
 pub struct Faults {
-    /// The number of frames that were lost in failed calls of links.
+    /// How many frames were lost in failed calls of links.
     pub lost: u64,
-    /// `true` if the link of a worker failed.
+    /// Whether the link of a worker failed.
     pub device: bool,
-    /// `true` if the book was refused memory for an event, or a worker its thread.
+    /// Whether the book was refused memory for an event, or a worker its thread.
     pub memory: bool,
 }
 
-/// The result of a thread that sends frames: the number of lost frames, and whether there was a
-/// thread.
+/// What a thread that sends frames gives back: how many were lost, and whether there was a thread.
 pub(crate) type Sent = (u64, Ended);
 
-/// Returns `true` if a worker ended because its link failed.
-fn is_device(ended: Ended) -> bool
-    ensures { result ≡ is_device ended }
-{
-    match ended {
-        Ended::Device => true,
-        Ended::End | Ended::NoMemory => false,
-    }
-}
-
-/// Returns `true` if a worker was refused its thread.
-fn is_memory(ended: Ended) -> bool
-    ensures { result ≡ is_memory ended }
-{
-    match ended {
-        Ended::NoMemory => true,
-        Ended::End | Ended::Device => false,
-    }
-}
-
 impl Faults {
-    /// Returns the faults of workers that ended without any.
-    pub(crate) fn none() -> Self
-        ensures { result ≡ no_faults }
-    {
+    /// Workers that ended as they should.
+    pub(crate) fn none() -> Self {
         Faults {
             lost: 0,
             device: false,
@@ -67,10 +42,8 @@ impl Faults {
         }
     }
 
-    /// Returns the faults of both together.
-    pub(crate) fn and(self, other: Faults) -> Self
-        ensures { result ≡ both_faults self other }
-    {
+    /// Both together.
+    pub(crate) fn and(self, other: Faults) -> Self {
         Faults {
             lost: self.lost.saturating_add(other.lost),
             device: self.device || other.device,
@@ -78,31 +51,25 @@ impl Faults {
         }
     }
 
-    /// Returns these faults with how one more worker ended.
-    pub(crate) fn with(self, ended: Ended) -> Self
-        ensures { result ≡ with_end ended self }
-    {
+    /// With what one more worker ended with.
+    pub(crate) fn with(self, ended: Ended) -> Self {
         Faults {
             lost: self.lost,
-            device: self.device || is_device(ended),
-            memory: self.memory || is_memory(ended),
+            device: self.device || ended == Ended::Device,
+            memory: self.memory || ended == Ended::NoMemory,
         }
     }
 
-    /// Returns these faults with whether a call of the book was refused memory.
-    pub(crate) fn with_out_of_memory(self, out_of_memory: bool) -> Self
-        ensures { result ≡ with_memory out_of_memory self }
-    {
+    /// With whether a call of the book was refused memory.
+    pub(crate) fn with_out_of_memory(self, out_of_memory: bool) -> Self {
         Faults {
             memory: self.memory || out_of_memory,
             ..self
         }
     }
 
-    /// Returns these faults with those of one more worker that sends.
-    pub(crate) fn with_lost(self, sent: Sent) -> Self
-        ensures { result ≡ with_sent sent self }
-    {
+    /// With what was lost over one more link.
+    pub(crate) fn with_lost(self, sent: Sent) -> Self {
         let faults = self.with(sent.1);
         Faults {
             lost: faults.lost.saturating_add(sent.0),

@@ -1,8 +1,7 @@
-//! The outlet of an edge's workers, which takes the book's answers: frames for the lines of its
-//! links, records for the other edges, alerts and failing links for the operator.
-ghost use Rattle.std.specs.Prelude.{◌≡◌, ◌∷◌, [], Option, List, slice_get, option_copied};
+//! Where the workers of an edge give what the book answers: frames to the lines of its links,
+//! records to the other edges, alerts and failing links to the operator.
+ghost use Rattle.std.specs.Prelude.{◌≡◌, ◌∷◌, [], Option, List};
 ghost use Rattle.ev_peers.specs.Giving.{Parcel, parcel, first_parcel};
-ghost use Rattle.ev_peers.specs.Inner.Giving.{place_of};
 ghost use Rattle.ev_links.specs.Coming.{behind};
 ghost use Rattle.ev_peers.specs.Passing.{Word, has_room, record_of, second_passes, tells, hears, answers};
 
@@ -14,7 +13,7 @@ use route_wire::Update;
 use std::alloc::AllocError;
 use std::sync::Wait;
 
-/// The link of an edge that a frame is for.
+/// Which link of an edge gets a frame.
 #[derive(Clone, Copy, Debug, PartialEq, Eq)]
 pub enum Target {
     /// The access port with this number, from 1.
@@ -23,18 +22,17 @@ pub enum Target {
     Edge(Addr),
 }
 
-/// The outlet of an edge's workers, which takes frames and records.
+/// Where the workers of an edge give frames and records.
 pub trait Outlet {
-    /// The history of the frames that the outlet took, with their links, in order. An outlet may
-    /// have no history.
+    /// The frames that were given and the links that got them, in their order, where it tells them.
     ghost parcels: { Self → Option (List Parcel) };
 
-    /// The history of the exchanges with the other edges and with the operator, in order: each
-    /// answer on their room, each record for them, each second, each alert, each change of a
-    /// receiving link, and each answer to a request. An outlet may have no history.
+    /// What was spoken of the other edges and with the operator, where it tells it: each answer on
+    /// their room, each record that was given, each second, each alert, each change of a link that
+    /// is received over, and each answer to a request, in their order.
     ghost records: { Self → Option (List Word) };
 
-    /// Takes a frame for a link. The link's line has room for it, or drops and counts it.
+    /// Takes a frame for a link, whose line has room for it or drops and counts it.
     fn frame(&mut self, to: Target, octets: &[u8])
         ensures given { parcels self.new
             ≡ behind (parcels self.old) (parcel to octets.now ∷ []) }
@@ -46,7 +44,7 @@ pub trait Outlet {
             ≡ behind (parcels self.old) (first_parcel port frame.now ∷ []) }
         ensures records { records self.new ≡ records self.old };
 
-    /// Returns `true` if each of the other edges has room for one more record.
+    /// Whether each of the other edges has room for one more record.
     fn has_room(&mut self) -> bool
         ensures told { records self.new ≡ behind (records self.old) (has_room result ∷ []) }
         ensures parcels { parcels self.new ≡ parcels self.old };
@@ -56,35 +54,35 @@ pub trait Outlet {
         ensures given { records self.new ≡ behind (records self.old) (record_of update ∷ []) }
         ensures parcels { parcels self.new ≡ parcels self.old };
 
-    /// Reports to the operator's board that a second passes.
+    /// Tells the operator's board that a second passes.
     fn second(&mut self)
         ensures told { records self.new ≡ behind (records self.old) (second_passes ∷ []) }
         ensures parcels { parcels self.new ≡ parcels self.old };
 
-    /// Puts an alert on the operator's board. The board may hold it back, and counts it then.
+    /// Puts an alert on the operator's board, which may hold it back and counts it then.
     fn alarm(&mut self, alarm: Alarm)
         ensures told { records self.new ≡ behind (records self.old) (tells alarm ∷ []) }
         ensures parcels { parcels self.new ≡ parcels self.old };
 
-    /// Reports to the operator that receiving over a link failed, or works again.
+    /// Tells the operator that receiving over a link failed, or works again.
     fn reception(&mut self, reception: Reception)
         ensures told { records self.new ≡ behind (records self.old) (hears reception ∷ []) }
         ensures parcels { parcels self.new ≡ parcels self.old };
 
-    /// Sends the operator the answer to a request.
+    /// Gives the operator the answer to a request.
     fn answer(&mut self, answer: Answer)
         ensures told { records self.new ≡ behind (records self.old) (answers answer ∷ []) }
         ensures parcels { parcels self.new ≡ parcels self.old };
 }
 
-/// The lines of an edge's links, the mailboxes of the other edges, and the operator's board. The
-/// struct holds references, and is copied for each worker.
+/// The lines to an edge's links, the mailboxes of the other edges, and the operator's board. It
+/// refers to them, and is copied for each worker.
 pub(crate) struct Senders<'x, R> {
-    /// The runtime, which may wait for a lock.
+    /// What may wait for a lock.
     pub(crate) rt: &'x R,
-    /// The line of the tunnel's link, then those of the access ports, port 1 first.
+    /// To the link of the tunnel, and behind it to those of the access ports, port 1 first.
     pub(crate) lines: &'x [SharedLine],
-    /// The mailboxes of the other edges, and the operator's board.
+    /// To the other edges, and to the operator.
     pub(crate) peers: Peers<'x>,
 }
 
@@ -96,25 +94,6 @@ impl<'x, R> Clone for Senders<'x, R> {
 
 impl<'x, R> Copy for Senders<'x, R> {}
 
-/// Returns the place of a link's line, and the address that goes with a frame for it.
-fn place_of(to: Target) -> (usize, Addr)
-    ensures { result ≡ place_of to }
-{
-    match to {
-        Target::Edge(address) => (0, address),
-        Target::Port(port) => (port as usize, Addr::default()),
-    }
-}
-
-impl<R> Senders<'_, R> {
-    /// Returns the line at a place, if there is one.
-    fn line_at(&self, place: usize) -> Option<&SharedLine>
-        ensures { option_copied result ≡ slice_get self.now.lines.now place }
-    {
-        self.lines.get(place)
-    }
-}
-
 impl<R: Wait> Outlet for Senders<'_, R> {
     ghost use Rattle.std.specs.Prelude.{None};
 
@@ -123,15 +102,17 @@ impl<R: Wait> Outlet for Senders<'_, R> {
     ghost records = { λ s. None };
 
     fn frame(&mut self, to: Target, octets: &[u8]) {
-        let (place, address) = place_of(to);
-        if let Some(line) = self.line_at(place) {
+        let (place, address) = match to {
+            Target::Edge(address) => (0, address),
+            Target::Port(port) => (port as usize, Addr::default()),
+        };
+        if let Some(line) = self.lines.get(place) {
             line.put(self.rt, address, octets);
         }
     }
 
     fn bpdu(&mut self, port: u8, frame: &[u8; 60]) {
-        let (place, _) = place_of(Target::Port(port));
-        if let Some(line) = self.line_at(place) {
+        if let Some(line) = self.lines.get(port as usize) {
             line.put_bpdu(self.rt, frame);
         }
     }

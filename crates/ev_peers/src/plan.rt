@@ -1,10 +1,7 @@
-//! The plan of an edge's threads: the source that each thread enters or the link that it sends
-//! over, the values that they share, and room for the threads and their results. All of it is
-//! created before the first thread starts.
-ghost use Rattle.std.specs.Prelude.{◌≡◌, ◌+◌, ◌<◌, ◌≤◌, ◌∷◌, ◌++◌, reverse, vec_len, vec_capacity, IfOk};
+//! What the threads of an edge need: what each of them enters or sends over, what they share, and
+//! room for them and for what they give back. All of it is made before the first thread starts.
+ghost use Rattle.std.specs.Prelude.{◌≡◌, ◌+◌, ◌≤◌, vec_len, vec_capacity, IfOk};
 ghost use Rattle.ev_peers.specs.Inner.EdgeThreads.{HasRoom};
-ghost use Rattle.ev_peers.specs.Inner.Plan.{vni_at, port_tasks, tasks_of, outputs_back, outputs_of};
-ghost use Rattle.ev_peers.specs.declared.plan.Task.TheVariants.{Port};
 
 use crate::edge_links::{EdgeLinks, Link};
 use crate::outcome::Sent;
@@ -18,62 +15,62 @@ use std::sync::atomic::AtomicBool;
 use std::sync::ledger::Ledger;
 use std::thread::JoinHandle;
 
-/// The result of a thread that enters events: its pass, and how it ended.
+/// What a thread that enters events gives back.
 pub(crate) type Entered<L> = (Pass<L>, Ended);
 
-/// The source of the events that a worker enters.
+/// What a worker enters.
 #[derive(Drop)]
 pub(crate) enum Task<I: Drop> {
-    /// The frames that come over this link at the port with this number, of this VNI.
+    /// The frames that come over this link at the port with this number, of this network.
     Port(u8, Vni, I),
     /// The datagrams that come over this link.
     Tunnel(I),
     /// The ticks of this clock.
     Clock(I),
-    /// The messages in the edge's mailbox.
+    /// What the other edges send.
     Peer,
 }
 
-/// The values that the threads of an edge share.
+/// What the threads of an edge share.
 #[derive(Drop)]
 pub(crate) struct Shared {
-    /// The lines of the outgoing links: the tunnel's, then those of the ports, port 1 first.
+    /// What is sent over the tunnel's link, and behind it what is over those of the ports, port 1
+    /// first.
     pub(crate) lines: Vec<SharedLine>,
-    /// For each task, `true` if its thread was refused.
+    /// Whether there was no thread, for each task.
     pub(crate) no_entering: Vec<AtomicBool>,
-    /// For each outgoing link, `true` if its thread was refused.
+    /// Whether there was no thread, for each that sends.
     pub(crate) no_sending: Vec<AtomicBool>,
-    /// `true` if the thread of the edge's mailbox was refused.
+    /// Whether there was no thread for what other edges send.
     pub(crate) no_peer: AtomicBool,
-    /// `true` if a call of the book was refused memory.
+    /// Whether a call of the book was refused memory.
     pub(crate) out_of_memory: AtomicBool,
 }
 
-/// The threads that enter events.
+/// What there is of the threads that enter events.
 #[derive(Drop)]
 pub(crate) struct Entering<L: Ledger> {
-    /// The threads that run.
+    /// Those that run.
     pub(crate) running: Vec<JoinHandle<Entered<L>>>,
-    /// The passes that were returned.
+    /// The passes that came back.
     pub(crate) passes: Vec<Pass<L>>,
 }
 
-/// The values that the threads of an edge begin and end with. They are created in advance, so that
-/// this needs no memory later.
+/// What the threads of an edge begin and end with, so that this needs no memory.
 #[derive(Drop)]
 pub(crate) struct EdgeThreads<L: Ledger, I: Drop, O: Drop> {
-    /// The tasks of links: the clock's, the tunnel's, and those of the ports from the last to the
-    /// first.
+    /// What is entered from links: of the clock, the tunnel, and the ports from
+    /// the last to the first.
     pub(crate) tasks: Vec<Task<I>>,
-    /// The outgoing links: the tunnel's, and those of the ports, port 1 first.
+    /// The links that are sent over: that of the tunnel, and those of the ports, port 1 first.
     pub(crate) outputs: Vec<O>,
-    /// Room for the threads that enter events, and for the passes that they return.
+    /// Room for the threads that enter, and for the passes that come back.
     pub(crate) entering: Entering<L>,
     /// Room for the threads that send.
     pub(crate) sending: Vec<JoinHandle<Sent>>,
 }
 
-/// Creates `count` lines on which nothing waits.
+/// So many lines on which nothing waits.
 fn empty_lines(alloc: Global, count: usize) -> Result<Vec<SharedLine>, AllocError>
     ensures { IfOk result (λ lines. vec_len lines ≡ count) }
 {
@@ -85,7 +82,7 @@ fn empty_lines(alloc: Global, count: usize) -> Result<Vec<SharedLine>, AllocErro
     Ok(lines)
 }
 
-/// Creates `count` flags that aren't set.
+/// So many words that say no.
 fn no_words(alloc: Global, count: usize) -> Result<Vec<AtomicBool>, AllocError>
     ensures { IfOk result (λ words. vec_len words ≡ count) }
 {
@@ -97,76 +94,21 @@ fn no_words(alloc: Global, count: usize) -> Result<Vec<AtomicBool>, AllocError>
     Ok(words)
 }
 
-/// Returns the VNI of the port at a place, or VNI 0 if the port does not exist. Port 1 has place 0.
-fn vni_of(config: &EdgeConfig, place: usize) -> Vni
-    ensures { result ≡ vni_at config.now.ports.items place }
-{
-    match config.ports.as_slice().get(place) {
+/// The network of a port.
+fn vni_of(config: &EdgeConfig, port: usize) -> Vni {
+    match config.ports.as_slice().get(port.saturating_sub(1)) {
         Some(config) => config.vni,
         None => Vni::default(),
     }
 }
 
-/// Returns the task of the port at a place, whose link is `input`.
-fn task_of<I: Drop>(config: &EdgeConfig, place: usize, input: I) -> Task<I>
-    requires { place < 253 }
-    ensures { result ≡ Port (place + 1) (vni_at config.now.ports.items place) input }
-{
-    Task::Port(place as u8 + 1, vni_of(config, place), input)
-}
-
-/// Appends the tasks of these links and their outgoing links to the vectors, the last port first.
-fn plan_ports<I: Drop, O: Drop>(
-    config: &EdgeConfig,
-    links: Vec<Link<I, O>>,
-    tasks: Vec<Task<I>>,
-    outputs: Vec<O>,
-) -> (Vec<Task<I>>, Vec<O>)
-    requires few { vec_len links ≤ 253 }
-    requires tasks { vec_len tasks + vec_len links ≤ vec_capacity tasks }
-    requires outputs { vec_len outputs + vec_len links ≤ vec_capacity outputs }
-    ensures tasks { result.0.items
-        ≡ tasks.items ++ port_tasks config.now.ports.items (reverse links.items) }
-    ensures outputs { result.1.items ≡ outputs.items ++ outputs_back links.items }
-    ensures tasks_len { vec_len result.0 ≡ vec_len tasks + vec_len links }
-    ensures outputs_len { vec_len result.1 ≡ vec_len outputs + vec_len links }
-    ensures outputs_room { vec_capacity result.1 ≡ vec_capacity outputs }
-{
-    let mut links = links;
-    let mut tasks = tasks;
-    let mut outputs = outputs;
-    while let Some(link) = links.pop() {
-        let Link { input, output } = link;
-        tasks.push_reserved(task_of(config, links.len(), input));
-        outputs.push_reserved(output);
-    }
-    (tasks, outputs)
-}
-
-/// Returns all outgoing links: the tunnel's, and then the others, from the last one to the first.
-fn with_tunnel<O: Drop>(outputs: Vec<O>, tunnel: O) -> Vec<O>
-    requires { vec_len outputs < vec_capacity outputs }
-    ensures items { result.items ≡ tunnel ∷ reverse outputs.items }
-    ensures len { vec_len result ≡ vec_len outputs + 1 }
-{
-    let mut outputs = outputs;
-    outputs.push_reserved(tunnel);
-    outputs.as_mut_slice().reverse();
-    outputs
-}
-
-/// Creates the plan of an edge's threads for these links and ports.
-#[tactic(auto, using(ev_peers::proofs::Plans::port_1_first))]
+/// What the threads of an edge with these links and ports need.
 pub(crate) fn planned<L: Ledger, I: Drop, O: Drop>(
     alloc: Global,
     links: EdgeLinks<I, O>,
     config: &EdgeConfig,
 ) -> Result<(EdgeThreads<L, I, O>, Shared), AllocError>
     requires { vec_len links.ports ≤ 253 }
-    ensures each_task { IfOk result (λ r. r.0.tasks.items
-        ≡ tasks_of config.now.ports.items links.clock links.tunnel.input links.ports.items) }
-    ensures each_output { IfOk result (λ r. r.0.outputs.items
-        ≡ outputs_of links.tunnel.output links.ports.items) }
     ensures tasks { IfOk result (λ r. vec_len r.0.tasks ≡ vec_len links.ports + 2) }
     ensures no_entering { IfOk result (λ r. vec_len r.1.no_entering ≡ vec_len links.ports + 2) }
     ensures outputs { IfOk result (λ r. vec_len r.0.outputs ≡ vec_len links.ports + 1) }
@@ -178,7 +120,7 @@ pub(crate) fn planned<L: Ledger, I: Drop, O: Drop>(
         (vec_capacity r.0.entering.passes)) }
 {
     let EdgeLinks {
-        ports: port_links,
+        ports: mut port_links,
         tunnel: tunnel_link,
         clock,
     } = links;
@@ -188,11 +130,16 @@ pub(crate) fn planned<L: Ledger, I: Drop, O: Drop>(
         output: tunnel_output,
     } = tunnel_link;
     let mut tasks = Vec::with_capacity(alloc, count + 2)?;
-    let outputs = Vec::with_capacity(alloc, count + 1)?;
+    let mut outputs = Vec::with_capacity(alloc, count + 1)?;
     tasks.push_reserved(Task::Clock(clock));
     tasks.push_reserved(Task::Tunnel(tunnel_input));
-    let (tasks, outputs) = plan_ports(config, port_links, tasks, outputs);
-    let outputs = with_tunnel(outputs, tunnel_output);
+    while let Some(Link { input, output }) = port_links.pop() {
+        let port = port_links.len() + 1;
+        tasks.push_reserved(Task::Port(port as u8, vni_of(config, port), input));
+        outputs.push_reserved(output);
+    }
+    outputs.push_reserved(tunnel_output);
+    outputs.as_mut_slice().reverse();
     let shared = Shared {
         lines: empty_lines(alloc, count + 1)?,
         no_entering: no_words(alloc, count + 2)?,

@@ -1,4 +1,4 @@
-//! Edges that run beside each other, each on a thread and with a mailbox.
+//! Edges that run beside each other, each on a thread, with a mailbox for each.
 ghost use Rattle.std.specs.Prelude.{◌≡◌, ◌+◌, ◌≤◌, vec_len, vec_capacity, IfOk};
 ghost use Rattle.ev_edge.specs.Config.{IsConfig};
 ghost use Rattle.ev_peers.specs.EdgeThreads.{setup_of};
@@ -18,8 +18,8 @@ use std::sync::ledger::Blank;
 use std::thread;
 use std::thread::{JoinHandle, Scope, Threads};
 
-/// The configuration of an edge, and its links, of at most 64 ports. Its model is the configuration
-/// and the number of these ports.
+/// What an edge is opened with, and its links, of 64 ports at most. It is seen as that and as how
+/// many ports those are.
 #[derive(Drop)]
 pub struct Setup<I: Drop, O: Drop> {
     config: EdgeConfig,
@@ -43,7 +43,7 @@ impl<I: Drop, O: Drop> Model for Setup<I, O> {
 }
 
 impl<I: Drop, O: Drop> Setup<I, O> {
-    /// Creates the setup of an edge with these links.
+    /// An edge with these links.
     pub fn new(config: EdgeConfig, links: EdgeLinks<I, O>) -> Self
         requires config { IsConfig config }
         requires few { vec_len links.ports ≤ 64 }
@@ -52,17 +52,16 @@ impl<I: Drop, O: Drop> Setup<I, O> {
         Setup { config, links }
     }
 
-    /// Returns the number of workers that send the edge's updates: one per port, and three.
+    /// How many workers send updates of it: one a port, and three.
     fn workers(&self) -> u32 {
         self.links.ports.len() as u32 + 3
     }
 }
 
-/// The result of an edge's thread.
+/// What a thread of an edge gives back.
 type Ran = Result<Outcome, AllocError>;
 
-/// Returns the number of workers of these edges, which send each other updates: one per port, and
-/// three per edge.
+/// How many workers these edges have, which send each other updates: one a port, and three.
 fn workers_of<I: Drop, O: Drop>(setups: &[Setup<I, O>]) -> u32 {
     let mut workers = 0u32;
     for setup in setups {
@@ -71,28 +70,24 @@ fn workers_of<I: Drop, O: Drop>(setups: &[Setup<I, O>]) -> u32 {
     workers
 }
 
-/// The environment that edges run in beside each other.
+/// What edges run over beside each other.
 #[derive(Drop)]
 struct Common<'x, G, R> {
-    /// The runtime, which may wait and starts threads.
+    /// What may wait, and starts threads.
     rt: &'x R,
-    /// The allocator.
+    /// What gives memory.
     alloc: Global,
-    /// The gate, which is called at each point of a call of a book.
+    /// Is told of each call of a book.
     gate: &'x G,
-    /// The mailboxes of the edges.
+    /// What waits for each edge.
     mailboxes: &'x Mailboxes,
-    /// The operator's boards.
+    /// What the operator is told.
     boards: &'x Boards,
 }
 
 impl<'x, G, R> Common<'x, G, R> {
-    /// Returns the environment of the edge with this number.
-    fn host(&self, number: usize) -> Host<'x, G, R>
-        ensures number { result.number ≡ number }
-        ensures rt { result.rt.now ≡ self.now.rt.now }
-        ensures gate { result.gate.now ≡ self.now.gate.now }
-    {
+    /// What the edge with this number runs over.
+    fn host(&self, number: usize) -> Host<'x, G, R> {
         Host {
             rt: self.rt,
             alloc: self.alloc,
@@ -103,7 +98,7 @@ impl<'x, G, R> Common<'x, G, R> {
     }
 }
 
-/// Runs one edge, under a ledger of its own.
+/// One edge, under a ledger of its own.
 fn run_one<
     I: LinkIn + Drop + Send,
     O: LinkOut + Drop + Send,
@@ -172,7 +167,7 @@ fn join_edges<R: Threads>(
     ended
 }
 
-/// Edges that are ready to run. Their model is the number of these edges.
+/// Edges that are ready to run. They are seen as how many edges those are.
 #[derive(Drop)]
 struct Ready<I: Drop, O: Drop> {
     setups: Vec<Setup<I, O>>,
@@ -192,13 +187,12 @@ impl<I: Drop, O: Drop> Model for Ready<I, O> {
         (vec_capacity s.running) (vec_len s.ended) (vec_capacity s.ended) };
 }
 
-/// Edges that are to run beside each other, with their mailboxes. Their model is the number of
-/// these edges.
+/// What edges that are to run beside each other begin with. It is seen as how many edges those are.
 #[derive(Drop)]
 pub struct Start<I: Drop, O: Drop> {
     ready: Ready<I, O>,
     mailboxes: Mailboxes,
-    /// The allocator of the edges.
+    /// What gives the edges memory.
     alloc: Global,
 }
 
@@ -211,12 +205,11 @@ impl<I: Drop, O: Drop> Model for Start<I, O> {
 }
 
 impl<I: Drop, O: Drop> Start<I, O> {
-    /// Prepares these edges. Each edge also uses this allocator for the memory that it needs
-    /// besides.
+    /// What these edges begin with. What each of them opens besides takes memory from here, too.
     ///
     /// # Errors
     ///
-    /// `AllocError` if memory is refused.
+    /// Where memory is refused.
     pub fn new(alloc: Global, setups: Vec<Setup<I, O>>) -> Result<Self, AllocError>
         ensures { IfOk result (λ start. start ≡ vec_len setups) }
     {
@@ -291,10 +284,10 @@ fn run_ready<
 }
 
 /// Runs edges beside each other, each on a thread with its workers, until `until` has returned and
-/// the links have ended. `until` makes the links end, and can send requests to the edges meanwhile.
-/// Returns the outcomes in the order of the edges, with an error for each edge that was refused
-/// memory or a thread before it began, and the result of `until`. The operator's messages wait on
-/// these boards, which get no more once the function returns.
+/// the links have ended; it is `until` that makes them end, and it can ask the edges meanwhile. The
+/// outcomes are in the edges' order, with an error where an edge was refused memory or a thread
+/// before it began. What the operator is to know meanwhile waits on these boards, which get no more
+/// once it returns.
 pub fn run_all<
     I: LinkIn + Drop + Send,
     O: LinkOut + Drop + Send,

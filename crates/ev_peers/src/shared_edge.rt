@@ -1,9 +1,7 @@
-//! An edge as its workers share it: its book under a lock, and the gate for each call of it.
+//! An edge as its workers share it: its book under a lock, and what tells of each call of it.
 ghost use Rattle.std.specs.Prelude.{◌≡◌};
-ghost use Rattle.ev_book.specs.Entering.{answered, CallsBook};
-ghost use Rattle.ev_notices.specs.Alarm.{alert_of};
+ghost use Rattle.ev_book.specs.Entering.{answered};
 ghost use Rattle.ev_peers.specs.Passing.{Entered, Asked, announced_by};
-ghost use Rattle.ev_peers.specs.Inner.Passing.{is_no_memory};
 
 use crate::gate::{Gate, Point};
 use ether_wire::Mac;
@@ -30,23 +28,22 @@ pub enum Ended {
 /// An edge as its workers share it.
 #[derive(Drop)]
 pub struct SharedEdge<'x, L: Ledger, G, R> {
-    /// The runtime, which may wait for the lock.
+    /// What may wait for the lock.
     pub rt: &'x R,
     /// The edge's book.
     pub book: &'x Mutex<Book<L>>,
-    /// The gate, which is called at each point of a call of the book.
+    /// What is told of each call of the book.
     pub gate: &'x G,
     /// The edge's number for the gate.
     pub edge: usize,
-    /// The address that the edge sends BPDUs from.
+    /// The address from which the edge sends BPDUs.
     pub bridge: Mac,
     /// Set once a call of the book was refused memory.
     pub out_of_memory: &'x AtomicBool,
 }
 
 impl<L: Ledger, G: Gate, R: Wait> SharedEdge<'_, L, G, R> {
-    /// Calls the book once, and the gate at all three points. The lock is held only for the call
-    /// and for `Point::Inside`.
+    /// One call of the book, with all three points. The lock is held for the call alone.
     pub(crate) fn enter(
         &self,
         pass: &mut Pass<L>,
@@ -68,8 +65,7 @@ impl<L: Ledger, G: Gate, R: Wait> SharedEdge<'_, L, G, R> {
         answer
     }
 
-    /// Requests the edge's next announcement. Returns `None` if there is none or the call is
-    /// refused.
+    /// Asks for the edge's next announcement. There is none where the call is refused, too.
     pub(crate) fn ask(&self, pass: &mut Pass<L>, reply: &mut Reply) -> Option<Update>
         ensures { Asked pass.old result pass.new }
     {
@@ -78,30 +74,28 @@ impl<L: Ledger, G: Gate, R: Wait> SharedEdge<'_, L, G, R> {
     }
 }
 
-/// Returns `true` exactly if an answer reports that memory was refused: for the event, or for a
-/// station that isn't learnt.
-fn lacks_memory(answer: &Result<(), BookRefusal>, reply: &Reply) -> bool
-    ensures { result ≡ is_no_memory (alert_of (answered answer.now reply.now)) }
-{
+/// Whether an answer tells that memory was refused: to the event, or to a station that isn't
+/// learnt.
+fn lacks_memory(answer: &Result<(), BookRefusal>, reply: &Reply) -> bool {
     match alert_of(answer, reply) {
         Some(Alert::NoMemory) => true,
         _ => false,
     }
 }
 
-/// Calls a book once.
+/// One call of a book.
 fn call<L: Ledger>(
     book: &mut Book<L>,
     pass: &mut Pass<L>,
     event: &Event<'_>,
     reply: &mut Reply,
 ) -> Result<(), BookRefusal>
-    ensures { CallsBook book.old pass.old event.now (answered result reply.new) book.new pass.new }
+    ensures { Entered pass.old event.now (answered result reply.new) pass.new }
 {
     book.enter_into(pass, event, reply)
 }
 
-/// Returns the update that an answer announces, if there is one.
+/// The update that an answer announces.
 fn announced_by(answer: &Result<(), BookRefusal>, reply: &Reply) -> Option<Update>
     ensures { result ≡ announced_by (answered answer.now reply.now) }
 {
