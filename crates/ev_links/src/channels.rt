@@ -1,5 +1,5 @@
 //! Links over channels.
-ghost use Rattle.std.specs.Prelude.{◌≡◌, ◌≤◌, length, IfOk};
+ghost use Rattle.std.specs.Prelude.{◌≡◌, ◌≤◌, length, take, min, IfOk};
 
 use crate::links::{LinkIn, LinkOut};
 use crossbeam_channel::{Receiver, Sender};
@@ -41,7 +41,9 @@ impl<'x, R: Wait> ChannelIn<'x, R> {
 
 /// Puts octets at the front of the buffer, cut to its length, and answers how many there are.
 fn put_front(buffer: &mut [u8], octets: &[u8]) -> usize
-    ensures { result ≤ length buffer.new }
+    ensures fits { result ≤ length buffer.new }
+    ensures size { result ≡ min (length octets.now) (length buffer.old) }
+    ensures front { take result buffer.new ≡ take result octets.now }
 {
     let size = octets.len().min(buffer.len());
     buffer[..size].copy_from_slice(&octets[..size]);
@@ -77,6 +79,14 @@ fn copy(alloc: Global, octets: &[u8]) -> Result<Vec<u8>, AllocError>
     let mut copy = Vec::with_capacity(alloc, octets.len())?;
     copy.extend_from_slice(octets)?;
     Ok(copy)
+}
+
+/// Returns the datagram that goes from one address to another, with a copy of the octets.
+fn addressed(alloc: Global, from: Addr, to: Addr, octets: &[u8]) -> Result<Datagram, AllocError>
+    ensures { IfOk result (λ d. (d.from ≡ from) × (d.to ≡ to) × (d.octets.items ≡ octets.now)) }
+{
+    let octets = copy(alloc, octets)?;
+    Ok(Datagram { from, to, octets })
 }
 
 /// Sends datagrams over a channel to one other end, whatever address they are for.
@@ -116,12 +126,10 @@ impl<R: Wait> LinkOut for ChannelOut<'_, R> {
     }
 
     fn send(&mut self, to: Addr, octets: &[u8]) -> Result<(), Device> {
-        let Ok(octets) = copy(self.alloc, octets) else {
+        let Ok(datagram) = addressed(self.alloc, self.from, to, octets) else {
             self.failures += 1;
             return Err(Device);
         };
-        let from = self.from;
-        let datagram = Datagram { from, to, octets };
         if self.datagrams.send(self.rt, datagram).is_err() {
             self.failures += 1;
             return Err(Device);

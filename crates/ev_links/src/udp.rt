@@ -1,7 +1,8 @@
 //! Links over UDP sockets, and a clock of the system's.
-ghost use Rattle.std.specs.Prelude.{◌≡◌, ◌≤◌, length, IfOk};
+ghost use Rattle.std.specs.Prelude.{◌≡◌, ◌≤◌, length, Some, Ok, IfOk, IsErr, MatchResult};
 ghost use Rattle.std.specs.Net.Addr.{IsIpv4OfBits, IsV4And, MatchIp, ipv4_bits};
 ghost use Rattle.std.specs.Net.Socket.{socket_ip, socket_port};
+ghost use Rattle.ev_links.specs.Inner.Udp.{address_for, port_for};
 
 use crate::links::{LinkIn, LinkOut};
 use ether_wire::{Addr, Device};
@@ -125,6 +126,16 @@ impl<'x, C: Clock> Wire<'x, C> {
     }
 }
 
+/// Returns what a read of a wire brought: an empty datagram, too, is one.
+fn heard(got: io::Result<(usize, Addr)>) -> Result<Option<(Addr, usize)>, Device>
+    ensures { MatchResult got (λ r. result ≡ Ok (Some (r.1, r.0))) (λ e. IsErr result) }
+{
+    match got {
+        Ok((size, from)) => Ok(Some((from, size))),
+        Err(_) => Err(Device),
+    }
+}
+
 impl<C: Clock> LinkIn for Wire<'_, C> {
     ghost use Rattle.std.specs.Prelude.{None};
 
@@ -146,13 +157,10 @@ impl<C: Clock> LinkIn for Wire<'_, C> {
             return Ok(None);
         }
         self.is_failing = got.is_err();
-        match got {
-            Ok((size, from)) => Ok(Some((from, size))),
-            Err(_) => {
-                self.failures += 1;
-                Err(Device)
-            }
+        if self.is_failing {
+            self.failures += 1;
         }
+        heard(got)
     }
 }
 
@@ -165,8 +173,11 @@ pub enum Destination {
     At(u16),
 }
 
-/// Where a datagram for this address is sent.
-fn where_to(destination: Destination, to: Addr) -> SocketAddr {
+/// Returns where a datagram for this address is sent.
+fn where_to(destination: Destination, to: Addr) -> SocketAddr
+    ensures ip { IsV4And (socket_ip result) (λ ip. IsIpv4OfBits ip (address_for destination to)) }
+    ensures port { socket_port result ≡ port_for destination }
+{
     match destination {
         Destination::Fixed(address, port) => socket_address(address, port),
         Destination::At(port) => socket_address(to, port),

@@ -1,2 +1,3 @@
 pub mod Mailbox
 pub mod Outbox
+pub mod Inner

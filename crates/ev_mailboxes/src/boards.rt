@@ -1,4 +1,5 @@
 //! The boards of all edges, which their workers share with the one that tells the operator.
+ghost use Rattle.std.specs.Prelude.{◌≡◌, ◌-◌, slice_get, option_copied};
 
 use ev_notices::{Alarm, Board, News, Reception, Receptions, Refusals};
 use std::alloc::{AllocError, Global};
@@ -62,7 +63,9 @@ impl Boards {
     }
 
     /// What waits of the edge with this number, from 1.
-    fn of(&self, edge: usize) -> Option<&OfEdge> {
+    fn of(&self, edge: usize) -> Option<&OfEdge>
+        ensures { option_copied result ≡ slice_get self.now.all.items (edge - 1) }
+    {
         self.all.get(edge.saturating_sub(1))
     }
 

@@ -1,5 +1,9 @@
 //! Where the operator's request to an edge waits for its worker, and the answer for the operator.
 
+ghost use Rattle.std.specs.Prelude.{◌≡◌, true, false};
+ghost use Rattle.ev_mailboxes.specs.Inner.Desk.{put_on, take_from, collect_from};
+ghost use Rattle.ev_mailboxes.specs.declared.desk.Slip.TheVariants.{Free, Answered};
+
 use crate::request::{Answer, Request};
 use std::mem;
 
@@ -25,7 +29,10 @@ pub(crate) struct Desk {
 
 impl Desk {
     /// A desk on which nothing lies.
-    pub(crate) fn new() -> Self {
+    pub(crate) fn new() -> Self
+        ensures free { result.slip ≡ Free }
+        ensures open { result.is_closed ≡ false }
+    {
         Desk {
             slip: Slip::Free,
             is_closed: false,
@@ -33,7 +40,10 @@ impl Desk {
     }
 
     /// Puts a request there, if there is room for it.
-    pub(crate) fn put(&mut self, request: &Request) -> bool {
+    pub(crate) fn put(&mut self, request: &Request) -> bool
+        ensures puts { (result, self.new.slip) ≡ put_on request.now self.old.slip }
+        ensures stays { self.new.is_closed ≡ self.old.is_closed }
+    {
         if let Slip::Free = self.slip {
             self.slip = Slip::Asked(*request);
             return true;
@@ -42,7 +52,10 @@ impl Desk {
     }
 
     /// Takes the request, if there is one.
-    pub(crate) fn take(&mut self) -> Option<Request> {
+    pub(crate) fn take(&mut self) -> Option<Request>
+        ensures takes { (result, self.new.slip) ≡ take_from self.old.slip }
+        ensures stays { self.new.is_closed ≡ self.old.is_closed }
+    {
         match self.slip {
             Slip::Asked(request) => {
                 self.slip = Slip::Taken;
@@ -53,12 +66,18 @@ impl Desk {
     }
 
     /// Puts the answer there.
-    pub(crate) fn answer(&mut self, answer: Answer) {
+    pub(crate) fn answer(&mut self, answer: Answer)
+        ensures answers { self.new.slip ≡ Answered answer }
+        ensures stays { self.new.is_closed ≡ self.old.is_closed }
+    {
         self.slip = Slip::Answered(answer);
     }
 
     /// Takes the answer, if there is one.
-    pub(crate) fn collect(&mut self) -> Option<Answer> {
+    pub(crate) fn collect(&mut self) -> Option<Answer>
+        ensures collects { (result, self.new.slip) ≡ collect_from self.old.slip }
+        ensures stays { self.new.is_closed ≡ self.old.is_closed }
+    {
         match mem::replace(&mut self.slip, Slip::Free) {
             Slip::Answered(answer) => Some(answer),
             slip => {
@@ -69,12 +88,17 @@ impl Desk {
     }
 
     /// Tells that nobody answers any more.
-    pub(crate) fn close(&mut self) {
+    pub(crate) fn close(&mut self)
+        ensures closed { self.new.is_closed ≡ true }
+        ensures stays { self.new.slip ≡ self.old.slip }
+    {
         self.is_closed = true;
     }
 
     /// Whether nobody answers any more.
-    pub(crate) fn is_closed(&self) -> bool {
+    pub(crate) fn is_closed(&self) -> bool
+        ensures { result ≡ self.now.is_closed }
+    {
         self.is_closed
     }
 }

@@ -1,7 +1,7 @@
 //! The edges that run beside each other, as one of them sees them: the others' mailboxes, and its
 //! own board.
 
-ghost use Rattle.std.specs.Prelude.{◌≡◌, IfSome};
+ghost use Rattle.std.specs.Prelude.{◌≡◌, ◌-◌, IfSome, slice_get, option_copied};
 
 use crate::boards::Boards;
 use crate::mailbox::Message;
@@ -69,7 +69,11 @@ impl Mailboxes {
     }
 
     /// As the edge with this number sees them, counted from 1, beside the boards of all edges.
-    pub fn seen_by<'x>(&'x self, number: usize, boards: &'x Boards) -> Peers<'x> {
+    pub fn seen_by<'x>(&'x self, number: usize, boards: &'x Boards) -> Peers<'x>
+        ensures number { result.number ≡ number }
+        ensures mailboxes { result.mailboxes.now ≡ self.entry.now.all.items }
+        ensures boards { result.boards.now ≡ boards.now }
+    {
         Peers {
             mailboxes: self.all.as_slice(),
             outboxes: &self.outboxes,
@@ -91,7 +95,9 @@ pub struct Peers<'x> {
 
 impl Peers<'_> {
     /// The edge's own mailbox.
-    fn own(&self) -> Option<&SharedMailbox> {
+    fn own(&self) -> Option<&SharedMailbox>
+        ensures { option_copied result ≡ slice_get self.now.mailboxes.now (self.now.number - 1) }
+    {
         self.mailboxes.get(self.number.saturating_sub(1))
     }
 

@@ -1,4 +1,6 @@
 //! What the operator asks of an edge that runs, and what the edge answers.
+ghost use Rattle.std.specs.Prelude.{◌≡◌};
+ghost use Rattle.ev_mailboxes.specs.Inner.Request.{entered_in, table_in, port_in, served_in, view_in};
 
 use ether_wire::{Addr, Vni};
 use ev_book::BookRefusal;
@@ -88,7 +90,9 @@ pub enum Answer {
 
 impl Answer {
     /// Takes what the book answered to a step, if that was asked.
-    pub(crate) fn take_entered(&mut self) -> Option<Result<Reply, BookRefusal>> {
+    pub(crate) fn take_entered(&mut self) -> Option<Result<Reply, BookRefusal>>
+        ensures { result ≡ entered_in self.old }
+    {
         match self {
             Answer::Entered(Ok(reply)) => Some(Ok(mem::replace(reply, Reply::nothing()))),
             Answer::Entered(Err(refusal)) => Some(Err(*refusal)),
@@ -97,7 +101,9 @@ impl Answer {
     }
 
     /// What the table holds, if that was asked.
-    pub(crate) fn table(self) -> Option<Result<Vec<Update>, AllocError>> {
+    pub(crate) fn table(self) -> Option<Result<Vec<Update>, AllocError>>
+        ensures { result ≡ table_in self.entry }
+    {
         match self {
             Answer::Table(updates) => Some(updates),
             Answer::Entered(_) | Answer::Port(_) | Answer::Served(_) | Answer::View(_) => None,
@@ -105,7 +111,9 @@ impl Answer {
     }
 
     /// How the spanning tree has the port, if that was asked.
-    pub(crate) fn port(&self) -> Option<Option<PortView>> {
+    pub(crate) fn port(&self) -> Option<Option<PortView>>
+        ensures { result ≡ port_in self.now }
+    {
         match self {
             Answer::Port(view) => Some(*view),
             Answer::Entered(_) | Answer::Table(_) | Answer::Served(_) | Answer::View(_) => None,
@@ -113,7 +121,9 @@ impl Answer {
     }
 
     /// What the edge serves, if that was asked.
-    pub(crate) fn served(self) -> Option<Result<Served, AllocError>> {
+    pub(crate) fn served(self) -> Option<Result<Served, AllocError>>
+        ensures { result ≡ served_in self.entry }
+    {
         match self {
             Answer::Served(served) => Some(served),
             Answer::Entered(_) | Answer::Table(_) | Answer::Port(_) | Answer::View(_) => None,
@@ -121,7 +131,9 @@ impl Answer {
     }
 
     /// What is told of a question, if one was asked.
-    pub(crate) fn view(self) -> Option<Result<Vec<u8>, AllocError>> {
+    pub(crate) fn view(self) -> Option<Result<Vec<u8>, AllocError>>
+        ensures { result ≡ view_in self.entry }
+    {
         match self {
             Answer::View(text) => Some(text),
             Answer::Entered(_) | Answer::Table(_) | Answer::Port(_) | Answer::Served(_) => None,

@@ -1,2 +1,5 @@
 pub mod EdgeThreads
+pub mod Giving
+pub mod Outcome
+pub mod Plan
 pub mod Working

@@ -1,7 +1,8 @@
 //! What the threads of an edge need: what each of them enters or sends over, what they share, and
 //! room for them and for what they give back. All of it is made before the first thread starts.
-ghost use Rattle.std.specs.Prelude.{◌≡◌, ◌+◌, ◌≤◌, vec_len, vec_capacity, IfOk};
+ghost use Rattle.std.specs.Prelude.{◌≡◌, ◌+◌, ◌-◌, ◌≤◌, vec_len, vec_capacity, IfOk};
 ghost use Rattle.ev_peers.specs.Inner.EdgeThreads.{HasRoom};
+ghost use Rattle.ev_peers.specs.Inner.Plan.{vni_at, tasks_of, outputs_of};
 
 use crate::edge_links::{EdgeLinks, Link};
 use crate::outcome::Sent;
@@ -95,7 +96,9 @@ fn no_words(alloc: Global, count: usize) -> Result<Vec<AtomicBool>, AllocError>
 }
 
 /// The network of a port.
-fn vni_of(config: &EdgeConfig, port: usize) -> Vni {
+fn vni_of(config: &EdgeConfig, port: usize) -> Vni
+    ensures { result ≡ vni_at config.now.ports.items (port - 1) }
+{
     match config.ports.as_slice().get(port.saturating_sub(1)) {
         Some(config) => config.vni,
         None => Vni::default(),
@@ -109,6 +112,10 @@ pub(crate) fn planned<L: Ledger, I: Drop, O: Drop>(
     config: &EdgeConfig,
 ) -> Result<(EdgeThreads<L, I, O>, Shared), AllocError>
     requires { vec_len links.ports ≤ 253 }
+    ensures each_task { IfOk result (λ r. r.0.tasks.items
+        ≡ tasks_of config.now.ports.items links.clock links.tunnel.input links.ports.items) }
+    ensures each_output { IfOk result (λ r. r.0.outputs.items
+        ≡ outputs_of links.tunnel.output links.ports.items) }
     ensures tasks { IfOk result (λ r. vec_len r.0.tasks ≡ vec_len links.ports + 2) }
     ensures no_entering { IfOk result (λ r. vec_len r.1.no_entering ≡ vec_len links.ports + 2) }
     ensures outputs { IfOk result (λ r. vec_len r.0.outputs ≡ vec_len links.ports + 1) }

@@ -1,6 +1,6 @@
 //! An edge as its workers share it: its book under a lock, and what tells of each call of it.
 ghost use Rattle.std.specs.Prelude.{◌≡◌};
-ghost use Rattle.ev_book.specs.Entering.{answered};
+ghost use Rattle.ev_book.specs.Entering.{answered, CallsBook};
 ghost use Rattle.ev_peers.specs.Passing.{Entered, Asked, announced_by};
 
 use crate::gate::{Gate, Point};
@@ -90,7 +90,7 @@ fn call<L: Ledger>(
     event: &Event<'_>,
     reply: &mut Reply,
 ) -> Result<(), BookRefusal>
-    ensures { Entered pass.old event.now (answered result reply.new) pass.new }
+    ensures { CallsBook book.old pass.old event.now (answered result reply.new) book.new pass.new }
 {
     book.enter_into(pass, event, reply)
 }
