@@ -25,6 +25,10 @@ module _ {I O : Type 0} where
   abbrev pub tasks_of : List PortConfig → I → I → List (Link I O) → List (Task I)
   tasks_of ports clock tunnel links = Clock clock ∷ Tunnel tunnel ∷ port_tasks ports (reverse links)
 
+  -- the links that are sent over at ports, the last port first
+  abbrev pub outputs_back : List (Link I O) → List O
+  outputs_back links = map (λ link. link.output) (reverse links)
+
   -- what is sent over: the tunnel's link, and behind it those of the ports, port 1 first
   abbrev pub outputs_of : O → List (Link I O) → List O
   outputs_of tunnel links = tunnel ∷ map (λ link. link.output) links
