@@ -1,3 +1,3 @@
-pub mod Mailbox
+pub mod Letter
 pub mod Outbox
 pub mod Inner

@@ -1,10 +1,10 @@
 //! Where the operator's request to an edge waits for its worker, and the answer for the operator.
 
 ghost use Rattle.std.specs.Prelude.{◌≡◌, true, false};
-ghost use Rattle.ev_mailboxes.specs.Inner.Desk.{put_on, take_from, collect_from};
+ghost use Rattle.ev_mailboxes.specs.Inner.Desk.{ask_on, collect_from};
 ghost use Rattle.ev_mailboxes.specs.declared.desk.Slip.TheVariants.{Free, Answered};
 
-use crate::request::{Answer, Request};
+use crate::request::Answer;
 use std::mem;
 
 /// What lies on a desk.
@@ -12,11 +12,9 @@ use std::mem;
 enum Slip {
     /// Nothing: the next request has room.
     Free,
-    /// A request, which nobody has taken.
-    Asked(Request),
-    /// The request is being done.
-    Taken,
-    /// What came of it, which who asked hasn't taken.
+    /// A request was sent, and is being done.
+    Asked,
+    /// An answer that the caller has not collected yet.
     Answered(Answer),
 }
 
@@ -39,30 +37,16 @@ impl Desk {
         }
     }
 
-    /// Puts a request there, if there is room for it.
-    pub(crate) fn put(&mut self, request: &Request) -> bool
-        ensures puts { (result, self.new.slip) ≡ put_on request.now self.old.slip }
+    /// Takes the desk for a request, if it is free.
+    pub(crate) fn ask(&mut self) -> bool
+        ensures asks { (result, self.new.slip) ≡ ask_on self.old.slip }
         ensures stays { self.new.is_closed ≡ self.old.is_closed }
     {
         if let Slip::Free = self.slip {
-            self.slip = Slip::Asked(*request);
+            self.slip = Slip::Asked;
             return true;
         }
         false
-    }
-
-    /// Takes the request, if there is one.
-    pub(crate) fn take(&mut self) -> Option<Request>
-        ensures takes { (result, self.new.slip) ≡ take_from self.old.slip }
-        ensures stays { self.new.is_closed ≡ self.old.is_closed }
-    {
-        match self.slip {
-            Slip::Asked(request) => {
-                self.slip = Slip::Taken;
-                Some(request)
-            }
-            _ => None,
-        }
     }
 
     /// Puts the answer there.

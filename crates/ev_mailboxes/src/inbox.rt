@@ -1,42 +1,50 @@
 //! Where what comes to an edge's worker of updates comes from, and what comes to the one that tells
 //! the operator.
-ghost use Rattle.std.specs.Prelude.{◌≡◌, ◌∷◌, [], Option, List};
-ghost use Rattle.ev_links.specs.Coming.{behind};
-ghost use Rattle.ev_mailboxes.specs.declared.mailbox.Message.{Message};
+ghost use Rattle.std.specs.Prelude.{◌≡◌, ◌++◌, ◌∷◌, [], Option, List};
+ghost use Rattle.ev_mailboxes.specs.Letter.{came_of};
+ghost use Rattle.ev_mailboxes.specs.declared.message.Message.{Message};
 
 use crate::boards::Boards;
-use crate::mailbox::Message;
+use crate::message::{Letter, Message, coming};
 use crate::peers::Peers;
+use ev_mail::Inbox;
 use ev_notices::{News, NoticesIn};
 use std::sync::Wait;
+use std::thread;
 
 /// Where what other edges send comes from.
 pub trait UpdatesIn {
-    /// What came, in its order, where it tells it: each message, and none for the end.
-    ghost came: { Self → Option (List (Option Message)) };
+    /// What came, in its order: each message, and none for the end.
+    ghost came: { Self → List (Option Message) };
 
     /// Waits for the next message. None at the end.
     fn next(&mut self) -> Option<Message>
-        ensures { came self.new ≡ behind (came self.old) (result ∷ []) };
+        ensures { came self.new ≡ came self.old ++ result ∷ [] };
 }
 
-/// What comes to an edge's mailbox. Clauses see nothing of what is under a lock, so it doesn't tell
-/// what came.
+/// What comes to an edge's mailbox.
 #[derive(Drop)]
 pub struct UpdateBox<'x, R> {
     /// What may wait.
     pub rt: &'x R,
     /// The mailboxes, as the edge sees them.
     pub peers: Peers<'x>,
+    /// The edge's inbox.
+    pub inbox: Inbox<Letter>,
 }
 
 impl<R: Wait> UpdatesIn for UpdateBox<'_, R> {
-    ghost use Rattle.std.specs.Prelude.{None};
-
-    ghost came = { λ b. None };
+    ghost came = { λ b. came_of b.inbox };
 
     fn next(&mut self) -> Option<Message> {
-        self.peers.next(self.rt)
+        for _ in self.rt.forever() {
+            if let Some(letter) = self.inbox.next(self.rt) {
+                self.peers.received(self.rt, &letter);
+                return coming(letter);
+            }
+            thread::yield_now();
+        }
+        unreachable!()
     }
 }
 

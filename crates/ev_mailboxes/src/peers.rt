@@ -1,13 +1,14 @@
 //! The edges that run beside each other, as one of them sees them: the others' mailboxes, and its
 //! own board.
 
-ghost use Rattle.std.specs.Prelude.{◌≡◌, ◌-◌, IfSome, slice_get, option_copied};
+ghost use Rattle.std.specs.Prelude.{◌≡◌, ◌-◌, IfOk, IfSome, slice_get, option_copied, vec_len};
 
 use crate::boards::Boards;
-use crate::mailbox::Message;
+use crate::message::Letter;
 use crate::outboxes::Outboxes;
 use crate::request::Answer;
 use crate::shared_mailbox::SharedMailbox;
+use ev_mail::Inbox;
 use ev_notices::{Alarm, Reception};
 use route_wire::Update;
 use std::alloc::{AllocError, Global};
@@ -22,20 +23,31 @@ pub struct Mailboxes {
 }
 
 impl Mailboxes {
-    /// A mailbox for each of so many edges, which have so many workers together.
+    /// Makes a mailbox for each of so many edges, which have so many workers together, and returns
+    /// the inboxes in the edges' order.
     ///
     /// # Errors
     ///
-    /// Where memory is refused.
-    pub fn new(alloc: Global, edges: usize, workers: u32) -> Result<Self, AllocError> {
+    /// `Err` if memory is refused.
+    pub fn new(
+        alloc: Global,
+        edges: usize,
+        workers: u32,
+    ) -> Result<(Self, Vec<Inbox<Letter>>), AllocError>
+        ensures { IfOk result (λ r. vec_len r.1 ≡ edges) }
+    {
         let mut all = Vec::with_capacity(alloc, edges)?;
+        let mut inboxes = Vec::with_capacity(alloc, edges)?;
         for place in 0..edges {
-            all.push(SharedMailbox::new(alloc, place + 1, workers)?)?;
+            let (mailbox, inbox) = SharedMailbox::new(alloc, place + 1, workers)?;
+            all.push_reserved(mailbox);
+            inboxes.push_reserved(inbox);
         }
-        Ok(Mailboxes {
+        let mailboxes = Mailboxes {
             all,
             outboxes: Outboxes::new(),
-        })
+        };
+        Ok((mailboxes, inboxes))
     }
 
     /// How many edges there are.
@@ -145,15 +157,16 @@ impl Peers<'_> {
         }
     }
 
-    /// Waits for what the others send. None once nothing waits and nothing more comes.
-    pub(crate) fn next<R: Wait>(&self, rt: &R) -> Option<Message> {
-        let own = self.own()?;
-        let (message, has_room_again) = own.next(rt);
-        if has_room_again {
-            own.ring_room();
+    /// Notes that this edge's worker of updates received a letter. If the edge has caught up, it
+    /// calls the others.
+    pub(crate) fn received<R: Wait>(&self, rt: &R, letter: &Letter) {
+        let Some(own) = self.own() else {
+            return;
+        };
+        if own.received(letter) {
+            own.ring_room(rt);
             self.call(rt);
         }
-        message
     }
 
     /// Answers the request that this edge's worker of updates was sent last.
@@ -179,9 +192,9 @@ impl Peers<'_> {
     }
 
     /// Whether an update for this edge was lost, since each place was taken.
-    pub fn has_lost<R: Wait>(&self, rt: &R) -> bool {
+    pub fn has_lost(&self) -> bool {
         match self.own() {
-            Some(mailbox) => mailbox.lost(rt) > 0,
+            Some(mailbox) => mailbox.lost() > 0,
             None => false,
         }
     }

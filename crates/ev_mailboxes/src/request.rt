@@ -102,7 +102,7 @@ impl Answer {
 
     /// What the table holds, if that was asked.
     pub(crate) fn table(self) -> Option<Result<Vec<Update>, AllocError>>
-        ensures { result ≡ table_in self.entry }
+        ensures { result ≡ table_in self }
     {
         match self {
             Answer::Table(updates) => Some(updates),
@@ -122,7 +122,7 @@ impl Answer {
 
     /// What the edge serves, if that was asked.
     pub(crate) fn served(self) -> Option<Result<Served, AllocError>>
-        ensures { result ≡ served_in self.entry }
+        ensures { result ≡ served_in self }
     {
         match self {
             Answer::Served(served) => Some(served),
@@ -132,7 +132,7 @@ impl Answer {
 
     /// What is told of a question, if one was asked.
     pub(crate) fn view(self) -> Option<Result<Vec<u8>, AllocError>>
-        ensures { result ≡ view_in self.entry }
+        ensures { result ≡ view_in self }
     {
         match self {
             Answer::View(text) => Some(text),

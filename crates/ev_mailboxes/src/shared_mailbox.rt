@@ -1,33 +1,34 @@
-//! A mailbox that the workers of all edges share: those of the others put their updates into it,
-//! the operator asks by it, and the worker of its edge takes both.
+//! A mailbox that the workers of all edges share: those of the others send their updates to it, the
+//! operator asks by it, and the worker of its edge receives both.
+ghost use Rattle.std.specs.Prelude.{◌≡◌, IfOk};
 
 use crate::desk::Desk;
-use crate::mailbox::{Mailbox, Message};
+use crate::message::{Letter, Message};
 use crate::request::{Answer, Request};
+use crate::waiting::{ROOM, Waiting};
+use ev_mail::{Inbox, Post, mailbox};
 use route_wire::Update;
 use std::alloc::{AllocError, Global};
-use std::sync::atomic::{AtomicBool, Ordering};
+use std::sync::atomic::{AtomicBool, AtomicU64, Ordering};
 use std::sync::{Condvar, Mutex, Wait};
+use std::thread;
 
-/// What the lock of a mailbox holds.
-#[derive(Drop)]
-struct Held {
-    mailbox: Mailbox,
-    desk: Desk,
-}
-
-/// A mailbox under a lock of its own. What its calls do is what those of `Mailbox` do that they are
-/// named for; no clause can say so, since none names what a lock holds at that moment. Nobody who
-/// holds the lock waits for another one.
+/// A mailbox as those see it who send to it. Its inbox belongs to the worker of its edge. Nobody who
+/// holds a lock waits for another one.
 #[derive(Drop)]
 pub(crate) struct SharedMailbox {
     /// The number of its edge, from 1.
     pub(crate) number: usize,
-    held: Mutex<Held>,
-    /// Whether its edge is behind, so that it can be asked without the lock.
-    is_behind: AtomicBool,
-    /// Rung behind the lock, when there is something to take or nothing more comes.
-    bell: Condvar,
+    post: Mutex<Post<Letter>>,
+    /// How many updates wait, so that it can be asked without the lock.
+    waiting: Waiting,
+    /// How many updates found no place.
+    lost: AtomicU64,
+    /// Whether a call waits: then no other one is sent.
+    is_called: AtomicBool,
+    /// Whether the end was sent, or nobody receives any more.
+    has_ended: AtomicBool,
+    desk: Mutex<Desk>,
     /// Rung behind the lock, when who asks has something to take, has room, or gets no answer.
     desk_bell: Condvar,
     /// Rung behind the lock, when its edge isn't behind any more.
@@ -35,164 +36,186 @@ pub(crate) struct SharedMailbox {
 }
 
 impl SharedMailbox {
-    /// A mailbox in which nothing waits, of the edge with this number, to which so many workers
-    /// send.
+    /// Makes an empty mailbox for the edge with this number, to which `workers` send, and its inbox.
+    /// There is a place for each update that makes the edge be behind, for one of each worker that
+    /// has looked before, and for a call, a request and the end.
     ///
     /// # Errors
     ///
-    /// Where memory is refused.
-    pub(crate) fn new(alloc: Global, number: usize, workers: u32) -> Result<Self, AllocError> {
-        Ok(SharedMailbox {
+    /// `Err` if memory is refused.
+    pub(crate) fn new(
+        alloc: Global,
+        number: usize,
+        workers: u32,
+    ) -> Result<(Self, Inbox<Letter>), AllocError>
+        ensures { IfOk result (λ r. r.0.number ≡ number) }
+    {
+        let mut inbox = mailbox(alloc, ROOM + workers as usize + 3)?;
+        let post = inbox.post()?;
+        let mailbox = SharedMailbox {
             number,
-            held: Mutex::new(Held {
-                mailbox: Mailbox::new(alloc, workers)?,
-                desk: Desk::new(),
-            }),
-            is_behind: AtomicBool::new(false),
-            bell: Condvar::new(),
+            post: Mutex::new(post),
+            waiting: Waiting::new(),
+            lost: AtomicU64::new(0),
+            is_called: AtomicBool::new(false),
+            has_ended: AtomicBool::new(false),
+            desk: Mutex::new(Desk::new()),
             desk_bell: Condvar::new(),
             room_bell: Condvar::new(),
-        })
+        };
+        Ok((mailbox, inbox))
     }
 
-    /// Whether its edge is behind.
+    /// Returns `true` if its edge is behind.
     pub(crate) fn is_behind(&self) -> bool {
-        self.is_behind.load(Ordering::SeqCst)
+        self.waiting.is_behind()
     }
 
-    /// Puts an update behind the others.
+    /// Returns `true` if the end was sent, or nobody receives any more.
+    fn has_ended(&self) -> bool {
+        self.has_ended.load(Ordering::SeqCst)
+    }
+
+    /// Sends a letter, and returns it if there is no place for it or nobody receives any more.
+    fn send<R: Wait>(&self, rt: &R, letter: Letter) -> Result<(), Letter> {
+        self.post.lock(rt).send(rt, letter)
+    }
+
+    /// Sends an update, unless the end was sent before.
     pub(crate) fn put<R: Wait>(&self, rt: &R, update: Update) {
-        {
-            let mut held = self.held.lock(rt);
-            held.mailbox.put(update);
-            self.is_behind
-                .store(held.mailbox.is_behind(), Ordering::SeqCst);
+        if self.has_ended() {
+            return;
         }
-        self.bell.notify_one();
+        self.waiting.add();
+        let letter = Letter::Of(Message::Record(update));
+        if self.send(rt, letter).is_err() {
+            let _ = self.waiting.remove();
+            if !self.has_ended() {
+                self.lost.fetch_add(1, Ordering::SeqCst);
+            }
+        }
     }
 
-    /// Puts an update behind the others once its edge isn't behind, and waits until then.
-    pub(crate) fn put_waiting<R: Wait>(&self, rt: &R, update: Update) {
-        let mut held = self.held.lock(rt);
+    /// Waits until its edge isn't behind.
+    fn wait_for_room<R: Wait>(&self, rt: &R) {
+        let mut post = self.post.lock(rt);
         for _ in rt.forever() {
-            if !held.mailbox.is_behind() {
-                held.mailbox.put(update);
-                self.is_behind
-                    .store(held.mailbox.is_behind(), Ordering::SeqCst);
-                self.bell.notify_one();
+            if !self.is_behind() {
                 return;
             }
-            held = self.room_bell.wait(rt, held);
+            post = self.room_bell.wait(rt, post);
         }
+    }
+
+    /// Sends an update once its edge isn't behind, and waits until then.
+    pub(crate) fn put_waiting<R: Wait>(&self, rt: &R, update: Update) {
+        self.wait_for_room(rt);
+        self.put(rt, update);
     }
 
     /// Wakes who waits until its edge isn't behind.
-    pub(crate) fn ring_room(&self) {
+    pub(crate) fn ring_room<R: Wait>(&self, rt: &R) {
+        {
+            let _post = self.post.lock(rt);
+        }
         self.room_bell.notify_all();
     }
 
     /// Tells its edge that another one has room again.
     pub(crate) fn call<R: Wait>(&self, rt: &R) {
-        {
-            let mut held = self.held.lock(rt);
-            held.mailbox.call();
+        if self.is_called.swap(true, Ordering::SeqCst) {
+            return;
         }
-        self.bell.notify_one();
+        if self.send(rt, Letter::Of(Message::Room)).is_err() {
+            self.is_called.store(false, Ordering::SeqCst);
+        }
     }
 
-    /// Tells that nothing more comes.
+    /// Sends the end, for which there is a place. Updates that are sent later aren't entered.
     pub(crate) fn end<R: Wait>(&self, rt: &R) {
-        {
-            let mut held = self.held.lock(rt);
-            held.mailbox.end();
+        if self.has_ended.swap(true, Ordering::SeqCst) {
+            return;
         }
-        self.bell.notify_one();
+        let _ = self.send(rt, Letter::Stop);
     }
 
-    /// Tells that nobody takes any more what waits here, nor answers.
+    /// Tells that nobody receives any more, nor answers.
     pub(crate) fn close<R: Wait>(&self, rt: &R) {
-        {
-            let mut held = self.held.lock(rt);
-            held.mailbox.close();
-            held.desk.close();
-            self.is_behind.store(false, Ordering::SeqCst);
-        }
+        self.has_ended.store(true, Ordering::SeqCst);
+        self.waiting.close();
+        self.desk.lock(rt).close();
         self.desk_bell.notify_all();
-        self.room_bell.notify_all();
+        self.ring_room(rt);
     }
 
-    /// Waits for what goes first, a request before all updates, and answers whether its edge was
-    /// behind and isn't any more, too. None once nothing waits and nothing more comes.
-    pub(crate) fn next<R: Wait>(&self, rt: &R) -> (Option<Message>, bool) {
-        let mut held = self.held.lock(rt);
-        for _ in rt.forever() {
-            if let Some(request) = held.desk.take() {
-                return (Some(Message::Ask(request)), false);
+    /// Notes that a letter was received, and returns `true` if its edge was behind and isn't any
+    /// more.
+    pub(crate) fn received(&self, letter: &Letter) -> bool {
+        match letter {
+            Letter::Of(Message::Record(_)) => self.waiting.remove(),
+            Letter::Of(Message::Room) => {
+                self.is_called.store(false, Ordering::SeqCst);
+                false
             }
-            let was_behind = held.mailbox.is_behind();
-            let first = held.mailbox.take();
-            if first.is_some() || held.mailbox.has_ended() {
-                let is_behind = held.mailbox.is_behind();
-                self.is_behind.store(is_behind, Ordering::SeqCst);
-                return (first, was_behind && !is_behind);
-            }
-            held = self.bell.wait(rt, held);
+            Letter::Of(Message::Ask(_)) | Letter::Stop => false,
         }
-        unreachable!()
     }
 
-    /// Waits until no other request lies on the desk, and puts this one there: whether it is there.
-    /// It isn't where nobody answers any more.
-    fn hand_in<R: Wait>(&self, rt: &R, request: &Request) -> bool {
-        let mut held = self.held.lock(rt);
+    /// Waits until no other request is being done, and takes the desk. Returns `false` if nobody
+    /// answers any more.
+    fn take_desk<R: Wait>(&self, rt: &R) -> bool {
+        let mut desk = self.desk.lock(rt);
         for _ in rt.forever() {
-            if held.desk.is_closed() {
+            if desk.is_closed() {
                 return false;
             }
-            if held.desk.put(request) {
+            if desk.ask() {
                 return true;
             }
-            held = self.desk_bell.wait(rt, held);
+            desk = self.desk_bell.wait(rt, desk);
         }
         unreachable!()
     }
 
-    /// Waits for the answer to the request on the desk. None where nobody answers any more.
+    /// Waits for the answer to the request that was sent. None if nobody answers any more.
     fn collect<R: Wait>(&self, rt: &R) -> Option<Answer> {
-        let mut held = self.held.lock(rt);
+        let mut desk = self.desk.lock(rt);
         for _ in rt.forever() {
-            let answer = held.desk.collect();
-            if answer.is_some() || held.desk.is_closed() {
+            let answer = desk.collect();
+            if answer.is_some() || desk.is_closed() {
                 return answer;
             }
-            held = self.desk_bell.wait(rt, held);
+            desk = self.desk_bell.wait(rt, desk);
         }
         unreachable!()
     }
 
-    /// Asks the edge, and waits for its answer. None where it has ended, or has no thread for its
+    /// Asks the edge, and waits for its answer. None if it has ended, or has no thread for its
     /// updates.
     pub(crate) fn ask<R: Wait>(&self, rt: &R, request: &Request) -> Option<Answer> {
-        if !self.hand_in(rt, request) {
+        if !self.take_desk(rt) {
             return None;
         }
-        self.bell.notify_one();
+        let letter = Letter::Of(Message::Ask(*request));
+        for _ in rt.forever() {
+            if self.has_ended() || self.send(rt, letter).is_ok() {
+                break;
+            }
+            thread::yield_now();
+        }
         let answer = self.collect(rt);
         self.desk_bell.notify_all();
         answer
     }
 
-    /// Puts the answer to the request that was taken last where who asked finds it.
+    /// Puts the answer to the request that was received last where who asked finds it.
     pub(crate) fn answer<R: Wait>(&self, rt: &R, answer: Answer) {
-        {
-            let mut held = self.held.lock(rt);
-            held.desk.answer(answer);
-        }
+        self.desk.lock(rt).answer(answer);
         self.desk_bell.notify_all();
     }
 
-    /// How many updates were lost.
-    pub(crate) fn lost<R: Wait>(&self, rt: &R) -> u64 {
-        self.held.lock(rt).mailbox.lost()
+    /// Returns how many updates were lost.
+    pub(crate) fn lost(&self) -> u64 {
+        self.lost.load(Ordering::SeqCst)
     }
 }

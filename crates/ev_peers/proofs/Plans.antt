@@ -24,16 +24,18 @@ module _ {I O : Type 0} where
       ap (port_tasks ports) (reverse-append before (link ∷ []))
       ∙ ap (λ n. Port (n + 1) (vni_at ports n) link.input ∷ port_tasks ports (reverse before)) (length-reverse before)
 
-  pub one_task : (ports : List PortConfig) (before all : List (Link I O)) (link : Link I O) (tasks tasks' start : List (Task I))
+  pub one_task : (ports : List PortConfig) (before all : List (Link I O)) (link : Link I O)
+      (tasks tasks' start : List (Task I))
       → all ≡ before ++ link ∷ []
       → tasks' ≡ tasks ++ Port (length before + 1) (vni_at ports (length before)) link.input ∷ []
       → tasks ++ port_tasks ports (reverse all) ≡ start
       → tasks' ++ port_tasks ports (reverse before) ≡ start
   one_task ports before all link tasks tasks' start popped pushed so_far =
       let task = Port (length before + 1) (vni_at ports (length before)) link.input in
+      let last = ap (λ l. port_tasks ports (reverse l)) popped ∙ last_task ports before link in
       ap (λ l. l ++ port_tasks ports (reverse before)) pushed
       ∙ (append_assoc tasks (task ∷ []) (port_tasks ports (reverse before))
-      ∙ (ap (λ l. tasks ++ l) (sym (ap (λ l. port_tasks ports (reverse l)) popped ∙ last_task ports before link)) ∙ so_far))
+      ∙ (ap (λ l. tasks ++ l) (sym last) ∙ so_far))
 
   pub one_output : (before all : List (Link I O)) (link : Link I O) (outputs outputs' start : List O)
       → all ≡ before ++ link ∷ []
@@ -44,10 +46,11 @@ module _ {I O : Type 0} where
       ap (λ l. l ++ outputs_back before) pushed
       ∙ (append_assoc outputs (link.output ∷ []) (outputs_back before)
       ∙ (ap (λ l. outputs ++ l)
-          (sym (ap outputs_back popped ∙ ap (map (λ l. l.output)) (reverse-append before (link ∷ [])))) ∙ so_far))
+      (sym (ap outputs_back popped ∙ ap (map (λ l. l.output)) (reverse-append before (link ∷ [])))) ∙ so_far))
 
   -- what is sent over at ports, port 1 first again
-  pub port_1_first : (tunnel : O) (links : List (Link I O)) → tunnel ∷ reverse (outputs_back links) ≡ outputs_of tunnel links
+  pub port_1_first : (tunnel : O) (links : List (Link I O))
+      → tunnel ∷ reverse (outputs_back links) ≡ outputs_of tunnel links
   port_1_first tunnel links =
       ap (λ l. tunnel ∷ l)
-          (ap reverse (map_reverse (λ l. l.output) links) ∙ reverse-reverse (map (λ l. l.output) links))
+      (ap reverse (map_reverse (λ l. l.output) links) ∙ reverse-reverse (map (λ l. l.output) links))

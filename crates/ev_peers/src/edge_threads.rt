@@ -16,7 +16,8 @@ use ether_wire::Mac;
 use ev_book::{Book, Pass};
 use ev_edge::EdgeConfig;
 use ev_links::{LinkIn, LinkOut};
-use ev_mailboxes::Peers;
+use ev_mail::Inbox;
+use ev_mailboxes::{Letter, Peers};
 use std::alloc::{AllocError, Global};
 use std::marker::Model;
 use std::sync::atomic::Ordering;
@@ -41,6 +42,7 @@ struct ReadyThreads<'x, L: Ledger, I: Drop, O: Drop, G, R> {
     fresh: Vec<Pass<L>>,
     /// The pass of the worker of other edges' records.
     peer: Pass<L>,
+    inbox: Inbox<Letter>,
     workplace: &'x Workplace<'x, L, G, R>,
 }
 
@@ -82,6 +84,7 @@ fn run_within<
         threads,
         fresh,
         peer,
+        inbox,
         workplace,
     } = ready_threads;
     let EdgeThreads {
@@ -92,7 +95,7 @@ fn run_within<
     } = threads;
     let (rt, outlet) = (workplace.shared_edge.rt, &workplace.outlet);
     let (sending, no_sent) = start_sending(scope, rt, workplace.shared, outputs, sending);
-    let peer = start_peer::<L, I, G, R>(scope, workplace, peer);
+    let peer = start_peer::<L, I, G, R>(scope, workplace, peer, inbox);
     let (entering, begun) = start_entering(scope, workplace, tasks, fresh, entering);
     let (mut passes, entered) = join_entering(rt, entering);
     outlet.peers.end(rt);
@@ -122,6 +125,8 @@ pub struct Host<'x, G, R> {
     pub number: usize,
     /// The other edges, and the edge's own board.
     pub peers: Peers<'x>,
+    /// What the other edges and the operator send to.
+    pub inbox: Inbox<Letter>,
 }
 
 /// What the workers of an edge enter into its book, give to, and share.
@@ -225,11 +230,12 @@ pub fn edge_worker<
         threads,
         fresh,
         peer,
+        inbox: host.inbox,
         workplace: &workplace,
     };
     let (passes, faults) = run_workers(rt, ready_threads);
     let (edge, totals) = book.into_inner().close(passes);
-    let out_of_memory = shared.out_of_memory.load(Ordering::SeqCst) || peers.has_lost(rt);
+    let out_of_memory = shared.out_of_memory.load(Ordering::SeqCst) || peers.has_lost();
     Ok(Outcome {
         edge,
         totals,

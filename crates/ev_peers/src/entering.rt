@@ -11,7 +11,8 @@ use crate::worker::Worker;
 use crate::workers::{clock_worker, peer_worker, port_worker, tunnel_worker};
 use ev_book::Pass;
 use ev_links::LinkIn;
-use ev_mailboxes::UpdateBox;
+use ev_mail::Inbox;
+use ev_mailboxes::{Letter, UpdateBox};
 use std::sync::Wait;
 use std::sync::atomic::{AtomicBool, Ordering};
 use std::sync::ledger::Ledger;
@@ -41,10 +42,11 @@ fn enter_task<L: Ledger, I: LinkIn + Drop, G: Gate, R: Wait>(
     let outlet = workplace.outlet;
     let mut worker = Worker::new(&workplace.shared_edge, pass, outlet);
     let ended = match task {
-        Task::Peer => {
+        Task::Peer(inbox) => {
             let mut updates = UpdateBox {
                 rt: outlet.rt,
                 peers: outlet.peers,
+                inbox,
             };
             peer_worker(&mut worker, &mut updates)
         }
@@ -157,8 +159,9 @@ pub(crate) fn start_peer<
     scope: &Scope<'s, &'x ()>,
     workplace: &'x Workplace<'x, L, G, R>,
     pass: Pass<L>,
+    inbox: Inbox<Letter>,
 ) -> Result<JoinHandle<Entered<L>>, Entered<L>> {
-    let task: Task<I> = Task::Peer;
+    let task: Task<I> = Task::Peer(inbox);
     let started = start_task(scope, workplace, pass, task, &workplace.shared.no_peer);
     if started.is_err() {
         workplace.outlet.peers.leave(workplace.outlet.rt);

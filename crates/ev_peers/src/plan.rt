@@ -12,6 +12,8 @@ use crate::shared_line::SharedLine;
 use ether_wire::Vni;
 use ev_book::Pass;
 use ev_edge::EdgeConfig;
+use ev_mail::Inbox;
+use ev_mailboxes::Letter;
 use std::alloc::{AllocError, Global};
 use std::sync::atomic::AtomicBool;
 use std::sync::ledger::Ledger;
@@ -29,8 +31,8 @@ pub(crate) enum Task<I: Drop> {
     Tunnel(I),
     /// The ticks of this clock.
     Clock(I),
-    /// What the other edges send.
-    Peer,
+    /// What comes to this inbox.
+    Peer(Inbox<Letter>),
 }
 
 /// What the threads of an edge share.
@@ -155,6 +157,7 @@ fn with_tunnel<O: Drop>(outputs: Vec<O>, tunnel: O) -> Vec<O>
 }
 
 /// What the threads of an edge with these links and ports need.
+#[tactic(auto, using(ev_peers::proofs::Plans::port_1_first))]
 pub(crate) fn planned<L: Ledger, I: Drop, O: Drop>(
     alloc: Global,
     links: EdgeLinks<I, O>,

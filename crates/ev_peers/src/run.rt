@@ -10,7 +10,8 @@ use crate::gate::Gate;
 use crate::outcome::Outcome;
 use ev_edge::EdgeConfig;
 use ev_links::{LinkIn, LinkOut};
-use ev_mailboxes::{Boards, Mailboxes, Running};
+use ev_mail::Inbox;
+use ev_mailboxes::{Boards, Letter, Mailboxes, Running};
 use std::alloc::{AllocError, Global};
 use std::marker::{Brand, Model};
 use std::sync::Wait;
@@ -87,7 +88,7 @@ struct Common<'x, G, R> {
 
 impl<'x, G, R> Common<'x, G, R> {
     /// What the edge with this number runs over.
-    fn host(&self, number: usize) -> Host<'x, G, R>
+    fn host(&self, number: usize, inbox: Inbox<Letter>) -> Host<'x, G, R>
         ensures number { result.number ≡ number }
         ensures rt { result.rt.now ≡ self.now.rt.now }
         ensures gate { result.gate.now ≡ self.now.gate.now }
@@ -98,6 +99,7 @@ impl<'x, G, R> Common<'x, G, R> {
             gate: self.gate,
             number,
             peers: self.mailboxes.seen_by(number, self.boards),
+            inbox,
         }
     }
 }
@@ -129,15 +131,18 @@ fn start_edges<
     scope: &Scope<'s, &'x ()>,
     common: &Common<'x, G, R>,
     setups: Vec<Setup<I, O>>,
+    inboxes: Vec<Inbox<Letter>>,
     running: Vec<Option<JoinHandle<Ran>>>,
 ) -> Vec<Option<JoinHandle<Ran>>>
+    requires inboxes { vec_len inboxes ≡ vec_len setups }
     requires room { (vec_len running ≡ 0) × (vec_len setups ≤ vec_capacity running) }
     ensures { vec_len result ≡ vec_len setups }
 {
     let mut setups = setups;
+    let mut inboxes = inboxes;
     let mut running = running;
-    while let Some(setup) = setups.pop() {
-        let host = common.host(setups.len() + 1);
+    while let (Some(setup), Some(inbox)) = (setups.pop(), inboxes.pop()) {
+        let host = common.host(setups.len() + 1, inbox);
         let peers = host.peers;
         let handle = match scope.spawn(move || run_one(host, setup)) {
             Ok(handle) => Some(handle),
@@ -175,6 +180,8 @@ fn join_edges<R: Threads>(
 #[derive(Drop)]
 struct Ready<I: Drop, O: Drop> {
     setups: Vec<Setup<I, O>>,
+    /// What the others send to, of each edge.
+    inboxes: Vec<Inbox<Letter>>,
     running: Vec<Option<JoinHandle<Ran>>>,
     ended: Vec<Ran>,
 }
@@ -187,7 +194,7 @@ impl<I: Drop, O: Drop> Model for Ready<I, O> {
 
     ghost view = { λ s. vec_len s.setups };
 
-    ghost invariant = { λ s. HasEdges (vec_len s.setups) (vec_len s.running)
+    ghost invariant = { λ s. HasEdges (vec_len s.setups) (vec_len s.inboxes) (vec_len s.running)
         (vec_capacity s.running) (vec_len s.ended) (vec_capacity s.ended) };
 }
 
@@ -217,11 +224,13 @@ impl<I: Drop, O: Drop> Start<I, O> {
     pub fn new(alloc: Global, setups: Vec<Setup<I, O>>) -> Result<Self, AllocError>
         ensures { IfOk result (λ start. start ≡ vec_len setups) }
     {
-        let mailboxes = Mailboxes::new(alloc, setups.len(), workers_of(setups.as_slice()))?;
+        let workers = workers_of(setups.as_slice());
+        let (mailboxes, inboxes) = Mailboxes::new(alloc, setups.len(), workers)?;
         let running = Vec::with_capacity(alloc, setups.len())?;
         let ended = Vec::with_capacity(alloc, setups.len())?;
         let ready = Ready {
             setups,
+            inboxes,
             running,
             ended,
         };
@@ -255,10 +264,11 @@ fn run_within<
 {
     let Ready {
         setups,
+        inboxes,
         running,
         ended,
     } = ready;
-    let running = start_edges(scope, common, setups, running);
+    let running = start_edges(scope, common, setups, inboxes, running);
     let told = until(Running::new(common.mailboxes, common.boards));
     (join_edges(common.rt, running, ended), told)
 }

@@ -1,5 +1,5 @@
 //! The workers of an edge: each takes what comes over one link or channel, one thing at a time.
-ghost use Rattle.std.specs.Prelude.{◌≡◌, ◌+◌, ◌^◌, ◌<◌, ◌≤◌, true, length, take};
+ghost use Rattle.std.specs.Prelude.{◌≡◌, ◌+◌, ◌^◌, ◌<◌, ◌≤◌, true, length, take, Some};
 ghost use Rattle.ev_links.specs.Links.{arrival, packet};
 ghost use Rattle.ev_peers.specs.declared.workers.Source.TheVariants.{Port, Tunnel, Clock};
 ghost use Rattle.ev_peers.specs.Working.{ended_of, IsEventOf, fitting, unwrapped, carried, standing, hearing, input_of, Handles, Turns, Changes, Becomes, Hears, Takes, Ends, PortEnds, PeerEnds};
@@ -340,9 +340,9 @@ pub fn peer_worker<L: Ledger, I: UpdatesIn, O: Outlet + Drop, G: Gate, R: Wait>(
     updates: &mut I,
 ) -> Ended
     ensures { PeerEnds result worker.old.shared_edge.now.bridge
-        (I.came updates.old)
+        (Some (I.came updates.old))
         (standing worker.old.pass (O.parcels worker.old.outlet) (O.records worker.old.outlet))
-        (I.came updates.new)
+        (Some (I.came updates.new))
         (standing worker.new.pass (O.parcels worker.new.outlet) (O.records worker.new.outlet)) }
 {
     let shared_edge = worker.shared_edge;

@@ -21,8 +21,9 @@ pub record IsReady (tasks outputs entering entering_room sending sending_room pa
   pub line_each : outputs ≤ lines
   pub fresh_each : fresh ≡ tasks
 
--- There is room for each edge's thread and for what comes of it.
-pub record HasEdges (setups running running_room ended ended_room : ℕ) : Type 0 where
+-- There is an inbox for each edge, and room for its thread and for what comes of it.
+pub record HasEdges (setups inboxes running running_room ended ended_room : ℕ) : Type 0 where
+  pub inbox_each : inboxes ≡ setups
   pub no_running : running ≡ 0
   pub no_ended : ended ≡ 0
   pub for_running : setups ≤ running_room

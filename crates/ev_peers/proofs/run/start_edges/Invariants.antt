@@ -3,6 +3,7 @@ use Rattle.ev_peers.proofs.run.start_edges.Given as goal
 
 abbrev pub invariant-loop-setup : goal.invariant-loop-setup
 invariant-loop-setup g l = record {
+  inboxes : vec_len l.inboxes ≡ vec_len l.setups;
   all : vec_len l.running + vec_len l.setups ≡ vec_len l.fn.setups;
   room : vec_len l.fn.setups ≤ vec_capacity l.running;
 }

@@ -1,0 +1,10 @@
+use Rattle.std.proofs.Common.{◌≡◌, ◌≤◌, vec_len, vec_capacity}
+use Rattle.ev_mailboxes.proofs.peers.Mailboxes.new.Given as goal
+
+abbrev pub invariant-loop-place : goal.invariant-loop-place
+invariant-loop-place l = record {
+  all : vec_len l.all ≡ l.place;
+  inboxes : vec_len l.inboxes ≡ l.place;
+  all_room : l.edges ≤ vec_capacity l.all;
+  inboxes_room : l.edges ≤ vec_capacity l.inboxes;
+}
