@@ -1,5 +1,5 @@
 -- Bridges that come from their starts by events, each with the rules that fire at it.
-use Rattle.std.proofs.Common.{◌≡◌, ◌≤◌, Bool, true, false, ◌&&◌, List, [], ◌∷◌, length, inl, refl, arith}
+use Rattle.std.proofs.Common.{◌≡◌, List, [], ◌∷◌, length, refl}
 use Rattle.std.specs.Prelude.{ℕ, map}
 use Rattle.rstp_state.specs.declared.start.PortSettings.{PortSettings}
 use Rattle.rstp_state.specs.declared.start.Settings.{Settings}
@@ -14,16 +14,9 @@ use Rattle.rstp_run.specs.declared.rule.TopologyRule.TheVariants as topology_rul
 use Rattle.rstp_run.specs.declared.rule.TransmitRule.TheVariants as transmit_rule
 use Rattle.rstp_run.specs.Events.{direct, start, RunsHappen}
 use Rattle.rstp_run.specs.RootPort.{CanBe, Comes}
-use Rattle.rstp_run.specs.Rules.{Tree, guard, after}
-use Rattle.rstp_run.specs.Runs.{Firing, Run, flushed}
-
-left : (a b : Bool) → a && b ≡ true → a ≡ true
-left true b h = refl
-left false b h = cc
-
-right : (a b : Bool) → a && b ≡ true → b ≡ true
-right true b h = h
-right false b h = cc
+use Rattle.rstp_run.specs.Rules.{Tree, after}
+use Rattle.rstp_run.specs.Runs.{Firing, flushed}
+use Rattle.rstp_run.specs.Sweep.{swept}
 
 -- ---- firings
 
@@ -32,15 +25,9 @@ abbrev pub runs : List Firing → Tree → Tree
 runs [] s = s
 runs (f ∷ earlier) s = after f.rule (runs earlier s) f.place
 
--- each may fire where those before it have led
-abbrev pub all_fire : List Firing → Tree → Bool
-all_fire [] s = true
-all_fire (f ∷ earlier) s = all_fire earlier s && guard f.rule (runs earlier s) f.place
-
-pub run_is : (firings : List Firing) (s : Tree) → all_fire firings s ≡ true → Run firings s (runs firings s)
-run_is [] s h = refl
-run_is (f ∷ earlier) s h =
-    (runs earlier s, run_is earlier s (left (all_fire earlier s) _ h), (right (all_fire earlier s) _ h, refl))
+-- they are what the sweep fires, up to so many
+abbrev pub AreSwept : List Firing → Tree → Type 0
+AreSwept firings s = swept (length firings) s ≡ record { tree = runs firings s; firings = firings }
 
 -- ---- histories
 
@@ -54,32 +41,30 @@ abbrev pub come_to : List Happening → Tree → Tree
 come_to [] s = s
 come_to (h ∷ earlier) s = runs h.firings (direct h.event (come_to earlier s))
 
-abbrev pub all_happen : List Happening → Tree → Bool
-all_happen [] s = true
-all_happen (h ∷ earlier) s = all_happen earlier s && all_fire h.firings (direct h.event (come_to earlier s))
+abbrev pub AllHappen : List Happening → Tree → Type 0
+AllHappen [] s = Unit {0}
+AllHappen (h ∷ earlier) s = AllHappen earlier s × AreSwept h.firings (direct h.event (come_to earlier s))
 
-comes : RunsHappen → (history : List Happening) (s : Tree) → all_happen history s ≡ true
+comes : RunsHappen → (history : List Happening) (s : Tree) → AllHappen history s
     → Comes (map (λ h. h.event) history) s (come_to history s)
-comes law [] s e = refl
-comes law (h ∷ earlier) s e =
+comes law [] s all = refl
+comes law (h ∷ earlier) s all =
     let mid = come_to earlier s in
-    let within : length h.firings ≤ length h.firings = omega arith in
-    let run = run_is h.firings (direct h.event mid) (right (all_happen earlier s) _ e) in
-    let (settled, happens) = law h.event (length h.firings) mid (runs h.firings (direct h.event mid)) h.firings run
-    within (inl refl) in (
+    let (settled, happens) =
+    law h.event (length h.firings) mid (runs h.firings (direct h.event mid)) h.firings all.1 in (
       mid,
       length h.firings,
       settled,
       flushed h.firings 0,
-      comes law earlier s (left (all_happen earlier s) _ e),
+      comes law earlier s all.0,
       happens,
     )
 
 -- so it is one that these settings may come to
 pub can_be : RunsHappen → (settings : Settings) (ports : List PortSettings) (history : List Happening)
-    → all_happen history (start settings ports) ≡ true
+    → AllHappen history (start settings ports)
     → CanBe settings ports (come_to history (start settings ports))
-can_be law settings ports history e = (map (λ h. h.event) history, comes law history (start settings ports) e)
+can_be law settings ports history all = (map (λ h. h.event) history, comes law history (start settings ports) all)
 
 -- ---- what fires
 
@@ -99,9 +84,9 @@ coming_up p =
 -- as a bridge hears of the root at its first port
 abbrev pub hearing : List Firing
 hearing =
-    fire (rules.Transmit transmit_rule.SendRst) 0 ∷ fire (rules.Topology topology_rule.Detected) 0
-    ∷ fire (rules.Role role_rule.RootAgreed) 0 ∷ fire (rules.Role role_rule.Root) 0
-    ∷ fire rules.Select 0 ∷ fire (rules.Information information_rule.Superior) 0
+    fire (rules.Transmit transmit_rule.SendRst) 0 ∷ fire (rules.Role role_rule.RootAgreed) 0
+    ∷ fire (rules.Role role_rule.Root) 0 ∷ fire rules.Select 0
+    ∷ fire (rules.Topology topology_rule.Detected) 0 ∷ fire (rules.Information information_rule.Superior) 0
     ∷ fire (rules.Receive receive_rule.Receive) 0 ∷ []
 
 -- as it hears at its second port of a bridge that is as near to the root, and takes that one's port for the segment's
@@ -109,7 +94,8 @@ abbrev pub blocking : List Firing
 blocking =
     fire (rules.Transmit transmit_rule.SendRst) 1 ∷ fire (rules.Topology topology_rule.Flush) 1
     ∷ fire (rules.Topology topology_rule.TcInactive) 1 ∷ fire (rules.Role role_rule.Alternate) 1
-    ∷ fire (rules.State state_rule.ToDiscarding) 1 ∷ fire (rules.Role role_rule.AlternateAgreed) 1
-    ∷ fire (rules.Role role_rule.Block) 1
-    ∷ fire rules.Select 0 ∷ fire (rules.Information information_rule.Superior) 1
-    ∷ fire (rules.Receive receive_rule.Receive) 1 ∷ []
+    ∷ fire (rules.Topology topology_rule.TcBack) 1 ∷ fire (rules.State state_rule.ToDiscarding) 1
+    ∷ fire (rules.Role role_rule.AlternateAgreed) 1 ∷ fire (rules.Role role_rule.Block) 1
+    ∷ fire (rules.Topology topology_rule.Flush) 0 ∷ fire (rules.Topology topology_rule.Propagating) 0
+    ∷ fire rules.Select 0 ∷ fire (rules.Topology topology_rule.Detected) 1
+    ∷ fire (rules.Information information_rule.Superior) 1 ∷ fire (rules.Receive receive_rule.Receive) 1 ∷ []

@@ -1,7 +1,7 @@
 -- Lemmas on single firings and on runs.
 use Rattle.std.proofs.Common.{◌≡◌, ℕ, ◌+◌, ◌≤◌, ◌<◌, true, Some, None, List, [], ◌∷◌, ◌++◌, length, map, take, get_or}
 use Rattle.std.proofs.Common.{slice_get, slice_set, refl, subst, sym, ◌∙◌, ap, arith}
-use Rattle.std.proofs.lemmas.List.{length-set, length-map, length-append}
+use Rattle.std.proofs.lemmas.List.{append_assoc, length-set, length-map, length-append}
 use Rattle.std.specs.Option.{option_map_or}
 use Rattle.std.proofs.lemmas.List.Folds.{list_any_more}
 use Rattle.rstp_state.specs.declared.port.PortState.{PortState}
@@ -18,7 +18,9 @@ use Rattle.rstp_run.specs.declared.count.Count.{Count}
 use Rattle.rstp_machines.specs.TopologyChange.{telling_others, with_propagation}
 use Rattle.rstp_run.specs.Rules.{Tree, guard, after, ports_after}
 use Rattle.rstp_run.specs.Runs.{AreOffAt, Run, Firing, flushed, flush_after}
-use Rattle.rstp_run.specs.Inner.Runs.{Goes, Sweeps, IsIdle, IsOff, counted}
+use Rattle.rstp_run.specs.Sweep.{Going, Walk, tries}
+use Rattle.rstp_run.specs.Inner.Runs.{Goes, Sweeps, IsIdle, IsOff, and_then, counted, done}
+use Rattle.rstp_run.proofs.Ordered.{goes-as, goes-first, goes-none, tally, tries-on}
 
 pub length-change_at : (p : ℕ) (change : PortState → PortState) (ports : List PortState)
     → length (change_at p change ports) ≡ length ports
@@ -84,7 +86,7 @@ length-ports_after (Transmit rule) s p = length-change_at p _ s.ports
 
 -- one firing goes on from a state
 pub goes-one : (s t : Tree) (a : Count) (rule : Rule) (p : ℕ) → guard rule s p ≡ true → t ≡ after rule s p
-    → a.fired < a.limit → Goes s a t (counted a rule p)
+    → a.fired < a.limit → Goes (tries rule p) done s a t (counted a rule p)
 goes-one s t a rule p holds is below = record {
   firings = record { rule = rule; place = p } ∷ [];
   run = (s, refl, (holds, is));
@@ -92,6 +94,9 @@ goes-one s t a rule p holds is below = record {
   flush = refl;
   limit = refl;
   within = omega arith;
+  order = λ before many.
+      tries-on rule p a.limit (record { tree = s; firings = before }) (omega (arith, many, below)) holds
+      ∙ ap (λ v. record { tree = v; firings = record { rule = rule; place = p } ∷ before }) (sym is);
 }
 
 pub run-append : (fs gs : List Firing) (s t u : Tree) → Run fs s t → Run gs t u → Run (gs ++ fs) s u
@@ -104,8 +109,9 @@ flushed-append fs [] before = refl
 flushed-append fs (g ∷ gs) before = ap (flush_after g.rule g.place) (flushed-append fs gs before)
 
 -- two goes make one
-pub goes-both : (s t u : Tree) (a b c : Count) → Goes s a t b → Goes t b u c → Goes s a u c
-goes-both s t u a b c first second = record {
+pub goes-both : (part rest end : Walk) (s t u : Tree) (a b c : Count) → Goes part rest s a t b → Goes rest end t b u c
+    → Goes part end s a u c
+goes-both part rest end s t u a b c first second = record {
   firings = second.firings ++ first.firings;
   run = run-append first.firings second.firings s t u first.run second.run;
   fired = omega (arith, length-append {A = Firing});
@@ -113,10 +119,23 @@ goes-both s t u a b c first second = record {
       ∙ sym (flushed-append first.firings second.firings a.flush);
   limit = second.limit ∙ first.limit;
   within = second.within;
+  order = order;
 }
+  where
+    order : (before : List Firing) → length before ≡ a.fired
+        → part a.limit (record { tree = s; firings = before })
+        ≡ end a.limit (record { tree = u; firings = (second.firings ++ first.firings) ++ before })
+    order before many =
+        let mid : List Firing = first.firings ++ before in
+        let next = second.order mid (tally part rest s t a b first before many) in
+        let P : ℕ → Type 0 = λ n. rest n (record { tree = t; firings = mid })
+            ≡ end n (record { tree = u; firings = second.firings ++ mid }) in
+        first.order before many ∙ subst P first.limit next
+        ∙ ap (λ list. end a.limit (record { tree = u; firings = list }))
+        (sym (append_assoc second.firings first.firings before))
 
 pub fires-one : (s t : Tree) (a : Count) (rule : Rule) (p : ℕ) → guard rule s p ≡ true → t ≡ after rule s p
-    → a.fired < a.limit → Sweeps (IsOff rule p) s a t (counted a rule p)
+    → a.fired < a.limit → Sweeps (tries rule p) (IsOff rule p) s a t (counted a rule p)
 fires-one s t a rule p holds is below = record {
   goes = goes-one s t a rule p holds is below;
   idle = λ none. absurd (omega (arith, none.same));
@@ -124,18 +143,24 @@ fires-one s t a rule p holds is below = record {
 }
 
 -- nothing was tried, since P holds already
-pub sweeps-none : (P : Tree → Type 0) (s : Tree) (a : Count) → a.fired ≤ a.limit → P s → Sweeps P s a s a
-sweeps-none P s a within holds = record {
-  goes = record { firings = []; run = refl; fired = omega arith; flush = refl; limit = refl; within = within };
+pub sweeps-none : (part : Walk) (P : Tree → Type 0) (s : Tree) (a : Count) → a.fired ≤ a.limit → P s
+    → ((before : List Firing) → length before ≡ a.fired
+    → part a.limit (record { tree = s; firings = before }) ≡ record { tree = s; firings = before })
+    → Sweeps part P s a s a
+sweeps-none part P s a within holds still = record {
+  goes = goes-none part done s a within still;
   idle = λ none. (holds, refl);
   ports = refl;
 }
 
 -- two sweeps make one
-pub sweeps-both : (P Q R : Tree → Type 0) (s t u : Tree) (a b c : Count) → Sweeps P s a t b → Sweeps Q t b u c
-    → (P s → Q s → R s) → Sweeps R s a u c
-sweeps-both P Q R s t u a b c first second joins =
-    let goes : Goes s a u c = goes-both s t u a b c first.goes second.goes in
+pub sweeps-both : (first_part second_part : Walk) (P Q R : Tree → Type 0) (s t u : Tree) (a b c : Count)
+    → Sweeps first_part P s a t b → Sweeps second_part Q t b u c
+    → (P s → Q s → R s) → Sweeps (and_then first_part second_part) R s a u c
+sweeps-both first_part second_part P Q R s t u a b c first second joins =
+    let goes : Goes (and_then first_part second_part) done s a u c =
+        goes-both (and_then first_part second_part) second_part done s t u a b c
+        (goes-first first_part second_part s t a b first.goes) second.goes in
     record {
       goes = goes;
       idle = λ none.
@@ -152,6 +177,15 @@ sweeps-both P Q R s t u a b c first second joins =
           (joins (first.idle idle₁).0 q, (second.idle idle₂).1 ∙ same₁);
       ports = second.ports ∙ first.ports;
     }
+
+-- the same sweep by another name
+pub sweeps-as : (part part' : Walk) (P : Tree → Type 0) (s t : Tree) (a b : Count)
+    → ((limit : ℕ) (g : Going) → part' limit g ≡ part limit g) → Sweeps part P s a t b → Sweeps part' P s a t b
+sweeps-as part part' P s t a b same sweep = record {
+  goes = goes-as part done part' done s t a b sweep.goes (λ before is. same a.limit _ ∙ sweep.goes.order before is);
+  idle = sweep.idle;
+  ports = sweep.ports;
+}
 
 -- one more rule is tried
 pub are_off-more : (rules : List Rule) (s : Tree) (p i : ℕ) (d : Rule) → i < length rules → AreOffAt (take i rules) p s

@@ -1,5 +1,5 @@
 -- What an event may do to a bridge, and what it answers.
-use Rattle.std.specs.Prelude.{ℕ, Bool, true, false, ◌≡◌, ◌⊎◌, ◌↔◌, ◌+◌, ◌*◌, ◌≤◌, ◌&&◌, ◌==◌, List, [], ◌∷◌, length}
+use Rattle.std.specs.Prelude.{ℕ, Bool, true, false, ◌≡◌, ◌↔◌, ◌+◌, ◌*◌, ◌≤◌, ◌&&◌, ◌==◌, List, [], ◌∷◌, length}
 use Rattle.std.specs.Prelude.{map, Option, Some, None, IsTrue}
 use Rattle.std.specs.List.{list_any}
 use Rattle.ether_wire.specs.Ports.{has_port, place_of_port}
@@ -13,6 +13,7 @@ use Rattle.rstp_state.specs.Selection.{own_root}
 use Rattle.rstp_state.specs.Start.{ports_from}
 use Rattle.rstp_run.specs.Rules.{Tree}
 use Rattle.rstp_run.specs.Runs.{Firing, Run, IsSettled, flushed, is_flush}
+use Rattle.rstp_run.specs.Sweep.{swept}
 use Rattle.rstp_run.specs.declared.event.Event.{Event}
 use Rattle.rstp_run.specs.declared.event.Event.TheVariants as events
 
@@ -44,23 +45,35 @@ direct event s = record s { ports = ports_at event (map without_slot s.ports) }
 abbrev pub flushes : ℕ → List Firing → Bool
 flushes p firings = list_any (λ f. is_flush f.rule && f.place == p) firings
 
--- The bridge goes from s to t by the event and at most limit firings. It is settled exactly where
--- no rule is enabled in t, and isn't only after as many firings as it may have.
+-- The bridge goes from s to t by the event and at most limit firings, in the order of the sweep. It is settled exactly
+-- where no rule is enabled in t, and isn't only after as many firings as it may have.
 pub record Happens (event : Event) (limit : ℕ) (s t : Tree) (settled : Bool) (mask : ℕ) : Type 0 where
   pub firings : List Firing
   pub run : Run firings (direct event s) t
+  pub order : swept limit (direct event s) ≡ record { tree = t; firings = firings }
   pub few : length firings ≤ limit
   pub settles : IsTrue settled ↔ IsSettled t
   pub unsettled : settled ≡ false → length firings ≡ limit
   pub flush : (p : ℕ) → has_port mask (p + 1) ≡ flushes p firings
 
--- Firings that lead on from the event's direct effect are what the event may do: as many as the
--- limit, or fewer to where the bridge is settled.
+-- What the sweep comes to from the event's direct effect is what the event does.
 abbrev pub RunsHappen : Type 0
 RunsHappen =
-    (event : Event) (limit : ℕ) (s t : Tree) (firings : List Firing) → Run firings (direct event s) t
-    → length firings ≤ limit → (length firings ≡ limit) ⊎ IsSettled t
+    (event : Event) (limit : ℕ) (s t : Tree) (firings : List Firing)
+    → swept limit (direct event s) ≡ record { tree = t; firings = firings }
     → (settled : Bool) × Happens event limit s t settled (flushed firings 0)
+
+-- an event of a bridge is a function of bridge and event: so are its firings, and what is told of it
+pub record IsSame (s t : Tree) (settled settled' : Bool) (mask mask' : ℕ) : Type 0 where
+  pub bridge : s ≡ t
+  pub settled_is : settled ≡ settled'
+  pub flush : (p : ℕ) → has_port mask (p + 1) ≡ has_port mask' (p + 1)
+
+abbrev pub OneOutcome : Type 0
+OneOutcome =
+    (event : Event) (limit : ℕ) (s t t' : Tree) (settled settled' : Bool) (mask mask' : ℕ)
+    → Happens event limit s t settled mask → Happens event limit s t' settled' mask'
+    → IsSame t t' settled settled' mask mask'
 
 -- the greatest number of firings at an event
 abbrev pub firings_at : Tree → ℕ

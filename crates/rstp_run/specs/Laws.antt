@@ -1,10 +1,12 @@
 -- What holds of every bridge from its start on, whatever the events.
-use Rattle.std.specs.Prelude.{ℕ, Bool, true, not, ◌≡◌, ◌+◌, ◌%◌, ◌^◌, ◌&&◌, ◌||◌, List, [], ◌∷◌, All, IsTrue}
+use Rattle.std.specs.Prelude.{ℕ, Bool, true, false, not, ◌≡◌, ◌+◌, ◌%◌, ◌^◌, ◌&&◌, ◌||◌, List, [], ◌∷◌, All, IsTrue}
 use Rattle.ether_wire.specs.Ports.{place_of_port}
 use Rattle.bpdu_wire.specs.Id.{port_number}
 use Rattle.rstp_state.specs.declared.port.PortState.{PortState}
 use Rattle.rstp_state.specs.Port.{test_at}
 use Rattle.rstp_run.specs.Rules.{Tree}
+use Rattle.rstp_machines.specs.BridgeDetection.{edge_guard, edge_effect, not_edge_guard, not_edge_effect}
+use Rattle.rstp_machines.specs.Receive.{discard_guard}
 use Rattle.rstp_machines.specs.TopologyChange.{is_in_tree}
 
 -- a port that forwards learns, and a port that is neither Root nor Designated is to do neither
@@ -30,3 +32,11 @@ AreNumbered s = AreNumberedFrom 1 s.ports
 -- port p is the root port or a designated one: neither Disabled, Alternate nor Backup
 abbrev pub IsInTree : Tree → ℕ → Type 0
 IsInTree s p = IsTrue (test_at (place_of_port p) is_in_tree s.ports)
+
+-- Where Discard isn't enabled at a port that is down, Edge and NotEdge don't enable each other there. Discard comes before
+-- them in each pass.
+abbrev pub EdgeRests : Type 0
+EdgeRests =
+    (port : PortState) → port.enabled ≡ false → discard_guard port ≡ false
+    → (not_edge_guard port ≡ true → edge_guard (not_edge_effect port) ≡ false)
+    × (edge_guard port ≡ true → not_edge_guard (edge_effect port) ≡ false)

@@ -5,4 +5,5 @@ pub mod RootPort
 pub mod Rules
 pub mod Runs
 pub mod Settled
+pub mod Sweep
 pub mod Inner

@@ -161,7 +161,8 @@ impl Engine {
     ghost use Rattle.rstp_run.specs.Events.{IsPort};
     ghost use Rattle.rstp_run.specs.Inner.Rest.{is_busy};
     ghost use Rattle.rstp_run.specs.Runs.{AreOffAt, AreOffBelow, AreOff, IsSettled};
-    ghost use Rattle.rstp_run.specs.Inner.Runs.{Goes, Sweeps, IsOff, rules_of};
+    ghost use Rattle.rstp_run.specs.Inner.Runs.{done, Goes, Sweeps, IsOff, rules_of, swept_on};
+    ghost use Rattle.rstp_run.specs.Sweep.{passes, tries, tries_all, tries_below};
 
     /// A bridge before its first event.
     pub(crate) fn new(settings: Settings, ports: &[PortSettings]) -> Self
@@ -205,7 +206,7 @@ impl Engine {
         requires there { p < length self.old.ports }
         requires bit { p < 64 }
         requires within { count.old.fired ≤ count.old.limit }
-        ensures { Sweeps (IsOff rule p) self.old count.old self.new count.new }
+        ensures { Sweeps (tries rule p) (IsOff rule p) self.old count.old self.new count.new }
     {
         if count.fired < count.limit && self.is_enabled(rule, p) {
             self.fire(rule, p);
@@ -218,7 +219,7 @@ impl Engine {
         requires there { p < length self.old.ports }
         requires bit { p < 64 }
         requires within { count.old.fired ≤ count.old.limit }
-        ensures { Sweeps (AreOffAt rules.now p) self.old count.old self.new count.new }
+        ensures { Sweeps (tries_all rules.now p) (AreOffAt rules.now p) self.old count.old self.new count.new }
     {
         for rule in rules {
             self.try_fire(*rule, p, count);
@@ -238,7 +239,8 @@ impl Engine {
         requires there { p < length self.old.ports }
         requires bit { p < 64 }
         requires within { count.old.fired ≤ count.old.limit }
-        ensures { Sweeps (AreOffAt (rules_of part) p) self.old count.old self.new count.new }
+        ensures { Sweeps (tries_all (rules_of part) p) (AreOffAt (rules_of part) p)
+            self.old count.old self.new count.new }
     {
         if !self.is_busy(part, p) {
             return;
@@ -252,7 +254,8 @@ impl Engine {
     /// Tries each rule of the part once at each port.
     fn pass(&mut self, part: Part, count: &mut Count)
         requires { count.old.fired ≤ count.old.limit }
-        ensures { Sweeps (AreOff (rules_of part)) self.old count.old self.new count.new }
+        ensures { Sweeps (tries_below (rules_of part) (length self.old.ports)) (AreOff (rules_of part))
+            self.old count.old self.new count.new }
     {
         for p in 0..self.len() {
             self.try_part(part, p, count);
@@ -262,7 +265,7 @@ impl Engine {
     /// Passes go on until one fires nothing, or the limit is reached.
     fn settle(&mut self, part: Part, count: &mut Count)
         requires { count.old.fired ≤ count.old.limit }
-        ensures goes { Goes self.old count.old self.new count.new }
+        ensures goes { Goes (passes (rules_of part)) done self.old count.old self.new count.new }
         ensures off { count.new.fired < count.new.limit → AreOff (rules_of part) self.new }
         ensures idle { count.new.fired ≡ count.old.fired → self.new ≡ self.old }
         ensures ports { length self.new.ports ≡ length self.old.ports }
@@ -308,7 +311,7 @@ impl Engine {
     /// Fires rules until none is enabled, or the limit is reached.
     fn run(&mut self, count: &mut Count) -> bool
         requires { count.old.fired ≤ count.old.limit }
-        ensures goes { Goes self.old count.old self.new count.new }
+        ensures goes { Goes swept_on done self.old count.old self.new count.new }
         ensures yes { result ≡ true → IsSettled self.new }
         ensures no { result ≡ false → ¬ IsSettled self.new }
         ensures unsettled { result ≡ false → count.new.fired ≡ count.new.limit }

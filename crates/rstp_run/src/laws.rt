@@ -1,6 +1,7 @@
 //! What holds of every bridge that came from its start by events.
 
-ghost use Rattle.rstp_run.specs.Events.{RunsHappen};
+ghost use Rattle.rstp_run.specs.Events.{OneOutcome, RunsHappen};
+ghost use Rattle.rstp_run.specs.Laws.{EdgeRests};
 ghost use Rattle.rstp_run.specs.RootPort.{OneRootPort};
 ghost use Rattle.rstp_run.specs.Settled.{
   OfSettledPorts,
@@ -47,8 +48,18 @@ pub fn settled_by_lists()
     ensures { SettledByLists }
 {}
 
-/// Firings that lead on from an event's direct effect are what the event may do: as many as the
-/// limit, or fewer to where the bridge is settled.
+/// What the sweep comes to from an event's direct effect is what the event does.
 pub fn runs_happen()
     ensures { RunsHappen }
+{}
+
+/// An event of a bridge is a function of bridge and event: the bridge afterwards, whether it is
+/// settled, and at which ports it flushes.
+pub fn one_outcome()
+    ensures { OneOutcome }
+{}
+
+/// At a port that is down, Edge and NotEdge don't enable each other once Discard has been there.
+pub fn edge_rests()
+    ensures { EdgeRests }
 {}

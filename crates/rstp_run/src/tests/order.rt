@@ -1,5 +1,5 @@
-//! The order in which rules fire is no promise of a contract: these tests show it. Each says which
-//! wrong order it tells from the right one.
+//! The order in which rules fire, by octets from outside. The contract of an event has it as a
+//! definition; each test says which wrong order it tells from the right one.
 
 use super::{
     USUAL_PORT, bridge_of_one, happen, happen_within, receive, receive_at, sent_in_second,

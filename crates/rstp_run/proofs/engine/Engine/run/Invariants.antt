@@ -1,9 +1,15 @@
-use Rattle.std.proofs.Common.{◌≡◌, ◌-◌, length}
-use Rattle.rstp_run.specs.Inner.Runs.{Goes}
+use Rattle.std.proofs.Common.{◌≡◌, ℕ, ◌+◌, ◌-◌, ◌≤◌, length}
+use Rattle.rstp_run.specs.Inner.Runs.{Goes, swept_on}
+use Rattle.rstp_run.specs.Sweep.{round}
+use Rattle.rstp_run.proofs.Ordered.{again}
 use Rattle.rstp_run.proofs.engine.Engine.run.Given as goal
 
+-- what is left to do are so many rounds, at most
 abbrev pub invariant-rounds : goal.invariant-rounds
-invariant-rounds l = Goes l.fn.self l.fn.count l.self l.count × (length l.self.ports ≡ length l.fn.self.ports)
+invariant-rounds l =
+    (n : ℕ) × (l.count.limit ≤ n + l.count.fired)
+    × Goes swept_on (again n round) l.fn.self l.fn.count l.self l.count
+    × (length l.self.ports ≡ length l.fn.self.ports)
 
 abbrev pub decreases-rounds : goal.decreases-rounds
 decreases-rounds l = l.count.limit - l.count.fired

@@ -1,9 +1,20 @@
-use Rattle.std.proofs.Common.{sym, ◌∙◌}
+use Rattle.std.proofs.Common.{sym, subst, ◌∙◌}
+use Rattle.rstp_run.specs.declared.rule.Part.{Part}
+use Rattle.rstp_run.specs.Inner.Runs.{Sweeps, rules_of}
+use Rattle.rstp_run.specs.Runs.{AreOffAt}
+use Rattle.rstp_run.specs.Sweep.{tries_all}
 use Rattle.rstp_run.proofs.Idle.{busy-off}
+use Rattle.rstp_run.proofs.Ordered.{tries_all-off}
 use Rattle.rstp_run.proofs.Steps.{sweeps-none}
 use Rattle.rstp_run.proofs.engine.Engine.try_part.Goals as goal
 
 pub returns-then-not-is_busy : goal.returns-then-not-is_busy
 returns-then-not-is_busy c =
-    sweeps-none _ _ _ c.requires.within (busy-off c.args.self.now c.args.p c.args.part
-    (sym c.is_busy.ensures ∙ c.if-not-is_busy.true))
+    let off = busy-off c.args.self.now c.args.p c.args.part (sym c.is_busy.ensures ∙ c.if-not-is_busy.true) in
+    sweeps-none _ _ _ _ c.requires.within off
+    (λ before is. tries_all-off (rules_of c.args.part) c.args.p _ (record { tree = c.args.self.now; firings = before }) off)
+
+pub returns-in-Main : goal.returns-in-Main
+returns-in-Main c =
+    subst (λ (part : Part). Sweeps (tries_all (rules_of part) c.args.p) (AreOffAt (rules_of part) c.args.p) c.args.self.now
+    c.args.count.now c.try_port.new.self c.try_port.new.count) (sym c.in-Main.is) c.try_port.ensures

@@ -1,0 +1,29 @@
+-- Edge and NotEdge don't go round at a port where Discard has been.
+use Rattle.std.proofs.Common.{◌≡◌, ℕ, Bool, true, false, not, ◌&&◌, ◌||◌, ◌==◌, refl}
+use Rattle.std.proofs.lemmas.Bool.{eqb-true, or_parts, not-false}
+use Rattle.rstp_state.specs.declared.port.PortState.{PortState}
+use Rattle.rstp_machines.specs.BridgeDetection.{finds_no_bridge}
+use Rattle.rstp_run.specs.Laws.{EdgeRests}
+
+-- neither way to an edge is open, or it is the one by the settings
+choose : (oper enabled admin finds : Bool) → enabled ≡ false → finds ≡ false
+    → ((oper && not enabled && not admin) ≡ true → (not false && ((not enabled && admin) || finds)) ≡ false)
+    × ((not oper && ((not enabled && admin) || finds)) ≡ true → (true && not enabled && not admin) ≡ false)
+choose oper true admin finds down none = absurd (let f : ⊥ = cc in f)
+choose oper false admin true down none = absurd (let f : ⊥ = cc in f)
+choose true false true false down none = (λ e. absurd (let f : ⊥ = cc in f), λ e. refl)
+choose false false true false down none = (λ e. absurd (let f : ⊥ = cc in f), λ e. refl)
+choose true false false false down none = (λ e. refl, λ e. absurd (let f : ⊥ = cc in f))
+choose false false false false down none = (λ e. refl, λ e. absurd (let f : ⊥ = cc in f))
+
+without_down : (x enabled : Bool) → enabled ≡ false → (x && not enabled) ≡ false → x ≡ false
+without_down false enabled down h = refl
+without_down true true down h = absurd (let f : ⊥ = cc in f)
+without_down true false down h = absurd (let f : ⊥ = cc in f)
+
+pub edge_rests : EdgeRests
+edge_rests port down off =
+    let delay = without_down (port.received_bpdu || not (port.edge_delay_while == 3)) port.enabled down off in
+    let three : port.edge_delay_while ≡ 3 = eqb-true port.edge_delay_while 3 (not-false _ (or_parts _ _ delay).1) in
+    let finds : finds_no_bridge port ≡ false = rw three refl in
+    choose port.oper_edge port.enabled port.admin_edge (finds_no_bridge port) down finds
