@@ -19,7 +19,7 @@ UNREACHED = {
     "bpdu_wire": 11, "ether_wire": 6, "ev_book": 12, "ev_claims": 40, "ev_config": 63, "ev_console": 53, "ev_edge": 9,
     "ev_exchange": 6, "ev_fabric": 10, "ev_links": 6, "ev_peers": 29, "ev_report": 65, "ev_run": 19, "ev_script": 77,
     "ev_tunnel": 5, "ev_view": 3, "evpnd": 29, "idx_links": 63, "mac_arena": 55, "route_join": 297, "route_wire": 205,
-    "rstp_net": 8, "rstp_run": 73, "rstp_state": 4,
+    "rstp_net": 8, "rstp_run": 86, "rstp_state": 4,
 }
 
 EXAMPLE = {

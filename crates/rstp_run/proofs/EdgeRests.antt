@@ -1,7 +1,6 @@
 -- Edge and NotEdge don't go round at a port where Discard has been.
-use Rattle.std.proofs.Common.{◌≡◌, ℕ, Bool, true, false, not, ◌&&◌, ◌||◌, ◌==◌, refl}
+use Rattle.std.proofs.Common.{◌≡◌, Bool, true, false, not, ◌&&◌, ◌||◌, ◌==◌, refl}
 use Rattle.std.proofs.lemmas.Bool.{eqb-true, or_parts, not-false}
-use Rattle.rstp_state.specs.declared.port.PortState.{PortState}
 use Rattle.rstp_machines.specs.BridgeDetection.{finds_no_bridge}
 use Rattle.rstp_run.specs.Laws.{EdgeRests}
 

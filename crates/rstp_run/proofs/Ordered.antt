@@ -2,11 +2,11 @@
 use Rattle.std.proofs.Common.{◌≡◌, ℕ, zero, suc, ◌+◌, ◌≤◌, ◌<◌, ◌&&◌, ◌==◌, Bool, true, false, List, [], ◌∷◌, ◌++◌}
 use Rattle.std.proofs.Common.{length, take, get_or, refl, sym, ◌∙◌, ap, subst, arith, if◌then◌else◌}
 use Rattle.std.proofs.lemmas.Bool.{le-ltb, lt-ltb, or_parts, eqb-true}
-use Rattle.std.proofs.lemmas.List.{append_assoc, length-append, take_more}
+use Rattle.std.proofs.lemmas.List.{length-append, take_more}
 use Rattle.rstp_run.specs.declared.count.Count.{Count}
 use Rattle.rstp_run.specs.declared.rule.Rule.{Rule}
 use Rattle.rstp_run.specs.Rules.{Tree, guard, after}
-use Rattle.rstp_run.specs.Runs.{AreOffAt, AreOffBelow, AreOff, Firing, Run}
+use Rattle.rstp_run.specs.Runs.{AreOffAt, AreOffBelow, AreOff, Firing}
 use Rattle.rstp_run.specs.Sweep.{Going, Walk, main_order, sending_order, fired, tries, tries_all, tries_below, pass}
 use Rattle.rstp_run.specs.Sweep.{until_idle, passes, round}
 use Rattle.rstp_run.specs.Inner.Runs.{Goes, done, and_then}
@@ -98,7 +98,8 @@ pub passes-off : (rules : List Rule) (limit : ℕ) (g : Going) → AreOff rules 
 passes-off rules limit g off = until-still limit (pass rules limit) g (pass-off rules limit g off)
 
 pub round-full : (limit : ℕ) (g : Going) → IsFull limit g → round limit g ≡ g
-round-full limit g full = ap (passes sending_order limit) (passes-full main_order limit g full) ∙ passes-full sending_order limit g full
+round-full limit g full =
+    ap (passes sending_order limit) (passes-full main_order limit g full) ∙ passes-full sending_order limit g full
 
 pub round-off : (limit : ℕ) (g : Going) → AreOff main_order g.tree → AreOff sending_order g.tree → round limit g ≡ g
 round-off limit g main sends =

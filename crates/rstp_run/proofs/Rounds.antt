@@ -1,5 +1,5 @@
 -- Passes up to one that fires nothing, and rounds up to one in which nothing fires.
-use Rattle.std.proofs.Common.{◌≡◌, ℕ, zero, suc, ◌+◌, ◌≤◌, ◌<◌, ◌≢◌, ◌⊎◌, inl, inr, List, length, refl, sym, ◌∙◌, subst, arith}
+use Rattle.std.proofs.Common.{◌≡◌, ℕ, zero, suc, ◌+◌, ◌≤◌, ◌≢◌, ◌⊎◌, inl, inr, List, length, sym, subst, arith}
 use Rattle.std.proofs.lemmas.Bool.{cases_lt}
 use Rattle.rstp_run.specs.declared.count.Count.{Count}
 use Rattle.rstp_run.specs.declared.rule.Rule.{Rule}
@@ -64,7 +64,8 @@ module _ (s t m u : Tree) (a b d c : Count) (main : Goes (passes main_order) don
           (goes-first (passes main_order) (passes sending_order) t m b d main) sends in
       goes-as (and_then (passes main_order) (passes sending_order)) done round done t u b c both both.order
 
-  rests : (c.fired ≡ c.limit) ⊎ (AreOff main_order u × AreOff sending_order u) → (before : List Firing) → length before ≡ c.fired
+  rests : (c.fired ≡ c.limit) ⊎ (AreOff main_order u × AreOff sending_order u) → (before : List Firing)
+      → length before ≡ c.fired
       → round c.limit (record { tree = u; firings = before }) ≡ record { tree = u; firings = before }
   rests (inl full) before is = round-full c.limit _ (omega (arith, full, is))
   rests (inr off) before is = round-off c.limit (record { tree = u; firings = before }) off.0 off.1

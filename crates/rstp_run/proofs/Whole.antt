@@ -1,5 +1,5 @@
 -- The whole sweep: its firings are a run, and it ends where no rule is enabled, or with as many firings as may be.
-use Rattle.std.proofs.Common.{◌≡◌, ℕ, zero, suc, ◌+◌, ◌≤◌, ◌<◌, ◌&&◌, ◌==◌, ◌⊎◌, inl, inr, Bool, true, false, List, []}
+use Rattle.std.proofs.Common.{◌≡◌, ℕ, zero, suc, ◌+◌, ◌≤◌, ◌<◌, ◌==◌, ◌⊎◌, inl, inr, Bool, true, false, List, []}
 use Rattle.std.proofs.Common.{◌∷◌, length, refl, sym, ◌∙◌, ap, subst, arith, if◌then◌else◌, below_more}
 use Rattle.std.proofs.lemmas.Bool.{cases_lt, eqb-true, eqb-false}
 use Rattle.rstp_run.specs.declared.rule.Rule.{Rule}
@@ -7,7 +7,7 @@ use Rattle.rstp_run.specs.Rules.{Tree, guard}
 use Rattle.rstp_run.specs.Runs.{AreOffAt, AreOffBelow, AreOff, IsSettled, Run}
 use Rattle.rstp_run.specs.Sweep.{Going, main_order, sending_order, fired, tries, tries_all, tries_below, pass}
 use Rattle.rstp_run.specs.Sweep.{until_idle, passes, round, swept}
-use Rattle.rstp_run.proofs.Ordered.{tries-full, tries-off, tries-on, tries_all-off, tries_below-off, pass-off, passes-off}
+use Rattle.rstp_run.proofs.Ordered.{tries-full, tries-off, tries-on, tries_below-off, pass-off, passes-off}
 use Rattle.rstp_run.proofs.Ordered.{until-more, until-once}
 use Rattle.rstp_run.proofs.Settled.{settled-off}
 
@@ -118,8 +118,8 @@ tries-idle rule p limit g below idle = go (guard rule g.tree p) refl
             sym (ap (λ (x : Going). length x.firings) (tries-on rule p limit g below on)) ∙ idle in
         absurd (omega (arith, more))
 
-all-idle : (rules : List Rule) (p limit : ℕ) (g : Going) → length g.firings < limit → IsIdleBy (tries_all rules p limit) g
-    → AreOffAt rules p g.tree
+all-idle : (rules : List Rule) (p limit : ℕ) (g : Going) → length g.firings < limit
+    → IsIdleBy (tries_all rules p limit) g → AreOffAt rules p g.tree
 all-idle [] p limit g below idle = refl
 all-idle (rule ∷ rules) p limit g below idle =
     let first = tries-grows limit (length g.firings) rule p g (omega arith) in
@@ -215,7 +215,8 @@ passes-idle rules (suc n) g below idle = go (cases_lt (length g.firings) (length
             ≤ length (until_idle n (pass rules (suc n)) (pass rules (suc n) g)).firings =
             until-keeps (λ x. length (pass rules (suc n) g).firings ≤ length x.firings) (pass rules (suc n))
             (λ x h. pass-grows (suc n) (length (pass rules (suc n) g).firings) rules x h) n (pass rules (suc n) g)
-            (let h : length (pass rules (suc n) g).firings ≤ length (pass rules (suc n) g).firings = omega arith in h) in
+            (let h : length (pass rules (suc n) g).firings ≤ length (pass rules (suc n) g).firings = omega arith in
+            h) in
         absurd (omega (arith, is, grown, more))
     go (inr less) =
         let grown = pass-grows (suc n) (length g.firings) rules g

@@ -33,8 +33,8 @@ AreNumbered s = AreNumberedFrom 1 s.ports
 abbrev pub IsInTree : Tree → ℕ → Type 0
 IsInTree s p = IsTrue (test_at (place_of_port p) is_in_tree s.ports)
 
--- Where Discard isn't enabled at a port that is down, Edge and NotEdge don't enable each other there. Discard comes before
--- them in each pass.
+-- Where Discard isn't enabled at a port that is down, Edge and NotEdge don't enable each other there. Discard comes
+-- before them in each pass.
 abbrev pub EdgeRests : Type 0
 EdgeRests =
     (port : PortState) → port.enabled ≡ false → discard_guard port ≡ false

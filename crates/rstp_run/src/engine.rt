@@ -219,7 +219,8 @@ impl Engine {
         requires there { p < length self.old.ports }
         requires bit { p < 64 }
         requires within { count.old.fired ≤ count.old.limit }
-        ensures { Sweeps (tries_all rules.now p) (AreOffAt rules.now p) self.old count.old self.new count.new }
+        ensures { Sweeps (tries_all rules.now p) (AreOffAt rules.now p)
+            self.old count.old self.new count.new }
     {
         for rule in rules {
             self.try_fire(*rule, p, count);
@@ -254,8 +255,8 @@ impl Engine {
     /// Tries each rule of the part once at each port.
     fn pass(&mut self, part: Part, count: &mut Count)
         requires { count.old.fired ≤ count.old.limit }
-        ensures { Sweeps (tries_below (rules_of part) (length self.old.ports)) (AreOff (rules_of part))
-            self.old count.old self.new count.new }
+        ensures { Sweeps (tries_below (rules_of part) (length self.old.ports))
+            (AreOff (rules_of part)) self.old count.old self.new count.new }
     {
         for p in 0..self.len() {
             self.try_part(part, p, count);

@@ -12,9 +12,10 @@ pub returns-then-not-is_busy : goal.returns-then-not-is_busy
 returns-then-not-is_busy c =
     let off = busy-off c.args.self.now c.args.p c.args.part (sym c.is_busy.ensures ∙ c.if-not-is_busy.true) in
     sweeps-none _ _ _ _ c.requires.within off
-    (λ before is. tries_all-off (rules_of c.args.part) c.args.p _ (record { tree = c.args.self.now; firings = before }) off)
+    (λ before is. tries_all-off (rules_of c.args.part) c.args.p _
+    (record { tree = c.args.self.now; firings = before }) off)
 
 pub returns-in-Main : goal.returns-in-Main
 returns-in-Main c =
-    subst (λ (part : Part). Sweeps (tries_all (rules_of part) c.args.p) (AreOffAt (rules_of part) c.args.p) c.args.self.now
-    c.args.count.now c.try_port.new.self c.try_port.new.count) (sym c.in-Main.is) c.try_port.ensures
+    subst (λ (part : Part). Sweeps (tries_all (rules_of part) c.args.p) (AreOffAt (rules_of part) c.args.p)
+    c.args.self.now c.args.count.now c.try_port.new.self c.try_port.new.count) (sym c.in-Main.is) c.try_port.ensures
