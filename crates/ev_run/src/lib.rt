@@ -1,6 +1,7 @@
 //! Edges that run over UDP sockets until an input ends, and what is told of them then.
 #![tactic(auto)]
 
+mod begun;
 mod bound;
 mod clients;
 mod control_socket;

@@ -10,6 +10,7 @@ ghost use Rattle.ev_run.specs.Inner.Sockets.{bound_at};
 ghost use Rattle.ev_run.specs.RunEdges.{ReadsOut, sends_failed, link_failed, was_out_of_memory, all_lost, system_text, noted_text, Ran, start_text, RunsEdges};
 ghost use Rattle.ev_run.specs.Inner.RunEdges.{EachConfig, PutsRest, TellsMeanwhile, TellsRest};
 
+use crate::begun::{begun_in, second_of_start};
 use crate::bound::{PortSocket, Sockets, wake_all};
 use crate::clients::read_out;
 use crate::control_socket::ControlSocket;
@@ -96,10 +97,11 @@ fn ready<'x, R: Clock>(
     ))
 }
 
-/// All edges over their sockets.
+/// All edges over their sockets, in this incarnation where their configuration names none.
 fn all_ready<'x, R: Clock>(
     rt: &'x R,
     alloc: Global,
+    incarnation: u32,
     configs: Vec<EdgeConfig>,
     all: &'x [Sockets],
     stop: &'x AtomicBool,
@@ -112,6 +114,7 @@ fn all_ready<'x, R: Clock>(
     let mut setups = Vec::with_capacity(alloc, configs.len())?;
     while let Some(config) = configs.pop() {
         if let Some(sockets) = all.get(configs.len()) {
+            let config = begun_in(config, incarnation);
             setups.push(ready(rt, alloc, config, sockets, stop)?)?;
         }
     }
@@ -250,6 +253,17 @@ impl<'x, R> Host<'x, R> {
     }
 }
 
+impl<R: Clock> Host<'_, R> {
+    /// The incarnation of edges whose configuration names none: the second of their start if
+    /// clients may ask them, since others may have heard of an earlier life. Else 0.
+    fn incarnation(&self) -> u32 {
+        match self.control {
+            Some(_) => second_of_start(self.rt),
+            None => 0,
+        }
+    }
+}
+
 /// Runs edges until the reader ends, and stops them then. Clients of a socket may ask them
 /// meanwhile.
 fn run_reading<'x, R: Threads + Wait + Clock + Sync, E: In>(
@@ -313,7 +327,8 @@ fn run_bound<R: Threads + Wait + Files + Clock + Sync, E: In, W: Out, N: Out + S
 {
     let (rt, alloc) = (host.rt, host.alloc);
     let stop = AtomicBool::new(false);
-    let setups = all_ready(rt, alloc, configs, sockets, &stop)?;
+    let incarnation = host.incarnation();
+    let setups = all_ready(rt, alloc, incarnation, configs, sockets, &stop)?;
     let boards = Boards::new(alloc, setups.len())?;
     let start = Start::new(alloc, setups)?;
     // Reader and notes come back from the closures: by their names they are known to be these.
