@@ -265,7 +265,6 @@ class Gateway:
             if is_new:
                 self.announcing.add([register_of(update)])
             return
-        self.told["records of an edge that isn't one of --own: they aren't announced"] += 1
         with self.lock:
             if self.strangers is not None:
                 self.strangers[register_of(update)] = update
@@ -281,6 +280,7 @@ class Gateway:
             self.told[str(fault)] += 1
             return
         if is_answered:
+            self.told["held by the edges of others, and not said by BGP: withdrawn there"] += 1
             self.push([register_of(update)])
 
     def announce(self) -> None:

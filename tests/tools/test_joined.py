@@ -1,6 +1,7 @@
 """Two programs of edges (`evpnd serve`) whose records two `evpndctl records` carry, by pipes: as two hosts are joined by socat."""
 
 import os
+import re
 import subprocess
 import sys
 import tempfile
@@ -110,6 +111,25 @@ class Joined(TwoCables):
         report = FLOODS + f"{mac} {ONE} 3 withdrawn\n{mac} {TWO} 2 dynamic 1\nowner 5001 02:00:00:00:00:01 {TWO}\n"
         self.both_report(report)
         self.end_well(report)
+
+
+    def test_an_edge_that_begins_anew_withdraws_its_earlier_life(self) -> None:
+        """The other one says back what it holds of it: a station that doesn't speak again has no owner there any more."""
+        self.join()
+        self.is_carried(self.two, self.one, frame(BROADCAST, station(2), b"here"))
+        self.both_report(FLOODS + learnt(2, TWO, 2))
+        self.part()
+        self.programs[1].kill()
+        self.programs[1] = self.serve(1, TWO, self.two, ONE, incarnation=2)
+        self.join()
+        mac = "mac 5001 02:00:00:00:00:02"
+        for _ in range(100):
+            told = [self.report(0), self.report(1)]
+            if told[0] == told[1] and "owner 5001 02:00:00:00:00:02 none\n" in told[0]:
+                break
+            time.sleep(0.1)
+        self.assertEqual(told[0], told[1])
+        self.assertRegex(told[0], rf"{mac} {re.escape(TWO)} 2\.[0-9]+ withdrawn\nowner 5001 02:00:00:00:00:02 none\n")
 
 
 @needs_program
