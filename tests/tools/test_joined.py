@@ -10,7 +10,7 @@ from typing import List
 
 from test_audit import PROGRAM, needs_program
 from test_records import TOP
-from test_run import BROADCAST, FLOODS, ONE, TWO, Cable, Running, TwoCables, edge, first_life, frame, learnt, station
+from test_run import BROADCAST, FLOODS, ONE, TWO, Cable, Running, TwoCables, edge, frame, learnt, station
 
 TOOL = [sys.executable, os.path.join(TOP, "tools", "evpndctl"), "--control"]
 
@@ -28,7 +28,7 @@ class Joined(TwoCables):
         self.addCleanup(self.part)
         self.programs = [self.serve(0, ONE, self.one, TWO), self.serve(1, TWO, self.two, ONE)]
 
-    def serve(self, place: int, address: str, cable: Cable, other: str, incarnation: int = 1) -> Running:
+    def serve(self, place: int, address: str, cable: Cable, other: str, incarnation: int = 0) -> Running:
         """A program with one edge that knows of the other one, until it answers."""
         text = f'control = "{self.paths[place]}"\n' + edge(address, place + 1, cable, keys=f"incarnation = {incarnation}\n")
         running = Running(f'{text}[[peer]]\naddress = "{other}"\n', subcommand="serve")
@@ -42,8 +42,7 @@ class Joined(TwoCables):
     def report(self, place: int) -> str:
         """What an edge reports; nothing where it doesn't answer."""
         asked = [*TOOL, self.paths[place], "1", "report"]
-        done = subprocess.run(asked, capture_output=True, encoding="utf-8", check=False, timeout=20)
-        return first_life(done.stdout)
+        return subprocess.run(asked, capture_output=True, encoding="utf-8", check=False, timeout=20).stdout
 
     def join(self) -> None:
         """Joins both."""
@@ -74,8 +73,7 @@ class Joined(TwoCables):
         """Sees that both end with this report, and have told nothing."""
         self.part()
         for running in self.programs:
-            status, out, notes = running.end()
-            self.assertEqual((status, first_life(out), notes), (0, f"edge 1\n{report}", ""))
+            self.assertEqual(running.end(), (0, f"edge 1\n{report}", ""))
 
     def test_frames_and_reports(self) -> None:
         """Each reports what both have said, and frames go over the tunnel and back."""

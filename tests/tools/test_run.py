@@ -144,11 +144,6 @@ def reports(lines: str) -> str:
 FLOODS = f"flood {VNI} {ONE} 1 up\nflood {VNI} {TWO} 1 up\n"
 
 
-def first_life(text: str) -> str:
-    """A report of edges of incarnation 1, as one of edges of incarnation 0 is written."""
-    return re.sub(r" 1\.([0-9]+) (?=up|withdrawn|dynamic|static)", r" \1 ", text)
-
-
 def learnt(number: int, address: str, counter: int) -> str:
     """The lines of a station that one edge has said it has."""
     return f"mac {VNI} 02:00:00:00:00:0{number} {address} {counter} dynamic 0\nowner {VNI} 02:00:00:00:00:0{number} {address}\n"

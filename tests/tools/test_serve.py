@@ -16,7 +16,7 @@ from typing import List, Optional
 
 from test_audit import needs_program
 from test_records import TOP
-from test_run import BROADCAST, FLOODS, HOST, VNI, Cable, Running, edge, first_life, frame, learnt, station
+from test_run import BROADCAST, FLOODS, HOST, VNI, Cable, Running, edge, frame, learnt, station
 from update_records import Answer, Update, line_of, read_records, record_of, update_of_line
 
 # addresses of these tests' own, beside those of test_run.py
@@ -65,7 +65,7 @@ class Client:
             if not octets:
                 raise AssertionError(f"it ended behind {came!r}")
             came += octets
-        return first_life(came[:-1].decode())
+        return came[:-1].decode()
 
     def close(self) -> None:
         """Ends the connection."""
@@ -86,9 +86,8 @@ class Served(unittest.TestCase):
         self.addCleanup(self.two.here.close)
 
     def text(self) -> str:
-        """The configuration, whose edges are of incarnation 1."""
-        keys = "incarnation = 1\n"
-        return f'control = "{self.path}"\n' + edge(ONE, 1, self.one, keys=keys) + edge(TWO, 2, self.two, keys=keys)
+        """The configuration."""
+        return f'control = "{self.path}"\n' + edge(ONE, 1, self.one) + edge(TWO, 2, self.two)
 
     def started(self) -> Running:
         """A run of it."""
@@ -154,7 +153,7 @@ class Served(unittest.TestCase):
         begun = time.monotonic()
         status, out, notes = self.running.end()
         self.assertLess(time.monotonic() - begun, seconds)
-        self.assertEqual((status, first_life(out), notes), (0, f"edge 1\n{report}edge 2\n{report}", self.notes))
+        self.assertEqual((status, out, notes), (0, f"edge 1\n{report}edge 2\n{report}", self.notes))
         self.assertFalse(os.path.lexists(self.path))
 
 
@@ -214,7 +213,7 @@ class Asked(Served):
         for words, status, out, notes in ((["1", "report"], 0, FLOODS, ""), (["1", "port", "9"], 1, "1 refused edge 16\n", no_port)):
             tool = [sys.executable, os.path.join(TOP, "tools", "evpndctl"), "--control", self.path, *words]
             done = subprocess.run(tool, capture_output=True, encoding="utf-8", timeout=20, check=False)
-            self.assertEqual((done.returncode, first_life(done.stdout), done.stderr), (status, out, notes))
+            self.assertEqual((done.returncode, done.stdout, done.stderr), (status, out, notes))
         self.ends_well()
 
     def test_watch(self) -> None:
@@ -356,10 +355,9 @@ class Joined(Served):
         return [self.line(answer) for _, answer in zip(range(many), read_records(stream))]
 
     def line(self, answer: Answer) -> str:
-        """An update as a line, without its incarnation, which is 1."""
+        """An update as a line."""
         self.assertIsInstance(answer, Update)
-        self.assertEqual(answer.incarnation, 1)
-        return line_of(answer._replace(incarnation=0))
+        return line_of(answer)
 
 
 @needs_program
@@ -383,7 +381,7 @@ class Records(Joined):
     def test_what_comes_is_taken(self) -> None:
         """A withdrawal of edge 2's flood list, of a later life, is taken at edge 1, and not at edge 2: that one says anew what it is."""
         client = self.joined()
-        client.send(record_of(update_of_line(f"withdraw {TWO} {VNI} flood counter 9 incarnation 1")))
+        client.send(record_of(update_of_line(f"withdraw {TWO} {VNI} flood counter 9")))
         for _ in range(100):
             report = self.console().ask("1 report")
             if report != FLOODS:
@@ -423,39 +421,6 @@ class Records(Joined):
                     return client
             time.sleep(0.05)
         raise AssertionError("busy for five seconds")
-
-
-@needs_program
-class Begun(Served):
-    """Edges whose configuration names no incarnation: it is the second of their start, and rises with each."""
-
-    def text(self) -> str:
-        """The configuration without the key."""
-        return super().text().replace("incarnation = 1\n", "")
-
-    def incarnations(self) -> List[int]:
-        """Those of the flood lists that edge 1 reports, once it has heard of both edges."""
-        for _ in range(100):
-            with contextlib.suppress(OSError, AssertionError):
-                told = re.findall(r"^flood \S+ \S+ ([0-9]+)\.1 up$", self.console().ask("1 report"), re.MULTILINE)
-                if len(told) == 2:
-                    return [int(each) for each in told]
-            time.sleep(0.05)
-        return self.fail(self.running.end())
-
-    def test_each_start_has_a_higher_one(self) -> None:
-        """Also where the run before was killed at once; nothing is said before the second is over."""
-        before = 0
-        for _ in range(3):
-            begun = int(time.time())
-            self.running = self.started()
-            found = self.incarnations()
-            now = time.time()
-            self.assertEqual(found, found[:1] * 2)
-            self.assertTrue(max(begun, before + 1) <= found[0] < int(now), (begun, before, found, now))
-            before = found[0]
-            self.running.program.kill()
-            self.running.program.communicate()
 
 
 @needs_program

@@ -1,7 +1,6 @@
 //! Edges that run over UDP sockets until an input ends, and their reports at the end.
 #![tactic(auto)]
 
-mod begun;
 mod bound;
 mod clients;
 mod control_socket;

@@ -10,7 +10,6 @@ ghost use Rattle.ev_run.specs.Inner.Sockets.{bound_at};
 ghost use Rattle.ev_run.specs.RunEdges.{ReadsOut, sends_failed, link_failed, was_out_of_memory, all_lost, system_text, noted_text, Ran, start_text, RunsEdges};
 ghost use Rattle.ev_run.specs.Inner.RunEdges.{EachConfig, PutsRest, TellsMeanwhile, TellsRest};
 
-use crate::begun::{begun_in, first_incarnation};
 use crate::bound::{PortSocket, Sockets, wake_all};
 use crate::clients::read_out;
 use crate::control_socket::ControlSocket;
@@ -98,11 +97,10 @@ fn ready<'x, R: Clock>(
     ))
 }
 
-/// Returns all edges over their sockets, in this incarnation if their configuration names none.
+/// Returns all edges over their sockets.
 fn all_ready<'x, R: Clock>(
     rt: &'x R,
     alloc: Global,
-    incarnation: u32,
     configs: Vec<EdgeConfig>,
     all: &'x [Sockets],
     stop: &'x AtomicBool,
@@ -115,7 +113,6 @@ fn all_ready<'x, R: Clock>(
     let mut setups = Vec::with_capacity(alloc, configs.len())?;
     while let Some(config) = configs.pop() {
         if let Some(sockets) = all.get(configs.len()) {
-            let config = begun_in(config, incarnation);
             setups.push(ready(rt, alloc, config, sockets, stop)?)?;
         }
     }
@@ -317,8 +314,7 @@ fn run_bound<R: Threads + Wait + Files + Clock + Sync, E: In, W: Out, N: Out + S
 {
     let (rt, alloc) = (host.rt, host.alloc);
     let stop = AtomicBool::new(false);
-    let incarnation = first_incarnation(rt, host.control.is_some());
-    let setups = all_ready(rt, alloc, incarnation, configs, sockets, &stop)?;
+    let setups = all_ready(rt, alloc, configs, sockets, &stop)?;
     let boards = Boards::new(alloc, setups.len())?;
     let start = Start::new(alloc, setups)?;
     // The closures return `reader` and `notes`; their ghost names show that they are these.
