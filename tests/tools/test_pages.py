@@ -27,7 +27,7 @@ from typing import Dict, List, NamedTuple
 TOP = os.path.dirname(os.path.dirname(os.path.dirname(os.path.abspath(__file__))))
 PAGES = ("README.md", "examples/README.md", "docs/tutorial.md", "docs/running.md", "docs/audit.md", "docs/fabric.md")
 NOT_RUN = {"sh root": "it needs root, namespaces or devices", "sh frr": "it needs a host with FRR, or its views", "sh proof": "it proves a crate"}
-READ_ALONE = ("text", "toml")
+READ_ALONE = ("text", "toml", "rust")
 FENCE = re.compile(r"^( *)```(.*)$")
 PATIENCE = 1200  # the first builds of both programs are in it
 
