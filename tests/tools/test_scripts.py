@@ -126,12 +126,12 @@ class Documents(Folder):
         self.assertTrue("take_all" in words and "give_all" not in words)
 
     def test_what_is_too_long(self):
-        long, fits = " ".join(["word"] * 31), " ".join(["word"] * 30)
+        long, fits = " ".join(["word"] * 36), " ".join(["word"] * 35)
         cases = {
             f"{fits}. {fits}.\n": [], f"{fits[5:]} `a b c`.\n": [], f"- {fits}\n- {fits}\n": [],
-            f"{long}.\n": [f"docs/page.md:1: a sentence of 31 words, where 30 are meant: {long}."],
-            f"Short. Also\nshort.\n{long}.\n": [f"docs/page.md:3: a sentence of 31 words, where 30 are meant: {long}."],
-            f"| {fits[25:]} | {fits[20:]} |\n": [f"docs/page.md:1: a cell of 26 words, where 25 are meant: {fits[20:]}"],
+            f"{long}.\n": [f"docs/page.md:1: a sentence of 36 words, where 35 are meant: {long}."],
+            f"Short. Also\nshort.\n{long}.\n": [f"docs/page.md:3: a sentence of 36 words, where 35 are meant: {long}."],
+            f"| {fits[25:]} | {fits[20:]} |\n": [f"docs/page.md:1: a cell of 31 words, where 30 are meant: {fits[20:]}"],
         }
         for text, faults in cases.items():
             with self.subTest(text=text):
@@ -147,12 +147,8 @@ class Drawing(unittest.TestCase):
     def test_names(self):
         self.assertEqual(self.CRATES, {"low": [], "middle": ["low"], "top": ["middle", "low"], "alone": []})
 
-    def test_rows(self):
-        self.assertEqual([sorted(row) for row in crates_svg.rows_of(self.CRATES)], [["alone", "low"], ["middle"], ["top"]])
-
     def test_only_the_nearest_are_joined(self):
-        self.assertEqual(crates_svg.nearest(self.CRATES, "top"), ["middle"])
-        self.assertEqual(crates_svg.drawing_of(self.CRATES).count("<path "), 2)
+        self.assertEqual(sorted(crates_svg.directly_below(self.CRATES, "top")), ["middle"])
 
 
 if __name__ == "__main__":
