@@ -3,7 +3,7 @@
 A name is a word in `backticks`, outside of blocks, that is written as code writes it: with an underscore, in CamelCase, as a
 path with `::`, as a call `name(`, or as a file. A word counts as there if the sources have it outside of comments.
 
-A sentence has at most 35 words and a cell of a table 30; a span in `backticks` is one word, a link its text. Quotations (`>`)
+A sentence has at most 30 words and a cell of a table 25; a span in `backticks` is one word, a link its text. Quotations (`>`)
 are not counted. README has fewer than 900 words.
 """
 
@@ -25,7 +25,7 @@ PATH = re.compile(r"[\w.*/-]+$")
 SHOWN = re.compile(r"!?\[([^]\n]*)\]\([^)\n]*\)")
 END = re.compile(r"(?<=[^\s.])[.!?][\"')*_]*(?=\s|$)")
 ITEM = re.compile(r"^\s*([-*>]|\d+\.)\s+")
-MOST_WORDS = {"sentence": 35, "cell": 30}
+MOST_WORDS = {"sentence": 30, "cell": 25}
 README_WORDS = 900
 
 # Names of others: of Rust's and the kit's libraries, of tools, of formats, of the standards.

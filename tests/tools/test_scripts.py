@@ -126,12 +126,12 @@ class Documents(Folder):
         self.assertTrue("take_all" in words and "give_all" not in words)
 
     def test_what_is_too_long(self):
-        long, fits = " ".join(["word"] * 36), " ".join(["word"] * 35)
+        long, fits = " ".join(["word"] * 31), " ".join(["word"] * 30)
         cases = {
             f"{fits}. {fits}.\n": [], f"{fits[5:]} `a b c`.\n": [], f"- {fits}\n- {fits}\n": [],
-            f"{long}.\n": [f"docs/page.md:1: a sentence of 36 words, where 35 are meant: {long}."],
-            f"Short. Also\nshort.\n{long}.\n": [f"docs/page.md:3: a sentence of 36 words, where 35 are meant: {long}."],
-            f"| {fits[25:]} | {fits[20:]} |\n": [f"docs/page.md:1: a cell of 31 words, where 30 are meant: {fits[20:]}"],
+            f"{long}.\n": [f"docs/page.md:1: a sentence of 31 words, where 30 are meant: {long}."],
+            f"Short. Also\nshort.\n{long}.\n": [f"docs/page.md:3: a sentence of 31 words, where 30 are meant: {long}."],
+            f"| {fits[25:]} | {fits[20:]} |\n": [f"docs/page.md:1: a cell of 26 words, where 25 are meant: {fits[20:]}"],
         }
         for text, faults in cases.items():
             with self.subTest(text=text):
