@@ -1,7 +1,7 @@
 #!/usr/bin/env bash
-# Runs what is too long for the gate: a million calls of eight threads on one book, whose counts have to be exact and whose
+# Runs the tests that are too long for the gate: a million calls of eight threads on one book, whose counts have to be exact and whose
 # journal has to replay to the same report before and after it is compacted; and compacts journals of 10,000 and of 100,000
-# updates, telling what each took. Then what memory a book takes, each in a process of its own: UPDATES updates of 1,000
+# updates, and prints the time of each. Then it measures the memory of a book, each in a process of its own: UPDATES updates of 1,000
 # registers have to fit in what 4,000 registers take, and 20 rounds of 20,000 stations in what two took.
 #   bench/book.sh [UPDATES]        (default: 10,000,000)
 # Needs the kit. It is no crate of this repository and proves nothing: its tests are built beside those of ev_book, without the

@@ -3,7 +3,7 @@
 # medians and ratios.
 #   bench/edge.sh [RUNS]        (default: 5)
 #   COUNT=1 bench/edge.sh       counts instructions an event by callgrind in the place of time, in one round of each size, and
-#                               what is called on the way: clears (memset), copies (memcpy, memmove), memory asked for (needs valgrind)
+#                               calls on the way: clears (memset), copies (memcpy, memmove), allocations (needs valgrind)
 # Needs rustc and the kit. The driver is no crate of this repository: it is proved and built in a copy of ev_edge and the
 # crates below it. Checksums over every answer of the two programs have to agree.
 set -eu
@@ -12,14 +12,14 @@ runs=${1:-5}
 work=$(mktemp -d)
 trap 'rm -rf "$work"' EXIT
 
-# Counted is one round of each size.
+# It counts one round of each size.
 once() { if [ -n "${COUNT:-}" ]; then sed -i -e 's/1_000, 300)/1_000, 1)/' -e 's/65_536, 4)/65_536, 1)/' "$1"; fi; }
 
 cp bench/edge/plain.rs "$work/plain.rs"
 once "$work/plain.rs"
 rustc --edition 2024 -C opt-level=3 -o "$work/plain" "$work/plain.rs"
 
-# The copy takes along what earlier checks kept, where they did. The driver's files end in .txt here, since the gate stops
+# The copy includes the work that earlier checks kept, if any. The driver's files end in .txt here, since the gate stops
 # at a Rattle file that is in none of the repository's crates.
 copy=$work/copy
 mkdir -p "$copy/crates"
@@ -39,7 +39,7 @@ git init -q "$copy"
 ours=$copy/crates/edge_bench/out/edge_bench
 
 if [ -n "${COUNT:-}" ]; then
-  # Each event's calls stand in a part of their own, between two looks at the clock.
+  # Each event's calls have a part of their own, between two looks at the clock.
   for name in ours plain; do
     program=$ours
     [ $name = ours ] || program=$work/plain

@@ -11,7 +11,7 @@ import sys
 
 KINDS = ["new", "take_new", "local", "remote", "flood", "move", "take_newer", "take_known", "announce", "second"]
 SIZES = [1000, 65536]
-# What is counted as a call, and by which names it is known.
+# The calls that are counted, with the names of each.
 CALLS = [("clears", r"memset"), ("copies", r"mem(cpy|move)"), ("memory", r"^(malloc|realloc|calloc)$")]
 
 

@@ -12,7 +12,7 @@ trap 'rm -rf "$work"' EXIT
 
 rustc --edition 2024 -C opt-level=3 -o "$work/plain" bench/learning/plain.rs
 
-# The copy takes along what earlier checks kept, where they did. The driver's files end in .txt here, since the gate stops
+# The copy includes the work that earlier checks kept, if any. The driver's files end in .txt here, since the gate stops
 # at a Rattle file that is in none of the repository's crates.
 copy=$work/copy
 mkdir -p "$copy/crates"

@@ -1,9 +1,9 @@
 #!/usr/bin/env bash
-# Times `evpnd migrate` on seeded streams of a quarter, a half and all of so many records of versions 1 and 2: seconds (the middle
-# one of the runs), peak memory, and nanoseconds a record, which grow with the logarithm of the table's registers alone.
+# Times `evpnd migrate` on seeded streams of a quarter, a half and all of RECORDS records of versions 1 and 2: seconds (the middle
+# one of the runs), peak memory, and nanoseconds a record, which grow with the logarithm of the table's registers only.
 #   bench/migrate.sh [RECORDS] [MACS] [RUNS]        (default: 1000000 100000 3)
 # 16 originators; one record in ten is a withdrawal; of the adverts half bear one of three IP addresses of their station, so that
-# what an edge said last of a station often replaces another address.
+# an edge's newest update about a station often replaces another address.
 set -eu
 cd "$(dirname "$0")/.."
 records=${1:-1000000} macs=${2:-100000} runs=${3:-3}
@@ -35,7 +35,7 @@ originators=$(seq -s, -f '10.0.0.%g' 1 16)
 printf '%12s %10s %10s %10s %12s\n' records seconds kilobytes ns/record written
 for part in $((records / 4)) $((records / 2)) "$records"; do
   for _ in $(seq "$runs"); do
-    # seconds, kilobytes and octets written of one run, by an interpreter that is smaller than what it measures
+    # seconds, kilobytes and octets written of one run, by an interpreter that is smaller than the measured program
     python3 - "$work/$part.records" "$work/out" "$evpnd" migrate --originators "$originators" <<'PY'
 import os, resource, subprocess, sys, time
 stream, made, *command = sys.argv[1:]

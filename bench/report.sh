@@ -24,7 +24,7 @@ command_of() {
   esac
 }
 
-# seconds and kilobytes of one run, by an interpreter that is smaller than what it measures
+# seconds and kilobytes of one run, by an interpreter that is smaller than the measured program
 measure() {
   python3 - "$work/$1" "$work/stream" $(command_of "$1") <<'PY'
 import resource, subprocess, sys, time

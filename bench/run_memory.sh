@@ -4,7 +4,7 @@
 # was the system's. Medians and ratios.
 #   bench/run_memory.sh [RUNS]        (default: 5)
 # Needs rustc and the kit. The driver is no crate of this repository: it is proved and built in a copy of ev_peers and the
-# crates below it. Both programs are measured in turn; where OURS names a built driver, that one is taken.
+# crates below it. It measures both programs in turn; if OURS names a built driver, it takes that one.
 set -eu
 cd "$(dirname "$0")/.."
 runs=${1:-5}
@@ -13,7 +13,7 @@ trap 'rm -rf "$work"' EXIT
 
 rustc --edition 2024 -C opt-level=3 -o "$work/plain" bench/run_memory/plain.rs
 
-# The copy takes along what earlier checks kept, where they did. The driver's files end in .txt here, since the gate stops
+# The copy includes the work that earlier checks kept, if any. The driver's files end in .txt here, since the gate stops
 # at a Rattle file that is in none of the repository's crates.
 below() { sed -n "s/^$1\( [^:]*\)\{0,1\}: //p" crates.txt; }
 build() {

@@ -1,5 +1,5 @@
 #!/usr/bin/env bash
-# Times `evpnd simulate` on seeded scripts for 8 edges, of a quarter, a half and all of so many lines: seconds (the middle one
+# Times `evpnd simulate` on seeded scripts for 8 edges, of a quarter, a half and all of LINES lines: seconds (the middle one
 # of the runs), peak memory, and nanoseconds a line, which stay about the same where the time is linear in the lines.
 #   bench/simulate.sh [LINES] [RUNS]        (default: 1000000 3)
 # Of 20 lines about 8 are frames from 4,000 stations that move now and then, 6 deliveries, 5 announcements, 1 a second.
@@ -42,7 +42,7 @@ PY
 printf '%12s %10s %10s %10s\n' lines seconds kilobytes ns/line
 for part in $((lines / 4)) $((lines / 2)) "$lines"; do
   for _ in $(seq "$runs"); do
-    # seconds and kilobytes of one run, by an interpreter that is smaller than what it measures
+    # seconds and kilobytes of one run, by an interpreter that is smaller than the measured program
     python3 - "$work/$part.script" "$evpnd" simulate --config "$work/edges.toml" <<'PY'
 import resource, subprocess, sys, time
 script, *command = sys.argv[1:]

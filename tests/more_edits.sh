@@ -2,7 +2,7 @@
 # usage: tests/more_edits.sh [--applies | --at-once] [CRATE..]        (default: every crate)
 #
 # Tries the second shelf of wrong bodies, crates/CRATE/more-edits/all.edits. The checker has to refuse each of them, as it has to
-# refuse those in must-fail/. The gate tries must-fail/ alone: an edit costs it 15 to 25 seconds, so there stand the wrong
+# refuse those in must-fail/. The gate tries only must-fail/: an edit costs it 15 to 25 seconds, so that folder has the wrong
 # bodies that one would fear most and the most telling of each main call. Here stands one for nearly each other public function.
 #
 # First it looks whether each edit of both shelves can be applied: each `old:` text has to stand exactly once in its file, as
@@ -11,7 +11,7 @@
 #
 # --at-once tries in one check as many edits as change different functions, and so takes some three seconds an edit. A
 # function is proved from what those that it calls promise and not from their bodies, so the others don't disturb it. An edit
-# that isn't refused so has to be tried alone: see tests/more_edits.py.
+# that isn't refused in this way has to be tried separately: see tests/more_edits.py.
 #
 # A crate below that has no library in out/ is proved first. The status is 1 where an edit can't be applied or isn't refused.
 set -eu

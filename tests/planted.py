@@ -2,6 +2,7 @@
 """Sees that the gate notices what it is for: in each crate a wrong body, a wrong expectation, a function that no check has seen.
 
 usage: tests/planted.py [CRATE..]      (at the top of the repository, where `rt check` has kept work of the crates; default: all)
+       tests/planted.py --mutants [--alone] [CRATE | NAME]..      wrong bodies that no goal refuses: tests/mutants.py says more
 
 The wrong body is that of the crate's first must-fail edit which changes one; the wrong expectation is the first comparison of
 its tests, turned round. Each is planted into a copy of the sources. What judges is what the gate calls of a crate (the rules `proof`
@@ -19,6 +20,7 @@ TOP = os.path.dirname(os.path.dirname(os.path.realpath(__file__)))
 sys.path.insert(0, f"{TOP}/tools/gate")
 import edits
 import facts
+import mutants
 import proofs
 import rooms
 import tried
@@ -123,7 +125,9 @@ def look_at_tests(project, name):
 
 
 def main(names):
-    """Looks at these crates, or at all."""
+    """Looks at these crates, or at all; behind `--mutants`, at the wrong bodies that a test has to refuse."""
+    if names[:1] == ["--mutants"]:
+        return mutants.main(names[1:])
     project, lost, passed, start = Project(TOP), [], 0, time.monotonic()
     for name in names or project.order:
         for look in (look_at_body, look_at_tests):

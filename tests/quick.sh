@@ -2,7 +2,7 @@
 # usage: tests/quick.sh [CRATE..]        (default: every crate, and then the tools and the program)
 #
 # All tests that need no proof, in some minutes: each crate's tests, compiled with the kit's checks and run (tools/gate/make.py tests),
-# and the tools' tests, the program's statuses and the documents' names on a program that isn't proved (tools/try). The last
+# and the tools' and the program's tests, its statuses and the documents' names on a program that isn't proved (tools/try). The last
 # line counts what passed and failed.
 set -u
 cd "$(dirname "$0")/.." || exit 1
@@ -28,8 +28,8 @@ count python3 tools/gate/make.py tests "$@"
 if [ $# = 0 ]; then
   EVPND=$(tools/try --fast --build evpnd) || exit 1
   export EVPND
-  count python3 tests/tools/run.py
-  count bash tests/statuses.sh
+  count python3 tests/run.py
+  count python3 tests/statuses.py
   count bash tests/docs_names.sh
 fi
 echo "$passed passed, $failed failed"

@@ -127,7 +127,7 @@ def look(leaves: List[str], arguments: argparse.Namespace) -> Look:
     return found
 
 
-# ---- what the fabric advertised ----------------------------------------------------------------------------------------
+# ---- the fabric's adverts ----------------------------------------------------------------------------------------
 
 
 class Truths:

@@ -30,7 +30,7 @@ class Step:
     is_wrong: bool
 
 
-# ---- what is drawn ------------------------------------------------------------------------------------------------
+# ---- the drawing ------------------------------------------------------------------------------------------------
 
 
 def owners_over_time(folder: str, vni: int, mac: bytes) -> List[Tuple[int, str]]:
@@ -174,7 +174,7 @@ def station_drawing(folder: str, vni: int, mac: bytes) -> str:
         for step in steps
     ]
     canvas.line(kernel, 3, "7 3")
-    canvas.text(LEFT, 42, "start", "&#8212; where the routes say that it is", ROUTES_COLOUR)
+    canvas.text(LEFT, 42, "start", "&#8212; the owner by the routes", ROUTES_COLOUR)
     canvas.text(LEFT + 250, 42, "start", "- - where the kernel sends (red: elsewhere)", KERNEL_COLOUR)
     return canvas.done()
 

@@ -370,6 +370,8 @@ def best_when_asked(texts: Texts, routes: Callable[[], frr_routes.Routes]) -> Ca
         text = stream.read().strip()
     except UnicodeDecodeError as fault:
         raise Unreadable(f"{name}: a binary file, no text ({fault.reason})") from None
+    if text.startswith("% Unknown command"):
+        raise Unreadable(f"{name}: {text.splitlines()[0]!r}; before FRR 10 the command is '{BEST_BEFORE}', since then '{BEST}'")
     if not (text.startswith("{") and text.endswith("}")):
         raise Unreadable(f"{name}: {'no JSON, or the JSON text is cut' if text else 'empty'}")
     del text

@@ -177,7 +177,7 @@ def advert_of(route: Route) -> Advert:
     return Advert(static, sequence, route.labels[1] if len(route.labels) > 1 else None)
 
 
-# ---- what the fabric says ----------------------------------------------------------------------------------
+# ---- the fabric's routes ----------------------------------------------------------------------------------
 
 
 class Heard:

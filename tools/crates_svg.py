@@ -76,6 +76,9 @@ def source_of(crates: Crates) -> str:
 
 def main(words: List[str]) -> int:
     """Writes the drawing, or checks it."""
+    if words == ["--help"]:
+        print(__doc__)
+        return 0
     with open(os.path.join(TOP, "crates.txt"), encoding="utf-8") as stream:
         source = source_of(crates_of(stream.read()))
     comment = "<!--\n" + source.replace("->", "=>") + "\n-->\n"

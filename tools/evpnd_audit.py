@@ -296,6 +296,7 @@ class Words(argparse.ArgumentParser):
 def parser() -> Words:
     """The words of the command line: a command and what it is about may stand anywhere among the options."""
     words = Words(description=__doc__, formatter_class=argparse.RawDescriptionHelpFormatter)
+    words.add_argument("--version", action="version", version=f"evpnd-audit {records.VERSION}")
     words.add_argument(
         "--vni", type=evpnd_records.vnis_of, metavar="N[,N]", help="the VNIs; all that the host or the view has, if none is named"
     )

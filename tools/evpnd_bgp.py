@@ -35,7 +35,7 @@ from bgp_service import AT_ONCE, LOG, Family, Kinds, Lock, Pending, log_to_stand
 from evpnd_records import add_route_words, vnis_of
 from frr_routes import FOLDED, Routes
 from gobgp import PROTOS, Daemon, Declined, Event, NoDaemon
-from update_records import Fault, Refused, Register, Unreadable, Update, address_text
+from update_records import VERSION, Fault, Refused, Register, Unreadable, Update, address_text
 from update_records import read_address, read_records, record_of, register_of, update_of_report
 
 HOLD = 10  # seconds in which routes of an earlier life may be announced again, before they are withdrawn
@@ -258,14 +258,13 @@ class Gateway:
         return None
 
     def meet(self, update: Update) -> None:
-        """Takes a record: one of our edges', or one that another has of the fabric."""
+        """Takes a record of one of our edges, or one that they hold of the fabric and send back."""
         if update.originator in self.originators:
             with self.lock:
                 is_new = self.own.take(update)
             if is_new:
                 self.announcing.add([register_of(update)])
             return
-        self.told["records of an edge that isn't one of --own: they aren't announced"] += 1
         with self.lock:
             if self.strangers is not None:
                 self.strangers[register_of(update)] = update
@@ -281,6 +280,7 @@ class Gateway:
             self.told[str(fault)] += 1
             return
         if is_answered:
+            self.told["an edge held a route that BGP doesn't advertise: withdrawn there"] += 1
             self.push([register_of(update)])
 
     def announce(self) -> None:
@@ -579,6 +579,7 @@ def own_of(text: str) -> List[bytes]:
 def parser() -> argparse.ArgumentParser:
     """The words of the command line."""
     words = argparse.ArgumentParser(description=__doc__, formatter_class=argparse.RawDescriptionHelpFormatter)
+    words.add_argument("--version", action="version", version=f"evpnd-bgp {VERSION}")
     way = words.add_mutually_exclusive_group(required=True)
     told = "records out, for some seconds or until a signal"
     way.add_argument("--watch", nargs="?", type=float, const=None, default=False, metavar="SECONDS", help=told)

@@ -26,7 +26,7 @@ import sys
 from typing import BinaryIO, List, TextIO, Tuple
 
 from frr_routes import Routes, snapshot_of, updates_between
-from update_records import MOST_ORIGINATORS, Fault, Refused, Unreadable, Update
+from update_records import MOST_ORIGINATORS, VERSION, Fault, Refused, Unreadable, Update
 from update_records import address_text, line_of, open_text, read_number, read_records, record_of, update_of_line
 
 
@@ -121,6 +121,7 @@ def add_route_words(words: argparse.ArgumentParser) -> None:
 def parser() -> argparse.ArgumentParser:
     """The words of the command line."""
     words = argparse.ArgumentParser(description=__doc__, formatter_class=argparse.RawDescriptionHelpFormatter)
+    words.add_argument("--version", action="version", version=f"evpnd-records {VERSION}")
     commands = words.add_subparsers(dest="command", required=True, metavar="COMMAND")
     commands.add_parser("make", help="readable lines to records")
     commands.add_parser("show", help="records to readable lines")

@@ -1,11 +1,15 @@
 # Completion of evpndctl for bash: `source tools/evpndctl.bash`. The words are those of `evpndctl help`, the edges those of
-# `evpndctl edges`, asked of the socket that the line names; where nobody answers there are none but evpndctl's own.
+# `evpndctl edges`, queried at the socket that the line names; without an answer only evpndctl's own.
 
 _evpndctl() {
   local word=${COMP_WORDS[COMP_CWORD]} before=${COMP_WORDS[COMP_CWORD-1]} at=1
   COMPREPLY=()
   if [ "$before" = --control ]; then
     mapfile -t COMPREPLY < <(compgen -f -- "$word")
+    return
+  fi
+  if [[ $word == -* ]]; then
+    mapfile -t COMPREPLY < <(compgen -W "--control --help --json --mac --network --version" -- "$word")
     return
   fi
   local asks=("${COMP_WORDS[0]}")

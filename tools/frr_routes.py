@@ -115,7 +115,7 @@ COMMUNITY_MOBILITY = re.compile(r"MM:([0-9]+)(, sticky MAC)?")
 COMMUNITY_ROUTER = re.compile(r"Rmac:([0-9a-f]{2}(?::[0-9a-f]{2}){5})")
 LABELS = re.compile(r"([0-9]{1,8})(?:/([0-9]{1,8}))?")
 RD_ADDRESS = re.compile(r"([0-9]+\.[0-9]+\.[0-9]+\.[0-9]+):[0-9]+")
-AUTO_RT = 1 << 28  # RFC 8365, 5.1.2.1: the type of an automatic route target that stands for a VXLAN identifier
+AUTO_RT = 1 << 28  # RFC 8365, 5.1.2.1: the type of an automatic route target with a VXLAN identifier
 
 
 class Path(NamedTuple):

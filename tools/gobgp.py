@@ -22,7 +22,7 @@ MADE = os.path.join(os.path.dirname(os.path.abspath(__file__)), "gobgp_api")
 NO_NEIGHBOUR = ("", "<nil>")
 ROUTE_TARGET = 2  # the subtype of an extended community (RFC 4360, 4)
 SECONDS = 30
-SINGLE_THREADED = "SingleThreadedUnaryStream"  # grpc reads a stream in the thread that asks for it, at half the cost
+SINGLE_THREADED = "SingleThreadedUnaryStream"  # grpc reads a stream in the thread that requests it, at half the cost
 REMEMBERED = 1 << 16  # RDs and sets of communities that are kept parsed
 
 

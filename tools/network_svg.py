@@ -85,5 +85,7 @@ def draw(title, bridges, links, notes):
 
 
 if __name__ == "__main__":
+    if sys.argv[1:] == ["--help"]:
+        sys.exit(print(__doc__))
     with open(sys.argv[1], encoding="utf-8") as source:
         print(draw(*read(source)))

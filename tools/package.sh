@@ -6,9 +6,9 @@
 # FOLDER gets evpnd_VERSION_ARCHITECTURE.deb, which installs on a Debian 12 without kit or compiler. The program is the proved
 # one that the gate or `rt run` left in crates/evpnd/out, if no source is newer; else `rt run` proves and builds it first, which
 # takes about an hour. --unproved packs the program that tools/try builds in some minutes, --evpnd PROGRAM any program.
-# The second line that PROGRAM's `version` prints says whether it is proved; a program without this line counts as proved only if
-# it is the one in crates/evpnd/out. Of an unproved one the version ends with ~unproved, and the description says so.
-# FILE is what `rt check` printed when the program was proved; without it the package says that its log isn't there.
+# The second line that PROGRAM's `version` prints is `proved` or `unproved`; a program without this line counts as proved only if
+# it is the one in crates/evpnd/out. Of an unproved one the version ends with ~unproved, and the description states it.
+# FILE is the output of the `rt check` that proved the program; without it the package states that it has no log.
 #
 # In the package: evpnd, evpndctl, evpnd-run, evpnd-audit, evpnd-bgp and evpnd-records with their completion and man pages, units
 # of systemd that aren't enabled, the docs, the examples, and the SHA-256 of the program and of each source that it was built from.
@@ -101,7 +101,10 @@ for name in bgp_routes bgp_service frr_routes gobgp update_records; do
   install -m 644 "$top/tools/$name.py" "$share/"
 done
 # The classes of GoBGP's messages, so that the gateway needs no protoc; without them it makes them at each start.
-python3 -B "$top/tools/gobgp.py" "$share/gobgp_api" || rm -rf "$share/gobgp_api"
+if ! python3 -B "$top/tools/gobgp.py" "$share/gobgp_api" 2> "$work/gobgp"; then
+  rm -rf "$share/gobgp_api"
+  echo "package: without the classes of GoBGP's messages, so evpnd-bgp will need more packages ($(tail -n 1 "$work/gobgp"))" >&2
+fi
 sed -i '1{/^#!/d}' "$share"/*.py
 for name in audit bgp records; do
   printf '#!/bin/sh\nexec /usr/bin/python3 -B /usr/share/evpnd/evpnd_%s.py "$@"\n' "$name" > "$root/usr/bin/evpnd-$name"
@@ -147,7 +150,7 @@ fi
   echo "Where a licence above is Apache-2.0, Debian has its text in /usr/share/common-licenses/Apache-2.0."
 } > "$doc/copyright"
 
-# ---- man pages, of what the programs say of themselves
+# ---- man pages, from the programs' own help
 page() { # NAME LINE COMMAND ..: a page of a command's help
   name=$1 line=$2
   shift 2

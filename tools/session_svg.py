@@ -88,9 +88,9 @@ def drawing(title: str, lines: List[str]) -> str:
 
 def main(words: List[str]) -> int:
     """Prints the drawing of the session in a file."""
-    if len(words) != 1:
-        print(__doc__, file=sys.stderr)
-        return 2
+    if len(words) != 1 or words == ["--help"]:
+        print(__doc__, file=sys.stdout if words == ["--help"] else sys.stderr)
+        return 0 if words == ["--help"] else 2
     with open(words[0], encoding="utf-8") as stream:
         title, *lines = stream.read().splitlines()
     print(drawing(title, lines))

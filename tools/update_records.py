@@ -9,6 +9,7 @@ import socket
 import sys
 from typing import BinaryIO, Dict, Iterator, List, NamedTuple, Optional, TextIO, Tuple, Union
 
+VERSION = "0.1.0"  # of these tools, as `evpnd version` prints it
 MAGIC = b"EV"
 WRITTEN_VERSION = 3
 ADVERTISE, WITHDRAW = 1, 2

@@ -4,7 +4,7 @@
 # Runs the gateway tools/evpnd_bgp.py between records and a real BGP EVPN fabric: beside GoBGP with a second GoBGP as a
 # leaf, root or not, and as root beside an FRR leaf, whose kernel then forwards real frames. It needs Debian's packages
 # gobgpd, golang-github-osrg-gobgp-dev, protobuf-compiler, libprotobuf-dev, python3-grpcio, python3-protobuf, iproute2,
-# and frr for the second half; it names what is missing. Networks, folders and daemons are this run's own. The last line
+# and frr for the second half; it names the missing ones. Networks, folders and daemons are this run's own. The last line
 # is `ok`, above it stand the figures. It takes some minutes, and is no part of the gate.
 set -u
 here=$(cd "$(dirname "$0")" && pwd)

@@ -1,4 +1,4 @@
-# Sourced by the scripts here that speak BGP, behind `here`: what they need of Debian's packages. It names what is missing.
+# Sourced by the scripts here that speak BGP, behind `here`: their needs of Debian's packages. It names the missing ones.
 # $1 is the built program; by default it is EVPND, or the one that `rt run` leaves.
 evpnd=${1:-${EVPND:-$here/../../crates/evpnd/out/evpnd}}
 [ -x "$evpnd" ] || { echo "this needs the built program, as word or by rt run in crates/evpnd"; exit 2; }

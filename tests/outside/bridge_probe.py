@@ -106,7 +106,7 @@ def talk(device, file, seconds, *others):
     end, all_of_them = begin + float(seconds), int(float(seconds) * RATE)
     heard = {bytes.fromhex(mac.replace(":", "")): Heard(begin, end) for mac in others}
     sent = 0
-    # what is under way at the end has two seconds more
+    # frames that are under way at the end have two seconds more
     while (now := time.time()) < end + 2:
         due = begin + sent / RATE if sent < all_of_them else end + 2
         if due <= now:
@@ -155,7 +155,7 @@ def judged(passed):
         again += max(0, given - 1)
         for (device, way), count in ways.items():
             if device.startswith("up") and way == "in":
-                # what it was given by a cable it doesn't send back by it
+                # it doesn't send a cable's frames back over that cable
                 more += max(0, count - given + ways[device, "out"])
             if device.startswith("leg") and way == "out" and not ways[device, "in"]:
                 twice += [number] * (count - 1)

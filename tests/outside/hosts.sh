@@ -52,7 +52,7 @@ tell "ten pings of the second host are answered" [ "$(received "$work/second")" 
 ip netns exec "$two" ping -c 3 -i 0.2 -W 2 -s 1400 -M do 192.168.77.1 | tee "$work/long" | tail -2
 tell "three long ones too" [ "$(received "$work/long")" = 3 ]
 
-# five pings a second, from two seconds before the cable moves to four behind it
+# five pings a second, from two seconds before the cable moves to four seconds later
 ip netns exec "$one" ping -i 0.2 -W 2 192.168.77.2 > "$work/moving" &
 pinging=$!
 sleep 2

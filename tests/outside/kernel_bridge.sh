@@ -2,13 +2,13 @@
 # Needs Linux, root, /dev/net/tun, iproute2 (ip, bridge), ping (iputils) and python3, and for its last part openvswitch-switch
 # (Debian's); takes some three minutes. It is no part of the gate.
 #
-# A bridge that isn't ours, with its own spanning tree, wired by two links to two ports of one edge; a host stands at the
-# edge's third port, and one behind the bridge. Looked at: one of the two links ends up blocked; broadcasts, both ways, come
+# A bridge that isn't ours, with its own spanning tree, wired by two links to two ports of one edge; a host is at the
+# edge's third port, and one behind the bridge. It tests that one of the two links ends up blocked; broadcasts, both ways, come
 # once; when the link that passes is cut, the other takes over. First Linux's bridge below the edge, then above it, then
 # Open vSwitch's RSTP.
 #
 # The second host has a cable to the bridge, in place of an address of the bridge's own: a bridge of the older spanning tree
-# that is designated for no port tells nobody that its root port is another one now (802.1D-1998, 8.6.14).
+# that is designated for no port doesn't announce that it has another root port now (802.1D-1998, 8.6.14).
 set -u
 . "$(dirname "$0")/lab.sh"
 needs ip bridge ping python3 sysctl

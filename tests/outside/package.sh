@@ -1,11 +1,11 @@
 #!/bin/sh
-# Installs the package of tools/package.sh in a folder with nothing but Debian's packages, and tries what is in it. As root:
+# Installs the package of tools/package.sh in a folder with nothing but Debian's packages, and tries its contents. As root:
 #
 #     tests/outside/package.sh ROOT [--monitoring] [--unproved | --evpnd PROGRAM] [--log FILE]
 #
 # ROOT is a folder made by `debootstrap --variant=minbase bookworm ROOT` (or trixie). With --monitoring, Debian's prometheus
 # and systemd are installed there too, and the examples of monitoring are tried by promtool and systemd-analyze: the rules
-# fire at what the audit writes of a wrong leaf and not at that of a right one. Not part of the gate.
+# fire at the audit's text of a wrong leaf and not at that of a right one. Not part of the gate.
 set -eu
 top=$(cd "$(dirname "$0")/../.." && pwd)
 root=$1

@@ -4,8 +4,8 @@
 # Needs Linux, root, iproute2 and python3; takes some 20 seconds a round, and little of a processor. It is no part of the gate.
 #
 # Stations that stay, at one of two edges which forget after ten seconds. In each round each station speaks once, and then none does
-# until all are forgotten: so each is said and withdrawn once a round, at both edges. After each round the memory of the process is
-# looked at (VmRSS). After the last one it may be a twentieth above what it was after the second, for what the system's allocator
+# until all are forgotten: so each is advertised and withdrawn once a round, at both edges. After each round the memory of the process is
+# looked at (VmRSS). After the last one it may be a twentieth above that after the second one, for memory that the system's allocator
 # leaves here and there. An edge that kept each update was seen to grow by 6 MB a round.
 set -u
 . "$(dirname "$0")/lab.sh"
@@ -43,7 +43,7 @@ stop > "$work/stopped"
 # (a busy machine's system drops datagrams at a socket that is full, and the run tells how many)
 tell "its status is 0, and it lost nothing itself" [ "$status $(grep -v 'datagrams dropped by the system$' "$work/notes")" = "0 " ]
 
-# an edge counts what it says: each advert, each withdrawal and its flood line
+# an edge counts its updates: each advert, each withdrawal and its flood line
 said=$(awk '$1 == "mac" && $5 > most { most = $5 } END { print most + 0 }' "$work/report")
 known=$(grep -c '^mac ' "$work/report")
 echo "$known registers, $said things said; $((2 * stations)) and $((2 * stations * rounds + 1)) where each frame came"

@@ -21,7 +21,7 @@ EVERY = 0.1  # seconds between two pings
 AWAY = 30  # seconds for which a link is away
 SETTLED = 25  # seconds that are watched after a daemon has come back: longer than any timer here
 POWER = 10  # seconds after which a host without power has to be gone
-LIFE = 2  # seconds after which all have to agree on an edge that has begun anew
+LIFE = 2  # seconds after which all have to agree on an edge that has started again
 
 
 class Failures:

@@ -23,7 +23,7 @@ from histories import Tally  # noqa: E402, isort: skip
 OURS, REFLECTOR = "10.0.0.1", "10.0.0.9"
 LEAVES = [f"10.0.0.{last}" for last in (11, 12, 13, 14)]
 RATE = 10  # moves a second
-LOOKED = 25  # of so many moves one is looked at
+LOOKED = 25  # moves of which one is checked
 LONG = 600  # seconds that the routes may take
 
 

@@ -2,7 +2,7 @@
 # usage: tests/outside/signals.sh [evpnd]        (the built program; by default the one that `rt run` leaves)
 #
 # Runs two edges by examples/run/evpnd-run, and serves two; ends them by SIGTERM and by SIGINT, and looks whether both reports come; starts it with
-# each of the descriptors 0 to 2 closed, which it has to refuse; and has systemd-analyze look at the units, where that is there. It
+# each of the descriptors 0 to 2 closed, which it has to refuse; and has systemd-analyze look at the units, if it is installed. It
 # needs no root, the UDP ports of examples/run/two_edges.toml, the socket of served.toml, and some ten seconds. It is no part of the gate.
 set -u
 cd "$(dirname "$0")/../.."

@@ -1,7 +1,7 @@
 #!/usr/bin/env bash
 # usage: tests/outside/stations.sh
 #
-# 2,000 random runs of three to eight edges look at what the laws of one station say (stations.rt.txt), while other stations
+# 2,000 random runs of three to eight edges test the laws of one station (stations.rt.txt), while other stations
 # come and go. `rt try` compiles them in a copy of the repository, with checks and without proofs: some ten minutes, so the gate
 # doesn't.
 set -eu

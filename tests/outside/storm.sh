@@ -3,7 +3,7 @@
 #
 # Runs 16 edges with two access ports each, and floods one port for ten seconds with broadcasts of 1,400 octets, as fast as one process
 # sends them. Prints the most memory that the program had, and the greatest age of a frame that came out at the last edge, and fails
-# where that is more than 64 MB or 200 ms, or where nothing is told of what was dropped. It needs no root, UDP port 4789 of 16
+# if that is more than 64 MB or 200 ms, or if no dropped frame is counted. It needs no root, UDP port 4789 of 16
 # loopback addresses, and python3. It is no part of the gate.
 set -u
 cd "$(dirname "$0")/../.."

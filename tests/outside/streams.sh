@@ -5,5 +5,5 @@
 # streams of records of all versions, with refusals, faults and cuts. The gate does the same for 400 streams. It wants the
 # program built, as `rt run` in crates/evpnd leaves it, or named by EVPND; 100,000 streams take some ten minutes.
 set -eu
-cd "$(dirname "$0")/../tools"
-STREAMS=${1-100000} SEED=${2-1} exec python3 -m unittest test_streams
+cd "$(dirname "$0")/.."
+STREAMS=${1-100000} SEED=${2-1} exec python3 run.py test_streams

@@ -18,6 +18,9 @@ IPS = [b"", bytes([192, 0, 2, 10]), bytes([192, 0, 2, 9]), bytes.fromhex("20010d
 SEQUENCES = [0, 0, 1, 2, (1 << 32) - 1]
 COUNTERS = [1, 1, 2, 3, (1 << 64) - 1]
 
+# how a stream begins in whose place there is text: by an octet that can be printed, but not by `E`, as records do
+TEXT_BEGINS = {bytes([octet]) for octet in (*b"\t\n\r", *range(32, 127))} - {b"E"}
+
 Register = Tuple[int, bool, bytes, bytes, int, bytes]
 
 
@@ -89,6 +92,8 @@ def answer_to(stream: bytes, listed: List[bytes]) -> Tuple[str, str, int]:
             notes, status = notes + f"fault {answer.number} at record {number}\n", 1
         elif isinstance(answer, Truncated):
             notes, status = notes + f"truncated {answer.octets} at record {number}\n", 1
+    if stream[:1] in TEXT_BEGINS:
+        notes += "this is not a record stream; `examples/make_records` turns text into records\n"
     return report_of(newest), notes, status
 
 

@@ -16,7 +16,7 @@ from test_audit_messages import TOOLS, TOP, written
 VIEW = os.path.join(TOP, "tests", "data", "frr", "views", "10.3", "home")
 FAR = "02:00:00:00:00:01"
 
-# Prints what a host printed, whole or of one VNI; notes each command; the first table of MACs may be of another moment.
+# Prints the stored output of a host, whole or of one VNI; notes each command; the first table of MACs may be of another moment.
 COMMAND = """#!%s
 import json, os, re, sys
 folder, view, vnis, name = %r, %r, %r, os.path.basename(sys.argv[0])

@@ -130,6 +130,14 @@ class BinaryFiles(Named):
         path = written(view, "routes.json", b" " * 1000000 + BINARY)
         self.names(run("evpnd_audit.py", "--vni", "5001", view), f"{path}: a binary file, no text")
 
+    def test_a_command_that_frr_does_not_know(self):
+        """The command of another version, whose output FRR 8.4.4 gave: the line names the one of each version."""
+        view = os.path.join(self.folder, "view")
+        shutil.copytree(VIEW, view)
+        path = written(view, "best.json", "% Unknown command: show bgp vni all json\n")
+        told = "before FRR 10 the command is 'show bgp l2vpn evpn route vni all json', since then 'show bgp vni all json'"
+        self.names(run("evpnd_audit.py", "--vni", "5001", view), f"{path}: '% Unknown command: show bgp vni all json'; {told}")
+
     def test_a_report_and_routes(self):
         path = written(self.folder, "given", BINARY)
         for words in (("--report", path), ("--routes", path)):

@@ -1,5 +1,6 @@
 """evpndctl (tools/evpndctl) against a console that answers as it is told here."""
 
+import json
 import os
 import re
 import signal
@@ -22,6 +23,99 @@ REPORT = b"flood 5001 10.0.0.1 1 up\n\n"
 
 STATION, OTHER = "02:00:00:00:00:0a", "02:00:00:00:00:0b"
 RECORD = b"EV\x03\x01" + bytes(36)
+
+WITHOUT_IP = {"ip": None, "label2": None, "incarnation": 0}
+WHOLE_REPORT = f"""\
+flood 5001 10.0.0.1 1 up
+mac 5001 {STATION} 10.0.0.1 7 dynamic 2
+mac 5001 {STATION} 10.0.0.2 3.4 withdrawn ip 192.0.2.10
+owner 5001 {STATION} 10.0.0.1
+mac 5001 {OTHER} 10.0.0.2 2 static 0 label2 9
+owner 5001 {OTHER} 10.0.0.2
+flood 5002 10.0.0.1 2 withdrawn
+mac 5002 {STATION} 10.0.0.1 8 withdrawn
+owner 5002 {STATION} none
+"""
+
+# each command of a console: a line, its answer, and the answer's objects
+OBJECTS = {
+    "E up P": ("1 up 1", "1 bpdu 1 0000020279\n", [{"line": "bpdu", "edge": 1, "port": 1, "octets": "0000020279"}]),
+    "E down P": ("1 down 1", "", []),
+    "E mcheck P": ("1 mcheck 7", "1 refused edge 16\n", [{"line": "refused", "edge": 1, "part": "edge", "number": 16}]),
+    "E pin VNI MAC P": (f"1 pin 5001 {STATION} 1", "1 alert 6\n", [{"line": "alert", "edge": 1, "number": 6}]),
+    "E unpin VNI MAC": (f"1 unpin 5001 {STATION}", "", []),
+    "E thaw VNI MAC": (f"2 thaw 5001 {STATION}", "2 ended\n", [{"line": "ended", "edge": 2}]),
+    "E port P": (
+        "1 port 1",
+        "1 port 1 designated learning blocks\n",
+        [{"line": "port", "edge": 1, "port": 1, "role": "designated", "state": "learning", "passes": False}],
+    ),
+    "E report": (
+        "1 report",
+        WHOLE_REPORT,
+        [
+            {"line": "flood", "vni": 5001, "originator": "10.0.0.1", "incarnation": 0, "counter": 1, "state": "up"},
+            {"line": "mac", "vni": 5001, "mac": STATION, "originator": "10.0.0.1", "counter": 7, "state": "dynamic", "sequence": 2, **WITHOUT_IP},
+            {
+                **{"line": "mac", "vni": 5001, "mac": STATION, "originator": "10.0.0.2", "incarnation": 3, "counter": 4},
+                **{"state": "withdrawn", "sequence": None, "ip": "192.0.2.10", "label2": None},
+            },
+            {"line": "owner", "vni": 5001, "mac": STATION, "owner": "10.0.0.1"},
+            {
+                **{"line": "mac", "vni": 5001, "mac": OTHER, "originator": "10.0.0.2", "counter": 2, "state": "static", "sequence": 0},
+                **{**WITHOUT_IP, "label2": 9},
+            },
+            {"line": "owner", "vni": 5001, "mac": OTHER, "owner": "10.0.0.2"},
+            {"line": "flood", "vni": 5002, "originator": "10.0.0.1", "incarnation": 0, "counter": 2, "state": "withdrawn"},
+            {"line": "mac", "vni": 5002, "mac": STATION, "originator": "10.0.0.1", "counter": 8, "state": "withdrawn", "sequence": None, **WITHOUT_IP},
+            {"line": "owner", "vni": 5002, "mac": STATION, "owner": None},
+        ],
+    ),
+    "E owner VNI MAC": (
+        f"1 owner 5001 {STATION}",
+        "1 owner 10.0.0.1\n1 advert 10.0.0.1 static 0\n1 advert 10.0.0.2 dynamic 3\n",
+        [
+            {"line": "owner", "edge": 1, "owner": "10.0.0.1"},
+            {"line": "advert", "edge": 1, "originator": "10.0.0.1", "state": "static", "sequence": 0},
+            {"line": "advert", "edge": 1, "originator": "10.0.0.2", "state": "dynamic", "sequence": 3},
+        ],
+    ),
+    "E counts": (
+        "1 counts",
+        "1 counts stations 1 pinned 0 frozen 2 registers 9 own 4 foreign 5 pending 3\n",
+        [
+            {
+                **{"line": "counts", "edge": 1, "stations": 1, "pinned": 0, "frozen": 2, "registers": 9, "own": 4},
+                **{"foreign": 5, "pending": 3},
+            },
+        ],
+    ),
+    "E stations [VNI]": (
+        "1 stations",
+        f"1 station 5001 {STATION} port 1 age 3\n1 station 5001 {OTHER} port 2 pinned\n1 station 5002 {STATION} frozen\n",
+        [
+            {"line": "station", "edge": 1, "vni": 5001, "mac": STATION, "port": 1, "age": 3, "pinned": False, "frozen": False},
+            {"line": "station", "edge": 1, "vni": 5001, "mac": OTHER, "port": 2, "age": None, "pinned": True, "frozen": False},
+            {"line": "station", "edge": 1, "vni": 5002, "mac": STATION, "port": None, "age": None, "pinned": False, "frozen": True},
+        ],
+    ),
+    "edges": (
+        "edges",
+        EDGES.decode().rstrip("\n") + "\n",
+        [
+            {"line": "edge", "edge": 1, "address": "10.0.0.1", "ports": [{"port": 1, "vni": 5001}], "networks": [5001]},
+            {"line": "edge", "edge": 2, "address": "10.0.0.2", "ports": [], "networks": [5001]},
+        ],
+    ),
+    "help": ("help", "edges\nhelp\n", [{"line": "text", "text": "edges"}, {"line": "text", "text": "help"}]),
+}
+
+
+def commands_of_console() -> List[str]:
+    """The commands that a console has, by its source."""
+    with open(os.path.join(TOP, "crates", "ev_console", "src", "printing.rt"), encoding="utf-8") as source:
+        text = source.read()
+    return re.search(r'b"(E up P\\n.*?)",\n', text, re.S).group(1).replace("\\n", "").replace("\\", "").split("\n")
 
 
 class Server:
@@ -129,6 +223,50 @@ class Evpndctl(unittest.TestCase):
         self.assertEqual(self.ask("1", "foo"), (1, script, f"evpndctl: no such command: foo; {forms}\n"))
         self.assertEqual(self.ask("1", "reprot"), (1, script, f"evpndctl: no such command: reprot; did you mean `E report`? {forms}\n"))
         self.assertEqual(self.ask("hlep"), (1, script, f"evpndctl: no such command: hlep; did you mean `help`? {forms}\n"))
+
+    def test_json(self) -> None:
+        """`--json` prints the answer to each command of a console as one array, whose objects are its lines; the status stays."""
+        self.assertEqual(sorted(OBJECTS), sorted(commands_of_console()))
+        self.server({line: f"{answer}\n".encode() for line, answer, _ in OBJECTS.values()})
+        for line, answer, objects in OBJECTS.values():
+            status, out, _ = self.ask("--json", *line.split())
+            self.assertEqual((status, json.loads(out)), (int("refused" in answer or "ended" in answer), objects), line)
+            self.assertEqual(out.count("\n"), 1)
+
+    def test_json_of_lines(self) -> None:
+        """Of several lines each answer is an array on a line of its own, an invalid line's too."""
+        self.server({"edges": EDGES, "help": HELP, "1 foo": b"bad: why\n\n", "1 down 1": b"\n"})
+        status, out, _ = self.ask("--json", typed=b"1 down 1\n1 foo\nedges\n")
+        self.assertEqual(status, 1)
+        self.assertEqual([json.loads(line) for line in out.splitlines()], [[], [{"line": "bad", "why": "why"}], OBJECTS["edges"][2]])
+
+    def test_parts_of_a_report(self) -> None:
+        """`--network` and `--mac` leave out the other lines of a report, and nothing of a refusal."""
+        lines = WHOLE_REPORT.splitlines(keepends=True)
+        self.server({"1 report": f"{WHOLE_REPORT}\n".encode(), "9 report": b"9 refused edge 18\n\n"})
+        self.assertEqual(self.ask("1", "report", "--network", "5001"), (0, "".join(lines[:6]), ""))
+        self.assertEqual(self.ask("--mac", STATION.upper(), "1", "report"), (0, "".join(lines[1:4] + lines[7:]), ""))
+        self.assertEqual(self.ask("1", "--network", "5001", "report", "--mac", OTHER), (0, "".join(lines[4:6]), ""))
+        self.assertEqual(self.ask("1 report", "--network", "7"), (0, "", ""))
+        self.assertEqual(self.ask("9", "report", "--network", "5001")[:2], (1, "9 refused edge 18\n"))
+        status, out, _ = self.ask("--json", "1", "report", "--mac", OTHER)
+        self.assertEqual((status, json.loads(out)), (0, OBJECTS["E report"][2][4:6]))
+
+    def test_wrong_parts(self) -> None:
+        """They are for a report, of a network and a MAC; and what runs on and on has no JSON."""
+        wrong = (
+            (["1", "stations", "--network", "5001"], "--network and --mac are for the line `E report`"),
+            (["--mac", STATION], "--network and --mac are for the line `E report`"),
+            (["1", "report", "--network", "16777216"], "'16777216' is no VNI: a number from 0 to 16777215"),
+            (["1", "report", "--network", "-"], "'-' is no VNI"),
+            (["1", "report", "--mac", "02:00"], "'02:00' is no MAC, as in 02:00:00:00:00:0a"),
+            (["watch", "--json"], "--json isn't for watch"),
+            (["--json", "records"], "--json isn't for records"),
+        )
+        for words, why in wrong:
+            status, out, notes = self.ask(*words)
+            self.assertEqual((status, out), (2, ""), words)
+            self.assertIn(why, notes)
 
     def test_lines_of_standard_input(self) -> None:
         """Each is answered, what asks for nothing is passed over, and one refusal among them is the status."""
@@ -303,6 +441,8 @@ class Evpndctl(unittest.TestCase):
         self.assertEqual(self.complete("--control", self.path, "1", "r"), ["report"])
         self.assertEqual(self.complete("1", "port", ""), [])
         self.assertEqual(self.complete("w"), ["watch"])
+        self.assertEqual(self.complete("1", "report", "--n"), ["--network"])
+        self.assertEqual(self.complete("--"), ["--control", "--help", "--json", "--mac", "--network", "--version"])
         self.assertEqual(self.complete("watch", ""), [])
 
     def test_completion_where_nobody_answers(self) -> None:

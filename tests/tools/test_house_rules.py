@@ -14,12 +14,12 @@ TOP = os.path.dirname(os.path.dirname(os.path.dirname(os.path.abspath(__file__))
 PUBLIC = re.compile(r"\s*pub (?:const fn|fn|struct|enum|trait|type|const|static)\b")
 FUNCTION = re.compile(r"\s*(?:pub\(crate\) )?(?:const )?fn \w")
 RT_WIDTH, ANTT_WIDTH, SUBJECT_WIDTH = 100, 120, 72
-SUBJECTS_SINCE = "42c388f"  # subjects are looked at behind this commit, of 24 November 2026
+SUBJECTS_SINCE = "42c388f"  # the subjects of later commits than this one of 2026-11-24 are checked
 
-LONG_RT = {  # bpdu_wire's is the row of a table, ether_wire's are tables of digits, ev_words' texts of the program
+LONG_RT = {  # bpdu_wire's is the row of a table, ether_wire's are tables of digits, ev_words' texts of the program, ev_run's rows of Linux
     "crates/bpdu_wire/src/reading.rt": 1, "crates/ether_wire/src/text.rt": 4, "crates/ev_report/src/usage.rt": 2, "crates/ev_words/src/subcommand.rt": 5,
     "crates/evpnd_report/src/main.rt": 1, "crates/evpnd_report/src/program.rt": 1,
-    "crates/rstp_net/src/laws.rt": 1,
+    "crates/rstp_net/src/laws.rt": 1, "tests/unproved/ev_run/tests.rt.txt": 3,
 }
 LONG_ANTT = 1
 MOST_LINES, MOST_PARAMETERS = 450, 6
@@ -29,11 +29,11 @@ MANY_PARAMETERS = {  # `self` isn't counted; ev_tunnel's are the arguments that 
 }
 
 
-def files(ending: str, part: str = "") -> List[str]:
-    """The files of the crates with an ending, of git and new ones."""
-    words = ["git", "ls-files", "-z", "--cached", "--others", "--exclude-standard", "crates"]
+def files(ending: str) -> List[str]:
+    """The files of the crates and of tests/unproved/ with an ending, of git and new ones. `.txt` behind an ending doesn't count."""
+    words = ["git", "ls-files", "-z", "--cached", "--others", "--exclude-standard", "crates", "tests/unproved"]
     names = subprocess.run(words, cwd=TOP, capture_output=True, check=True).stdout.decode().split("\0")
-    return sorted(name for name in names if name.endswith(ending) and part in name and os.path.exists(os.path.join(TOP, name)))
+    return sorted(name for name in names if name.removesuffix(".txt").endswith(ending) and os.path.exists(os.path.join(TOP, name)))
 
 
 def lines_of(name: str) -> List[str]:
@@ -43,8 +43,8 @@ def lines_of(name: str) -> List[str]:
 
 
 def bare_items(lines: List[str]) -> Iterator[Tuple[int, str]]:
-    """The public items and the functions that no `///` stands above; attributes and plain comments may stand between. What an
-    implementation of a trait has is told at the trait."""
+    """Yields the public items and the functions without a `///` above them; attributes and plain comments may come between. The
+    items of a trait's implementation are described at the trait."""
     is_told = is_of_trait = False
     for number, line in enumerate(lines, 1):
         text = line.strip()
@@ -95,10 +95,10 @@ class Rules(unittest.TestCase):
     """Each rule."""
 
     def test_heads_of_files(self):
-        self.assertEqual([name for name in files(".rt", "/src/") if not lines_of(name)[0].startswith("//!")], [])
+        self.assertEqual([name for name in files(".rt") if not lines_of(name)[0].startswith("//!")], [])
 
     def test_items_are_told(self):
-        sources = [name for name in files(".rt", "/src/") if not re.search(r"/tests(/|\.rt$)", name)]
+        sources = [name for name in files(".rt") if not re.search(r"/tests(/|\.rt(\.txt)?$)", name)]
         bare = [f"{name}:{number}: {item}" for name in sources for number, item in bare_items(lines_of(name))]
         self.assertEqual(bare, [])
 
@@ -122,13 +122,13 @@ class Rules(unittest.TestCase):
         self.assertLessEqual(sum(len(line) > ANTT_WIDTH for name in files(".antt") for line in lines_of(name)), LONG_ANTT)
 
     def test_lengths_of_files(self):
-        long = {name: len(lines_of(name)) - 1 for name in files(".rt", "/src/") if len(lines_of(name)) - 1 > MOST_LINES}
+        long = {name: len(lines_of(name)) - 1 for name in files(".rt") if len(lines_of(name)) - 1 > MOST_LINES}
         self.assertEqual(long, {})
 
     def test_parameters(self):
         """None more than these; where one has fewer, enter that."""
         many = {name: {function: count for function, count in parameters("\n".join(lines_of(name))) if count > MOST_PARAMETERS}
-                for name in files(".rt", "/src/") if "/tests" not in name}
+                for name in files(".rt") if "/tests" not in name}
         self.assertEqual({name: found for name, found in many.items() if found}, MANY_PARAMETERS)
 
     def test_counts_of_parameters(self):
@@ -142,7 +142,7 @@ fn three<'x>(&'x self, a: &[(u8, u8)], b: impl Fn(u8, u8) -> bool, // c: u8
     def test_subjects_of_commits(self):
         words = ["git", "log", "--no-merges", "--format=%h %s", f"{SUBJECTS_SINCE}..HEAD"]
         done = subprocess.run(words, cwd=TOP, capture_output=True, encoding="utf-8", check=False)
-        if done.returncode != 0:  # a copy without that commit: the newest alone
+        if done.returncode != 0:  # a copy without that commit: only the newest
             done = subprocess.run([*words[:-1], "-1"], cwd=TOP, capture_output=True, encoding="utf-8", check=True)
         subjects = [line.split(" ", 1)[1] for line in done.stdout.splitlines()]
         self.assertEqual([subject for subject in subjects if len(subject) > SUBJECT_WIDTH], [])

@@ -11,8 +11,9 @@ from prose import counted, files_of_git
 
 # Phrases in 1,000 words.
 DOCUMENTS = 4.0
-EACH_DOCUMENT = 12.0
+EACH_FILE = 12.0
 COMMENTS = 6.0
+SHORT = 100  # words of comments in which one phrase says little
 
 
 class Prose(unittest.TestCase):
@@ -33,10 +34,17 @@ class Prose(unittest.TestCase):
     def test_each_document(self):
         for path in files_of_git(("*.md",)):
             with self.subTest(path=path):
-                self.assertLessEqual(counted([path]).per_thousand(), EACH_DOCUMENT)
+                self.assertLessEqual(counted([path]).per_thousand(), EACH_FILE)
 
     def test_comments(self):
         self.assertLessEqual(counted(files_of_git(("*.rt", "*.antt", "*.py", "*.sh", "*.toml"))).per_thousand(), COMMENTS)
+
+    def test_comments_of_each_script(self):
+        for path in files_of_git(("*.py", "*.sh")):
+            count = counted([path])
+            if count.words >= SHORT:
+                with self.subTest(path=path):
+                    self.assertLessEqual(count.per_thousand(), EACH_FILE)
 
     def test_a_phrase_is_found_and_code_is_not(self):
         with tempfile.NamedTemporaryFile("w", suffix=".md", encoding="utf-8") as page:

@@ -1,4 +1,4 @@
-"""The scripts that look after the repository: its drawing, its edits, its documents."""
+"""The scripts that look after the repository: its drawing, its edits, its documents, and the table of statuses."""
 
 import os
 import subprocess
@@ -12,6 +12,7 @@ sys.path.insert(0, os.path.join(TOP, "tests"))
 import crates_svg
 import docs_names
 import more_edits
+import statuses
 
 EDITS = """edit: one_for_two
 file: src/lib.rt
@@ -139,6 +140,21 @@ class Documents(Folder):
                 self.assertEqual(docs_names.length_faults("docs/page.md"), faults)
 
 
+class Help(unittest.TestCase):
+    """`--help` of the tools that CONTRIBUTING names prints how to call them, and does nothing else."""
+
+    def test_each_prints_it(self):
+        for name in ("audited", "check", "gate/edits.py", "gate/make.py", "kits", "package.sh", "seconds", "try"):
+            done = subprocess.run([os.path.join(TOP, "tools", name), "--help"], capture_output=True, encoding="utf-8", check=False)
+            self.assertEqual((done.returncode, done.stderr), (0, ""), name)
+            self.assertIn(f"tools/{name}", done.stdout)
+
+    def test_check_names_a_missing_file(self):
+        words = [os.path.join(TOP, "tools", "check"), "crates/nowhere.rt"]
+        done = subprocess.run(words, cwd=TOP, capture_output=True, encoding="utf-8", check=False)
+        self.assertEqual((done.returncode, done.stdout, done.stderr), (1, "", "tools/check: there is no file crates/nowhere.rt\n"))
+
+
 class Drawing(unittest.TestCase):
     """tools/crates_svg.py: each crate above those that it names."""
 
@@ -149,6 +165,28 @@ class Drawing(unittest.TestCase):
 
     def test_only_the_nearest_are_joined(self):
         self.assertEqual(sorted(crates_svg.directly_below(self.CRATES, "top")), ["middle"])
+
+
+class Cells(unittest.TestCase):
+    """tests/statuses.py: what a cell of tests/statuses.txt allows."""
+
+    def test_what_is_allowed(self):
+        cases = {"": "", "a; b": "a\nb\n", "> a": "> a\n", "*": "a", ">full": "", "+": "a\n", "~ a & b": "b a\n", "^ a": "ab\n", "% a.": "ab\n", r"\xe4": "\xe4\n"}
+        for cell, said in cases.items():
+            self.assertTrue(statuses.is_said(statuses.plain(cell), said), cell)
+
+    def test_what_is_not(self):
+        cases = {"": "\n", "a; b": "a b\n", "a": "a", "> a": "> b\n", "+": "", "~ a & b": "a\n", "^ a": "ba\n", "% a.": "abc\n"}
+        for cell, said in cases.items():
+            self.assertFalse(statuses.is_said(statuses.plain(cell), said), cell)
+
+    def test_names(self):
+        with tempfile.TemporaryDirectory() as work:
+            table = statuses.Statuses(work)
+        table.row_text("port", "vni = 1")
+        table.row_text("edge", table.text_of("address = #:#x; {port}"))
+        self.assertEqual(table.text_of("{2*edge}"), "address = 1:01\nvni = 1\naddress = 2:02\nvni = 1")
+        self.assertEqual(table.text_of("[{3,port}] {4x0}"), "[vni = 1,vni = 1,vni = 1] 0000")
 
 
 if __name__ == "__main__":

@@ -10,7 +10,7 @@ from typing import Dict
 TOP = os.path.dirname(os.path.dirname(os.path.dirname(os.path.abspath(__file__))))
 COMPILER = shutil.which("cc")
 
-# `rt try` of a kit that builds a program below TMPDIR, runs it, and removes it: the source is C, and a run says so in a file.
+# `rt try` of a kit that builds a program below TMPDIR, runs it, and removes it: the source is C, and a run notes that in a file.
 RT = """#!/bin/sh
 case $1 in
   version) echo 'another-kit 1'; exit ;;

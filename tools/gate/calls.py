@@ -8,12 +8,12 @@ import time
 
 import own_kit
 
-# What a check prints if it refuses: the crate's proofs, or its text.
+# Lines of a check that refuses: the crate's proofs, or its text.
 REFUSED = re.compile(r"^logic=not-proved|^only=\d+ proved=|\berror\[[\w-]+\]|^(?:\./)?(?:src|specs|proofs)/\S+: error\b", re.M)
-# What it prints where it has proved all, but could not end a search that it was asked for.
+# The line of a check that has proved all, but could not end a search.
 UNENDED = "the search for empty contracts did not end"
 RESULT = re.compile(r"^logic=(proved|not-proved)\b", re.M)
-# what it prints whether it refuses or not
+# lines that it prints whether it refuses or not
 PLAIN = re.compile(r"fn \S+: proved|so far: |statements |library |logic /|crate \w+: modules |$")
 
 

@@ -6,7 +6,7 @@ usage: tools/gate/edits.py CRATE..      (at the top of the repository, over what
 A function is proved from the contracts of those that it calls, never from their bodies. So edits of the bodies of different
 functions don't disturb each other, and one check tries them together. It checks these functions alone (`--only`). An edit counts as
 refused if the check refuses the function that it changes, for a goal of its own. A function that only calls one that isn't proved is
-tried again in other company. A check with `--only` may pass what a whole check refuses, and never the other way round. So each edit
+tried again in other company. A check with `--only` may pass an edit that a whole check refuses, and never the other way round. So each edit
 that isn't refused like this is tried alone and whole: an edit outside a body, one whose function has no clear name, one that isn't
 read or is proved.
 
@@ -35,7 +35,7 @@ from calls import Calls, text_of
 from project import Project
 from sources import function_at, is_end_of
 
-# what a check prints of a name that an edit took away
+# the line of a check about a name that an edit took away
 LOST = re.compile(r"has no field|is not in scope|has no `|was not admitted")
 # a text that can't be read or compiled: nothing was judged
 UNREAD = re.compile(r"^(?:\./)?(?:src|specs)/\S+: error\b|\berror\[[\w-]+\]", re.M)
@@ -218,7 +218,7 @@ class Trial:
                 again.append(edit.path)
             else:
                 alone.append(edit.path)
-        # where nothing was judged, another check in this company would say the same
+        # if nothing was judged, another check in this company would end in the same way
         return (later, alone + again) if len(again) == len(taken) else (later + again, alone)
 
     def only_calls(self, edit, verdict):
@@ -280,8 +280,13 @@ def first_line_of(said):
 
 def main(names):
     """Tries the edits of crates over what `rt check` kept in their folders."""
+    if names == ["--help"]:
+        print(__doc__)
+        return 0
     project, passed, failed = Project(os.getcwd()), 0, 0
     for name in names or project.order:
+        if name not in project.lines:
+            sys.exit(f"crates.txt has no {name}")
         kept = f"{project.folder(name)}/out"
         if not os.path.isdir(kept):
             sys.exit(f"crates/{name}/out has no kept work: run `rt check` in crates/{name} first")

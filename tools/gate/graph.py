@@ -8,9 +8,9 @@ from concurrent.futures import FIRST_COMPLETED, ThreadPoolExecutor, wait
 
 from calls import free_memory
 
-# in the order in which what is ready starts
+# in the order in which tasks that are ready start
 RULES = ("proof", "edits", "tests", "house", "layout", "texts")
-# What a check of the largest crates was seen to need, in MiB, and how many crates below one make it large.
+# The memory of a check of the largest crates, in MiB, as measured, and how many crates below one make it large.
 LARGE, MANY = 5500, 15
 HEAD = """builddir = {folder}
 pool large

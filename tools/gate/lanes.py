@@ -6,7 +6,7 @@ import time
 
 from calls import free_memory, processors
 
-# crates with fewer lines: a second job would read all that stands below once more, some half of their proofs
+# crates with fewer lines: a second job would read all crates below once more, some half of their proofs
 SMALL = 800
 # MiB that have to be free for a second job
 ENOUGH = 11_000

@@ -6,6 +6,7 @@ import stat
 import subprocess
 
 import rooms
+import tried
 from calls import UNENDED, text_of
 from project import PARTS, files_below
 from sources import shape_of, sources_in
@@ -14,7 +15,7 @@ from sources import shape_of, sources_in
 WARNING = re.compile(r"^(?:rt: warning: .*|warning: (?:no call of|calls of a tactic that chose) .*)$", re.M)
 # the flag of `rt check` for that search
 SEARCH = "--empty-contracts"
-# what a crate of this repository doesn't write, beside why
+# texts that no crate of this repository may have, with the reason
 NEVER = (
     (r"\bAbort\b", "ends the process"),
     (r"\bmacro_rules\b", "is a macro of our own"),
@@ -31,24 +32,28 @@ OWN_OPERATOR = re.compile(r"(?:◌\S*◌|\bOn\w+) as [^\s,;}]+")
 
 
 def layout(project, name, calls):
-    """Runs `rt fmt`, which writes, on a copy, which has to stay as it is."""
+    """Runs `rt fmt`, which writes, on a copy of the crate with its tests of tests/unproved/. Each file has to stay as it is."""
     with rooms.room_for(project, name, "layout") as folder:
+        origins = {f"{folder}/src/{to}": path for path, to in tried.copy_unproved(project, name, folder).items()}
+        for path in files_of(project.folder(name)):
+            origins[f"{folder}/{os.path.relpath(path, project.folder(name))}"] = path
         status, out, err = calls.rt(folder, "fmt")
-        changed = [it for part in PARTS for it in differing(f"{project.folder(name)}/{part}", f"{folder}/{part}")]
+        changed = differing(origins, files_of(folder))
     found = [f"fail not in the layout: {os.path.relpath(it, project.top)}" for it in changed]
     if status:
         found.append(f"fail rt fmt ended with status {status}: {text_of(out, err)[-300:]}")
     return found + ["pass 0"]
 
 
-def differing(left, right):
-    """Returns the files that differ between two folders."""
-    if not os.path.isdir(left):
-        return []
-    both = filecmp.dircmp(left, right)
-    _, changed, unread = filecmp.cmpfiles(left, right, both.common_files, shallow=False)
-    inner = [it for name in both.common_dirs for it in differing(f"{left}/{name}", f"{right}/{name}")]
-    return [f"{left}/{it}" for it in changed + unread + both.left_only + both.right_only] + inner
+def files_of(folder):
+    """Returns the paths of all files of a crate's sources, definitions and proofs."""
+    return [it for part in PARTS for it in files_below(f"{folder}/{part}")]
+
+
+def differing(origins, copies):
+    """Returns the files that differ from their copies. `origins` has the origin of each copy; other files are additions."""
+    changed = [path for copy, path in origins.items() if not os.path.exists(copy) or not filecmp.cmp(copy, path, shallow=False)]
+    return changed + [it for it in copies if it not in origins]
 
 
 def faults_of_search(said):

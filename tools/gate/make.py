@@ -65,7 +65,8 @@ def earlier_folders(project):
 
 def inputs_of(project, rule, name):
     """Returns a checksum of what a rule reads."""
-    more = {"tests": [tried.unproved_tests(project, name)], "edits": [f"{project.folder(name)}/must-fail"]}
+    tests = [tried.unproved_tests(project, name)]
+    more = {"tests": tests, "layout": tests, "edits": [f"{project.folder(name)}/must-fail"]}
     return project.inputs(name, more.get(rule, ()))
 
 

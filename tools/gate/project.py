@@ -4,7 +4,7 @@ import os
 import subprocess
 
 PARTS = ("src", "specs", "proofs")
-# what says beside src/ how a program is run, and what it has to write
+# the files beside src/ with a program's arguments and its expected output
 RUN_FILES = ("args", "stdin", "stdout", "status")
 
 

@@ -9,7 +9,7 @@ import sources
 from calls import RESULT, text_of
 
 BACKENDS = ("llvm", "rattle")
-# what a check keeps of its work, below a crate's out/
+# the files of kept work, below a crate's out/
 KEPT = "incremental"
 # what `rt` prints if a check doesn't begin with nothing
 BEGUN = "begins with what a check kept in"

@@ -309,7 +309,7 @@ class Reading:
     project: Project
     contracts: Dict[str, Contracts]  # of each crate, the public ones
     public: Set[Path]  # what public contracts lead to
-    inner: Set[Path]  # what contracts of private items lead to, or proofs that stand in src/
+    inner: Set[Path]  # definitions that contracts of private items or proofs in src/ lead to
 
     def part_of(self, path: Path) -> str:
         """Whether a place is to be read, cited inside alone, or by proofs alone."""

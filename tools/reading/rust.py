@@ -14,7 +14,7 @@ ATTRIBUTE = re.compile(r"#!?\[")
 CLAUSE = re.compile(r"\b(requires|ensures|ghost)\b[\s\w*:=]*$")
 CAPITAL = re.compile(r"(?:\b\w+::)*\b[A-Z]\w*")
 PARAMETER = re.compile(r"\b(\w+)\s*:(?!:)")
-# ghost members that are proofs, or of use to proofs alone: their statements are the traits' own
+# ghost members that are proofs, or of use only to proofs: their statements are the traits' own
 PROOFS = {"coded", "laws", "total", "matches_partial_cmp", "matches_eq", "respects_eq", "inverse", "inverse_ok", "size"}
 
 

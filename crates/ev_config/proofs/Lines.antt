@@ -1,7 +1,7 @@
 -- Lines that are printed one after the other.
 use Rattle.std.proofs.Common.{◌≡◌, ℕ, ◌+◌, inl, inr, List, [], ◌∷◌, ◌++◌, length, Some, Ok, Err, refl, sym, ap}
 use Rattle.std.proofs.Common.{◌∙◌}
-use Rattle.std.proofs.Common.{append_assoc, arith}
+use Rattle.std.proofs.Common.{append_assoc, arith, map}
 use Rattle.std.specs.Prelude.{Result}
 use Rattle.std.proofs.lemmas.List.{append-nil, length-map}
 use Rattle.toml.specs.Data.{Members}
@@ -12,7 +12,7 @@ use Rattle.ev_config.specs.declared.faults.FaultyKey.{FaultyKey}
 use Rattle.ev_config.specs.declared.whole.Use.{Use}
 use Rattle.ev_config.specs.Faults.{Faulty, faults_in}
 use Rattle.ev_config.specs.Inner.Faults.{faulty_of, faults_view}
-use Rattle.ev_config.specs.Told.{line_text, lines_text, TellsEach, TellsRefusal}
+use Rattle.ev_config.specs.Told.{line_text, lines_text, TellsEach, TellsRefusal, AreFaultLines}
 use Rattle.ev_config.specs.Inner.Told.{TellsFaults}
 
 -- one line more
@@ -32,12 +32,6 @@ tells_each faults fs old new (Ok done) e (words, count, is) =
     (words, count ∙ sym (length-map faults faulty_of) ∙ ap length e, is)
 tells_each faults fs old new (Err device) e is = is
 
--- so some text is put
-pub tells_some : {X : Type 0} (xs : List X) (old new : End) (r : Result (Unit {0}) Device) → TellsEach xs old new r
-    → (told : List ℕ) × Puts old new told r
-tells_some xs old new (Ok done) (words, count, is) = (lines_text words, is)
-tells_some xs old new (Err device) is = ([], is)
-
 -- the faults that were found are those of the document
 pub faults_told : (wanted : Use) (t : Members) (faults : List FaultyKey) (old new : End)
     (r : Result (Unit {0}) Device) → faults_view faults ≡ faults_in wanted t → TellsEach faults old new r
@@ -50,8 +44,30 @@ pub text_told : (wanted : Use) (text : List ℕ) (t : Members) (old new : End) (
 text_told wanted text t old new r is (inl each) = inl (t, is, each)
 text_told wanted text t old new r is (inr one) = inr one
 
--- so some text is put
-pub refusal_some : (wanted : Use) (text : List ℕ) (old new : End) (r : Result (Unit {0}) Device)
-    → TellsRefusal wanted text old new r → (told : List ℕ) × Puts old new told r
-refusal_some wanted text old new r (inl (t, is, each)) = tells_some (faults_in wanted t) old new r each
-refusal_some wanted text old new r (inr (words, put)) = (line_text words, put)
+-- as many lines as faults, if none could be written
+no_words : {X : Type 0} → X → List ℕ
+no_words fault = []
+
+-- so these lines are put
+pub refusal_lines : (wanted : Use) (text : List ℕ) (old new : End) (r : Result (Unit {0}) Device)
+    → TellsRefusal wanted text old new r
+    → (told : List ℕ) × AreFaultLines wanted text told × Puts old new told r
+refusal_lines wanted text old new (Ok done) (inl (t, is, (words, count, put))) = (
+  lines_text words,
+  inl (record { document = t; parsed = is; lines = words; count = count; told_is = refl }),
+  put,
+)
+refusal_lines wanted text old new (Err device) (inl (t, is, failed)) =
+    let words = map no_words (faults_in wanted t) in (
+      lines_text words,
+      inl (record {
+        document = t;
+        parsed = is;
+        lines = words;
+        count = length-map (faults_in wanted t) no_words;
+        told_is = refl;
+      }),
+      failed,
+    )
+refusal_lines wanted text old new r (inr (words, put)) =
+    (line_text words, inr (record { words = words; told_is = refl }), put)

@@ -33,3 +33,22 @@ TellsAll wanted text old new result =
 -- Each fault is printed; or one line, if there is no document, or there was no memory to find more.
 abbrev pub TellsRefusal : Use → List ℕ → End → End → Result (Unit {0}) Device → Type 0
 TellsRefusal wanted text old new result = TellsAll wanted text old new result ⊎ TellsOne old new result
+
+-- ---- the text of these lines
+
+-- a line for each fault of a text's document
+pub record IsLineEach (wanted : Use) (text told : List ℕ) : Type 0 where
+  pub document : Members
+  pub parsed : parse_document text ≡ Some document
+  pub lines : List (List ℕ)
+  pub count : length lines ≡ length (faults_in wanted document)
+  pub told_is : told ≡ lines_text lines
+
+-- one line
+pub record IsOneLine (told : List ℕ) : Type 0 where
+  pub words : List ℕ
+  pub told_is : told ≡ line_text words
+
+-- A line for each fault; or one line, if there is no document, or there was no memory to find more.
+abbrev pub AreFaultLines : Use → List ℕ → List ℕ → Type 0
+AreFaultLines wanted text told = IsLineEach wanted text told ⊎ IsOneLine told

@@ -26,10 +26,10 @@ use Rattle.ev_exchange.specs.Laws.{MeetingAgrees, said_by, Carries, IsDelivered,
 
 -- ---- lists
 module _ {X : Type 0} where
-  first_in : (x : X) (xs : List X) → Contains (x ∷ xs) x
+  pub first_in : (x : X) (xs : List X) → Contains (x ∷ xs) x
   first_in x xs = Contains-append_left (x ∷ []) xs x (Contains-push [] x)
 
-  first_or_later : (x : X) (xs : List X) (y : X) → Contains (x ∷ xs) y → (x ≡ y) ⊎ Contains xs y
+  pub first_or_later : (x : X) (xs : List X) (y : X) → Contains (x ∷ xs) y → (x ≡ y) ⊎ Contains xs y
   first_or_later x xs y c = go (Contains-append_cases (x ∷ []) xs y c)
     where
       first : Contains [] y ⊎ (x ≡ y) → (x ≡ y) ⊎ Contains xs y
@@ -40,7 +40,7 @@ module _ {X : Type 0} where
       go (inl one) = first (Contains-push_cases [] x y one)
       go (inr more) = inr more
 
-  filter_in : (p : X → Bool) (xs : List X) (y : X) → Contains (filter p xs) y → (p y ≡ true) × Contains xs y
+  pub filter_in : (p : X → Bool) (xs : List X) (y : X) → Contains (filter p xs) y → (p y ≡ true) × Contains xs y
   filter_in p [] y c = absurd (omega (arith, c.1))
   filter_in p (x ∷ xs) y c = go (filter_in p xs y) (p x) refl c
     where
@@ -57,7 +57,7 @@ module _ {X : Type 0} where
       go rest true e c = either rest e (first_or_later x (filter p xs) y c)
       go rest false e c = later (rest c)
 
-  filter_has : (p : X → Bool) (xs : List X) (y : X) → p y ≡ true → Contains xs y → Contains (filter p xs) y
+  pub filter_has : (p : X → Bool) (xs : List X) (y : X) → p y ≡ true → Contains xs y → Contains (filter p xs) y
   filter_has p [] y e c = absurd (omega (arith, c.1))
   filter_has p (x ∷ xs) y e c = go (filter_has p xs y e) (p x) refl (first_or_later x xs y c)
     where

@@ -5,3 +5,4 @@ pub mod Readings
 pub mod Sending
 pub mod Sayings
 pub mod Arriving
+pub mod Joining

@@ -6,7 +6,10 @@ use Rattle.route_wire.specs.Fields.{Fields}
 use Rattle.route_join.specs.Table.{Table, value_at, IsTableOf}
 use Rattle.route_join.specs.Joins.{newer_of}
 use Rattle.route_join.specs.Report.{report_of}
+use Rattle.route_join.specs.Updates.{all_updates}
+use Rattle.ev_exchange.specs.declared.announcing.EdgeTable.{EdgeTable}
 use Rattle.ev_exchange.specs.Sending.{own_updates, AreOwn}
+use Rattle.ev_exchange.specs.Saying.{Step, announces, says_back, sent_by}
 
 -- the updates that an edge sends from its table are its own registers, all of them
 abbrev pub OwnUpdatesAre : Type 0
@@ -90,4 +93,58 @@ MeetingAgrees =
     (o : ℕ) (us since written ws : List Fields) (start now before after : Table) → IsTableOf us start
     → IsTableOf (us ++ since) now → Carries o start since written → IsTableOf ws before
     → IsTableOf (ws ++ written) after → TookBack o before (us ++ since)
+    → (r : Register) → r.originator ≡ o → value_at after r ≡ value_at now r
+
+-- ---- the streams of two processes that are joined
+
+-- the updates among these items that edges announced
+abbrev pub announced_by : List Step → List Fields
+announced_by [] = []
+announced_by (announces u ∷ steps) = u ∷ announced_by steps
+announced_by (says_back o ts ∷ steps) = announced_by steps
+
+-- the other side named other originators only
+abbrev pub IsUnnamed : ℕ → List Step → Type 0
+IsUnnamed o steps = (ts : List EdgeTable) → Contains steps (says_back o ts) → ⊥
+
+-- A process has an edge o whose table at the start is `start`, and no second edge of this address. The other side
+-- never names o.
+pub record HasEdge (o : ℕ) (start : Table) (edges : List (ℕ × Table)) (steps : List Step) : Type 0 where
+  pub there : Contains edges (o, start)
+  pub one : (t : Table) → Contains edges (o, t) → t ≡ start
+  pub unnamed : IsUnnamed o steps
+
+-- a process's stream: the own registers of its edges, followed by the items since
+abbrev pub stream_of : List (ℕ × Table) → List Step → List Fields
+stream_of edges steps = said_by edges ++ sent_by steps
+
+-- the stream of a process carries the updates of each of its edges, whatever is sent back between them
+abbrev pub StreamCarries : Type 0
+StreamCarries =
+    (edges : List (ℕ × Table)) (steps : List Step) (o : ℕ) (start : Table) → HasEdge o start edges steps
+    → Carries o start (announced_by steps) (stream_of edges steps)
+
+-- `back` are the items of the other process: o was named, and a table of that process was `held`.
+pub record SaidBack (o : ℕ) (held : Table) (back : List Step) : Type 0 where
+  pub tables : List EdgeTable
+  pub table : EdgeTable
+  pub named : Contains back (says_back o tables)
+  pub one_of : Contains tables table
+  pub is_held : table.updates.items ≡ all_updates held
+
+-- `came` is what came to o's process from a process with these items, one of whose tables took `ws`: all that was sent
+-- for the items, and of o's registers only updates that this table took.
+pub record Came (o : ℕ) (ws : List Fields) (back : List Step) (came : List Fields) : Type 0 where
+  pub all : (u : Fields) → Contains (sent_by back) u → Contains came u
+  pub taken : (u : Fields) → Contains came u → u.register.originator ≡ o → Contains ws u
+
+-- A table had taken any updates `ws`, including those of earlier lives of an edge o. Its process is joined to that of
+-- o, and sends back what the table holds of o. Once each side has taken the stream of the other one, the table has at
+-- each register of o the value of o's own table: it has an advert only where o's own table has it.
+abbrev pub JoinedAgrees : Type 0
+JoinedAgrees =
+    (edges : List (ℕ × Table)) (steps back : List Step) (o : ℕ) (us came ws : List Fields)
+    (start now before after : Table) → HasEdge o start edges steps → IsTableOf us start
+    → IsTableOf (us ++ (announced_by steps ++ came)) now → IsTableOf ws before
+    → IsTableOf (ws ++ stream_of edges steps) after → SaidBack o before back → Came o ws back came
     → (r : Register) → r.originator ≡ o → value_at after r ≡ value_at now r

@@ -1,8 +1,8 @@
-//! The edges of this process as a connection uses them: their tables, and the updates that they
-//! announce.
+//! The edges of this process as a connection uses them: their tables, and the items that are due on
+//! it: the updates that the edges announce, and the originators that the other side names.
 ghost use Rattle.std.specs.Prelude.{◌≡◌, ◌∷◌, [], Option, List};
 ghost use Rattle.ev_links.specs.Coming.{behind};
-ghost use Rattle.ev_exchange.specs.Saying.{Told, has_table, announced};
+ghost use Rattle.ev_exchange.specs.Saying.{Told, has_table, has_due};
 
 use ether_wire::Addr;
 use route_wire::Update;
@@ -17,6 +17,16 @@ pub struct EdgeTable {
     pub updates: Vec<Update>,
 }
 
+/// An item that is due on a connection.
+#[derive(Clone, Copy, Drop)]
+pub enum Due {
+    /// An update that one of the edges announces: it is sent.
+    Update(Update),
+    /// An originator that the other side has named, by a record of it: its registers in the tables
+    /// of the edges are sent back.
+    Back(Addr),
+}
+
 /// Edges of this process, numbered from 1, which return their tables and announce updates.
 pub trait Announcing {
     /// The trace of their results, in order; `None` if they keep no trace.
@@ -27,10 +37,11 @@ pub trait Announcing {
     fn table(&mut self, alloc: Global, edge: u64) -> Option<EdgeTable>
         ensures { told self.new ≡ behind (told self.old) (has_table edge result ∷ []) };
 
-    /// Waits for the next update that one of them announces. Returns `None` if no more come.
-    fn next(&mut self) -> Option<Update>
-        ensures { told self.new ≡ behind (told self.old) (announced result ∷ []) };
+    /// Waits for the next item: an update that one of them announces, or an originator that the
+    /// other side names. Returns `None` if no more come.
+    fn next(&mut self) -> Option<Due>
+        ensures { told self.new ≡ behind (told self.old) (has_due result ∷ []) };
 
-    /// Returns `true` if the next update is still to come.
+    /// Returns `true` if the next item is still to come.
     fn is_idle(&self) -> bool;
 }

@@ -1,5 +1,5 @@
 //! Laws, as functions that do nothing: the contract is the law.
-ghost use Rattle.ev_exchange.specs.Laws.{OwnUpdatesAre, SaidIsCarried, NewestArrives, OwnRegistersAgree, BothAgree, MeetingAgrees};
+ghost use Rattle.ev_exchange.specs.Laws.{OwnUpdatesAre, SaidIsCarried, NewestArrives, OwnRegistersAgree, BothAgree, MeetingAgrees, StreamCarries, JoinedAgrees};
 
 /// The updates that an edge sends from its table at the beginning are its own registers, all of
 /// them, each with its value, in the order of a report.
@@ -37,4 +37,18 @@ pub fn both_agree()
 /// sent back to it from that table.
 pub fn meeting_agrees()
     ensures { MeetingAgrees }
+{}
+
+/// The stream of a process has of each of its edges exactly the updates that the edge sent and
+/// announced, provided that the other side doesn't name that edge: updates of other edges that are
+/// sent back make no difference.
+pub fn stream_carries()
+    ensures { StreamCarries }
+{}
+
+/// Two processes are joined. A table of one had taken any updates, including those of an earlier
+/// life of an edge of the other. Once both streams are taken, the table has each register of that
+/// edge as the edge's own table has it, since its process sent back what it held.
+pub fn joined_agrees()
+    ensures { JoinedAgrees }
 {}

@@ -5,18 +5,20 @@
 mod announcing;
 mod entrance;
 mod intake;
+mod known;
 mod laws;
 mod receiver;
 mod saying;
 mod sender;
 mod stream_end;
 
-pub use announcing::{Announcing, EdgeTable};
+pub use announcing::{Announcing, Due, EdgeTable};
 pub use entrance::Entrance;
 pub use intake::{Incoming, receive};
+pub use known::Known;
 pub use laws::{
-    both_agree, meeting_agrees, newest_arrives, own_registers_agree, own_updates_are,
-    said_is_carried,
+    both_agree, joined_agrees, meeting_agrees, newest_arrives, own_registers_agree,
+    own_updates_are, said_is_carried, stream_carries,
 };
 pub use receiver::{KINDS, Receiver};
 pub use saying::announce;

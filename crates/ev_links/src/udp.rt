@@ -2,6 +2,7 @@
 ghost use Rattle.std.specs.Prelude.{◌≡◌, ◌≤◌, length, Some, Ok, IfOk, IsErr, MatchResult};
 ghost use Rattle.std.specs.Net.Addr.{IsIpv4OfBits, IsV4And, MatchIp, ipv4_bits};
 ghost use Rattle.std.specs.Net.Socket.{socket_ip, socket_port};
+ghost use Rattle.ev_links.specs.Udp.{destination_of};
 ghost use Rattle.ev_links.specs.Inner.Udp.{address_for, port_for};
 
 use crate::links::{LinkIn, LinkOut};
@@ -198,7 +199,8 @@ pub struct UdpOut<'x> {
 impl<'x> UdpOut<'x> {
     /// Creates a link that sends over this socket.
     pub fn new(socket: &'x UdpSocket, destination: Destination) -> Self
-        ensures { result.failures ≡ 0 }
+        ensures failures { result.failures ≡ 0 }
+        ensures destination { destination_of result ≡ destination }
     {
         UdpOut {
             socket,

@@ -1,6 +1,6 @@
 //! The boards of all edges. The edges' workers share them with the worker that writes the
 //! operator's lines.
-ghost use Rattle.std.specs.Prelude.{◌≡◌, ◌-◌, slice_get, option_copied};
+ghost use Rattle.std.specs.Prelude.{◌≡◌, ◌-◌, IfOk, slice_get, option_copied, vec_len};
 
 use ev_notices::{Alarm, Board, News, Reception, Receptions, Refusals};
 use std::alloc::{AllocError, Global};
@@ -43,14 +43,16 @@ impl Boards {
     /// # Errors
     ///
     /// `AllocError` if memory is refused.
-    pub fn new(alloc: Global, edges: usize) -> Result<Self, AllocError> {
+    pub fn new(alloc: Global, edges: usize) -> Result<Self, AllocError>
+        ensures { IfOk result (λ boards. vec_len boards.all ≡ edges) }
+    {
         let mut all = Vec::with_capacity(alloc, edges)?;
         for place in 0..edges {
             let _ = place;
-            all.push(OfEdge {
+            all.push_reserved(OfEdge {
                 board: Mutex::new(Board::new()),
                 receptions: Mutex::new(Receptions::new()),
-            })?;
+            });
         }
         Ok(Boards {
             all,

@@ -1,6 +1,6 @@
 //! Access to running edges: the caller that waits until they end can send each of them a step, or a
 //! query about its state.
-ghost use Rattle.std.specs.Prelude.{◌≡◌, IfSome};
+ghost use Rattle.std.specs.Prelude.{◌≡◌, IfSome, vec_len};
 
 use crate::boards::Boards;
 use crate::outbox::Outbox;
@@ -24,12 +24,17 @@ pub struct Running<'x> {
 
 impl<'x> Running<'x> {
     /// Returns the edges of these mailboxes and boards.
-    pub fn new(mailboxes: &'x Mailboxes, boards: &'x Boards) -> Self {
+    pub fn new(mailboxes: &'x Mailboxes, boards: &'x Boards) -> Self
+        ensures mailboxes { result.mailboxes.now ≡ mailboxes.now }
+        ensures boards { result.boards.now ≡ boards.now }
+    {
         Running { mailboxes, boards }
     }
 
     /// Returns the number of edges.
-    pub fn edges(&self) -> usize {
+    pub fn edges(&self) -> usize
+        ensures { result ≡ vec_len self.now.mailboxes.now.all }
+    {
         self.mailboxes.edges()
     }
 

@@ -142,15 +142,22 @@ impl Outboxes {
 }
 
 /// The place of one connection, which sends the updates that the edges announce after it has
-/// joined. Its holder frees it at the end (`leave`).
+/// joined. The connection's reader can put updates that came between them. Its holder frees it at
+/// the end (`leave`).
 #[derive(Clone, Copy, Drop)]
 pub struct Joined<'x> {
     place: &'x SharedOutbox,
 }
 
 impl Joined<'_> {
-    /// Waits for the next update that an edge announces. Returns `None` once the connection is cut
-    /// off: 65,536 updates waited and one more came, or `cut_off` was called.
+    /// Puts an update that came over the connection after the others, so that the connection's
+    /// sender gets it.
+    pub fn put<R: Wait>(&self, rt: &R, update: Update) {
+        self.place.put(rt, update);
+    }
+
+    /// Waits for the next update that an edge announces, or that `put` has put. Returns `None` once
+    /// the connection is cut off: 65,536 updates waited and one more came, or `cut_off` was called.
     pub fn next<R: Wait>(&self, rt: &R) -> Option<Update> {
         self.place.next(rt)
     }

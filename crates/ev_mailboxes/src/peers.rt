@@ -1,7 +1,7 @@
 //! The edges that run together, as one of them sees them: the mailboxes of the others, and its own
 //! board.
 
-ghost use Rattle.std.specs.Prelude.{◌≡◌, ◌-◌, IfSome, slice_get, option_copied};
+ghost use Rattle.std.specs.Prelude.{◌≡◌, ◌-◌, IfSome, IfOk, slice_get, option_copied, vec_len};
 
 use crate::boards::Boards;
 use crate::mailbox::Message;
@@ -27,10 +27,12 @@ impl Mailboxes {
     /// # Errors
     ///
     /// `AllocError` if memory is refused.
-    pub fn new(alloc: Global, edges: usize, workers: u32) -> Result<Self, AllocError> {
+    pub fn new(alloc: Global, edges: usize, workers: u32) -> Result<Self, AllocError>
+        ensures { IfOk result (λ mailboxes. vec_len mailboxes.all ≡ edges) }
+    {
         let mut all = Vec::with_capacity(alloc, edges)?;
         for place in 0..edges {
-            all.push(SharedMailbox::new(alloc, place + 1, workers)?)?;
+            all.push_reserved(SharedMailbox::new(alloc, place + 1, workers)?);
         }
         Ok(Mailboxes {
             all,
@@ -39,7 +41,9 @@ impl Mailboxes {
     }
 
     /// Returns the number of edges.
-    pub(crate) fn edges(&self) -> usize {
+    pub(crate) fn edges(&self) -> usize
+        ensures { result ≡ vec_len self.now.all }
+    {
         self.all.len()
     }
 
@@ -52,7 +56,9 @@ impl Mailboxes {
     }
 
     /// Returns the outboxes of the connections to other processes.
-    pub(crate) fn outboxes(&self) -> &Outboxes {
+    pub(crate) fn outboxes(&self) -> &Outboxes
+        ensures { result.now ≡ self.now.outboxes }
+    {
         &self.outboxes
     }
 

@@ -1,6 +1,8 @@
 //! A mailbox that the workers of all edges share: the workers of the other edges put their updates
 //! into it, the operator sends requests through it, and the worker of its edge takes both.
 
+ghost use Rattle.std.specs.Prelude.{◌≡◌, IfOk};
+
 use crate::desk::Desk;
 use crate::mailbox::{Mailbox, Message};
 use crate::request::{Answer, Request};
@@ -42,7 +44,9 @@ impl SharedMailbox {
     /// # Errors
     ///
     /// `AllocError` if memory is refused.
-    pub(crate) fn new(alloc: Global, number: usize, workers: u32) -> Result<Self, AllocError> {
+    pub(crate) fn new(alloc: Global, number: usize, workers: u32) -> Result<Self, AllocError>
+        ensures { IfOk result (λ mailbox. mailbox.number ≡ number) }
+    {
         Ok(SharedMailbox {
             number,
             held: Mutex::new(Held {

@@ -1,1 +1,2 @@
 pub mod PassingOn
+pub mod Plans

@@ -1,2 +1,6 @@
 pub mod EdgeThreads
+pub mod Giving
+pub mod Outcome
+pub mod Passing
+pub mod Plan
 pub mod Working

@@ -137,7 +137,8 @@ fn shown(edge: &Edge, reading: &Reading) -> Answer
 
 /// What a reading shows of a book.
 fn seen<L: Ledger>(book: &Book<L>, reading: &Reading) -> Answer
-    ensures { Looked reading.now result }
+    ensures shows { Shows book.now.edge reading.now result }
+    ensures looked { Looked reading.now result }
 {
     shown(book.edge(), reading)
 }

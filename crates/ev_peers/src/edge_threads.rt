@@ -1,5 +1,6 @@
 //! An edge with all its workers, each on a thread of its own.
 ghost use Rattle.std.specs.Prelude.{◌≡◌, ◌+◌, ◌≤◌, length, vec_len, vec_capacity, IfOk};
+ghost use Rattle.bpdu_wire.specs.Id.{bridge_address};
 ghost use Rattle.ev_edge.specs.Config.{IsConfig};
 ghost use Rattle.ev_peers.specs.Inner.EdgeThreads.{IsReady};
 
@@ -25,7 +26,9 @@ use std::thread;
 use std::thread::{Scope, Threads};
 
 /// The address from which an edge's bridge speaks.
-fn bridge_of(config: &EdgeConfig) -> Mac {
+fn bridge_of(config: &EdgeConfig) -> Mac
+    ensures { result ≡ bridge_address config.now.tree.identifier }
+{
     Mac::new(config.tree.identifier.address())
 }
 
@@ -128,7 +131,12 @@ fn workplace_of<'x, L: Ledger, G, R>(
     book: &'x Mutex<Book<L>>,
     shared: &'x Shared,
 ) -> Workplace<'x, L, G, R>
-    ensures { result.shared.now ≡ shared.now }
+    ensures shared { result.shared.now ≡ shared.now }
+    ensures book { result.shared_edge.book.now ≡ book.now }
+    ensures edge { result.shared_edge.edge ≡ host.now.number }
+    ensures bridge { result.shared_edge.bridge ≡ bridge }
+    ensures lines { result.outlet.lines.now ≡ shared.now.lines.items }
+    ensures peers { result.outlet.peers ≡ host.now.peers }
 {
     let shared_edge = SharedEdge {
         rt: host.rt,

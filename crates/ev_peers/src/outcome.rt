@@ -1,4 +1,6 @@
 //! What an edge comes to when its workers have ended, and what these ended with.
+ghost use Rattle.std.specs.Prelude.{◌≡◌};
+ghost use Rattle.ev_peers.specs.Inner.Outcome.{no_faults, both_faults, is_device, is_memory, with_end, with_memory, with_sent};
 
 use crate::shared_edge::Ended;
 use ev_book::Totals;
@@ -32,9 +34,31 @@ pub struct Faults {
 /// What a thread that sends frames gives back: how many were lost, and whether there was a thread.
 pub(crate) type Sent = (u64, Ended);
 
+/// Returns `true` if a worker ended because its link failed.
+fn is_device(ended: Ended) -> bool
+    ensures { result ≡ is_device ended }
+{
+    match ended {
+        Ended::Device => true,
+        Ended::End | Ended::NoMemory => false,
+    }
+}
+
+/// Returns `true` if a worker was refused its thread.
+fn is_memory(ended: Ended) -> bool
+    ensures { result ≡ is_memory ended }
+{
+    match ended {
+        Ended::NoMemory => true,
+        Ended::End | Ended::Device => false,
+    }
+}
+
 impl Faults {
     /// Workers that ended as they should.
-    pub(crate) fn none() -> Self {
+    pub(crate) fn none() -> Self
+        ensures { result ≡ no_faults }
+    {
         Faults {
             lost: 0,
             device: false,
@@ -43,7 +67,9 @@ impl Faults {
     }
 
     /// Both together.
-    pub(crate) fn and(self, other: Faults) -> Self {
+    pub(crate) fn and(self, other: Faults) -> Self
+        ensures { result ≡ both_faults self other }
+    {
         Faults {
             lost: self.lost.saturating_add(other.lost),
             device: self.device || other.device,
@@ -52,16 +78,20 @@ impl Faults {
     }
 
     /// With what one more worker ended with.
-    pub(crate) fn with(self, ended: Ended) -> Self {
+    pub(crate) fn with(self, ended: Ended) -> Self
+        ensures { result ≡ with_end ended self }
+    {
         Faults {
             lost: self.lost,
-            device: self.device || ended == Ended::Device,
-            memory: self.memory || ended == Ended::NoMemory,
+            device: self.device || is_device(ended),
+            memory: self.memory || is_memory(ended),
         }
     }
 
     /// With whether a call of the book was refused memory.
-    pub(crate) fn with_out_of_memory(self, out_of_memory: bool) -> Self {
+    pub(crate) fn with_out_of_memory(self, out_of_memory: bool) -> Self
+        ensures { result ≡ with_memory out_of_memory self }
+    {
         Faults {
             memory: self.memory || out_of_memory,
             ..self
@@ -69,7 +99,9 @@ impl Faults {
     }
 
     /// With what was lost over one more link.
-    pub(crate) fn with_lost(self, sent: Sent) -> Self {
+    pub(crate) fn with_lost(self, sent: Sent) -> Self
+        ensures { result ≡ with_sent sent self }
+    {
         let faults = self.with(sent.1);
         Faults {
             lost: faults.lost.saturating_add(sent.0),

@@ -1,7 +1,8 @@
 //! Where the workers of an edge give what the book answers: frames to the lines of its links,
 //! records to the other edges, alerts and failing links to the operator.
-ghost use Rattle.std.specs.Prelude.{◌≡◌, ◌∷◌, [], Option, List};
+ghost use Rattle.std.specs.Prelude.{◌≡◌, ◌∷◌, [], Option, List, slice_get, option_copied};
 ghost use Rattle.ev_peers.specs.Giving.{Parcel, parcel, first_parcel};
+ghost use Rattle.ev_peers.specs.Inner.Giving.{place_of};
 ghost use Rattle.ev_links.specs.Coming.{behind};
 ghost use Rattle.ev_peers.specs.Passing.{Word, has_room, record_of, second_passes, tells, hears, answers};
 
@@ -94,6 +95,23 @@ impl<'x, R> Clone for Senders<'x, R> {
 
 impl<'x, R> Copy for Senders<'x, R> {}
 
+/// Returns the place of a link's line, and the address that goes with a frame for it.
+fn place_of(to: Target) -> (usize, Addr)
+    ensures { result ≡ place_of to }
+{
+    match to {
+        Target::Edge(address) => (0, address),
+        Target::Port(port) => (port as usize, Addr::default()),
+    }
+}
+
+/// Returns the line at a place, if there is one.
+fn line_at(lines: &[SharedLine], place: usize) -> Option<&SharedLine>
+    ensures { option_copied result ≡ slice_get lines.now place }
+{
+    lines.get(place)
+}
+
 impl<R: Wait> Outlet for Senders<'_, R> {
     ghost use Rattle.std.specs.Prelude.{None};
 
@@ -102,17 +120,15 @@ impl<R: Wait> Outlet for Senders<'_, R> {
     ghost records = { λ s. None };
 
     fn frame(&mut self, to: Target, octets: &[u8]) {
-        let (place, address) = match to {
-            Target::Edge(address) => (0, address),
-            Target::Port(port) => (port as usize, Addr::default()),
-        };
-        if let Some(line) = self.lines.get(place) {
+        let (place, address) = place_of(to);
+        if let Some(line) = line_at(self.lines, place) {
             line.put(self.rt, address, octets);
         }
     }
 
     fn bpdu(&mut self, port: u8, frame: &[u8; 60]) {
-        if let Some(line) = self.lines.get(port as usize) {
+        let (place, _) = place_of(Target::Port(port));
+        if let Some(line) = line_at(self.lines, place) {
             line.put_bpdu(self.rt, frame);
         }
     }

@@ -1,7 +1,9 @@
 //! What the threads of an edge need: what each of them enters or sends over, what they share, and
 //! room for them and for what they give back. All of it is made before the first thread starts.
-ghost use Rattle.std.specs.Prelude.{◌≡◌, ◌+◌, ◌≤◌, vec_len, vec_capacity, IfOk};
+ghost use Rattle.std.specs.Prelude.{◌≡◌, ◌+◌, ◌<◌, ◌≤◌, ◌∷◌, [], ◌++◌, reverse, vec_len, vec_capacity, IfOk};
 ghost use Rattle.ev_peers.specs.Inner.EdgeThreads.{HasRoom};
+ghost use Rattle.ev_peers.specs.Inner.Plan.{vni_at, port_tasks, tasks_of, outputs_back, outputs_of};
+ghost use Rattle.ev_peers.specs.declared.plan.Task.TheVariants.{Port, Tunnel, Clock};
 
 use crate::edge_links::{EdgeLinks, Link};
 use crate::outcome::Sent;
@@ -94,12 +96,116 @@ fn no_words(alloc: Global, count: usize) -> Result<Vec<AtomicBool>, AllocError>
     Ok(words)
 }
 
-/// The network of a port.
-fn vni_of(config: &EdgeConfig, port: usize) -> Vni {
-    match config.ports.as_slice().get(port.saturating_sub(1)) {
+/// Returns the network of the port at a place, port 1 being at place 0.
+fn vni_of(config: &EdgeConfig, place: usize) -> Vni
+    ensures { result ≡ vni_at config.now.ports.items place }
+{
+    match config.ports.as_slice().get(place) {
         Some(config) => config.vni,
         None => Vni::default(),
     }
+}
+
+/// Returns what is entered over the link of the port at a place.
+fn task_of<I: Drop>(config: &EdgeConfig, place: usize, input: I) -> Task<I>
+    requires { place < 253 }
+    ensures { result ≡ Port (place + 1) (vni_at config.now.ports.items place) input }
+{
+    Task::Port(place as u8 + 1, vni_of(config, place), input)
+}
+
+/// Puts the tasks of these links behind others, and what is sent over them, the last port first.
+fn plan_ports<I: Drop, O: Drop>(
+    config: &EdgeConfig,
+    links: Vec<Link<I, O>>,
+    tasks: Vec<Task<I>>,
+    outputs: Vec<O>,
+) -> (Vec<Task<I>>, Vec<O>)
+    requires few { vec_len links ≤ 253 }
+    requires tasks { vec_len tasks + vec_len links ≤ vec_capacity tasks }
+    requires outputs { vec_len outputs + vec_len links ≤ vec_capacity outputs }
+    ensures tasks { result.0.items
+        ≡ tasks.items ++ port_tasks config.now.ports.items (reverse links.items) }
+    ensures outputs { result.1.items ≡ outputs.items ++ outputs_back links.items }
+    ensures tasks_len { vec_len result.0 ≡ vec_len tasks + vec_len links }
+    ensures outputs_len { vec_len result.1 ≡ vec_len outputs + vec_len links }
+    ensures outputs_room { vec_capacity result.1 ≡ vec_capacity outputs }
+{
+    let mut links = links;
+    let mut tasks = tasks;
+    let mut outputs = outputs;
+    while let Some(link) = links.pop() {
+        let Link { input, output } = link;
+        tasks.push_reserved(task_of(config, links.len(), input));
+        outputs.push_reserved(output);
+    }
+    (tasks, outputs)
+}
+
+/// Returns what is sent over: the tunnel's link, and behind it the others from the last one on.
+fn with_tunnel<O: Drop>(outputs: Vec<O>, tunnel: O) -> Vec<O>
+    requires { vec_len outputs < vec_capacity outputs }
+    ensures items { result.items ≡ tunnel ∷ reverse outputs.items }
+    ensures len { vec_len result ≡ vec_len outputs + 1 }
+{
+    let mut outputs = outputs;
+    outputs.push_reserved(tunnel);
+    outputs.as_mut_slice().reverse();
+    outputs
+}
+
+/// Returns the tasks of the clock and of the tunnel, with room for those of `count` ports.
+fn first_tasks<I: Drop>(
+    alloc: Global,
+    count: usize,
+    clock: I,
+    tunnel: I,
+) -> Result<Vec<Task<I>>, AllocError>
+    requires { count ≤ 253 }
+    ensures items { IfOk result (λ tasks. tasks.items ≡ Clock clock ∷ Tunnel tunnel ∷ []) }
+    ensures len { IfOk result (λ tasks. vec_len tasks ≡ 2) }
+    ensures room { IfOk result (λ tasks. 2 + count ≤ vec_capacity tasks) }
+{
+    let mut tasks = Vec::with_capacity(alloc, count + 2)?;
+    tasks.push_reserved(Task::Clock(clock));
+    tasks.push_reserved(Task::Tunnel(tunnel));
+    Ok(tasks)
+}
+
+/// Returns room for `count` links over which threads send.
+fn no_outputs<O: Drop>(alloc: Global, count: usize) -> Result<Vec<O>, AllocError>
+    ensures items { IfOk result (λ outputs. outputs.items ≡ []) }
+    ensures len { IfOk result (λ outputs. vec_len outputs ≡ 0) }
+    ensures room { IfOk result (λ outputs. count ≤ vec_capacity outputs) }
+{
+    Vec::with_capacity(alloc, count)
+}
+
+/// Returns the tasks of these links, and the links over which threads send.
+fn plan_links<I: Drop, O: Drop>(
+    alloc: Global,
+    links: EdgeLinks<I, O>,
+    config: &EdgeConfig,
+) -> Result<(Vec<Task<I>>, Vec<O>), AllocError>
+    requires { vec_len links.ports ≤ 253 }
+    ensures tasks { IfOk result (λ r. r.0.items
+        ≡ tasks_of config.now.ports.items links.clock links.tunnel.input links.ports.items) }
+    ensures outputs { IfOk result (λ r. r.1.items
+        ≡ outputs_of links.tunnel.output links.ports.items) }
+    ensures tasks_len { IfOk result (λ r. vec_len r.0 ≡ vec_len links.ports + 2) }
+    ensures outputs_len { IfOk result (λ r. vec_len r.1 ≡ vec_len links.ports + 1) }
+{
+    let EdgeLinks {
+        ports,
+        tunnel,
+        clock,
+    } = links;
+    let Link { input, output } = tunnel;
+    let count = ports.len();
+    let tasks = first_tasks(alloc, count, clock, input)?;
+    let outputs = no_outputs(alloc, count + 1)?;
+    let (tasks, outputs) = plan_ports(config, ports, tasks, outputs);
+    Ok((tasks, with_tunnel(outputs, output)))
 }
 
 /// What the threads of an edge with these links and ports need.
@@ -109,6 +215,10 @@ pub(crate) fn planned<L: Ledger, I: Drop, O: Drop>(
     config: &EdgeConfig,
 ) -> Result<(EdgeThreads<L, I, O>, Shared), AllocError>
     requires { vec_len links.ports ≤ 253 }
+    ensures each_task { IfOk result (λ r. r.0.tasks.items
+        ≡ tasks_of config.now.ports.items links.clock links.tunnel.input links.ports.items) }
+    ensures each_output { IfOk result (λ r. r.0.outputs.items
+        ≡ outputs_of links.tunnel.output links.ports.items) }
     ensures tasks { IfOk result (λ r. vec_len r.0.tasks ≡ vec_len links.ports + 2) }
     ensures no_entering { IfOk result (λ r. vec_len r.1.no_entering ≡ vec_len links.ports + 2) }
     ensures outputs { IfOk result (λ r. vec_len r.0.outputs ≡ vec_len links.ports + 1) }
@@ -119,27 +229,8 @@ pub(crate) fn planned<L: Ledger, I: Drop, O: Drop>(
         (vec_capacity r.0.sending) (vec_len r.0.entering.passes)
         (vec_capacity r.0.entering.passes)) }
 {
-    let EdgeLinks {
-        ports: mut port_links,
-        tunnel: tunnel_link,
-        clock,
-    } = links;
-    let count = port_links.len();
-    let Link {
-        input: tunnel_input,
-        output: tunnel_output,
-    } = tunnel_link;
-    let mut tasks = Vec::with_capacity(alloc, count + 2)?;
-    let mut outputs = Vec::with_capacity(alloc, count + 1)?;
-    tasks.push_reserved(Task::Clock(clock));
-    tasks.push_reserved(Task::Tunnel(tunnel_input));
-    while let Some(Link { input, output }) = port_links.pop() {
-        let port = port_links.len() + 1;
-        tasks.push_reserved(Task::Port(port as u8, vni_of(config, port), input));
-        outputs.push_reserved(output);
-    }
-    outputs.push_reserved(tunnel_output);
-    outputs.as_mut_slice().reverse();
+    let count = links.ports.len();
+    let (tasks, outputs) = plan_links(alloc, links, config)?;
     let shared = Shared {
         lines: empty_lines(alloc, count + 1)?,
         no_entering: no_words(alloc, count + 2)?,

@@ -87,7 +87,11 @@ struct Common<'x, G, R> {
 
 impl<'x, G, R> Common<'x, G, R> {
     /// What the edge with this number runs over.
-    fn host(&self, number: usize) -> Host<'x, G, R> {
+    fn host(&self, number: usize) -> Host<'x, G, R>
+        ensures number { result.number ≡ number }
+        ensures rt { result.rt.now ≡ self.now.rt.now }
+        ensures gate { result.gate.now ≡ self.now.gate.now }
+    {
         Host {
             rt: self.rt,
             alloc: self.alloc,

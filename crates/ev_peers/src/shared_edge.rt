@@ -1,7 +1,9 @@
 //! An edge as its workers share it: its book under a lock, and what tells of each call of it.
 ghost use Rattle.std.specs.Prelude.{◌≡◌};
-ghost use Rattle.ev_book.specs.Entering.{answered};
+ghost use Rattle.ev_book.specs.Entering.{answered, CallsBook};
+ghost use Rattle.ev_notices.specs.Alarm.{alert_of};
 ghost use Rattle.ev_peers.specs.Passing.{Entered, Asked, announced_by};
+ghost use Rattle.ev_peers.specs.Inner.Passing.{is_no_memory};
 
 use crate::gate::{Gate, Point};
 use ether_wire::Mac;
@@ -74,13 +76,22 @@ impl<L: Ledger, G: Gate, R: Wait> SharedEdge<'_, L, G, R> {
     }
 }
 
-/// Whether an answer tells that memory was refused: to the event, or to a station that isn't
-/// learnt.
-fn lacks_memory(answer: &Result<(), BookRefusal>, reply: &Reply) -> bool {
-    match alert_of(answer, reply) {
+/// Returns `true` if the alert is that memory was refused.
+fn is_no_memory(alert: Option<Alert>) -> bool
+    ensures { result ≡ is_no_memory alert }
+{
+    match alert {
         Some(Alert::NoMemory) => true,
         _ => false,
     }
+}
+
+/// Returns `true` if an answer says that memory was refused: for the event, or for a station that
+/// isn't learnt.
+fn lacks_memory(answer: &Result<(), BookRefusal>, reply: &Reply) -> bool
+    ensures { result ≡ is_no_memory (alert_of (answered answer.now reply.now)) }
+{
+    is_no_memory(alert_of(answer, reply))
 }
 
 /// One call of a book.
@@ -90,7 +101,9 @@ fn call<L: Ledger>(
     event: &Event<'_>,
     reply: &mut Reply,
 ) -> Result<(), BookRefusal>
-    ensures { Entered pass.old event.now (answered result reply.new) pass.new }
+    ensures calls { CallsBook book.old pass.old event.now (answered result reply.new) book.new
+        pass.new }
+    ensures entered { Entered pass.old event.now (answered result reply.new) pass.new }
 {
     book.enter_into(pass, event, reply)
 }

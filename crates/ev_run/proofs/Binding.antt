@@ -6,7 +6,7 @@ use Rattle.std.proofs.lemmas.List.{take_more, map-append}
 use Rattle.std.proofs.lemmas.List.Elements.{filter_map-append, Contains-append_left, Contains-append_right}
 use Rattle.std.proofs.lemmas.Grind.{flat_map-append}
 use Rattle.std.proofs.lemmas.List.Folds.{list_any_more}
-use Rattle.std.specs.List.{cons_option, Contains, flat_map, list_any}
+use Rattle.std.specs.List.{cons_option, Contains, filter_map, flat_map, list_any}
 use Rattle.arrayvec.specs.ArrayVec.{ArrayVec}
 use Rattle.ev_edge.specs.declared.config.EdgeConfig.{EdgeConfig}
 use Rattle.ev_config.specs.declared.whole.Config.{Config}
@@ -15,22 +15,43 @@ use Rattle.ev_run.specs.declared.sockets.StartError.TheVariants.{Unbindable, Unn
 use Rattle.ev_config.specs.declared.endpoint.Endpoint.{Endpoint}
 use Rattle.ev_config.specs.declared.endpoint.PortEndpoints.{PortEndpoints}
 use Rattle.ev_run.specs.declared.bound.PortSocket.{PortSocket}
+use Rattle.ev_links.specs.Udp.{destination_of}
+use Rattle.ev_links.specs.declared.udp.UdpOut.{UdpOut}
+use Rattle.ev_links.specs.declared.udp.Destination.{Destination}
+use Rattle.ev_peers.specs.declared.edge_links.Link.{Link}
+use Rattle.ev_run.specs.Inner.Sockets.{to_remote}
 use Rattle.ev_run.specs.Sockets.{locals_of, tunnel_of, edge_ends, ends_from, endpoints_of, all_ends, lacks_end}
 use Rattle.ev_run.specs.Sockets.{lacks_ends, lacks_address, Hinders}
 
--- one port more
-pub local_more : (links : List PortEndpoints) (place : ℕ) (d : PortEndpoints) (ports : List PortSocket)
-    (port : PortSocket) → place < length links
-    → map (λ (p : PortSocket). p.local) ports ≡ locals_of (take place links)
-    → (get_or links place d).local ≡ Some port.local
-    → map (λ (p : PortSocket). p.local) (ports ++ port ∷ []) ≡ locals_of (take (place + 1) links)
-local_more links place d ports port within was one =
+-- one port more, and one end of its link
+pub end_more : (end : PortEndpoints → Option Endpoint) (at : PortSocket → Endpoint) (links : List PortEndpoints)
+    (place : ℕ) (d : PortEndpoints) (ports : List PortSocket) (port : PortSocket) → place < length links
+    → map at ports ≡ filter_map end (take place links)
+    → end (get_or links place d) ≡ Some (at port)
+    → map at (ports ++ port ∷ []) ≡ filter_map end (take (place + 1) links)
+end_more end at links place d ports port within was one =
     let before = take place links in
-    map-append (λ (p : PortSocket). p.local) ports (port ∷ [])
-    ∙ ap (λ (xs : List Endpoint). xs ++ port.local ∷ []) was
-    ∙ ap (λ (o : Option Endpoint). locals_of before ++ cons_option o []) (sym one)
-    ∙ sym (filter_map-append (λ (link : PortEndpoints). link.local) before (get_or links place d ∷ []))
-    ∙ ap locals_of (sym (take_more links place d within))
+    map-append at ports (port ∷ [])
+    ∙ ap (λ (xs : List Endpoint). xs ++ at port ∷ []) was
+    ∙ ap (λ (o : Option Endpoint). filter_map end before ++ cons_option o []) (sym one)
+    ∙ sym (filter_map-append end before (get_or links place d ∷ []))
+    ∙ ap (filter_map end) (sym (take_more links place d within))
+
+-- one link more, which sends to its port's remote endpoint
+pub link_more : {I : Type 0} (ports : List PortSocket) (place : ℕ) (d : PortSocket) (links : List (Link I UdpOut))
+    (link : Link I UdpOut) → place < length ports
+    → map (λ (l : Link I UdpOut). destination_of l.output) links ≡ map to_remote (take place ports)
+    → destination_of link.output ≡ to_remote (get_or ports place d)
+    → map (λ (l : Link I UdpOut). destination_of l.output) (links ++ link ∷ [])
+    ≡ map to_remote (take (place + 1) ports)
+link_more {I = I} ports place d links link within was one =
+    let to : Link I UdpOut → Destination = λ l. destination_of l.output in
+    let before = take place ports in
+    map-append to links (link ∷ [])
+    ∙ ap (λ (xs : List Destination). xs ++ to link ∷ []) was
+    ∙ ap (λ (x : Destination). map to_remote before ++ x ∷ []) one
+    ∙ sym (map-append to_remote before (get_or ports place d ∷ []))
+    ∙ ap (map to_remote) (sym (take_more ports place d within))
 
 -- one port more that has its addresses
 pub whole_more : (links : List PortEndpoints) (place : ℕ) (d : PortEndpoints) → place < length links

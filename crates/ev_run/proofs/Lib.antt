@@ -1,3 +1,4 @@
 pub mod Binding
 pub mod Running
 pub mod Serving
+pub mod Threads

@@ -1,8 +1,8 @@
 -- A run of edges: the input that is read out, and the texts at the end.
 use Rattle.std.proofs.Common.{◌≡◌, inl, inr, ℕ, ◌+◌, ◌-◌, ◌<◌, ◌^◌, min, Bool, false, not, ◌||◌, nat_lt, List, [], ◌∷◌}
-use Rattle.std.proofs.Common.{◌++◌, take, length, get_or, Result, Ok, Err, is_ok, refl}
+use Rattle.std.proofs.Common.{◌++◌, take, length, get_or, map, reverse, append_assoc, Result, Ok, Err, is_ok, refl}
 use Rattle.std.proofs.Common.{MatchOption, sym, ap, subst, ◌∙◌, arith}
-use Rattle.std.proofs.lemmas.List.{take_more}
+use Rattle.std.proofs.lemmas.List.{take_more, map-append, reverse-append}
 use Rattle.std.proofs.lemmas.List.Sums.{sum_by_push}
 use Rattle.std.specs.List.{sum_by, list_any}
 use Rattle.std.proofs.lemmas.List.Elements.{Contains-append_left, Contains-append_right}
@@ -11,6 +11,7 @@ use Rattle.ether_wire.specs.declared.ends.Device as device
 use Rattle.ether_wire.specs.Ends.{End, Source, Gets, Puts}
 use Rattle.ev_edge.specs.declared.config.EdgeConfig.{EdgeConfig}
 use Rattle.ev_edge.specs.Config.{IsConfig}
+use Rattle.ev_peers.specs.EdgeThreads.{EdgeSetup}
 use Rattle.ev_config.specs.declared.endpoint.Endpoint.{Endpoint}
 use Rattle.ev_config.specs.declared.whole.Config.{Config}
 use Rattle.ev_run.specs.declared.sockets.BindError.{BindError}
@@ -22,13 +23,18 @@ use Rattle.ev_report.specs.declared.input.ReadError.TheVariants.{Device}
 use Rattle.ev_report.specs.Input.{ReadsWhole, Gathers}
 use Rattle.ev_report.specs.Notes.{status_of}
 use Rattle.ev_run.specs.RunEdges.{bind_error_text, Ended, reports_from, noted_text, sends_failed}
-use Rattle.ev_run.specs.Inner.RunEdges.{EachConfig}
+use Rattle.ev_run.specs.Inner.RunEdges.{EachConfig, begun_of}
 use Rattle.ev_run.specs.RunEdges.{system_text, Ran}
 use Rattle.ev_run.specs.RunEdges.{link_failed, was_out_of_memory, all_lost, IsReadOut, ReadsOut, TellsEnded}
 use Rattle.ev_run.specs.Inner.RunEdges.{PutsRest, TellsRest}
 use Rattle.ev_notices.specs.Telling.{Told, lines_of}
 use Rattle.ether_wire.proofs.Appending.{puts_behind}
 use Rattle.ev_run.specs.RunEdges.{start_text, IsStartError, RunsEdges}
+use Rattle.ev_run.specs.Needs.{threads_of}
+use Rattle.ev_run.specs.ThreadCheck.{IsTooFew}
+use Rattle.ev_run.specs.Inner.ThreadCheck.{TellsTooFew}
+use Rattle.ev_run.specs.declared.thread_check.TooFewThreads.{TooFewThreads}
+use Rattle.ev_run.proofs.Threads.{lacks_threads, passed_few}
 use Rattle.ev_report.proofs.Finishing.{put_holds, put_failed, passed_out, passed_notes, passed_status, failed_out}
 use Rattle.ev_report.proofs.Finishing.{failed_notes}
 use Rattle.ev_report.proofs.Gathering.{gathers_more, whole_ended, whole_failed, whole_unended}
@@ -80,6 +86,33 @@ module _ (all left : List EdgeConfig) (config : EdgeConfig) (same : all ≡ left
   pub each_left : EachConfig left
   each_left = λ c k. each c (subst (λ (cs : List EdgeConfig). Contains cs c) (sym same)
       (Contains-append_left left (config ∷ []) c k))
+
+  -- one configuration more with which an edge begins, put after those behind it
+  pub one_begun : (start : ℕ) (setups setups' : List EdgeSetup) (setup : EdgeSetup) (begun : List EdgeConfig)
+      → setups' ≡ setups ++ setup ∷ [] → setup.config ≡ begun_of start config
+      → map (begun_of start) all ++ map (λ (s : EdgeSetup). s.config) (reverse setups) ≡ begun
+      → map (begun_of start) left ++ map (λ (s : EdgeSetup). s.config) (reverse setups') ≡ begun
+  one_begun start setups setups' setup begun pushed is so_far =
+      let of : EdgeSetup → EdgeConfig = λ s. s.config in
+      let rest = map of (reverse setups) in
+      let before = map (begun_of start) left in
+      ap (λ (l : List EdgeSetup). before ++ map of (reverse l)) pushed
+      ∙ ap (λ (l : List EdgeSetup). before ++ map of l) (reverse-append setups (setup ∷ []))
+      ∙ ap (λ (c : EdgeConfig). before ++ c ∷ rest) is
+      ∙ sym (append_assoc before (begun_of start config ∷ []) rest)
+      ∙ ap (λ (l : List EdgeConfig). l ++ rest) (sym (map-append (begun_of start) left (config ∷ [])))
+      ∙ ap (λ (l : List EdgeConfig). map (begun_of start) l ++ rest) (sym same)
+      ∙ so_far
+
+-- all configurations with which edges begin, in their order again
+pub all_begun : (start : ℕ) (left : List EdgeConfig) (setups setups' : List EdgeSetup) (begun : List EdgeConfig)
+    → left ≡ [] → setups' ≡ reverse setups
+    → map (begun_of start) left ++ map (λ (s : EdgeSetup). s.config) (reverse setups) ≡ begun
+    → map (λ (s : EdgeSetup). s.config) setups' ≡ begun
+all_begun start left setups setups' begun none reversed is =
+    let of : EdgeSetup → EdgeConfig = λ s. s.config in
+    ap (map of) reversed
+    ∙ ap (λ (l : List EdgeConfig). map (begun_of start) l ++ map of (reverse setups)) (sym none) ∙ is
 
 -- ---- the texts
 
@@ -169,7 +202,7 @@ runs_none config Unnamed input out notes notes' status hinders told = inr (inl (
   },
 ))
 runs_none config NoMemory input out notes notes' status hinders told =
-    rw told.0 (inr (inr (refused_memory out notes status told.1)))
+    rw told.0 (inr (inr (inl (refused_memory out notes status told.1))))
 
 -- the edges ran with sockets that are bound to the right endpoints
 pub runs_bound : (config : Config) (bound : List (List Endpoint)) (before after : Devices) (status : ℕ)
@@ -184,7 +217,14 @@ runs_bound config bound before after status ran same whole = inl (
 pub runs_refused : (config : Config) (input input' : Source) (out out' notes notes' : End)
     → out' ≡ out → notes' ≡ notes → RunsEdges config (devices input out notes) (devices input' out' notes') 3
 runs_refused config input input' out out' notes notes' a b =
-    rw (a, b) (inr (inr (refused_memory out notes 3 refl)))
+    rw (a, b) (inr (inr (inl (refused_memory out notes 3 refl))))
+
+-- the system allows too few threads
+pub runs_few : (config : Config) (is_asked : Bool) (lack : TooFewThreads) (input : Source) (out notes notes' : End)
+    (status : ℕ) → IsTooFew (threads_of is_asked config.edges.items) lack → TellsTooFew lack notes notes' status
+    → RunsEdges config (devices input out notes) (devices input out notes') status
+runs_few config is_asked lack input out notes notes' status few told =
+    inr (inr (inr (lacks_threads config.edges.items is_asked lack input out notes notes' status few told)))
 
 -- ---- buffered writers
 
@@ -235,4 +275,5 @@ module _ (config : Config) (before held after : Devices) (status last : ℕ)
     passed_out before held after status last p [] h.1,
     passed_start_error h.2,
   ))
-  passed_runs (inr (inr h)) = inr (inr (passed_refused before held after status last p h))
+  passed_runs (inr (inr (inl h))) = inr (inr (inl (passed_refused before held after status last p h)))
+  passed_runs (inr (inr (inr h))) = inr (inr (inr (passed_few config.edges.items before held after status last p h)))

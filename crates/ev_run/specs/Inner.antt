@@ -1,2 +1,4 @@
+pub mod ControlSocket
 pub mod RunEdges
 pub mod Sockets
+pub mod ThreadCheck

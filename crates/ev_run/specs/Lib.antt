@@ -4,4 +4,5 @@ pub mod RunEdges
 pub mod Serving
 pub mod Needs
 pub mod Obstacles
+pub mod ThreadCheck
 pub mod Inner

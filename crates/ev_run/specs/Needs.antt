@@ -53,6 +53,11 @@ abbrev pub sockets_of : Bool → List EdgeConfig → ℕ
 sockets_of is_asked edges =
     if is_asked then min ((needs_of edges).sockets + client_sockets) most else (needs_of edges).sockets
 
+-- the threads with which a run begins, with the one that accepts clients if clients may query the run
+abbrev pub threads_of : Bool → List EdgeConfig → ℕ
+threads_of is_asked edges =
+    if is_asked then min ((needs_of edges).threads + 1) most else (needs_of edges).threads
+
 -- ---- the text
 
 abbrev pub threads_text : ℕ → Text

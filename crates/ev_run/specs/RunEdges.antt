@@ -15,6 +15,7 @@ use Rattle.ev_config.specs.declared.whole.Config.{Config}
 use Rattle.ev_config.specs.declared.endpoint.Endpoint.{Endpoint}
 use Rattle.ev_run.specs.Sockets.{endpoints_of, all_ends, lacks_address, Hinders}
 use Rattle.ev_run.specs.SystemDrops.{dropped_at}
+use Rattle.ev_run.specs.ThreadCheck.{LacksThreads}
 use Rattle.ev_run.specs.declared.print.Dropped.{Dropped}
 use Rattle.ev_run.specs.declared.print.Dropped.TheVariants.{NoRoom, BySystem}
 use Rattle.ev_run.specs.declared.sockets.BindError.{BindError}
@@ -36,6 +37,7 @@ why_text bind_error.InUse = codes "it is in use\n"
 why_text bind_error.NotHere = codes "no device here has it\n"
 why_text bind_error.Denied = codes "it isn't permitted\n"
 why_text bind_error.NoMemory = codes "there is no memory\n"
+why_text bind_error.NoDescriptor = codes "too many files are open; raise ulimit -n\n"
 why_text bind_error.Other = codes "the system refuses it\n"
 
 -- `ADDRESS:PORT`
@@ -180,10 +182,11 @@ pub record IsStartError (config : Config) (notes notes' : End) (status : ℕ) : 
   pub status_is : status ≡ 4
 
 -- The edges of a configuration were run, and each port has its addresses; or no edge began, nothing was read, and only
--- the reason was written; or the memory with which the edges begin was refused.
+-- the reason was written; or the memory with which the edges begin was refused, or the threads.
 abbrev pub RunsEdges : Config → Devices → Devices → ℕ → Type 0
 RunsEdges config before after status =
     ((lacks_address config ≡ false) × Ran (length config.edges.items) (endpoints_of config) before after status)
     ⊎ (((after.input ≡ before.input) × Holds before.out after.out []
     × IsStartError config before.notes after.notes status)
-    ⊎ IsRefusedMemory before.out after.out before.notes after.notes status)
+    ⊎ (IsRefusedMemory before.out after.out before.notes after.notes status
+    ⊎ LacksThreads config.edges.items before after status))

@@ -1,10 +1,10 @@
-//! The sockets of a run, and how their readers are woken.
+//! The sockets of a run, and how their reads end.
 ghost use Rattle.std.specs.Prelude.{◌≤◌, vec_len};
 
-use ether_wire::Addr;
 use ev_config::Endpoint;
-use ev_links::socket_address;
+use libc::net::{SHUT_RD, shutdown};
 use std::net::UdpSocket;
+use std::os::fd::AsRawFd;
 
 /// The socket of a port.
 #[derive(Drop)]
@@ -29,31 +29,25 @@ pub(crate) struct Sockets {
     ghost few: { vec_len ports ≤ 64 },
 }
 
-/// Wakes the reader of a socket: sends the socket an empty datagram of its own. A socket that is
-/// bound to all addresses of the host is reached at 127.0.0.1.
-fn wake(socket: &UdpSocket) {
-    let Ok(at) = socket.local_addr() else {
-        return;
-    };
-    let at = if at.ip().is_unspecified() {
-        socket_address(Addr::new(0x7f00_0001), at.port())
-    } else {
-        at
-    };
-    let _ = socket.send_to(&[], at);
+/// Ends the reads of a socket, so that its reader returns: a read that waits gets nothing, and so
+/// does each later read. Sends still work. No datagram is sent for it, so the socket's address may
+/// have gone.
+fn end_reads(socket: &UdpSocket) {
+    // The system ends the reads and reports that the socket has no peer (ENOTCONN).
+    let _ = shutdown(socket.as_raw_fd(), SHUT_RD);
 }
 
-/// Wakes the readers of all sockets.
-pub(crate) fn wake_all(all: &[Sockets]) {
+/// Ends the reads of all sockets.
+pub(crate) fn end_all_reads(all: &[Sockets]) {
     for sockets in all {
-        wake(&sockets.tunnel);
-        wake_ports(sockets.ports.as_slice());
+        end_reads(&sockets.tunnel);
+        end_port_reads(sockets.ports.as_slice());
     }
 }
 
-/// Wakes the readers of the ports' sockets.
-fn wake_ports(ports: &[PortSocket]) {
+/// Ends the reads of the ports' sockets.
+fn end_port_reads(ports: &[PortSocket]) {
     for port in ports {
-        wake(&port.socket);
+        end_reads(&port.socket);
     }
 }

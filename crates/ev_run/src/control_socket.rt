@@ -2,6 +2,8 @@
 //! path, only for its user.
 ghost use Rattle.std.specs.Prelude.{◌≡◌};
 ghost use Rattle.ether_wire.specs.Ends.{IsOpen, Puts};
+ghost use Rattle.std.specs.Fs.{permissions_mode};
+ghost use Rattle.ev_run.specs.Inner.ControlSocket.{what_to_do, Follows, socket_mode};
 ghost use Rattle.ev_run.specs.Serving.{reason_of, listen_error_text};
 
 use ether_wire::{Device, Out};
@@ -95,24 +97,79 @@ fn file_at<R: Files>(rt: &R, path: &str) -> Option<(u64, u64)> {
     Some((found.dev(), found.ino()))
 }
 
-/// Removes the socket at a path if no process listens at it any more. Keeps a socket at which a
-/// process listens, and any other file.
-fn clear<R: Files + Net>(rt: &R, path: &str) -> Result<(), ListenError> {
+/// What is at the path of a control socket.
+#[derive(Clone, Copy)]
+enum Found {
+    /// No file.
+    Nothing,
+    /// A socket at which no process listens any more, as a killed run leaves one.
+    Stale,
+    /// A socket at which a process listens.
+    Served,
+    /// A file that is no socket.
+    Foreign,
+    /// The system doesn't show it, for this reason.
+    Hidden(ListenError),
+}
+
+/// What to do before a socket is bound to a path.
+#[derive(Clone, Copy)]
+enum Decision {
+    /// Nothing.
+    Bind,
+    /// Remove the file that is there.
+    Replace,
+    /// Leave what is there, and don't listen, for this reason.
+    Refuse(ListenError),
+}
+
+/// Returns what is at a path.
+fn found_at<R: Files + Net>(rt: &R, path: &str) -> Found {
     let found = match fs::symlink_metadata(rt, path) {
         Ok(found) => found,
-        Err(error) if error.kind() == ErrorKind::NotFound => return Ok(()),
-        Err(error) => return Err(listen_error_of(error.kind())),
+        Err(error) if error.kind() == ErrorKind::NotFound => return Found::Nothing,
+        Err(error) => return Found::Hidden(listen_error_of(error.kind())),
     };
     if !found.file_type().is_socket() {
-        return Err(ListenError::NotSocket);
+        return Found::Foreign;
     }
     match UnixStream::connect(rt, path) {
-        Ok(_) => Err(ListenError::InUse),
-        Err(error) if error.kind() == ErrorKind::ConnectionRefused => {
-            explained(fs::remove_file(rt, path))
-        }
-        Err(error) => Err(listen_error_of(error.kind())),
+        Ok(_) => Found::Served,
+        Err(error) if error.kind() == ErrorKind::ConnectionRefused => Found::Stale,
+        Err(error) => Found::Hidden(listen_error_of(error.kind())),
     }
+}
+
+/// Returns what to do with what is at a path. Only a socket at which no process listens any more is
+/// removed.
+fn what_to_do(found: Found) -> Decision
+    ensures { result ≡ what_to_do found }
+{
+    match found {
+        Found::Nothing => Decision::Bind,
+        Found::Stale => Decision::Replace,
+        Found::Served => Decision::Refuse(ListenError::InUse),
+        Found::Foreign => Decision::Refuse(ListenError::NotSocket),
+        Found::Hidden(why) => Decision::Refuse(why),
+    }
+}
+
+/// Follows the decision on a path. Returns why no socket can be bound to it, if so.
+fn follow<R: Files>(rt: &R, path: &str, decision: Decision) -> Result<(), ListenError>
+    ensures { Follows decision result }
+{
+    match decision {
+        Decision::Bind => Ok(()),
+        Decision::Replace => explained(fs::remove_file(rt, path)),
+        Decision::Refuse(why) => Err(why),
+    }
+}
+
+/// Returns the mode of the socket's file: only its user can read and write it.
+fn users_alone() -> Permissions
+    ensures { permissions_mode result ≡ socket_mode }
+{
+    Permissions::from_mode(0o600)
 }
 
 /// A socket that listens at a path. Only its user can read and write its file.
@@ -130,7 +187,7 @@ impl ControlSocket {
     /// listen. No client can connect to a socket that doesn't listen yet, so only its user ever
     /// can.
     fn listen<R: Files>(rt: &R, path: &str, socket: OwnedFd) -> Result<Self, ListenError> {
-        explained(fs::set_permissions(rt, path, Permissions::from_mode(0o600)))?;
+        explained(fs::set_permissions(rt, path, users_alone()))?;
         let end = UnixStream::from(explained(socket.try_clone())?);
         if libc::net::listen(socket.as_raw_fd(), BACKLOG) != 0 {
             return Err(ListenError::Other);
@@ -149,7 +206,7 @@ impl ControlSocket {
             return Err(ListenError::Other);
         };
         let address = explained(SocketAddr::from_pathname(path))?;
-        clear(rt, path)?;
+        follow(rt, path, what_to_do(found_at(rt, path)))?;
         let socket = explained(rt.unix_socket())?;
         explained(rt.bind_unix(socket.as_fd(), &address))?;
         match ControlSocket::listen(rt, path, socket) {

@@ -1,9 +1,11 @@
 //! Edges that run over UDP sockets until an input ends, and their reports at the end.
 #![tactic(auto)]
 
+mod begun;
 mod bound;
 mod clients;
 mod control_socket;
+mod links;
 mod needs;
 mod obstacles;
 mod print;
@@ -13,6 +15,7 @@ mod run;
 mod serve;
 mod sockets;
 mod system_drops;
+mod thread_check;
 
 pub use control_socket::ListenError;
 pub use needs::{Needs, needs_of};

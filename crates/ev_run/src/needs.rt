@@ -1,6 +1,6 @@
 //! The resources that a run takes at its beginning.
 ghost use Rattle.std.specs.Prelude.{◌≡◌, ◌≤◌};
-ghost use Rattle.ev_run.specs.Needs.{edge_threads, edge_sockets, edge_memory, with_edge, alone, needs_of, sockets_of};
+ghost use Rattle.ev_run.specs.Needs.{edge_threads, edge_sockets, edge_memory, with_edge, alone, needs_of, sockets_of, threads_of};
 
 use ev_config::Config;
 use ev_edge::EdgeConfig;
@@ -84,5 +84,18 @@ pub fn sockets_of(config: &Config, is_asked: bool) -> u64
         sockets.saturating_add(CLIENT_SOCKETS)
     } else {
         sockets
+    }
+}
+
+/// Returns the number of threads with which a run begins, with the one that accepts clients if
+/// `is_asked`.
+pub(crate) fn threads_of(config: &Config, is_asked: bool) -> u64
+    ensures { result ≡ threads_of is_asked config.now.edges.items }
+{
+    let threads = needs_of(config).threads;
+    if is_asked {
+        threads.saturating_add(1)
+    } else {
+        threads
     }
 }

@@ -1,6 +1,6 @@
 //! Edges that carry frames until the input ends: each at its address and UDP port 4789, its access
 //! ports at sockets of their own. Alerts for the operator are written meanwhile.
-ghost use Rattle.std.specs.Prelude.{◌≡◌, ◌+◌, ◌-◌, ◌≤◌, ◌^◌, ◌||◌, min, not, nat_lt, length, map, vec_len, vec_capacity, IfOk, OnOk, OnErr, MatchOption};
+ghost use Rattle.std.specs.Prelude.{◌≡◌, ◌+◌, ◌-◌, ◌^◌, ◌||◌, min, not, nat_lt, length, map, reverse, vec_len, IfOk, OnOk, OnErr, MatchOption};
 ghost use Rattle.std.specs.List.{list_any};
 ghost use Rattle.ether_wire.specs.Ends.{IsOpen, Allows};
 ghost use Rattle.ev_fabric.specs.Opening.{AreConfigs};
@@ -8,21 +8,24 @@ ghost use Rattle.ev_edge.specs.Config.{IsConfig};
 ghost use Rattle.ev_report.specs.Ends.{AreOpen, Holds, devices};
 ghost use Rattle.ev_run.specs.Inner.Sockets.{bound_at};
 ghost use Rattle.ev_run.specs.RunEdges.{ReadsOut, sends_failed, link_failed, was_out_of_memory, all_lost, system_text, noted_text, Ran, start_text, RunsEdges};
-ghost use Rattle.ev_run.specs.Inner.RunEdges.{EachConfig, PutsRest, TellsMeanwhile, TellsRest};
+ghost use Rattle.ev_run.specs.Inner.RunEdges.{EachConfig, begun_of, PutsRest, TellsMeanwhile, TellsRest};
 
-use crate::bound::{PortSocket, Sockets, wake_all};
+use crate::begun::{begun_in, first_incarnation};
+use crate::bound::{Sockets, end_all_reads};
 use crate::clients::read_out;
 use crate::control_socket::ControlSocket;
+use crate::links::links_of;
 use crate::print::{Watched, put_notes, put_reports};
-use crate::sockets::{StartError, TUNNELS, bind_all, put_bind_error};
+use crate::sockets::{StartError, bind_all, put_bind_error};
 use crate::system_drops::udp_table;
+use crate::thread_check::{check_threads, tell_too_few};
 use ether_wire::{Device, In, Out};
 use ev_config::Config;
 use ev_edge::EdgeConfig;
-use ev_links::{Destination, UdpOut, Wire};
+use ev_links::{UdpOut, Wire};
 use ev_mailboxes::{Boards, NoticeBox};
 use ev_notices::notice_worker;
-use ev_peers::{EdgeLinks, Link, OpenGate, Outcome, Setup, Start, run_all};
+use ev_peers::{OpenGate, Outcome, Setup, Start, run_all};
 use ev_report::{Buffers, DEVICE, Devices, MEMORY, MOST_READS, status_of};
 use std::alloc::{AllocError, Global};
 use std::fs::Files;
@@ -55,17 +58,6 @@ pub(crate) fn is_read_out<E: In>(reader: &mut E) -> bool
     false
 }
 
-/// Returns these links and one more, for which there is room.
-fn with_link<I: Drop, O: Drop>(links: Vec<Link<I, O>>, input: I, output: O) -> Vec<Link<I, O>>
-    requires { vec_len links + 1 ≤ vec_capacity links }
-    ensures len { vec_len result ≡ vec_len links + 1 }
-    ensures room { vec_capacity result ≡ vec_capacity links }
-{
-    let mut links = links;
-    links.push_reserved(Link { input, output });
-    links
-}
-
 /// Returns an edge over these sockets.
 fn ready<'x, R: Clock>(
     rt: &'x R,
@@ -75,49 +67,44 @@ fn ready<'x, R: Clock>(
     stop: &'x AtomicBool,
 ) -> Result<Ready<'x, R>, AllocError>
     requires { IsConfig config }
+    ensures { IfOk result (λ setup. setup.config ≡ config) }
 {
-    let mut ports = Vec::with_capacity(alloc, sockets.ports.len())?;
-    for port in sockets.ports.as_slice() {
-        let PortSocket { socket, remote, .. } = port;
-        let output = UdpOut::new(socket, Destination::Fixed(remote.address, remote.port));
-        ports = with_link(ports, Wire::socket(rt, socket, stop), output);
-    }
-    let tunnel = Link {
-        input: Wire::socket(rt, &sockets.tunnel, stop),
-        output: UdpOut::new(&sockets.tunnel, Destination::At(TUNNELS)),
-    };
-    let clock = Wire::clock(rt, stop);
-    Ok(Setup::new(
-        config,
-        EdgeLinks {
-            ports,
-            tunnel,
-            clock,
-        },
-    ))
+    Ok(Setup::new(config, links_of(rt, alloc, sockets, stop)?))
 }
 
-/// Returns all edges over their sockets.
+/// Returns these values, the last one first.
+fn in_reverse<T: Drop>(values: Vec<T>) -> Vec<T>
+    ensures items { result.items ≡ reverse values.items }
+    ensures len { vec_len result ≡ vec_len values }
+{
+    let mut values = values;
+    values.as_mut_slice().reverse();
+    values
+}
+
+/// Returns all edges over their sockets, in this incarnation if their configuration names none.
 fn all_ready<'x, R: Clock>(
     rt: &'x R,
     alloc: Global,
+    incarnation: u32,
     configs: Vec<EdgeConfig>,
     all: &'x [Sockets],
     stop: &'x AtomicBool,
 ) -> Result<Vec<Ready<'x, R>>, AllocError>
     requires configs { EachConfig configs.items }
     requires sockets { length all.now ≡ vec_len configs }
-    ensures { IfOk result (λ setups. vec_len setups ≡ vec_len configs) }
+    ensures many { IfOk result (λ setups. vec_len setups ≡ vec_len configs) }
+    ensures begun { IfOk result (λ setups. map (λ setup. setup.config) setups.items
+        ≡ map (begun_of incarnation) configs.items) }
 {
     let mut configs = configs;
     let mut setups = Vec::with_capacity(alloc, configs.len())?;
     while let Some(config) = configs.pop() {
-        if let Some(sockets) = all.get(configs.len()) {
-            setups.push(ready(rt, alloc, config, sockets, stop)?)?;
-        }
+        let sockets = &all[configs.len()];
+        let config = begun_in(config, incarnation);
+        setups.push(ready(rt, alloc, config, sockets, stop)?)?;
     }
-    setups.as_mut_slice().reverse();
-    Ok(setups)
+    Ok(in_reverse(setups))
 }
 
 /// The faults of the workers of all edges.
@@ -279,7 +266,7 @@ fn run_reading<'x, R: Threads + Wait + Clock + Sync, E: In>(
         {
             let is_read = read_out(rt, alloc, running, control, &mut *reader);
             stop.store(true, Ordering::SeqCst);
-            wake_all(sockets);
+            end_all_reads(sockets);
             (is_read, reader)
         },
     );
@@ -314,7 +301,8 @@ fn run_bound<R: Threads + Wait + Files + Clock + Sync, E: In, W: Out, N: Out + S
 {
     let (rt, alloc) = (host.rt, host.alloc);
     let stop = AtomicBool::new(false);
-    let setups = all_ready(rt, alloc, configs, sockets, &stop)?;
+    let incarnation = first_incarnation(rt, host.control.is_some());
+    let setups = all_ready(rt, alloc, incarnation, configs, sockets, &stop)?;
     let boards = Boards::new(alloc, setups.len())?;
     let start = Start::new(alloc, setups)?;
     // The closures return `reader` and `notes`; their ghost names show that they are these.
@@ -383,6 +371,9 @@ pub(crate) fn run_asked<
         Ok(sockets) => sockets,
         Err(start_error) => return tell_start_error(start_error, notes),
     };
+    if let Err(lack) = check_threads(host.rt, &config, host.control.is_some()) {
+        return tell_too_few(lack, notes);
+    }
     let Config { edges, links: _ } = config;
     match run_bound(host, edges, sockets.as_slice(), reader, out, notes) {
         Ok(status) => status,
@@ -399,8 +390,9 @@ pub(crate) fn run_asked<
 ///
 /// Returns the greatest status that applies: 4 if a device failed, which may be a reader, a writer,
 /// a link or a socket that can't be bound; 3 if memory or a thread was refused; else 0. If a socket
-/// can't be bound, no edge begins, and a line on `notes` has the address and the reason. If a port
-/// lacks an address, no edge begins either, and nothing is written.
+/// can't be bound, no edge begins, and a line on `notes` has the address and the reason. If the
+/// system doesn't start as many threads as the run needs, no edge begins, and a line on `notes` has
+/// both numbers. If a port lacks an address, no edge begins either, and nothing is written.
 pub fn run_edges<R: Threads + Wait + Net + Files + Clock + Sync, E: In, W: Out, N: Out + Send>(
     rt: &R,
     alloc: Global,

@@ -3,7 +3,7 @@ ghost use Rattle.std.specs.Prelude.{◌≡◌, ◌≤◌, ◌∷◌, [], false, 
 ghost use Rattle.ether_wire.specs.Ends.{IsOpen, Puts};
 ghost use Rattle.ev_run.specs.RunEdges.{why_text, endpoint_text, bind_error_text};
 ghost use Rattle.ev_run.specs.Sockets.{tunnel_of, locals_of, endpoints_of, all_ends, lacks_end, lacks_ends, lacks_address, Hinders};
-ghost use Rattle.ev_run.specs.Inner.Sockets.{bound_at};
+ghost use Rattle.ev_run.specs.Inner.Sockets.{bound_at, remotes_of, sent_to};
 
 use crate::bound::{PortSocket, Sockets};
 use arrayvec::ArrayVec;
@@ -12,6 +12,7 @@ use ev_config::{Config, Endpoint, PortEndpoints};
 use ev_edge::EdgeConfig;
 use ev_links::socket_address;
 use std::alloc::Global;
+use std::io;
 use std::io::ErrorKind;
 use std::net::{Net, UdpSocket};
 
@@ -29,6 +30,8 @@ pub enum BindError {
     Denied,
     /// The system has no memory for the socket.
     NoMemory,
+    /// This process has as many descriptors as it is allowed.
+    NoDescriptor,
     /// Any other reason.
     Other,
 }
@@ -45,12 +48,13 @@ pub(crate) enum StartError {
 }
 
 /// Returns the reason that an error of the system means for a bind.
-fn bind_error_of(kind: ErrorKind) -> BindError {
-    match kind {
+fn bind_error_of(error: &io::Error) -> BindError {
+    match error.kind() {
         ErrorKind::AddrInUse => BindError::InUse,
         ErrorKind::AddrNotAvailable => BindError::NotHere,
         ErrorKind::PermissionDenied => BindError::Denied,
         ErrorKind::OutOfMemory => BindError::NoMemory,
+        _ if error.raw_os_error() == Some(libc::EMFILE) => BindError::NoDescriptor,
         _ => BindError::Other,
     }
 }
@@ -65,6 +69,7 @@ impl BindError {
             BindError::NotHere => b"no device here has it\n",
             BindError::Denied => b"it isn't permitted\n",
             BindError::NoMemory => b"there is no memory\n",
+            BindError::NoDescriptor => b"too many files are open; raise ulimit -n\n",
             BindError::Other => b"the system refuses it\n",
         }
     }
@@ -113,13 +118,14 @@ fn bind<R: Net>(rt: &R, at: Endpoint) -> Result<UdpSocket, StartError>
 {
     match UdpSocket::bind(rt, socket_address(at.address, at.port)) {
         Ok(socket) => Ok(socket),
-        Err(error) => Err(StartError::Unbindable(at, bind_error_of(error.kind()))),
+        Err(error) => Err(StartError::Unbindable(at, bind_error_of(&error))),
     }
 }
 
 /// Returns both ends of a port's link.
 fn ends_of(link: PortEndpoints) -> Result<(Endpoint, Endpoint), StartError>
     ensures local { IfOk result (λ ends. link.local ≡ Some ends.0) }
+    ensures remote { IfOk result (λ ends. link.remote ≡ Some ends.1) }
     ensures whole { IfOk result (λ ends. lacks_end link ≡ false) }
     ensures hindered { IfErr result (λ why. Hinders [] (lacks_end link) why) }
 {
@@ -132,6 +138,7 @@ fn ends_of(link: PortEndpoints) -> Result<(Endpoint, Endpoint), StartError>
 /// Returns the bound socket of a port with these ends.
 fn bind_port<R: Net>(rt: &R, local: Endpoint, remote: Endpoint) -> Result<PortSocket, StartError>
     ensures bound { IfOk result (λ port. port.local ≡ local) }
+    ensures remote { IfOk result (λ port. port.remote ≡ remote) }
     ensures hindered { IfErr result (λ why. Hinders (local ∷ []) false why) }
 {
     Ok(PortSocket {
@@ -150,6 +157,8 @@ fn bind_ports<R: Net>(
     ensures few { IfOk result (λ ports. vec_len ports ≤ 64) }
     ensures bound { IfOk result
         (λ ports. map (λ port. port.local) ports.items ≡ locals_of links.now.items) }
+    ensures remotes { IfOk result
+        (λ ports. map (λ port. port.remote) ports.items ≡ remotes_of links.now.items) }
     ensures whole { IfOk result (λ ports. lacks_ends links.now.items ≡ false) }
     ensures hindered { IfErr result
         (λ why. Hinders (locals_of links.now.items) (lacks_ends links.now.items) why) }
@@ -173,6 +182,8 @@ pub(crate) fn bind_all<R: Net>(
 ) -> Result<Vec<Sockets>, StartError>
     ensures all { IfOk result (λ all. vec_len all ≡ vec_len config.now.edges) }
     ensures bound { IfOk result (λ all. map bound_at all.items ≡ endpoints_of config.now) }
+    ensures remotes { IfOk result (λ all. map sent_to all.items
+        ≡ map (λ links. remotes_of links.items) config.now.links.items) }
     ensures whole { IfOk result (λ all. lacks_address config.now ≡ false) }
     ensures hindered { IfErr result
         (λ why. Hinders (all_ends config.now) (lacks_address config.now) why) }

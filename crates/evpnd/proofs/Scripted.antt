@@ -87,11 +87,11 @@ pub record IsReady (s : Shelf) (out notes : End) : Type 0 where
   pub out_open : IsOpen out
   pub notes_open : IsOpen notes
 
-checked_ready : (purpose : Purpose) (found : Result Config ConfigRefusal) (s : Shelf) (input : Source)
+checked_ready : (purpose : Purpose) (text : Text) (found : Result Config ConfigRefusal) (s : Shelf) (input : Source)
     (out out' notes notes' : End)
-    (status : ℕ) → Checks purpose found (devices input out notes) (devices input out' notes') status
+    (status : ℕ) → Checks purpose text found (devices input out notes) (devices input out' notes') status
     → status ≡ 0 → HasRoom s → IsOpen out → IsOpen notes → IsReady s out' notes'
-checked_ready purpose (Ok config) s input out out' notes notes' status h done room o n = go purpose.wanted h.1
+checked_ready purpose text (Ok config) s input out out' notes notes' status h done room o n = go purpose.wanted h.1
   where
     open_behind : (text : Text) → notes' ≡ notes → Holds out out' text
         → ◌≡◌ {A = ℕ} status (cond (has_failed out out') 4 0)
@@ -119,11 +119,11 @@ checked_ready purpose (Ok config) s input out out' notes notes' status h done ro
     go Any p = open_behind p.1.0 p.0 p.1.1 p.1.2
     go Run p = run false p
     go Serve p = run true p
-checked_ready purpose (Err (refusal.Key key)) s input out out' notes notes' status h done room o n =
-    absurd (two_or_four (has_failed notes notes') status h.2.1.status_is done)
-checked_ready purpose (Err refusal.Text) s input out out' notes notes' status h done room o n =
-    absurd (two_or_four (has_failed notes notes') status h.2.1.status_is done)
-checked_ready purpose (Err refusal.NoMemory) s input out out' notes notes' status h done room o n =
+checked_ready purpose text (Err (refusal.Key key)) s input out out' notes notes' status h done room o n =
+    absurd (two_or_four (has_failed notes notes') status h.2.2.status_is done)
+checked_ready purpose text (Err refusal.Text) s input out out' notes notes' status h done room o n =
+    absurd (two_or_four (has_failed notes notes') status h.2.2.status_is done)
+checked_ready purpose text (Err refusal.NoMemory) s input out out' notes notes' status h done room o n =
     let three = h.1 in absurd (omega (arith, three, done))
 
 pub ready : (purpose : Purpose) (path : Text) (s s' : Shelf) (input : Source) (out out' notes notes' : End) (status : ℕ)
@@ -135,7 +135,7 @@ ready purpose path s s' input out out' notes notes' status (inl (inl h)) room o 
 ready purpose path s s' input out out' notes notes' status (inl (inr h)) room o n done =
     let four = h.status_is in absurd (omega (arith, four, done))
 ready purpose path s s' input out out' notes notes' status (inr r) room o n done =
-    checked_ready purpose r.found s' input out out' notes notes' status r.used done
+    checked_ready purpose r.text r.found s' input out out' notes notes' status r.used done
     (subst (λ (x : Shelf). HasRoom x) (sym r.shelf_kept) room) o n
 
 pub is_zero : (n : ℕ) → (n == 0) ≡ true → n ≡ 0

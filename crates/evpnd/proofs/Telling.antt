@@ -8,6 +8,8 @@ use Rattle.clap.specs.Words.{IsAmong, fault_of}
 use Rattle.clap.specs.Kinds.{Kinds}
 use Rattle.clap.specs.declared.error.kind.ErrorKind.{ErrorKind}
 use Rattle.ev_words.specs.Args.{program}
+use Rattle.ev_config.specs.declared.whole.Use.{Use}
+use Rattle.ev_config.specs.Told.{AreFaultLines}
 use Rattle.ev_report.specs.Originators.{Text}
 use Rattle.ev_report.specs.Ends.{Devices}
 use Rattle.evpnd.specs.Files.{Shelf}
@@ -31,13 +33,15 @@ put_behind a b c text more (Ok x) first h =
     (text, h ∙ ap (λ (e : End). with_text e more) first ∙ with_text_twice a text more)
 put_behind a b c text more (Err d) first h = (text, h ∙ ap (λ (e : End). e.failures + 1) first)
 
--- a text was put, followed by some other text
-pub put_before : (a b c : End) (text : Text) (r : Result (Unit {0}) Device) → b ≡ with_text a text
-    → (t : Text) × Puts b c t r
-    → (t : Text) × Puts a c (text ++ t) r
-put_before a b c text (Ok x) first (t, h) =
-    (t, h ∙ ap (λ (e : End). with_text e t) first ∙ with_text_twice a text t)
-put_before a b c text (Err d) first (t, h) = (t, h ∙ ap (λ (e : End). e.failures + 1) first)
+-- a text was put, followed by the lines for one that is no configuration
+pub put_before : (wanted : Use) (document : Text) (a b c : End) (text : Text) (r : Result (Unit {0}) Device)
+    → b ≡ with_text a text
+    → (t : Text) × AreFaultLines wanted document t × Puts b c t r
+    → (t : Text) × AreFaultLines wanted document t × Puts a c (text ++ t) r
+put_before wanted document a b c text (Ok x) first (t, are, h) =
+    (t, are, h ∙ ap (λ (e : End). with_text e t) first ∙ with_text_twice a text t)
+put_before wanted document a b c text (Err d) first (t, are, h) =
+    (t, are, h ∙ ap (λ (e : End). e.failures + 1) first)
 
 pub sums_with : (more : Text) (a b : End) (r : Result (Unit {0}) Device) (status : ℕ) → (t : Text)
     × Puts a b (t ++ more) r

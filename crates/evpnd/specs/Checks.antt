@@ -12,6 +12,7 @@ use Rattle.evpnd.specs.Files.{Text, Shelf, IsTextOf, unread_text}
 use Rattle.ev_report.specs.Ends.{Devices, devices, has_failed, Holds}
 use Rattle.ev_report.specs.Usage.{IsTold}
 use Rattle.ev_config.specs.declared.whole.Use.{Use}
+use Rattle.ev_config.specs.Told.{AreFaultLines}
 use Rattle.ev_config.specs.declared.whole.Use.TheVariants.{Any, Run, Serve}
 use Rattle.ev_run.specs.declared.obstacles.Obstacle.{Obstacle}
 use Rattle.ev_run.specs.Needs.{needs_of, asked_text}
@@ -52,9 +53,9 @@ IsTextless option path before after status = IsRefusedText before after status
 abbrev pub Gives : Type 0 → Type 1
 Gives X = Text → Result X ConfigRefusal → Type 0
 
--- the use of a configuration
+-- the use of a text's configuration
 abbrev pub Uses : Type 0 → Type 1
-Uses X = Result X ConfigRefusal → Devices → Devices → ℕ → Type 0
+Uses X = Text → Result X ConfigRefusal → Devices → Devices → ℕ → Type 0
 
 -- the file has this text, and its configuration is used
 pub record IsRead {X : Type 0} (gives : Gives X) (uses : Uses X) (path : Text) (before after : Desk)
@@ -64,7 +65,7 @@ pub record IsRead {X : Type 0} (gives : Gives X) (uses : Uses X) (path : Text) (
   pub read : IsTextOf before.shelf path text
   pub found : Result X ConfigRefusal
   pub is_found : gives text found
-  pub used : uses found before.devices after.devices status
+  pub used : uses text found before.devices after.devices status
 
 -- the use of a file's configuration
 abbrev pub OfFile : {X : Type 0} → Gives X → Uses X → Text → Desk → Desk → ℕ → Type 0
@@ -78,9 +79,10 @@ abbrev pub Sums : End → End → ℕ → Type 0
 Sums before after status = (text : Text) × Holds before after text
     × (status ≡ (if has_failed before after then 4 else 0))
 
--- some text is written to the notes, or a call of them failed
-abbrev pub TellsSome : End → End → ℕ → Type 0
-TellsSome before after status = (text : Text) × IsTold text before after status
+-- the lines for a text that is no configuration are written to the notes, or a call of them failed
+abbrev pub TellsFaults : Use → Text → End → End → ℕ → Type 0
+TellsFaults wanted text before after status =
+    (told : Text) × AreFaultLines wanted text told × IsTold told before after status
 
 -- some text followed by this one was written on the output, or a call of it failed
 abbrev pub SumsWith : Text → End → End → ℕ → Type 0
@@ -107,13 +109,13 @@ SumsFor Any most config out out' notes notes' status = (notes' ≡ notes) × Sum
 SumsFor Run most config out out' notes notes' status = SumsRun false most config out out' notes notes' status
 SumsFor Serve most config out out' notes notes' status = SumsRun true most config out out' notes notes' status
 
--- A configuration is summed up on the output for its purpose (0); its faults are reported on the notes (2), or there
--- was no memory (3); nothing was read, nothing else written.
-abbrev pub Checks : Purpose → Result Config ConfigRefusal → Devices → Devices → ℕ → Type 0
-Checks purpose (Ok config) before after status = (after.input ≡ before.input)
+-- A text's configuration is summed up on the output for its purpose (0); its faults are reported on the notes (2), or
+-- there was no memory (3); nothing was read, nothing else written.
+abbrev pub Checks : Purpose → Text → Result Config ConfigRefusal → Devices → Devices → ℕ → Type 0
+Checks purpose text (Ok config) before after status = (after.input ≡ before.input)
     × SumsFor purpose.wanted purpose.most config before.out after.out before.notes after.notes status
-Checks purpose (Err (refusal.Key key)) before after status = (after.input ≡ before.input) × (after.out ≡ before.out)
-    × TellsSome before.notes after.notes status
-Checks purpose (Err refusal.Text) before after status = (after.input ≡ before.input) × (after.out ≡ before.out)
-    × TellsSome before.notes after.notes status
-Checks purpose (Err refusal.NoMemory) before after status = (after ≡ before) × (status ≡ 3)
+Checks purpose text (Err (refusal.Key key)) before after status = (after.input ≡ before.input)
+    × (after.out ≡ before.out) × TellsFaults purpose.wanted text before.notes after.notes status
+Checks purpose text (Err refusal.Text) before after status = (after.input ≡ before.input)
+    × (after.out ≡ before.out) × TellsFaults purpose.wanted text before.notes after.notes status
+Checks purpose text (Err refusal.NoMemory) before after status = (after ≡ before) × (status ≡ 3)

@@ -2,3 +2,4 @@ pub mod Checks
 pub mod Configured
 pub mod Files
 pub mod Program
+pub mod Seen

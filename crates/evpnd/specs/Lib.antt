@@ -2,6 +2,7 @@ pub mod Files
 pub mod Checks
 pub mod Configured
 pub mod Program
+pub mod Records
 pub mod Streams
 pub mod Used
 pub mod Version

@@ -19,6 +19,7 @@ use Rattle.evpnd.specs.Files.{Shelf}
 use Rattle.evpnd.specs.Checks.{Desk, desk, OfFile}
 use Rattle.evpnd.specs.Scripts.{ChecksAll}
 use Rattle.evpnd.specs.Version.{TellsVersion}
+use Rattle.evpnd.specs.Records.{Hinted}
 use Rattle.ev_report.specs.Report.{Reports}
 use Rattle.ev_report.specs.Migrations.{Migrates}
 use Rattle.ev_config.specs.Config.{ConfigOf, ServedOf}
@@ -67,9 +68,9 @@ purpose_of aim descriptors = record { wanted = use_of aim; most = descriptors.mo
 -- the effect of each subcommand with the values of its options and its flags
 abbrev pub FollowsAs : Descriptors → Subcommand → Text → Option Text → Aim → Desk → Desk → ℕ → Type 0
 FollowsAs given Report list more aim before after status = (after.shelf ≡ before.shelf)
-    × OfList Reports list before.devices after.devices status
+    × Hinted (OfList Reports list) before.devices after.devices status
 FollowsAs given Migrate list more aim before after status = (after.shelf ≡ before.shelf)
-    × OfList Migrates list before.devices after.devices status
+    × Hinted (OfList Migrates list) before.devices after.devices status
 FollowsAs given Check path more aim before after status = ChecksAll (purpose_of aim given) path more before after
     status
 FollowsAs given Simulate path more aim before after status = OfFile (ConfigOf false)

@@ -1,9 +1,10 @@
 -- The uses of a configuration: a script on its edges, or a run of them.
-use Rattle.std.specs.Prelude.{ℕ, string_bytes, Result}
+use Rattle.std.specs.Prelude.{ℕ, string_bytes}
 use Rattle.ev_config.specs.declared.whole.Config.{Config}
 use Rattle.ev_config.specs.declared.whole.Served.{Served}
-use Rattle.ev_config.specs.declared.config.ConfigRefusal.{ConfigRefusal}
+use Rattle.ev_config.specs.declared.whole.Use.TheVariants.{Any, Run, Serve}
 use Rattle.ev_report.specs.Ends.{Devices}
+use Rattle.evpnd.specs.Checks.{Uses}
 use Rattle.evpnd.specs.Configured.{OfFound}
 use Rattle.ev_script.specs.declared.script.mode.Mode.{Mode}
 use Rattle.ev_script.specs.Simulation.{Simulates}
@@ -14,15 +15,15 @@ use Rattle.ev_run.specs.Serving.{ServesEdges}
 abbrev pub SimulatesEdges : Mode → Config → Devices → Devices → ℕ → Type 0
 SimulatesEdges mode config before after status = Simulates mode config.edges.items before after status
 
-abbrev pub SimulatesFound : Mode → Result Config ConfigRefusal → Devices → Devices → ℕ → Type 0
-SimulatesFound mode = OfFound (SimulatesEdges mode)
+abbrev pub SimulatesFound : Mode → Uses Config
+SimulatesFound mode = OfFound Any (SimulatesEdges mode)
 
 -- the edges of a configuration run, and answer queries at its socket meanwhile
 abbrev pub ServesConfig : Served → Devices → Devices → ℕ → Type 0
 ServesConfig served = ServesEdges (string_bytes served.control) served.config
 
-abbrev pub RunsFound : Result Config ConfigRefusal → Devices → Devices → ℕ → Type 0
-RunsFound = OfFound RunsEdges
+abbrev pub RunsFound : Uses Config
+RunsFound = OfFound Run RunsEdges
 
-abbrev pub ServesFound : Result Served ConfigRefusal → Devices → Devices → ℕ → Type 0
-ServesFound = OfFound ServesConfig
+abbrev pub ServesFound : Uses Served
+ServesFound = OfFound Serve ServesConfig

@@ -7,7 +7,7 @@ ghost use Rattle.evpnd.specs.Files.{Text, HasRoom};
 ghost use Rattle.ev_report.specs.Usage.{IsTold};
 ghost use Rattle.ev_run.specs.Needs.{needs_of, asked_text};
 ghost use Rattle.ev_run.specs.Obstacles.{obstacles_of, obstacles_text};
-ghost use Rattle.evpnd.specs.Checks.{desk, OfFile, Sums, TellsSome, SumsWith, TellsObstacles, SumsRun, SumsFor, Checks};
+ghost use Rattle.evpnd.specs.Checks.{desk, OfFile, Sums, TellsFaults, SumsWith, TellsObstacles, SumsRun, SumsFor, Checks};
 ghost use Rattle.evpnd.specs.Inner.Checks.{ChecksText};
 ghost use Rattle.evpnd.specs.Scripts.{ChecksAll};
 
@@ -167,7 +167,7 @@ fn tell_refusal<N: Out>(
     notes: &mut N,
 ) -> u8
     requires { IsOpen (N.end notes.old) }
-    ensures { TellsSome (N.end notes.old) (N.end notes.new) result }
+    ensures { TellsFaults wanted text.now (N.end notes.old) (N.end notes.new) result }
 {
     usage_status(put_refusal(notes, alloc, wanted, text, key))
 }

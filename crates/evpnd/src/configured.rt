@@ -6,8 +6,10 @@ ghost use Rattle.ev_fabric.specs.Opening.{AreConfigs};
 ghost use Rattle.evpnd.specs.Files.{Text, HasRoom};
 ghost use Rattle.ev_report.specs.Usage.{IsTold};
 ghost use Rattle.ev_report.specs.Ends.{devices};
+ghost use Rattle.ev_config.specs.declared.whole.Use.TheVariants.{Serve};
+ghost use Rattle.ev_config.specs.Told.{AreFaultLines};
 ghost use Rattle.evpnd.specs.Configured.{config_text, Refuses};
-ghost use Rattle.evpnd.specs.Inner.Configured.{TextGives, FileGives};
+ghost use Rattle.evpnd.specs.Inner.Configured.{use_for, TextGives, FileGives};
 
 use crate::files::{Files, Named, text_at};
 use ether_wire::{Device, Out};
@@ -37,8 +39,8 @@ struct Refused<'a> {
 /// Writes `config KEY`, and then a line for each fault, as `evpnd check` writes them.
 fn put_faults<N: Out>(refused: Refused<'_>, key: &str, notes: &mut N) -> Result<(), Device>
     requires { IsOpen (N.end notes.old) }
-    ensures { (more : Text) × Puts (N.end notes.old) (N.end notes.new)
-        (config_text key.now ++ more) result }
+    ensures { (more : Text) × AreFaultLines refused.entry.wanted refused.entry.text.now more
+        × Puts (N.end notes.old) (N.end notes.new) (config_text key.now ++ more) result }
 {
     put_key(notes, key.as_bytes())?;
     put_refusal(
@@ -53,8 +55,8 @@ fn put_faults<N: Out>(refused: Refused<'_>, key: &str, notes: &mut N) -> Result<
 /// Reports which key of a configuration is faulty, and its faults, and returns the status.
 fn tell_key<N: Out>(refused: Refused<'_>, key: &str, notes: &mut N) -> u8
     requires { IsOpen (N.end notes.old) }
-    ensures { (more : Text) × IsTold (config_text key.now ++ more) (N.end notes.old)
-        (N.end notes.new) result }
+    ensures { (more : Text) × AreFaultLines refused.entry.wanted refused.entry.text.now more
+        × IsTold (config_text key.now ++ more) (N.end notes.old) (N.end notes.new) result }
 {
     usage_status(put_faults(refused, key, notes))
 }
@@ -62,8 +64,9 @@ fn tell_key<N: Out>(refused: Refused<'_>, key: &str, notes: &mut N) -> u8
 /// Reports why a text is no configuration, and returns the status.
 fn tell_refusal<N: Out>(refused: Refused<'_>, refusal: &ConfigRefusal, notes: &mut N) -> u8
     requires { IsOpen (N.end notes.old) }
-    ensures { (input : Source) → (out : End) → Refuses refusal.now
-        (devices input out (N.end notes.old)) (devices input out (N.end notes.new)) result }
+    ensures { (input : Source) → (out : End) → Refuses refused.entry.wanted
+        refused.entry.text.now refusal.now (devices input out (N.end notes.old))
+        (devices input out (N.end notes.new)) result }
 {
     match refusal {
         ConfigRefusal::NoMemory => MEMORY,
@@ -80,8 +83,8 @@ fn configured_by<N: Out>(
     notes: &mut N,
 ) -> Result<Config, u8>
     requires { IsOpen (N.end notes.old) }
-    ensures value { TextGives (ConfigOf for_run) text.now (N.end notes.old) (N.end notes.new)
-        result }
+    ensures value { TextGives (use_for for_run) (ConfigOf for_run) text.now (N.end notes.old)
+        (N.end notes.new) result }
     ensures opens { IfOk result (λ c. AreConfigs c.edges.items) }
 {
     match config_of(alloc, text, for_run) {
@@ -102,7 +105,7 @@ fn configured_by<N: Out>(
 /// if it has none, after a report.
 fn served_by<N: Out>(alloc: Global, text: &str, notes: &mut N) -> Result<Served, u8>
     requires { IsOpen (N.end notes.old) }
-    ensures value { TextGives ServedOf text.now (N.end notes.old) (N.end notes.new) result }
+    ensures value { TextGives Serve ServedOf text.now (N.end notes.old) (N.end notes.new) result }
     ensures opens { IfOk result (λ s. AreConfigs s.config.edges.items) }
 {
     match served_config_of(alloc, text) {
@@ -133,8 +136,8 @@ pub(crate) fn configured<F: Files, N: Out>(
 ) -> Result<Config, u8>
     requires files { HasRoom (F.shelf files.old) }
     requires notes { IsOpen (N.end notes.old) }
-    ensures value { FileGives (ConfigOf for_run) path.now (F.shelf files.old) (F.shelf files.new)
-        (N.end notes.old) (N.end notes.new) result }
+    ensures value { FileGives (use_for for_run) (ConfigOf for_run) path.now (F.shelf files.old)
+        (F.shelf files.new) (N.end notes.old) (N.end notes.new) result }
     ensures opens { IfOk result (λ c. AreConfigs c.edges.items) }
 {
     match text_at(files, Named::Config, path, notes) {
@@ -156,7 +159,7 @@ pub(crate) fn served<F: Files, N: Out>(
 ) -> Result<Served, u8>
     requires files { HasRoom (F.shelf files.old) }
     requires notes { IsOpen (N.end notes.old) }
-    ensures value { FileGives ServedOf path.now (F.shelf files.old) (F.shelf files.new)
+    ensures value { FileGives Serve ServedOf path.now (F.shelf files.old) (F.shelf files.new)
         (N.end notes.old) (N.end notes.new) result }
     ensures opens { IfOk result (λ s. AreConfigs s.config.edges.items) }
 {

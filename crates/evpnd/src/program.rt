@@ -15,6 +15,7 @@ ghost use Rattle.evpnd.specs.Inner.Program.{TellsFault};
 use crate::check::{Purpose, Wanted, check_all};
 use crate::files::Files;
 use crate::host::{Descriptors, Host};
+use crate::records::{migrate, report};
 use crate::run_file::run_file;
 use crate::serve_file::serve_file;
 use crate::simulate::simulate;
@@ -23,9 +24,7 @@ use crate::version::version;
 use clap::Error;
 use ether_wire::{In, Out};
 use ev_config::Use;
-use ev_report::{
-    Devices, Failures, MEMORY, migrate_list, report_list, tell, tell_failed, tell_words,
-};
+use ev_report::{Devices, Failures, MEMORY, tell, tell_failed, tell_words};
 use ev_script::Mode;
 use ev_words::{Aim, ArgsError, Invocation, Parser, Subcommand, invocation_of};
 use std::alloc::Global;
@@ -152,8 +151,8 @@ fn follow<
 {
     let alloc = host.alloc;
     match invocation.subcommand {
-        Subcommand::Report => report_list(alloc, invocation.value, devices),
-        Subcommand::Migrate => migrate_list(alloc, invocation.value, devices),
+        Subcommand::Report => report(alloc, invocation.value, devices),
+        Subcommand::Migrate => migrate(alloc, invocation.value, devices),
         Subcommand::Check => {
             check_on(
                 alloc,

@@ -96,7 +96,7 @@ def two_views(edge: Edge, folder: str, tally: Tally) -> None:
     with Edge("other", edge.root) as other:
         other.tell(FLOODS + [f"advert 10.0.0.1 {VNI} {STATIC} seq 3"])
         other.save(f"{folder}-two")
-    tally.see(audited("--mac", STATIC, f"{folder}-two")[0] == 0, "alone the second edge forwards by what it knows")
+    tally.see(audited("--mac", STATIC, f"{folder}-two")[0] == 0, "by itself the second edge forwards by its own routes")
     status, text = audited("--mac", STATIC, f"{folder}-one", f"{folder}-two")
     print(text, end="")
     line = f"{folder}-two: wrong {VNI} {STATIC} owner 10.0.0.2 (static, against dynamic 3 of 10.0.0.1); bgpd 10.0.0.1, zebra 10.0.0.1, "

@@ -26,7 +26,7 @@ BEST, BEST_BEFORE = "show bgp vni all json", "show bgp l2vpn evpn route vni all 
 COMMANDS = ("show bgp l2vpn evpn route json", BEST, BEST_BEFORE, "show evpn vni json", "show evpn mac vni all json")
 NOBODY = ("setpriv", "--reuid=65534", "--regid=65534", "--clear-groups")
 SILENT = "no daemon of FRR answers: start it"
-CASES = {  # what the audit's one line has to name
+CASES = {  # the cause that the audit's one line has to name
     "bgpd down": "bgpd is not running",
     "zebra down": "zebra is not running",
     "no daemon": SILENT,

@@ -1,5 +1,5 @@
 #!/usr/bin/env bash
-# What the audit says where it can't look: bgpd down, zebra down, no daemon, not root (beside running FRR, and with what its
+# The audit's messages if it can't look: bgpd down, zebra down, no daemon, not root (beside running FRR, and with what its
 # vtysh answered), and a binary file where text is meant; and how often it runs each command, and its two looks, on a host of
 # stubs. As root, with frr and iproute2:
 #

@@ -1,26 +1,51 @@
 //! Tests the updates that edges send on a connection that is joined to them.
-use super::{EDGE, FLOOD, are, of_another, update, withdrawn};
-use crate::{Announcing, EdgeTable, Sender, announce};
+use super::{EDGE, FLOOD, KIND, are, of_another, update, with, withdrawn};
+use crate::{Announcing, Due, EdgeTable, Known, Sender, announce};
 use ether_wire::{Addr, FailAt, Page};
 use route_wire::Update;
 use std::alloc::Global;
 use std::test::Fail;
 
-/// Two edges, each with the flood lists of both in its table. They announce the withdrawal of the
-/// first one's flood list, and nothing more.
+/// The edge 10.0.0.3, which runs elsewhere.
+const ELSEWHERE: u32 = EDGE + 2;
+
+/// An item that comes from the edges.
+#[derive(Clone, Copy)]
+enum Item {
+    /// An update that an edge announces, as its record.
+    Announced([u8; 44]),
+    /// The other side names this originator.
+    Named(u32),
+}
+
+/// Two edges. Each one's table has the flood lists of both; that of the first has the withdrawal of
+/// the flood list of the edge elsewhere, and that of the second the flood list itself.
 #[derive(Drop)]
 struct Two {
     tables: u64,
-    announced: usize,
+    items: [Option<Item>; 2],
+    asked: usize,
     idle: bool,
 }
 
 impl Two {
-    /// Returns two edges, the first `tables` of which return their tables.
+    /// Returns two edges, the first `tables` of which return their tables. They announce the
+    /// withdrawal of the first one's flood list, and nothing more.
     fn new(tables: u64) -> Self {
         Two {
             tables,
-            announced: 0,
+            items: [Some(Item::Announced(withdrawn())), None],
+            asked: 0,
+            idle: false,
+        }
+    }
+
+    /// Returns two edges from which these items come.
+    fn with(first: Item, second: Item) -> Self {
+        Two {
+            tables: 2,
+            items: [Some(first), Some(second)],
+            asked: 0,
             idle: false,
         }
     }
@@ -32,13 +57,13 @@ impl Announcing for Two {
     ghost told = { λ two. None };
 
     fn table(&mut self, alloc: Global, edge: u64) -> Option<EdgeTable> {
-        let address = match edge {
+        let (address, third) = match edge {
             _ if edge > self.tables => return None,
-            1 => EDGE,
-            _ => EDGE + 1,
+            1 => (EDGE, with(elsewhere(), KIND, 2)),
+            _ => (EDGE + 1, elsewhere()),
         };
         let mut updates = Vec::new(alloc);
-        for record in [FLOOD, of_another()].iter() {
+        for record in [FLOOD, of_another(), third].iter() {
             if let Ok(update) = update(record) {
                 let _ = updates.push(update);
             }
@@ -49,17 +74,23 @@ impl Announcing for Two {
         })
     }
 
-    fn next(&mut self) -> Option<Update> {
-        self.announced = self.announced.saturating_add(1);
-        match self.announced {
-            1 => update(&withdrawn()).ok(),
-            _ => None,
+    fn next(&mut self) -> Option<Due> {
+        let item = *self.items.get(self.asked)?;
+        self.asked += 1;
+        match item? {
+            Item::Announced(record) => Some(Due::Update(update(&record).ok()?)),
+            Item::Named(originator) => Some(Due::Back(Addr::new(originator))),
         }
     }
 
     fn is_idle(&self) -> bool {
         self.idle
     }
+}
+
+/// Returns the flood list of the edge elsewhere.
+fn elsewhere() -> [u8; 44] {
+    with(with(with(FLOOD, 9, 3), 32, 3), 43, 3)
 }
 
 #[test]
@@ -78,7 +109,7 @@ fn behind_a_table_that_is_missing_nothing_is_said(rt: HostRuntime) {
     let mut two = Two::new(1);
     announce(&rt, rt.alloc(), 2, &mut two, &mut sender);
     assert!(rt; are(sender.finish().octets(), &[FLOOD]));
-    assert_eq!(rt; two.announced, 0);
+    assert_eq!(rt; two.asked, 0);
 }
 
 #[test]
@@ -98,8 +129,60 @@ fn a_failed_writer_ends_it(rt: HostRuntime) {
     let mut sender = Sender::new(FailAt::writer(page, 3));
     let mut two = Two::new(2);
     announce(&rt, rt.alloc(), 2, &mut two, &mut sender);
-    assert_eq!(rt; two.announced, 1);
+    assert_eq!(rt; two.asked, 1);
     let writer = sender.finish();
     assert_eq!(rt; writer.calls(), 3);
     assert!(rt; are(writer.inner().octets(), &[FLOOD, of_another()]));
+}
+
+#[test]
+fn what_each_table_has_of_a_named_originator_is_said_back(rt: HostRuntime) {
+    let page: Page<512> = Page::new();
+    let mut sender = Sender::new(page);
+    let mut two = Two::with(Item::Named(ELSEWHERE), Item::Announced(withdrawn()));
+    announce(&rt, rt.alloc(), 2, &mut two, &mut sender);
+    let back = [with(elsewhere(), KIND, 2), elsewhere()];
+    assert!(rt;
+        are(
+            sender.finish().octets(),
+            &[FLOOD, of_another(), back[0], back[1], withdrawn()]
+        )
+    );
+}
+
+#[test]
+fn of_an_originator_of_which_nothing_is_held_nothing_is_said_back(rt: HostRuntime) {
+    let page: Page<256> = Page::new();
+    let mut sender = Sender::new(page);
+    let mut two = Two::with(Item::Named(ELSEWHERE + 1), Item::Announced(withdrawn()));
+    announce(&rt, rt.alloc(), 2, &mut two, &mut sender);
+    assert!(rt;
+        are(
+            sender.finish().octets(),
+            &[FLOOD, of_another(), withdrawn()]
+        )
+    );
+}
+
+#[test]
+fn a_writer_that_fails_while_it_says_back_ends_it(rt: HostRuntime) {
+    let page: Page<256> = Page::new();
+    let mut sender = Sender::new(FailAt::writer(page, 3));
+    let mut two = Two::with(Item::Named(ELSEWHERE), Item::Announced(withdrawn()));
+    announce(&rt, rt.alloc(), 2, &mut two, &mut sender);
+    assert_eq!(rt; two.asked, 1);
+    assert_eq!(rt; sender.finish().calls(), 3);
+}
+
+#[test]
+fn each_originator_is_new_once_and_at_most_64_are_known(rt: HostRuntime) {
+    let mut known = Known::new();
+    assert!(rt; !known.has(Addr::new(1)));
+    for number in 1..65 {
+        assert!(rt; known.meet(Addr::new(number)));
+    }
+    assert!(rt; known.has(Addr::new(1)) && known.has(Addr::new(64)));
+    assert!(rt; !known.meet(Addr::new(1)));
+    assert!(rt; !known.meet(Addr::new(65)));
+    assert!(rt; !known.has(Addr::new(65)));
 }

@@ -13,4 +13,4 @@ use Rattle.evpnd.specs.Checks.{Checks}
 abbrev pub ChecksText : Purpose → Text → End → End → End → End → ℕ → Type 0
 ChecksText purpose text out notes out' notes' status =
     (found : Result Config ConfigRefusal) × ConfigFor purpose.wanted text found
-    × ((input : Source) → Checks purpose found (devices input out notes) (devices input out' notes') status)
+    × ((input : Source) → Checks purpose text found (devices input out notes) (devices input out' notes') status)

@@ -2,5 +2,5 @@ use Rattle.ev_exchange.proofs.Sayings.{Saying}
 use Rattle.ev_exchange.proofs.saying.say_tables.Given as goal
 
 abbrev pub invariant-loop-place : goal.invariant-loop-place
-invariant-loop-place g l = Saying l.place (g.S.Announcing.told l.initial.from) (g.S.Announcing.told l.from)
+invariant-loop-place g l = Saying l.place l.named (g.S.Announcing.told l.initial.from) (g.S.Announcing.told l.from)
     l.initial.sender l.sender

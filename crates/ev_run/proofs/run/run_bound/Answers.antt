@@ -21,7 +21,8 @@ returns-clause-ran g c =
       is_read = is_read;
       read = subst (λ (s : Source). ReadsOut (g.E.In.end c.args.reader.now) s is_read) (search rules) reached.1;
       ended = ended.items;
-      all = sym ended.ok.0 ∙ reached.0 ∙ c.in_ok-start.ensures ∙ c.in_ok-setups.ensures ∙ c.args.configs.ok.0;
+      all = sym ended.ok.0 ∙ reached.0 ∙ c.in_ok-start.ensures ∙ c.in_ok-setups.ensures.many
+          ∙ c.args.configs.ok.0;
       alerts = meanwhile.alerts;
       table = table.items;
       told = subst (λ (n : End). TellsEnded meanwhile.alerts ended.items system is_read out out' notes n

@@ -2,7 +2,7 @@ use Rattle.std.proofs.Common.{rules, ◌≡◌, List, Some, map, get_or, subst, 
 use Rattle.ev_config.specs.declared.endpoint.Endpoint.{Endpoint}
 use Rattle.ev_config.specs.declared.endpoint.PortEndpoints.{PortEndpoints}
 use Rattle.ev_run.specs.declared.bound.PortSocket.{PortSocket}
-use Rattle.ev_run.proofs.Binding.{local_more, whole_more, exits, port_hinders}
+use Rattle.ev_run.proofs.Binding.{end_more, whole_more, exits, port_hinders}
 use Rattle.ev_run.specs.Sockets.{locals_of, lacks_end, lacks_ends, Hinders}
 use Rattle.ev_run.proofs.sockets.bind_ports.Goals as goal
 
@@ -15,12 +15,19 @@ loop-link-preserved g c =
     let local : (get_or links place link).local ≡ Some port.local =
     ap (λ (l : PortEndpoints). l.local) (sym c.link-item.is) ∙ c.in_ok-local.ensures.local
     ∙ ap (λ (at : Endpoint). Some at) (sym c.in_ok-bind_port.ensures.bound) in
+    let remote : (get_or links place link).remote ≡ Some port.remote =
+    ap (λ (l : PortEndpoints). l.remote) (sym c.link-item.is) ∙ c.in_ok-local.ensures.remote
+    ∙ ap (λ (at : Endpoint). Some at) (sym c.in_ok-bind_port.ensures.remote) in
     record {
       ports = search rules;
       room = search rules;
       bound = ap (λ (ports : List PortSocket). map (λ (p : PortSocket). p.local) ports) c.push_reserved.ensures.items
-          ∙ local_more links place link c.loop-link.ports.items port c.loop-link-test.true c.loop-link.invariant.bound
-          local;
+          ∙ end_more (λ (l : PortEndpoints). l.local) (λ (p : PortSocket). p.local) links place link
+          c.loop-link.ports.items port c.loop-link-test.true c.loop-link.invariant.bound local;
+      remotes = ap (λ (ports : List PortSocket). map (λ (p : PortSocket). p.remote) ports)
+          c.push_reserved.ensures.items
+          ∙ end_more (λ (l : PortEndpoints). l.remote) (λ (p : PortSocket). p.remote) links place link
+          c.loop-link.ports.items port c.loop-link-test.true c.loop-link.invariant.remotes remote;
       whole = whole_more links place link c.loop-link-test.true c.loop-link.invariant.whole
           (ap lacks_end (sym c.link-item.is) ∙ c.in_ok-local.ensures.whole);
     }

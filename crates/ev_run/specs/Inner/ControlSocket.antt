@@ -1,0 +1,26 @@
+-- What is done with what is found at the path of a control socket, and who can use the socket's file.
+use Rattle.std.specs.Prelude.{◌≡◌, ℕ, Result, Err, IsOk}
+use Rattle.ev_run.specs.declared.control_socket.ListenError.{ListenError}
+use Rattle.ev_run.specs.declared.control_socket.ListenError.TheVariants as listen_error
+use Rattle.ev_run.specs.declared.control_socket.Found.{Found}
+use Rattle.ev_run.specs.declared.control_socket.Found.TheVariants.{Nothing, Stale, Served, Foreign, Hidden}
+use Rattle.ev_run.specs.declared.control_socket.Decision.{Decision}
+use Rattle.ev_run.specs.declared.control_socket.Decision.TheVariants.{Bind, Replace, Refuse}
+
+-- only a socket at which no process listens any more is removed
+abbrev pub what_to_do : Found → Decision
+what_to_do Nothing = Bind
+what_to_do Stale = Replace
+what_to_do Served = Refuse listen_error.InUse
+what_to_do Foreign = Refuse listen_error.NotSocket
+what_to_do (Hidden why) = Refuse why
+
+-- Nothing stands in the way, or this reason; whether a file can be removed is the system's.
+abbrev pub Follows : Decision → Result (Unit {0}) ListenError → Type 0
+Follows Bind result = IsOk result
+Follows Replace result = Unit {0}
+Follows (Refuse why) result = result ≡ Err why
+
+-- 0600: its user reads and writes it, and nobody else
+abbrev pub socket_mode : ℕ
+socket_mode = 384

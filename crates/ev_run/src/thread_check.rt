@@ -1,0 +1,142 @@
+//! The check before a run that the system starts as many threads as the run needs.
+ghost use Rattle.std.specs.Prelude.{◌≤◌, IfErr};
+ghost use Rattle.ether_wire.specs.Ends.{IsOpen, Puts};
+ghost use Rattle.ev_run.specs.Needs.{threads_of};
+ghost use Rattle.ev_run.specs.ThreadCheck.{allowed_text, too_few_text, IsTooFew};
+ghost use Rattle.ev_run.specs.Inner.ThreadCheck.{TellsTooFew};
+
+use crate::needs::threads_of;
+use ether_wire::{Device, Out, put_decimal};
+use ev_config::Config;
+use ev_report::status_of;
+use std::sync::{Mutex, Wait};
+use std::thread;
+use std::thread::{Scope, Threads};
+use std::time::{Clock, Duration};
+
+/// The milliseconds for which the system may still count a thread that has ended.
+const SETTLING: u64 = 20;
+
+/// A refusal of threads. Both numbers count the thread that runs the check.
+#[derive(Clone, Copy, Debug, PartialEq, Eq)]
+pub(crate) struct TooFewThreads {
+    /// The number of threads that the run needs.
+    pub(crate) needed: u64,
+    /// The number of threads that the system allowed.
+    pub(crate) allowed: u64,
+}
+
+/// Waits until the gate is open.
+fn pass<R: Wait>(rt: &R, gate: &Mutex<()>) {
+    drop(gate.lock(rt));
+}
+
+/// Starts threads that wait at a gate: `most` threads, or fewer if the system refuses one. Returns
+/// the number of threads that it started.
+fn start_each<'s, 'x: 's, R: Wait + Sync>(
+    scope: &Scope<'s, &'x ()>,
+    rt: &'x R,
+    gate: &'x Mutex<()>,
+    most: u64,
+) -> u64
+    ensures { result ≤ most }
+{
+    for started in 0..most {
+        if scope.spawn(move || pass(rt, gate)).is_err() {
+            return started;
+        }
+    }
+    most
+}
+
+/// Starts threads as `start_each` does while the gate is closed, and then opens the gate. So all
+/// threads run at the same time.
+fn start_at_once<'s, 'x: 's, R: Wait + Sync>(
+    scope: &Scope<'s, &'x ()>,
+    rt: &'x R,
+    gate: &'x Mutex<()>,
+    most: u64,
+) -> u64
+    ensures { result ≤ most }
+{
+    let closed = gate.lock(rt);
+    let started = start_each(scope, rt, gate, most);
+    drop(closed);
+    started
+}
+
+/// Starts threads as `start_at_once` does, and returns once all of them have passed the gate.
+fn start_in_scope<'x, R: Threads + Wait + Sync>(rt: &'x R, gate: &'x Mutex<()>, most: u64) -> u64
+    ensures { result ≤ most }
+{
+    thread::scope(
+        thread::scope_env(),
+        rt,
+        move |scope| -> u64
+            ensures { result ≤ most }
+        { start_at_once(scope, rt, gate, most) },
+    )
+}
+
+/// Returns how many threads the system starts beside this one, up to `most`. None of them runs any
+/// more when the function returns.
+fn startable<R: Threads + Wait + Clock + Sync>(rt: &R, most: u64) -> u64
+    ensures { result ≤ most }
+{
+    let gate = Mutex::new(());
+    let started = start_in_scope(rt, &gate, most);
+    thread::sleep(rt, Duration::from_millis(SETTLING));
+    started
+}
+
+/// Checks that the system starts as many threads as a run needs, with the one that accepts clients
+/// if `is_asked`.
+///
+/// # Errors
+///
+/// `TooFewThreads` if the system refuses one.
+pub(crate) fn check_threads<R: Threads + Wait + Clock + Sync>(
+    rt: &R,
+    config: &Config,
+    is_asked: bool,
+) -> Result<(), TooFewThreads>
+    ensures { IfErr result (λ lack. IsTooFew (threads_of is_asked config.now.edges.items) lack) }
+{
+    let needed = threads_of(config, is_asked);
+    let allowed = startable(rt, needed.saturating_sub(1)).saturating_add(1);
+    if allowed < needed {
+        return Err(TooFewThreads { needed, allowed });
+    }
+    Ok(())
+}
+
+/// Writes how many threads the system allowed, and what to do.
+#[tactic(auto, using(ether_wire::proofs::Appending::with_text_twice))]
+fn put_allowed<N: Out>(notes: &mut N, allowed: u64) -> Result<(), Device>
+    requires { IsOpen (N.end notes.old) }
+    ensures { Puts (N.end notes.old) (N.end notes.new) (allowed_text allowed) result }
+{
+    notes.put(b" threads: the system allows ")?;
+    put_decimal(notes, allowed)?;
+    notes.put(b"; raise ulimit -u or TasksMax, or free memory\n")
+}
+
+/// Writes that the system allows too few threads.
+#[tactic(auto, using(ether_wire::proofs::Appending::with_text_twice))]
+fn put_too_few<N: Out>(notes: &mut N, lack: TooFewThreads) -> Result<(), Device>
+    requires { IsOpen (N.end notes.old) }
+    ensures { Puts (N.end notes.old) (N.end notes.new) (too_few_text lack) result }
+{
+    notes.put(b"can't start ")?;
+    put_decimal(notes, lack.needed)?;
+    put_allowed(notes, lack.allowed)
+}
+
+/// Writes that the system allows too few threads, and returns the status.
+pub(crate) fn tell_too_few<N: Out>(lack: TooFewThreads, notes: &mut N) -> u8
+    requires { IsOpen (N.end notes.old) }
+    ensures { TellsTooFew lack (N.end notes.old) (N.end notes.new) result }
+{
+    let is_told = put_too_few(notes, lack).is_ok();
+    status_of(!is_told, true, false)
+}

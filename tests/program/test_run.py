@@ -1,0 +1,681 @@
+"""Two edges over loopback sockets: frames from port to port, garbage, refused memory, the report at the end."""
+
+import tests_path  # noqa: F401
+import os
+import random
+import re
+import resource
+import select
+import shutil
+import signal
+import socket
+import subprocess
+import sys
+import tempfile
+import time
+import unittest
+from concurrent.futures import ThreadPoolExecutor
+from itertools import chain
+from typing import Callable, Dict, List, NamedTuple, Optional, Tuple
+
+from preloaded import BY_RATTLE, Preloaded
+from test_audit import PROGRAM, needs_program
+from test_records import TOP
+
+# loopback addresses of this run's own
+HOST = f"127.{os.getpid() >> 8 & 127 | 64}.{os.getpid() & 255}."
+ONE, TWO, STRANGER = HOST + "1", HOST + "2", HOST + "3"
+VNI = 5001
+TUNNELS = 4789
+
+
+def station(number: int) -> bytes:
+    """The MAC of a station."""
+    return bytes([2, 0, 0, 0, 0, number])
+
+
+BROADCAST = b"\xff" * 6
+BRIDGES = bytes.fromhex("0180c2000000")
+
+
+def frame(to: bytes, of: bytes, text: bytes) -> bytes:
+    """A frame with this text."""
+    return to + of + b"\x88\xb5" + text.ljust(46, b"\0")
+
+
+def free_port() -> int:
+    """A UDP port that nothing has."""
+    with socket.socket(socket.AF_INET, socket.SOCK_DGRAM) as it:
+        it.bind((ONE, 0))
+        return it.getsockname()[1]
+
+
+class Cable:
+    """The end of a port's cable: what it sends comes to the port, what the port sends comes to it."""
+
+    def __init__(self, address: str = ONE, port: int = 0) -> None:
+        self.address = address
+        self.here = socket.socket(socket.AF_INET, socket.SOCK_DGRAM)
+        self.here.bind((address, 0))
+        self.port = port or free_port()
+
+    def keys(self) -> str:
+        """The port's keys in the configuration."""
+        return f'local = "{self.address}:{self.port}"\nremote = "{self.address}:{self.here.getsockname()[1]}"\n'
+
+    def send(self, octets: bytes) -> None:
+        """Sends a frame to the port."""
+        self.here.sendto(octets, (self.address, self.port))
+
+    def receive(self, seconds: float = 5) -> bytes:
+        """The next frame of the port within this time, none if there is none. BPDUs are passed over."""
+        end = time.monotonic() + seconds
+        while (left := end - time.monotonic()) > 0:
+            self.here.settimeout(left)
+            try:
+                octets = self.here.recv(65535)
+            except socket.timeout:
+                break
+            if octets[:6] != BRIDGES:
+                return octets
+        return b""
+
+
+def edge(address: str, number: int, *cables: Cable, keys: str = "") -> str:
+    """An edge with a port for each cable, and these keys."""
+    ports = "".join(f"[[edge.port]]\nvni = {VNI}\nadmin_edge = true\n{it.keys()}" for it in cables)
+    return f'[[edge]]\naddress = "{address}"\nbridge = "02:aa:00:00:00:0{number}"\nvnis = [{VNI}]\n{keys}{ports}'
+
+
+class Row(NamedTuple):
+    """What the system says of a UDP socket."""
+
+    waiting: int  # octets
+    dropped: int  # datagrams
+
+
+def row_of(address: str, port: int) -> Row:
+    """What it says of the one that is bound there."""
+    local = f"{socket.inet_aton(address)[::-1].hex().upper()}:{port:04X}"
+    with open("/proc/net/udp", encoding="ascii") as it:
+        words = next(words for words in map(str.split, it) if words[1] == local)
+    return Row(int(words[4].split(":")[1], 16), int(words[-1]))
+
+
+class Running:
+    """The program on a configuration, until `end`."""
+
+    def __init__(self, text: str, notes: int = subprocess.PIPE, subcommand: str = "run", before: Optional[Callable] = None) -> None:
+        self.folder = tempfile.TemporaryDirectory()
+        path = os.path.join(self.folder.name, "edges.toml")
+        with open(path, "w", encoding="utf-8") as it:
+            it.write(text)
+        pipes = {"stdin": subprocess.PIPE, "stdout": subprocess.PIPE, "stderr": notes}
+        self.program = subprocess.Popen([PROGRAM, subcommand, "--config", path], preexec_fn=before, **pipes)
+
+    def resident(self) -> int:
+        """How much memory it has, in kilobytes."""
+        with open(f"/proc/{self.program.pid}/status", encoding="ascii") as it:
+            return next(int(line.split()[1]) for line in it if line.startswith("VmRSS:"))
+
+    def note(self, seconds: float, lines: int = 1) -> str:
+        """The next lines that it notes while it runs: as many as these, or fewer where no further one comes within this time."""
+        notes, text = self.program.stderr.fileno(), b""
+        while text.count(b"\n") < lines and select.select([notes], [], [], seconds)[0]:
+            text += os.read(notes, 65535)
+        return text.decode()
+
+    def end(self) -> tuple:
+        """Its status, its report and its notes when its input has ended."""
+        out, notes = self.program.communicate(timeout=20)
+        self.folder.cleanup()
+        return self.program.returncode, out.decode(), notes.decode()
+
+    def kill(self) -> None:
+        """Ends it where a test has failed before."""
+        if self.program.poll() is None:
+            self.program.kill()
+            self.program.communicate()
+        self.folder.cleanup()
+
+
+def reports(lines: str) -> str:
+    """What both edges print where both report these lines."""
+    return f"edge 1\n{lines}edge 2\n{lines}"
+
+
+FLOODS = f"flood {VNI} {ONE} 1 up\nflood {VNI} {TWO} 1 up\n"
+
+
+def first_life(text: str) -> str:
+    """A report of edges of incarnation 1, as one of edges of incarnation 0 is written."""
+    return re.sub(r" 1\.([0-9]+) (?=up|withdrawn|dynamic|static)", r" \1 ", text)
+
+
+def learnt(number: int, address: str, counter: int) -> str:
+    """The lines of a station that one edge has said it has."""
+    return f"mac {VNI} 02:00:00:00:00:0{number} {address} {counter} dynamic 0\nowner {VNI} 02:00:00:00:00:0{number} {address}\n"
+
+
+class TwoCables(unittest.TestCase):
+    """Two cables, and a run that they belong to."""
+
+    def setUp(self) -> None:
+        self.one, self.two = Cable(), Cable()
+        self.addCleanup(self.one.here.close)
+        self.addCleanup(self.two.here.close)
+
+    def begin(self, text: str, notes: int = subprocess.PIPE) -> None:
+        """Runs these edges."""
+        self.running = Running(text, notes)
+        self.addCleanup(self.running.kill)
+
+    def is_carried(self, source: Cable, to: Cable, octets: bytes) -> None:
+        """A frame comes out at another cable as it was, perhaps behind others; sent again while the edges aren't ready."""
+        came = b""
+        for _ in range(50):
+            source.send(octets)
+            while (came := to.receive(0.2)) not in (octets, b""):
+                pass
+            if came:
+                break
+        self.assertEqual(came, octets)
+        while to.receive(0.1):
+            pass
+
+
+@needs_program
+class TwoEdges(TwoCables):
+    """Two edges, one cable each."""
+
+    def setUp(self) -> None:
+        super().setUp()
+        self.begin(edge(ONE, 1, self.one) + edge(TWO, 2, self.two))
+
+    def test_station_is_answered(self) -> None:
+        """A broadcast goes over the tunnel, the answer comes back to its sender, and both edges say the same of them."""
+        self.is_carried(self.one, self.two, frame(BROADCAST, station(1), b"who is there"))
+        answer = frame(station(1), station(2), b"station 2 is")
+        self.two.send(answer)
+        self.assertEqual(self.one.receive(), answer)
+        again = frame(station(2), station(1), b"thanks")
+        self.one.send(again)
+        self.assertEqual(self.two.receive(), again)
+        self.assertEqual((self.one.receive(0.1), self.two.receive(0.1)), (b"", b""))
+        status, report, notes = self.running.end()
+        self.assertEqual((status, notes), (0, ""))
+        self.assertEqual(report, reports(FLOODS + learnt(1, ONE, 2) + learnt(2, TWO, 2)))
+
+    def test_longest_frame(self) -> None:
+        """A frame of 9,018 octets goes over the tunnel, one of 9,019 doesn't."""
+        self.is_carried(self.one, self.two, frame(BROADCAST, station(1), b"first"))
+        longest = frame(BROADCAST, station(1), b"x" * 9004)
+        self.one.send(longest + b"x")
+        self.one.send(longest)
+        self.assertEqual(self.two.receive(), longest)
+        self.assertEqual(self.two.receive(0.1), b"")
+        self.assertEqual(self.running.end()[0], 0)
+
+    def test_empty_datagram_ends_no_link(self) -> None:
+        """After an empty datagram to a port and one to a tunnel, frames are carried as before."""
+        self.is_carried(self.one, self.two, frame(BROADCAST, station(1), b"first"))
+        self.one.send(b"")
+        self.one.here.sendto(b"", (TWO, TUNNELS))
+        self.is_carried(self.one, self.two, frame(BROADCAST, station(1), b"second"))
+        status, _, notes = self.running.end()
+        self.assertEqual((status, notes), (0, ""))
+
+    def test_stranger_is_not_let_in(self) -> None:
+        """A datagram from an address that is no edge's is dropped, the same from an edge's is taken."""
+        self.is_carried(self.one, self.two, frame(BROADCAST, station(1), b"first"))
+        inner = frame(BROADCAST, station(7), b"let me in")
+        datagram = bytes([8, 0, 0, 0]) + VNI.to_bytes(3, "big") + b"\0" + inner
+        for address, is_in in ((STRANGER, False), (ONE, True)):
+            with socket.socket(socket.AF_INET, socket.SOCK_DGRAM) as sender:
+                sender.bind((address, 0))
+                sender.sendto(datagram, (TWO, TUNNELS))
+            if is_in:
+                self.assertEqual(self.two.receive(), inner)
+            else:
+                self.assertEqual(self.two.receive(0.1), b"")
+        status, report, _ = self.running.end()
+        self.assertEqual(status, 0)
+        self.assertNotIn("02:00:00:00:00:07", report)
+
+    def moves_to_and_fro(self) -> None:
+        """A station that is heard at both edges in turn, more than five times at each."""
+        self.is_carried(self.one, self.two, frame(BROADCAST, station(1), b"first"))
+        for _ in range(6):
+            for cable, other in ((self.one, self.two), (self.two, self.one)):
+                self.is_carried(cable, other, frame(BROADCAST, station(10), b"here I am"))
+
+    def test_duplicate_is_told_at_once(self) -> None:
+        """A station that moves to and fro is told while the edges run, within a second of its fifth move, and once."""
+        self.moves_to_and_fro()
+        note = self.running.note(1)
+        self.assertRegex(note, rf"^edge [12]: duplicate {VNI} 02:00:00:00:00:0a on port 1\n$")
+        self.assertIsNone(self.running.program.poll())
+        status, _, rest = self.running.end()
+        self.assertEqual((status, rest), (0, ""))
+
+    def test_failing_standard_error_stops_nothing(self) -> None:
+        """Where an alert can't be written frames go on, the reports come at the end, and the status is that of a failed device."""
+        self.running.program.stderr.close()
+        self.moves_to_and_fro()
+        self.is_carried(self.one, self.two, frame(BROADCAST, station(1), b"second"))
+        status, report, _ = self.running.end()
+        self.assertEqual(status, 4)
+        self.assertEqual(report.count("edge "), 2)
+
+    def garbage(self, chance: random.Random) -> bytes:
+        """A random datagram of 0 to 9,100 octets, some with a real beginning. None is a frame that is taken."""
+        size = min(int(chance.paretovariate(0.7) * 10) - 10, 9100)
+        octets = chance.randbytes(size)
+        real = chance.randrange(8)
+        if real == 0:  # a BPDU's addresses and length
+            octets = bytes.fromhex("0180c2000000") + station(8) + (39).to_bytes(2, "big") + bytes.fromhex("424203") + octets
+        elif real == 1:  # a VXLAN header without its flag
+            octets = bytes([0, 0, 0, 0]) + VNI.to_bytes(3, "big") + b"\0" + octets
+        elif real == 2:  # a datagram with a frame of another network
+            octets = bytes([8, 0, 0, 0]) + (VNI + 1).to_bytes(3, "big") + b"\0" + frame(BROADCAST, station(8), octets)
+        elif real == 3:  # a frame of a group's address
+            octets = BROADCAST + BROADCAST + octets
+        return octets[:9100]
+
+    def test_garbage(self) -> None:
+        """100,000 random datagrams to a port and to a tunnel: it goes on, and its memory doesn't grow with them."""
+        chance = random.Random(17)
+        self.is_carried(self.one, self.two, frame(BROADCAST, station(1), b"first"))
+        with socket.socket(socket.AF_INET, socket.SOCK_DGRAM) as sender:
+            sender.bind((TWO, 0))
+            sizes = []
+            for turn in range(100_000):
+                octets = self.garbage(chance)
+                if turn % 2:
+                    sender.sendto(octets, (ONE, TUNNELS))
+                else:
+                    # what may be a frame at a port has a group's address as its sender there, so nothing is learnt
+                    self.one.send(octets[:6] + b"\xff" + octets[7:])
+                if turn % 10_000 == 9_999:
+                    good = frame(BROADCAST, station(1), b"turn %d" % turn)
+                    self.is_carried(self.one, self.two, good)
+                    sizes.append(self.running.resident())
+        self.assertLess(sizes[-1], sizes[0] + 1024, f"kilobytes after each 10,000: {sizes}")
+        self.two.send(frame(station(1), station(2), b"the last"))
+        while (came := self.one.receive()) not in (frame(station(1), station(2), b"the last"), b""):
+            pass
+        self.assertNotEqual(came, b"")
+        status, report, notes = self.running.end()
+        self.assertEqual(status, 0)
+        # a busy machine may have no room for some of them
+        self.assertRegex(notes, r"^(edge [12] (tunnel|port 1): \d+ datagrams dropped by the system\n)*$")
+        self.assertEqual(report, reports(FLOODS + learnt(1, ONE, 2) + learnt(2, TWO, 2)))
+
+
+@needs_program
+class FullSockets(TwoCables):
+    """One edge with two ports, which stands still while its tunnel's socket and that of port 1 are filled."""
+
+    def fill(self) -> None:
+        """Sends both sockets more than they hold. What is sent is no frame that any edge takes."""
+        self.running.program.send_signal(signal.SIGSTOP)
+        # each of its threads goes on until it meets the signal, on a busy machine for milliseconds
+        os.waitid(os.P_PID, self.running.program.pid, os.WSTOPPED | os.WNOWAIT)
+        for port, many in ((TUNNELS, 1000), (self.one.port, 2000)):
+            for _ in range(many):
+                self.one.here.sendto(b"\xff" * 1400, (ONE, port))
+        self.running.program.send_signal(signal.SIGCONT)
+
+    def lost(self, port: int) -> int:
+        """How many datagrams the system has dropped at a socket, told when nothing waits there any more."""
+        for _ in range(100):
+            row = row_of(ONE, port)
+            if row.waiting == 0:
+                return row.dropped
+            time.sleep(0.05)
+        raise AssertionError(f"{row} at {port}")
+
+    def filled(self, keys: str, subcommand: str) -> str:
+        """Runs the edge, and fills the sockets: what is to be told of them at the end, of port 2's nothing."""
+        self.running = Running(keys + edge(ONE, 1, self.one, self.two), subcommand=subcommand)
+        self.addCleanup(self.running.kill)
+        self.is_carried(self.one, self.two, frame(BROADCAST, station(1), b"first"))
+        self.fill()
+        tunnel, port = self.lost(TUNNELS), self.lost(self.one.port)
+        self.assertTrue(0 < tunnel < 1000 and 0 < port < 2000, (tunnel, port))
+        lines = f"tunnel: {tunnel}", f"port 1: {port}"
+        return "".join(f"edge 1 {line} datagrams dropped by the system\n" for line in lines)
+
+    def test_what_the_system_dropped_is_told(self) -> None:
+        """`run` and `serve` tell it at their end."""
+        with tempfile.TemporaryDirectory() as folder:
+            for keys, subcommand in (("", "run"), (f'control = "{folder}/control"\n', "serve")):
+                lines = self.filled(keys, subcommand)
+                status, _, notes = self.running.end()
+                self.assertEqual((status, notes), (0, lines))
+
+    def test_where_that_cannot_be_read(self) -> None:
+        """Where no file can be opened any more nothing is told of it, and the status is 0."""
+        self.filled("", "run")
+        most = resource.getrlimit(resource.RLIMIT_NOFILE)[1]
+        resource.prlimit(self.running.program.pid, resource.RLIMIT_NOFILE, (3, most))
+        status, _, notes = self.running.end()
+        self.assertEqual((status, notes), (0, ""))
+
+
+@needs_program
+class FullTable(TwoCables):
+    """One edge with two ports, which may learn one station: whatever another one sends is an alert, and goes on nevertheless."""
+
+    def fill(self, notes: int = subprocess.PIPE) -> None:
+        """Runs the edge, and lets it learn station 1."""
+        self.begin(edge(ONE, 1, self.one, self.two, keys="capacity = 1\n"), notes)
+        self.is_carried(self.one, self.two, frame(BROADCAST, station(1), b"first"))
+
+    def speak(self, *numbers: int) -> None:
+        """A broadcast of each of these stations, which comes out once."""
+        frames = [frame(BROADCAST, station(number), b"turn %d" % turn) for turn, number in enumerate(numbers)]
+        for octets in frames:
+            self.one.send(octets)
+        self.assertEqual([self.two.receive() for _ in frames], frames)
+        self.assertEqual(self.two.receive(0.1), b"")
+
+    def line(self, number: int) -> str:
+        """What is told of a station for which there is no place."""
+        return f"edge 1: learning table full {VNI} 02:00:00:00:00:{number:02x} on port 1\n"
+
+    def test_repeated_alert_is_held_back(self) -> None:
+        """An alert of the same kind and station is told once, and before the next one, or at the end, how many more there were."""
+        self.fill()
+        self.speak(2, 2, 2)
+        self.assertEqual(self.running.note(5), self.line(2))
+        self.speak(2, 3, 2)
+        self.assertEqual(self.running.note(5, 2), "edge 1: 3 more alerts were held back\n" + self.line(3))
+        status, report, rest = self.running.end()
+        self.assertEqual((status, rest), (0, "edge 1: 1 more alerts were held back\n"))
+        self.assertEqual(report, f"edge 1\nflood {VNI} {ONE} 1 up\n" + learnt(1, ONE, 2))
+
+    def test_sixteen_stations_are_told(self) -> None:
+        """Of 20 stations 16 are told at once, and at the end how many more there were."""
+        self.fill()
+        self.speak(*range(2, 22))
+        self.assertEqual(self.running.note(5, 16), "".join(self.line(number) for number in range(2, 18)))
+        self.assertEqual(self.running.note(0.5), "")
+        status, _, rest = self.running.end()
+        self.assertEqual((status, rest), (0, "edge 1: 4 more alerts were held back\n"))
+
+    def test_standard_error_that_nobody_reads(self) -> None:
+        """Frames go on meanwhile; once it is read what waits is told, and the run comes to its end."""
+        notes, full = os.pipe()
+        self.addCleanup(os.close, notes)
+        os.set_blocking(full, False)
+        filled = 0
+        while select.select([], [full], [], 0)[1]:
+            filled += os.write(full, bytes(4096))
+        os.set_blocking(full, True)
+        self.fill(full)
+        os.close(full)
+        self.speak(2, 2, 3, 2)
+        self.running.program.stdin.close()
+        time.sleep(3)
+        self.assertIsNone(self.running.program.poll())
+        told = b""
+        while octets := os.read(notes, 65535):
+            told += octets
+        self.assertEqual(told[filled:].decode(), self.line(2) + "edge 1: 1 more alerts were held back\n" + self.line(3)
+                         + "edge 1: 1 more alerts were held back\n")
+        self.assertEqual(self.running.program.wait(20), 0)
+        self.assertEqual(self.running.program.stdout.read().decode(), f"edge 1\nflood {VNI} {ONE} 1 up\n" + learnt(1, ONE, 2))
+        self.running.program.stdout.close()
+
+
+@needs_program
+class Beginning(unittest.TestCase):
+    """What keeps edges from beginning."""
+
+    def test_address_in_use(self) -> None:
+        """A port's address that another socket has: which and why is told, and no edge has begun."""
+        one, two = Cable(), Cable()
+        with socket.socket(socket.AF_INET, socket.SOCK_DGRAM) as other:
+            other.bind((ONE, two.port))
+            running = Running(edge(ONE, 1, one) + edge(TWO, 2, two))
+            self.addCleanup(running.kill)
+            self.assertEqual(running.end(), (4, "", f"can't bind {ONE}:{two.port}: it is in use\n"))
+        self.assertEqual(one.receive(0.1), b"")
+        one.here.close()
+        two.here.close()
+
+    def test_address_of_no_device(self) -> None:
+        """An edge's address that the host doesn't have."""
+        one = Cable()
+        running = Running(edge("192.0.2.1", 1, one))
+        self.addCleanup(running.kill)
+        self.assertEqual(running.end(), (4, "", "can't bind 192.0.2.1:4789: no device here has it\n"))
+        one.here.close()
+
+    def test_what_it_takes_is_what_check_tells(self) -> None:
+        """Threads, sockets and memory of two edges with three ports."""
+        cables = [Cable(), Cable(), Cable(TWO)]
+        running = Running(edge(ONE, 1, *cables[:2]) + edge(TWO, 2, *cables[2:]))
+        self.addCleanup(running.kill)
+        path = os.path.join(running.folder.name, "edges.toml")
+        done = subprocess.run([PROGRAM, "check", "--run", "--config", path], capture_output=True, text=True, check=False)
+        self.assertEqual(done.returncode, 0)
+        lines = done.stdout.splitlines()
+        self.assertEqual(lines[0], "ok: 2 edges, 3 ports, 1 VNI")
+        threads, sockets, memory = lines[1].split()[0], lines[2].split()[0], lines[3].split()[1]
+        time.sleep(1)
+        folder = f"/proc/{running.program.pid}"
+        self.assertEqual(int(threads), len(os.listdir(f"{folder}/task")))
+        self.assertEqual(int(sockets), sum(os.readlink(f"{folder}/fd/{it}").startswith("socket:") for it in os.listdir(f"{folder}/fd")))
+        self.assertLess(running.resident() / 1024, 2 * int(memory))
+        self.assertGreater(running.resident() / 1024, int(memory) / 2)
+        self.assertEqual(running.end()[0], 0)
+        for it in cables:
+            it.here.close()
+
+    def test_too_few_descriptors(self) -> None:
+        """Descriptors for the streams and for two of three sockets: the third can't be bound, and the limit is named."""
+        cables = [Cable(), Cable()]
+        running = Running(edge(ONE, 1, *cables), before=lambda: resource.setrlimit(resource.RLIMIT_NOFILE, (5, 5)))
+        self.addCleanup(running.kill)
+        self.assertEqual(running.end(), (4, "", f"can't bind {ONE}:{cables[1].port}: too many files are open; raise ulimit -n\n"))
+        for it in cables:
+            it.here.close()
+
+    def limited(self, threads: int, subcommand: str, text: str) -> subprocess.Popen:
+        """The program as a user of its own, whom the system allows this many threads. Only root can start it."""
+        user = 1_000_000 + os.getpid() % 1_000_000
+        folder = tempfile.TemporaryDirectory()
+        self.addCleanup(folder.cleanup)
+        os.chmod(folder.name, 0o755)
+        os.mkdir(f"{folder.name}/socket")
+        os.chown(f"{folder.name}/socket", user, user)
+        program, config = f"{folder.name}/evpnd", f"{folder.name}/edges.toml"
+        shutil.copy(PROGRAM, program)
+        os.chmod(program, 0o755)
+        with open(config, "w", encoding="utf-8") as it:
+            it.write(f'control = "{folder.name}/socket/it"\n{text}' if subcommand == "serve" else text)
+
+        def become_user() -> None:
+            resource.setrlimit(resource.RLIMIT_NPROC, (threads, threads))
+            os.setgroups([])
+            os.setgid(user)
+            os.setuid(user)
+
+        pipes = {"stdin": subprocess.PIPE, "stdout": subprocess.PIPE, "stderr": subprocess.PIPE, "text": True}
+        return subprocess.Popen([program, subcommand, "--config", config], preexec_fn=become_user, **pipes)
+
+    @unittest.skipIf(os.getuid(), "only root can give a user a limit of its own")
+    def test_refused_thread_is_told_at_once(self) -> None:
+        """Two edges of one port with 16 threads, 17 if they are served: with fewer the run doesn't begin, though its input hasn't ended."""
+        one, two = Cable(), Cable(TWO)
+        text = edge(ONE, 1, one) + edge(TWO, 2, two)
+        for subcommand, needed in (("run", 16), ("serve", 17)):
+            for allowed in (1, 2, needed // 2, needed - 1):
+                with self.subTest(subcommand=subcommand, allowed=allowed), self.limited(allowed, subcommand, text) as program:
+                    try:
+                        self.assertEqual(program.wait(5), 3)
+                        self.assertEqual(
+                            program.communicate(),
+                            ("", f"can't start {needed} threads: the system allows {allowed}; raise ulimit -u or TasksMax, or free memory\n"),
+                        )
+                    finally:
+                        program.kill()
+            # exactly as many as it needs: it runs, ten times, since the system counts a thread for a moment after its end
+            for turn in range(10):
+                with self.subTest(subcommand=subcommand, turn=turn), self.limited(needed, subcommand, text) as program:
+                    time.sleep(0.3)
+                    self.assertEqual((program.communicate(timeout=20)[1], program.returncode), ("", 0))
+        one.here.close()
+        two.here.close()
+
+    def test_it_goes_on_until_its_input_ends(self) -> None:
+        """What is read is ignored."""
+        one = Cable()
+        running = Running(edge(ONE, 1, one))
+        self.addCleanup(running.kill)
+        running.program.stdin.write(b"anything\n" * 10_000)
+        running.program.stdin.flush()
+        time.sleep(0.5)
+        self.assertIsNone(running.program.poll())
+        self.assertEqual(running.end(), (0, f"edge 1\nflood {VNI} {ONE} 1 up\n", ""))
+        one.here.close()
+
+
+# the lines about refused memory while edges run
+LINES = (
+    rf"^((edge [12]: no memory( {VNI} 02:00:00:00:00:0[12])?( on port 1)?\n|edge [12]: \d+ more alerts were held back\n)*"
+    r"|can't start 16 threads: the system allows \d+; .*\n)$"
+)
+
+
+class Kept(NamedTuple):
+    """What came of a run that is refused memory."""
+
+    status: int
+    report: str
+    notes: str
+    asked: int
+    # whether the frames came out at the other edge's cable
+    carried: bool = False
+    # frames that came out at a cable and that no station sent
+    strange: Tuple[bytes, ...] = ()
+
+
+class RefusedGrowth(Preloaded):
+    """Two edges with each allocation refused, one a run: each run ends by itself. Threads allocate in an order of their own, so that
+    what is refused by one number isn't the same in each run."""
+
+    source = os.path.join(TOP, "tests", "refuse_allocation.c")
+
+    def cables(self, number: int) -> List[Cable]:
+        """A cable for each of two edges. Those of runs beside each other have other addresses."""
+        return [Cable(f"{HOST}{2 * (number % 100) + it + 9}", 20001) for it in (1, 2)]
+
+    def config(self, number: int, cables: List[Cable]) -> str:
+        """The path of a configuration of two edges with these cables."""
+        return self.write(f"{number}.toml", "".join(edge(it.address, n, it) for n, it in enumerate(cables, 1)))
+
+    def begin(self, number: int, config: str) -> Tuple[subprocess.Popen, str]:
+        """The program with this allocation refused, and the file to which it tells how many were asked for."""
+        told = config + ".told"
+        shell = ["bash", "-c", 'exec 3> "$0"; exec env "$@"', told, f"LD_PRELOAD={self.library}", f"REFUSE={number}", PROGRAM]
+        pipes = {"stdin": subprocess.PIPE, "stdout": subprocess.PIPE, "stderr": subprocess.PIPE}
+        return subprocess.Popen([*shell, "run", "--config", config], **pipes), told
+
+    def ended(self, program: subprocess.Popen, told: str) -> Kept:
+        """Its end, for which it has a minute."""
+        try:
+            out, notes = program.communicate(timeout=60)
+        finally:
+            program.kill()
+        with open(told, encoding="utf-8") as it:
+            return Kept(program.returncode, out.decode(), notes.decode(), sum(int(n) for n in it.read().split()))
+
+    def idle(self, number: int) -> Kept:
+        """A run whose input is at its end at once, with this allocation refused."""
+        cables = self.cables(number)
+        try:
+            return self.ended(*self.begin(number, self.config(number, cables)))
+        finally:
+            for it in cables:
+                it.here.close()
+
+    def busy(self, number: int) -> Kept:
+        """A run with a station at each cable, with this allocation refused. Frames are sent until they came, for two seconds at most, and
+        then the input ends."""
+        one, two = cables = self.cables(number)
+        program, told = self.begin(number, self.config(number, cables))
+        frames = [frame(BROADCAST, station(1), b"who is there"), frame(station(1), station(2), b"station 2 is")]
+        end = time.monotonic() + 2
+        carried, strange = True, []
+        for source, to, octets in ((one, two, frames[0]), (two, one, frames[1])):
+            came = b""
+            while came != octets and program.poll() is None and time.monotonic() < end:
+                source.send(octets)
+                came = to.receive(0.05)
+                if came not in (b"", *frames):
+                    strange.append(came)
+            carried = carried and came == octets
+        if carried:
+            # for the last record
+            time.sleep(1)
+        try:
+            return self.ended(program, told)._replace(carried=carried, strange=tuple(strange))
+        finally:
+            for it in cables:
+                it.here.close()
+
+    def each(self, what: str, run: Callable[[int], Kept], is_whole: Callable[[str], bool]) -> Dict[int, int]:
+        """Refuses each allocation in turn, as many as a good run asks for and some more. Status 3 where an edge wants for it, with the
+        report of each edge that ran; 4 where a socket does, before an edge has begun; 0 where it was made up for, with whole reports. How
+        often each came."""
+        good = run(0)
+        self.assertEqual((good.status, good.notes), (0, ""))
+        most = good.asked + good.asked // 10
+        if not BY_RATTLE:
+            self.assertGreater(most, 0)
+        found = {0: 0, 3: 0, 4: 0}
+        carried = told = 0
+        with ThreadPoolExecutor(16) as pool:
+            # a hundred at a time, since the hundredth next run has the same addresses
+            rounds = (pool.map(run, range(first, min(first + 100, most + 1))) for first in range(1, most + 1, 100))
+            for number, kept in enumerate(chain.from_iterable(rounds), 1):
+                with self.subTest(allocation=number, kept=kept):
+                    self.assertEqual(kept.strange, ())
+                    self.assertIn(kept.status, found)
+                    found[kept.status] += 1
+                    carried += kept.carried
+                    told += kept.notes.startswith("edge ")
+                    if kept.status == 3:
+                        self.assertRegex(kept.notes, LINES)
+                    self.assertEqual(kept.notes.endswith(": there is no memory\n"), kept.status == 4)
+                    self.assertLessEqual(kept.report.count("edge "), 2 if kept.status != 4 else 0)
+                    if kept.status == 0:
+                        self.assertTrue(is_whole(kept.report))
+        print(f"evpnd run, {what}, each of {most} allocations refused: {found}, frames carried in {carried}, told at once in {told}", file=sys.stderr)
+        return found
+
+    @needs_program
+    def test_each_growth_refused(self) -> None:
+        """Of a run whose input is at its end at once. Then it isn't said which records the other edge has taken."""
+        found = self.each("no input", self.idle, lambda report: report.count("edge ") == 2)
+        if not BY_RATTLE:
+            self.assertGreater(found[3], 0)
+
+    @needs_program
+    def test_each_growth_refused_with_frames(self) -> None:
+        """Of a run in which stations speak to each other: no record of an edge is lost to the other one unless that is told."""
+
+        def is_agreed(report: str) -> bool:
+            one, _, two = report.removeprefix("edge 1\n").partition("edge 2\n")
+            return one == two and one.count("flood ") == 2
+
+        found = self.each("frames", self.busy, is_agreed)
+        if not BY_RATTLE:
+            self.assertGreater(found[3], 0)
+
+
+if __name__ == "__main__":
+    unittest.main()

@@ -1,0 +1,633 @@
+"""Edges that run and are asked meanwhile (`evpnd serve`): questions and steps over the control socket, clients of every kind."""
+
+import tests_path  # noqa: F401
+import contextlib
+import os
+import re
+import resource
+import select
+import signal
+import socket
+import stat
+import subprocess
+import sys
+import tempfile
+import time
+import unittest
+from typing import List, Optional
+
+from test_audit import needs_program
+from test_records import TOP
+from test_run import BROADCAST, FLOODS, HOST, VNI, Cable, Running, edge, first_life, frame, learnt, station
+from update_records import Answer, Update, line_of, read_records, record_of, update_of_line
+
+# addresses of these tests' own, beside those of test_run.py
+ONE, TWO, ELSEWHERE = HOST + "1", HOST + "2", HOST + "3"
+SEATS = 8
+WRONG = b"error: the first line is neither 'console' nor 'records'\n"
+MAC = "02:00:00:00:00:01"
+
+
+class Client:
+    """A connection to a control socket."""
+
+    def __init__(self, path: str, seconds: float = 10) -> None:
+        self.socket = socket.socket(socket.AF_UNIX, socket.SOCK_STREAM)
+        self.socket.settimeout(seconds)
+        try:
+            self.socket.connect(path)
+        except OSError:
+            self.socket.close()
+            raise
+
+    def send(self, octets: bytes) -> "Client":
+        """Sends these octets, as far as somebody is there to take them."""
+        with contextlib.suppress(BrokenPipeError):
+            self.socket.sendall(octets)
+        return self
+
+    def rest(self) -> bytes:
+        """What comes until the connection ends."""
+        came = b""
+        while True:
+            try:
+                octets = self.socket.recv(65535)
+            except ConnectionResetError:
+                return came
+            if not octets:
+                return came
+            came += octets
+
+    def ask(self, line: str) -> str:
+        """The answer to a line, without the empty line behind it."""
+        self.send(line.encode() + b"\n")
+        came = b""
+        while not (came == b"\n" or came.endswith(b"\n\n")):
+            octets = self.socket.recv(65535)
+            if not octets:
+                raise AssertionError(f"it ended behind {came!r}")
+            came += octets
+        return first_life(came[:-1].decode())
+
+    def close(self) -> None:
+        """Ends the connection."""
+        self.socket.close()
+
+
+class Served(unittest.TestCase):
+    """Two edges, one cable each, and a control socket."""
+
+    notes = ""  # the lines on standard error at the end
+
+    def setUp(self) -> None:
+        folder = tempfile.TemporaryDirectory()
+        self.addCleanup(folder.cleanup)
+        self.path = os.path.join(folder.name, "control")
+        self.one, self.two = Cable(), Cable()
+        self.addCleanup(self.one.here.close)
+        self.addCleanup(self.two.here.close)
+
+    def text(self) -> str:
+        """The configuration, whose edges are of incarnation 1."""
+        keys = "incarnation = 1\n"
+        return f'control = "{self.path}"\n' + edge(ONE, 1, self.one, keys=keys) + edge(TWO, 2, self.two, keys=keys)
+
+    def started(self) -> Running:
+        """A run of it."""
+        running = Running(self.text(), subcommand="serve")
+        self.addCleanup(running.kill)
+        return running
+
+    def begin(self) -> None:
+        """Runs it, and waits until both edges have heard of each other."""
+        self.running = self.started()
+        for _ in range(100):
+            if self.is_ready():
+                return
+            time.sleep(0.05)
+        self.fail(self.running.end())
+
+    def is_ready(self) -> bool:
+        """Whether somebody listens at the path, and each edge reports what both said at first."""
+        try:
+            client = Client(self.path)
+        except OSError:
+            return False
+        client.send(b"console\n")
+        told = [client.ask(f"{number} report") for number in (1, 2)]
+        client.close()
+        return told == [FLOODS, FLOODS]
+
+    def client(self) -> Client:
+        """A client more, that says nothing yet."""
+        client = Client(self.path)
+        self.addCleanup(client.close)
+        return client
+
+    def console(self) -> Client:
+        """A client that asks."""
+        return self.client().send(b"console\n")
+
+    def seated(self) -> Client:
+        """A client that asks and was answered; again where those that have just gone still have their seats."""
+        for _ in range(100):
+            client = self.console()
+            try:
+                client.ask("help")
+                return client
+            except (AssertionError, OSError):
+                time.sleep(0.05)
+        raise AssertionError("busy for five seconds")
+
+    def hears_station(self) -> None:
+        """Station 1 speaks at edge 1, and is heard at edge 2's cable."""
+        octets = frame(BROADCAST, station(1), b"who is there")
+        for _ in range(50):
+            self.one.send(octets)
+            if self.two.receive(0.2) == octets:
+                break
+        else:
+            self.fail("no frame came")
+        while self.two.receive(0.1):
+            pass
+
+    def ends_well(self, report: str = FLOODS, seconds: float = 2.5) -> None:
+        """Its input ends, and the run with it within this time, with this report of both edges. The clock of an edge looks once a second."""
+        begun = time.monotonic()
+        status, out, notes = self.running.end()
+        self.assertLess(time.monotonic() - begun, seconds)
+        self.assertEqual((status, first_life(out), notes), (0, f"edge 1\n{report}edge 2\n{report}", self.notes))
+        self.assertFalse(os.path.lexists(self.path))
+
+
+@needs_program
+class Asked(Served):
+    """What is asked of edges that run."""
+
+    def setUp(self) -> None:
+        super().setUp()
+        self.begin()
+
+    def test_edges(self) -> None:
+        """Each edge with its ports and networks, as docs/script.md has it."""
+        lines = "".join(f"{n} edge {address} ports 1:{VNI} networks {VNI}\n" for n, address in ((1, ONE), (2, TWO)))
+        self.assertEqual(self.console().ask("edges"), lines)
+        self.ends_well()
+
+    def test_report(self) -> None:
+        """That of an edge's table, before and after a station was heard."""
+        console = self.console()
+        self.assertEqual(console.ask("2 report"), FLOODS)
+        self.hears_station()
+        for _ in range(50):
+            told = console.ask("2 report")
+            if told != FLOODS:
+                break
+            time.sleep(0.05)
+        self.assertEqual(told, FLOODS + learnt(1, ONE, 2))
+        self.ends_well(FLOODS + learnt(1, ONE, 2))
+
+    def test_port(self) -> None:
+        """A port that passes frames at once, and one that there isn't."""
+        console = self.console()
+        self.assertEqual(console.ask("1 port 1"), "1 port 1 designated forwarding passes\n")
+        self.assertEqual(console.ask("1 port 2"), "1 refused edge 16\n")
+        self.assertEqual(console.ask("3 port 1"), "3 refused fabric 18\n")
+        self.ends_well()
+
+    def test_pin(self) -> None:
+        """A station that is pinned by one client is static to another one, and at the end."""
+        self.assertNotIn("refused", self.console().ask(f"1 pin {VNI} {MAC} 1"))
+        pinned = FLOODS + f"mac {VNI} {MAC} {ONE} 2 static 0\nowner {VNI} {MAC} {ONE}\n"
+        self.assertEqual(self.console().ask("1 report"), pinned)
+        self.assertIn("refused edge 16", self.console().ask(f"1 pin {VNI} {MAC} 2"))
+        self.ends_well(pinned)
+
+    def test_bad_line(self) -> None:
+        """It is told, and the next one is answered."""
+        console = self.console()
+        self.assertNotEqual(console.ask("1 dance"), "")
+        self.assertEqual(console.ask("1 report"), FLOODS)
+        self.ends_well()
+
+    def test_evpndctl(self) -> None:
+        """The tool, over the socket."""
+        no_port = "evpndctl: edge 1 has no port 9 (edge 16)\n"
+        counts = '[{"line": "counts", "edge": 1, "stations": 0, "pinned": 0, "frozen": 0, "registers": 2, "own": 1, "foreign": 1, "pending": 0}]\n'
+        tried = (
+            (["1", "report"], 0, FLOODS, ""),
+            (["1", "report", "--network", str(VNI)], 0, FLOODS, ""),
+            (["1", "report", "--mac", MAC], 0, "", ""),
+            (["1", "counts", "--json"], 0, counts, ""),
+            (["1", "port", "9"], 1, "1 refused edge 16\n", no_port),
+        )
+        for words, status, out, notes in tried:
+            tool = [sys.executable, os.path.join(TOP, "tools", "evpndctl"), "--control", self.path, *words]
+            done = subprocess.run(tool, capture_output=True, encoding="utf-8", timeout=20, check=False)
+            self.assertEqual((done.returncode, first_life(done.stdout), done.stderr), (status, out, notes))
+        self.ends_well()
+
+    def test_watch(self) -> None:
+        """`evpndctl watch` shows a station that is pinned and unpinned, until SIGINT; the run goes on."""
+        console = self.console()
+        words = [sys.executable, os.path.join(TOP, "tools", "evpndctl"), "--control", self.path, "watch", "0.1"]
+        with subprocess.Popen(words, stdout=subprocess.PIPE, stderr=subprocess.PIPE, encoding="utf-8") as tool:
+            console.ask(f"1 pin {VNI} {MAC} 1")
+            came = tool.stdout.readline()
+            console.ask(f"1 unpin {VNI} {MAC}")
+            went = tool.stdout.readline()
+            tool.send_signal(signal.SIGINT)
+            rest, notes = tool.communicate(timeout=20)
+        self.assertRegex(came, rf"^[0-9:]+ (new|known) {VNI} {MAC} at {re.escape(ONE)} port 1 pinned\n$")
+        self.assertRegex(went, rf"^[0-9:]+ gone {VNI} {MAC} from {re.escape(ONE)} port 1 pinned\n$")
+        self.assertEqual((tool.returncode, rest, notes), (0, "", ""))
+        withdrawn = f"mac {VNI} {MAC} {ONE} 3 withdrawn\nowner {VNI} {MAC} none\n"
+        self.ends_well(FLOODS + withdrawn)
+
+
+@needs_program
+class Clients(Served):
+    """Clients of every kind, which disturb neither each other nor the edges."""
+
+    def setUp(self) -> None:
+        super().setUp()
+        self.begin()
+
+    def test_wrong_first_line(self) -> None:
+        """Anything but `console` and `records` gets a word of what is wrong, and the connection ends."""
+        for octets in (b"records \n", b"edges\n", b"\n", b"console \n", b"CONSOLE\n", b"console\r\n", b"\xff\x00" * 500, b"consoles and more\n"):
+            self.assertEqual(self.client().send(octets).rest(), WRONG, octets)
+        self.ends_well()
+
+    def test_ninth_is_busy(self) -> None:
+        """Eight are served; the ninth is told so, and another one is served once one of the eight has gone."""
+        held = [self.seated() for _ in range(SEATS)]
+        self.assertEqual(self.client().rest(), b"busy\n")
+        self.assertEqual(self.console().rest(), b"busy\n")
+        held[3].close()
+        self.assertEqual(self.seated().ask("1 report"), FLOODS)
+        for client in held[:3] + held[4:]:
+            self.assertEqual(client.ask("1 report"), FLOODS)
+        self.ends_well()
+
+    def test_end_with_clients(self) -> None:
+        """The run ends within its second whatever clients do: eight that say nothing, or ask, or broke off in mid-line."""
+        for octets in (b"", b"cons", b"console\n", b"console\n1 rep", b"console\n1 report\n" * 2, b"console\n\xff\xff\n", b"garbage", b""):
+            self.client().send(octets)
+        self.ends_well()
+
+    def test_end_with_clients_that_are_not_accepted_yet(self) -> None:
+        """2,000 that connected while the program stood still, and say nothing: at its end none of them gets a seat any more."""
+        soft, hard = resource.getrlimit(resource.RLIMIT_NOFILE)
+        resource.setrlimit(resource.RLIMIT_NOFILE, (min(hard, 4096), hard))
+        self.addCleanup(resource.setrlimit, resource.RLIMIT_NOFILE, (soft, hard))
+        self.running.program.send_signal(signal.SIGSTOP)
+        for _ in range(2000):
+            self.client()
+        self.running.program.stdin.close()
+        self.running.program.stdin = None
+        self.running.program.send_signal(signal.SIGCONT)
+        self.ends_well()
+
+    def test_end_with_clients_that_do_not_read(self) -> None:
+        """They ask until there is no room for more, read nothing, and the run ends all the same."""
+        for _ in range(SEATS):
+            self.flood(self.console())
+        self.ends_well()
+
+    @staticmethod
+    def flood(client: Client) -> None:
+        """Asks until there is no room for more."""
+        client.socket.settimeout(0.5)
+        try:
+            while True:
+                client.send(b"1 report\n" * 1000)
+        except socket.timeout:
+            pass
+
+    def test_client_that_does_not_read(self) -> None:
+        """It waits alone: another one is answered, and frames go on. After ten seconds it is cut off."""
+        begun = time.monotonic()
+        deaf = self.console()
+        self.flood(deaf)
+        self.assertEqual(self.console().ask("1 report"), FLOODS)
+        self.hears_station()
+        poll = select.poll()
+        poll.register(deaf.socket, 0)  # only for a connection that has ended
+        self.assertNotEqual(poll.poll(20_000), [])
+        self.assertGreater(time.monotonic() - begun, 9)
+        self.assertEqual(self.console().ask("1 port 1"), "1 port 1 designated forwarding passes\n")
+        self.ends_well(FLOODS + learnt(1, ONE, 2))
+
+    def test_silent_client_is_cut_off(self) -> None:
+        """One that says nothing keeps its seat for ten seconds."""
+        begun = time.monotonic()
+        silent = Client(self.path, 20)
+        self.addCleanup(silent.close)
+        self.assertEqual(silent.rest(), b"")
+        self.assertGreater(time.monotonic() - begun, 9)
+        self.ends_well()
+
+    def threads_down_to(self, wanted: Optional[int]) -> int:
+        """How many threads the program has, once they are as few as wanted or after ten seconds: on a busy machine those of
+        clients that are gone end late."""
+        for _ in range(100):
+            count = len(os.listdir(f"/proc/{self.running.program.pid}/task"))
+            if wanted is None or count <= wanted:
+                break
+            time.sleep(0.1)
+        return count
+
+    def test_many_clients(self) -> None:
+        """3,000 one after the other, some of which break off: neither memory nor threads grow with them."""
+        sizes, threads = [], []
+        for turn in range(3000):
+            client = Client(self.path)
+            if turn % 3 == 0:
+                client.send(b"garbage\n").rest()
+            elif turn % 3 == 1:
+                client.send(b"console\nedges\n1 rep")
+            client.close()
+            if turn % 1000 == 999:
+                last = self.seated()
+                self.assertEqual(last.ask("1 report"), FLOODS)
+                last.close()
+                time.sleep(0.5)
+                sizes.append(self.running.resident())
+                threads.append(self.threads_down_to(threads[0] if threads else None))
+        self.assertLess(sizes[-1], sizes[0] + 1024, f"kilobytes after each 1,000: {sizes}")
+        self.assertEqual(threads, threads[:1] * 3)
+        self.ends_well()
+
+
+class Joined(Served):
+    """Edges that exchange records with clients."""
+
+    def setUp(self) -> None:
+        super().setUp()
+        self.begin()
+
+    def joined(self) -> Client:
+        """A client that exchanges records, and has read what the edges say when it begins."""
+        client = self.client().send(b"records\n")
+        self.assertEqual(self.lines(client, 2), [f"advert {ONE} {VNI} flood", f"advert {TWO} {VNI} flood"])
+        return client
+
+    def lines(self, client: Client, many: int) -> List[str]:
+        """The next so many records, as readable lines."""
+        stream = client.socket.makefile("rb", 0)
+        return [self.line(answer) for _, answer in zip(range(many), read_records(stream))]
+
+    def line(self, answer: Answer) -> str:
+        """An update as a line, without its incarnation, which is 1."""
+        self.assertIsInstance(answer, Update)
+        self.assertEqual(answer.incarnation, 1)
+        return line_of(answer._replace(incarnation=0))
+
+
+@needs_program
+class Records(Joined):
+    """Records that are exchanged with edges that run."""
+
+    def pinned(self, number: int, mac: str) -> str:
+        """The record's line of a station that an edge pins, which has announced two things before."""
+        self.assertEqual(self.console().ask(f"{number} pin {VNI} {mac} 1"), "")
+        return f"advert {(ONE, TWO)[number - 1]} {VNI} {mac} static seq 0 counter 2"
+
+    def test_both_edges_say_what_they_are_and_then_what_they_announce(self) -> None:
+        """First the registers of each edge's own, and then each update once, to each of two clients."""
+        first, second = self.joined(), self.joined()
+        wanted = [self.pinned(1, MAC), self.pinned(2, MAC[:-1] + "2")]
+        self.assertEqual(self.lines(first, 2), wanted)
+        self.assertEqual(self.lines(second, 2), wanted)
+        late = self.client().send(b"records\n")
+        self.assertEqual(len(self.lines(late, 4)), 4)
+
+    def test_what_comes_is_taken(self) -> None:
+        """A withdrawal of edge 2's flood list, of a later life, is taken at edge 1, and not at edge 2: that one says anew what it is."""
+        client = self.joined()
+        client.send(record_of(update_of_line(f"withdraw {TWO} {VNI} flood counter 9 incarnation 1")))
+        for _ in range(100):
+            report = self.console().ask("1 report")
+            if report != FLOODS:
+                break
+            time.sleep(0.05)
+        self.assertNotIn(f"flood {VNI} {TWO} 1 up\n", report)
+
+    def test_refused_records_are_told_once_a_kind(self) -> None:
+        """Behind them records are taken; a fault ends the connection alone, and is told, too."""
+        octets = bytearray(record_of(update_of_line(f"advert {ONE} {VNI} flood")))
+        octets[14:22] = bytes(8)  # a counter of 0
+        for _ in range(2):
+            client = self.joined()
+            client.send(bytes(octets) * 3).send(b"GET / HTTP/1.1\r\n\r\n")
+            self.assertEqual(client.rest(), b"")
+        self.notes = "records: refused 14\nrecords: refused 1\n"
+        self.hears_station()
+        self.ends_well(FLOODS + learnt(1, ONE, 2))
+
+    def test_clients_that_break_off(self) -> None:
+        """In mid-record, and eight at once that read nothing: nothing else is disturbed, and the run ends in its time."""
+        octets = record_of(update_of_line(f"advert {ONE} {VNI} flood"))
+        for cut in (1, 8, len(octets) - 1):
+            self.joined().send(octets[:cut]).close()
+        held = [self.seated_records() for _ in range(SEATS - 1)]
+        self.hears_station()
+        self.assertEqual(self.seated().ask("1 port 1"), "1 port 1 designated forwarding passes\n")
+        self.assertEqual(len(held), SEATS - 1)
+        self.ends_well(FLOODS + learnt(1, ONE, 2))
+
+    def seated_records(self) -> Client:
+        """A client that exchanges records and reads nothing; again where those that have just gone still have their seats."""
+        for _ in range(100):
+            client = self.client().send(b"records\n")
+            with contextlib.suppress(OSError):
+                if client.socket.recv(44, socket.MSG_WAITALL | socket.MSG_PEEK)[:2] == b"EV":
+                    return client
+            time.sleep(0.05)
+        raise AssertionError("busy for five seconds")
+
+
+@needs_program
+class Begun(Served):
+    """Edges whose configuration names no incarnation: it is the second of their start, and rises with each."""
+
+    def text(self) -> str:
+        """The configuration without the key."""
+        return super().text().replace("incarnation = 1\n", "")
+
+    def incarnations(self) -> List[int]:
+        """Those of the flood lists that edge 1 reports, once it has heard of both edges."""
+        for _ in range(100):
+            with contextlib.suppress(OSError, AssertionError):
+                told = re.findall(r"^flood \S+ \S+ ([0-9]+)\.1 up$", self.console().ask("1 report"), re.MULTILINE)
+                if len(told) == 2:
+                    return [int(each) for each in told]
+            time.sleep(0.05)
+        return self.fail(self.running.end())
+
+    def test_each_start_has_a_higher_one(self) -> None:
+        """Also where the run before was killed at once; nothing is said before the second is over."""
+        before = 0
+        for _ in range(3):
+            begun = int(time.time())
+            self.running = self.started()
+            found = self.incarnations()
+            now = time.time()
+            self.assertEqual(found, found[:1] * 2)
+            self.assertTrue(max(begun, before + 1) <= found[0] < int(now), (begun, before, found, now))
+            before = found[0]
+            self.running.program.kill()
+            self.running.program.communicate()
+
+
+@needs_program
+class SentBack(Joined):
+    """An edge elsewhere, of which these edges hold a station."""
+
+    def text(self) -> str:
+        """The configuration, which lists the edge elsewhere."""
+        return super().text() + f'[[peer]]\naddress = "{ELSEWHERE}"\n'
+
+    def taken(self, client: Client, number: int, incarnation: int = 1) -> str:
+        """The record's line, without its incarnation, of a station of the edge elsewhere, once both edges have taken it from a client."""
+        update = update_of_line(f"advert {ELSEWHERE} {VNI} 02:00:00:00:00:1{number} seq 0 counter {number}")
+        client.send(record_of(update._replace(incarnation=incarnation)))
+        for _ in range(100):
+            if all(f"02:00:00:00:00:1{number} {ELSEWHERE} " in self.console().ask(f"{edge} report") for edge in (1, 2)):
+                return line_of(update)
+            time.sleep(0.05)
+        return self.fail("not taken")
+
+    def test_registers_of_a_named_edge_are_sent_back(self) -> None:
+        """What each edge holds of it, once a connection, before later announcements; nothing of any other edge."""
+        first = self.taken(self.joined(), 1)
+        client = self.joined()
+        for line in (f"advert {ONE} {VNI} flood", f"advert {HOST}9 {VNI} flood", first, first):
+            client.send(record_of(update_of_line(line)))
+        self.assertEqual(self.lines(client, 2), [first] * 2)
+        self.taken(client, 2, 2)
+        self.assertEqual(self.console().ask(f"1 pin {VNI} {MAC} 1"), "")
+        self.assertEqual(self.lines(client, 1), [f"advert {ONE} {VNI} {MAC} static seq 0 counter 2"])
+
+
+@needs_program
+class Deaf(Joined):
+    """One that records are told to and that doesn't read them, at edges that learn more stations than its socket has room for."""
+
+    def text(self) -> str:
+        """The configuration, with room for as many stations as an edge may have."""
+        return super().text().replace("bridge = ", "capacity = 65536\nbridge = ")
+
+    def test_peer_that_does_not_read(self) -> None:
+        """Stations speak until no more of them can be told it: it is cut off, while frames go on and another one hears all the time."""
+        deaf, hears = self.joined(), self.joined()
+        poll = select.poll()
+        poll.register(deaf.socket, 0)  # only for a connection that has ended
+        begun = time.monotonic()
+        told, number = b"", 0
+        while not poll.poll(0) and time.monotonic() - begun < 40:
+            number += 1
+            self.one.send(frame(BROADCAST, bytes([2, 1]) + number.to_bytes(4, "big"), b""))
+            told = self.taken(hears, told)
+        self.assertNotEqual(poll.poll(0), [])
+        self.assertNotEqual(told, b"")
+        while self.two.receive(0.1):
+            pass
+        self.hears_station()
+        again = self.client().send(b"records\n")
+        self.assertEqual(self.lines(again, 1), [f"advert {ONE} {VNI} flood"])
+
+    def taken(self, client: Client, before: bytes) -> bytes:
+        """What came to a client at once, of which the last piece is kept."""
+        if select.select([client.socket], [], [], 0)[0]:
+            return client.socket.recv(65535)
+        return before
+
+
+@needs_program
+class Socket(Served):
+    """The socket's file."""
+
+    def refused(self, why: str) -> None:
+        """It doesn't begin, for this cause."""
+        self.assertEqual(self.started().end(), (4, "", f"can't listen at {self.path}: {why}\n"))
+
+    def test_file_is_its_users_alone(self) -> None:
+        """Its mode is 0600, whatever the mask of the one who starts it."""
+        before = os.umask(0)
+        try:
+            self.begin()
+        finally:
+            os.umask(before)
+        mode = os.lstat(self.path).st_mode
+        self.assertTrue(stat.S_ISSOCK(mode))
+        self.assertEqual(stat.S_IMODE(mode), 0o600)
+        self.ends_well()
+
+    def test_socket_of_a_killed_run(self) -> None:
+        """Nobody listens there any more: it is taken over."""
+        self.begin()
+        self.running.program.kill()
+        self.running.program.communicate()
+        self.assertTrue(os.path.lexists(self.path))
+        self.begin()
+        self.assertEqual(self.console().ask("1 report"), FLOODS)
+        self.ends_well()
+
+    def test_somebody_listens(self) -> None:
+        """Another run's socket stays, and is asked as before."""
+        self.begin()
+        self.refused("it is in use")
+        self.assertEqual(self.console().ask("1 report"), FLOODS)
+        self.ends_well()
+
+    def test_another_file(self) -> None:
+        """It stays as it is."""
+        with open(self.path, "w", encoding="ascii") as it:
+            it.write("kept\n")
+        self.refused("it is a file that is no socket")
+        with open(self.path, encoding="ascii") as it:
+            self.assertEqual(it.read(), "kept\n")
+
+    def test_link_to_a_file(self) -> None:
+        os.symlink("/dev/null", self.path)
+        self.refused("it is a file that is no socket")
+
+    def test_no_folder(self) -> None:
+        self.path = os.path.join(self.path, "control")
+        self.refused("there is no such folder")
+
+    def test_longest_path(self) -> None:
+        """107 octets are one of a socket, 108 aren't: the configuration is wrong then."""
+        folder = os.path.dirname(self.path)
+        self.path = os.path.join(folder, "x" * (107 - len(folder) - 1))
+        self.begin()
+        self.ends_well()
+        self.path += "x"
+        status, out, notes = self.started().end()
+        self.assertEqual((status, out, notes.split("\n")[0]), (2, "", "config control"))
+        self.assertIn(", allowed is the path of a socket, 1 to 107 octets, none of them 0\n", notes)
+
+    def test_file_that_was_moved_away(self) -> None:
+        """What lies at the path at the end and isn't the socket stays, and the run ends as ever."""
+        self.begin()
+        os.unlink(self.path)
+        with open(self.path, "w", encoding="ascii"):
+            pass
+        status, _, notes = self.running.end()
+        self.assertEqual((status, notes), (0, ""))
+        self.assertTrue(os.path.isfile(self.path))
+
+    def test_edges_that_do_not_begin(self) -> None:
+        """Where an address can't be bound no socket stays behind."""
+        with socket.socket(socket.AF_INET, socket.SOCK_DGRAM) as other:
+            other.bind((ONE, self.one.port))
+            status, out, notes = self.started().end()
+        self.assertEqual((status, out), (4, ""))
+        self.assertRegex(notes, rf"^can't bind {re.escape(ONE)}:\d+: it is in use\n$")
+        self.assertFalse(os.path.lexists(self.path))
+
+
+if __name__ == "__main__":
+    unittest.main()
