@@ -1,7 +1,7 @@
 #!/usr/bin/env python3
-"""Plants wrong bodies that no goal refuses, and looks whether the test that each names fails.
+"""Plants wrong bodies that no goal refuses, and checks that the test that each names fails.
 
-usage: tests/planted.py --mutants [--alone] [CRATE | NAME]..      (default: all)
+usage: tests/planted.py --mutants [--apart] [CRATE | NAME]..      (default: all)
 
 tests/mutants/CRATE.edits has the wrong bodies of a crate: blocks as in more-edits/all.edits, each with a line `test:` that names the
 test which has to fail. `why:` says why no clause can refuse the body, and nothing reads it.
@@ -10,8 +10,8 @@ test which has to fail. `why:` says why no clause can refuse the body, and nothi
   test: test_serve.Asked.test_edges                    one in a folder of tests/, on a program with the wrong body: some minutes
   test: statuses: two edges run                        one of the statuses of the program, on such a program
 
-Wrong bodies of different functions whose tests differ share a build, if they have the same word behind `group:`, or none: a body that
-disturbs the tests of others has a word of its own. `--alone` builds each on its own: then no test can fail because of another body.
+Wrong bodies of different functions whose tests differ share a build, if they have the same word after `group:`, or none: a body that
+disturbs the tests of others has a word of its own. `--apart` builds each on its own: then no test can fail because of another body.
 The sources stay as they are. The last line is 'N passed, M failed'.
 """
 import os
@@ -97,11 +97,11 @@ def added(mutant: Mutant, group: Group) -> bool:
     return True
 
 
-def groups_of(mutants: List[Mutant], are_alone: bool) -> List[Group]:
+def groups_of(mutants: List[Mutant], are_apart: bool) -> List[Group]:
     """Returns the mutants as groups, as few as come out if each goes into the first one that takes it."""
     groups: List[Group] = []
     for mutant in mutants:
-        if are_alone or not any(added(mutant, group) for group in groups):
+        if are_apart or not any(added(mutant, group) for group in groups):
             groups.append(Group([], {}, []))
             added(mutant, groups[-1])
     return groups
@@ -126,7 +126,7 @@ def copy_with(project: Project, name: str, texts: Dict[Path, str], room: str) ->
 
 
 def failed_in_crate(said: str, test: str) -> bool:
-    """Returns `True` if `rt try --test` said that this test failed."""
+    """Returns `True` if `rt try --test` printed that this test failed."""
     return bool(re.search(rf"^test {re.escape(test)} \.\.\. (?!ok$)", said, re.M))
 
 
@@ -196,10 +196,10 @@ def look_at(project: Project, group: Group) -> List[str]:
 def main(words: List[str]) -> int:
     """Plants the mutants of these crates or names, or all."""
     os.chdir(TOP)
-    are_alone = "--alone" in words
-    names = [it for it in words if it != "--alone"]
+    are_apart = "--apart" in words
+    names = [it for it in words if it != "--apart"]
     mutants = [it for it in all_mutants() if not names or it.crate in names or it.name in names]
-    lost = [line for group in groups_of(mutants, are_alone) for line in look_at(Project(TOP), group)]
+    lost = [line for group in groups_of(mutants, are_apart) for line in look_at(Project(TOP), group)]
     print(*lost, f"{len(mutants) - len(lost)} passed, {len(lost)} failed", sep="\n")
     return 1 if lost or not mutants else 0
 

@@ -2,7 +2,7 @@
 """Sees that the gate notices what it is for: in each crate a wrong body, a wrong expectation, a function that no check has seen.
 
 usage: tests/planted.py [CRATE..]      (at the top of the repository, where `rt check` has kept work of the crates; default: all)
-       tests/planted.py --mutants [--alone] [CRATE | NAME]..      wrong bodies that no goal refuses: tests/mutants.py says more
+       tests/planted.py --mutants [--apart] [CRATE | NAME]..      wrong bodies that no goal refuses: see tests/mutants.py
 
 The wrong body is that of the crate's first must-fail edit which changes one; the wrong expectation is the first comparison of
 its tests, turned round. Each is planted into a copy of the sources. What judges is what the gate calls of a crate (the rules `proof`

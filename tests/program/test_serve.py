@@ -190,7 +190,13 @@ class Asked(Served):
     def test_port(self) -> None:
         """A port that passes frames at once, and one that there isn't."""
         console = self.console()
-        self.assertEqual(console.ask("1 port 1"), "1 port 1 designated forwarding passes\n")
+        # (a thread of the edge brings the port up soon after the start)
+        for _ in range(50):
+            told = console.ask("1 port 1")
+            if "disabled" not in told:
+                break
+            time.sleep(0.05)
+        self.assertEqual(told, "1 port 1 designated forwarding passes\n")
         self.assertEqual(console.ask("1 port 2"), "1 refused edge 16\n")
         self.assertEqual(console.ask("3 port 1"), "3 refused fabric 18\n")
         self.ends_well()

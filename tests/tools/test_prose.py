@@ -1,4 +1,4 @@
-"""Limits on oblique phrases (tests/prose.py): of the documents together, of each document, and of the comments."""
+"""Limits on oblique phrases (tests/prose.py): of all documents, of all comments, and of each file."""
 
 import os
 import sys
@@ -13,7 +13,6 @@ from prose import counted, files_of_git
 DOCUMENTS = 4.0
 EACH_FILE = 12.0
 COMMENTS = 6.0
-SHORT = 100  # words of comments in which one phrase says little
 
 
 class Prose(unittest.TestCase):
@@ -31,20 +30,13 @@ class Prose(unittest.TestCase):
     def test_documents_together(self):
         self.assertLessEqual(counted(files_of_git(("*.md",))).per_thousand(), DOCUMENTS)
 
-    def test_each_document(self):
-        for path in files_of_git(("*.md",)):
+    def test_each_file(self):
+        for path in files_of_git() + [f"tools/{name}" for name in ("evpndctl", "try", "check", "seconds")]:
             with self.subTest(path=path):
                 self.assertLessEqual(counted([path]).per_thousand(), EACH_FILE)
 
     def test_comments(self):
         self.assertLessEqual(counted(files_of_git(("*.rt", "*.antt", "*.py", "*.sh", "*.toml"))).per_thousand(), COMMENTS)
-
-    def test_comments_of_each_script(self):
-        for path in files_of_git(("*.py", "*.sh")):
-            count = counted([path])
-            if count.words >= SHORT:
-                with self.subTest(path=path):
-                    self.assertLessEqual(count.per_thousand(), EACH_FILE)
 
     def test_a_phrase_is_found_and_code_is_not(self):
         with tempfile.NamedTemporaryFile("w", suffix=".md", encoding="utf-8") as page:

@@ -1,5 +1,5 @@
--- An edge owns what it advertises, and no station's last second is later than now, through each change of its local
--- routes.
+-- An edge owns each MAC that it advertises, and no station's last second is later than now, through each change of its
+-- local routes.
 use Rattle.std.proofs.Common.{◌≡◌, ◌≢◌, inl, inr, ℕ, ◌<◌, Bool, true, false, cond, not, Option, Some, None, List, []}
 use Rattle.std.proofs.Common.{◌∷◌, length, refl, sym, ap, subst, ◌∙◌, arith}
 use Rattle.std.specs.Prelude.{IsSome, is_some, ◌&&◌, MatchOption}

@@ -1,4 +1,4 @@
--- An edge still owns what it advertises after an update under its own name: no own advert changes.
+-- After an update under its own name an edge still owns each MAC that it advertises: no own advert changes.
 use Rattle.std.proofs.Common.{◌≡◌, ◌≢◌, ℕ, Bool, true, false, cond, eqb, Option, refl, sym, ap, subst, ◌∙◌, arith}
 use Rattle.std.specs.Prelude.{IsSome}
 use Rattle.std.proofs.lemmas.Bool.{eq-eqb}

@@ -18,7 +18,7 @@ use Rattle.ev_edge.specs.declared.refusal.EdgeRefusal.TheVariants.{BadMac, NoSuc
 use Rattle.ev_edge.specs.Edge.{Edge, table_of, address_of}
 use Rattle.ev_edge.specs.Learning.{is_spent, needs_register, OrNoMemory}
 
--- the cause of a refused pin: there is no such port, it is of another VNI, or a group address can't be pinned
+-- the cause of a refused pin: the port doesn't exist or is of another VNI, or a group address can't be pinned
 abbrev pub pin_refusal : Option ℕ → Station → Option EdgeRefusal
 pin_refusal None s = Some NoSuchPort
 pin_refusal (Some vni) s = if vni == s.vni then (if is_group s.mac then Some BadMac else None) else Some NoSuchVni

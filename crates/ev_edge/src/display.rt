@@ -1,4 +1,4 @@
-//! Refusals and replies as text for people. A number stands beside each name.
+//! Refusals and replies as text for people, each with its name and number.
 
 use crate::refusal::Refusal;
 use crate::reply::Reply;
@@ -91,8 +91,8 @@ fn taken_words(taken: Taken) -> &'static str {
 }
 
 impl Reply {
-    /// Writes the first parts: where a frame goes, and the ports that send BPDUs. Returns `true` if
-    /// there were none.
+    /// Writes the first parts: the destination of a frame, and the ports that send BPDUs. Returns
+    /// `true` if there were none.
     fn write_sent<W: Write>(&self, f: &mut Formatter<W>) -> Result<bool, Error> {
         let mut is_first = true;
         if let Some(decision) = &self.decision {

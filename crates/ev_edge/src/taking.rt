@@ -53,7 +53,7 @@ impl Edge {
         }
     }
 
-    /// Takes another edge's update, and returns what it changed here.
+    /// Takes another edge's update, and writes the change of this edge into `reply`.
     fn take_other(&mut self, update: &Update, reply: &mut Reply) -> Result<(), Refusal>
         requires { update.now.register.originator ≢ address_of self.old }
         ensures { TakesOther self.old update.now (answered result reply.new) self.new }

@@ -1,4 +1,4 @@
--- The streams of two processes that are joined, one of which sends back what it held of an edge of the other.
+-- The streams of two joined processes. One of them sends back the registers that it held of the other's edge.
 use Rattle.std.proofs.Common.{◌≡◌, ◌⊎◌, inl, inr, ℕ, List, [], ◌∷◌, ◌++◌, Contains, Some, sym, ap, subst, ◌∙◌, arith}
 use Rattle.std.proofs.Common.{eq-eqb}
 use Rattle.std.specs.List.{flat_map}
@@ -16,7 +16,7 @@ use Rattle.ev_exchange.specs.Laws.{Carries, TookBack, announced_by, IsUnnamed, H
 use Rattle.ev_exchange.specs.Laws.{SaidBack, Came, JoinedAgrees}
 use Rattle.ev_exchange.proofs.Arriving.{first_in, first_or_later, filter_in, filter_has, said_is_carried, meets}
 
--- what is sent for one of several items is sent
+-- the updates for one of several items are sent
 in_flat : {X Y : Type 0} (f : X → List Y) (xs : List X) (x : X) (y : Y) → Contains xs x → Contains (f x) y
     → Contains (flat_map f xs) y
 in_flat f [] x y c d = absurd (omega (arith, c.1))

@@ -153,7 +153,7 @@ says own [] h = record {
 says own (u ∷ us) h = says_more own u us h (heard_all own (u ∷ us) h) (foreign_in own u) refl
     (says own us (heard h (foreign_in own u)))
 
--- ---- so it is what others advertise
+-- ---- so it is the adverts of others
 foreign_is : (own : ℕ) (u : Fields) (a : Advert) → foreign_in own u ≡ Some a
     → (u.register.originator ≢ own) × (advert_in u.value.content ≡ Some a)
 foreign_is own u a e = go (eqb u.register.originator own) refl e

@@ -127,7 +127,7 @@ pub to_none : {X : Type 0} (o : Option X) → is_some o ≡ false → o ≡ None
 to_none None h = refl
 to_none (Some x) h = cc
 
--- ---- what is noted and thawed
+-- ---- noted and thawed stations
 
 pub noted : (es es' : Places) (m : Moves) (k : Station) (w : Window) (second : ℕ) → moves_of es ≡ m
     → Sets es es' k (Some w) → keys_of es' ≡ keys_of es → w ≡ after_move (window_at m k) second

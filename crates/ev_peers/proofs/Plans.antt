@@ -1,4 +1,4 @@
--- What is planned for the links of ports, from the last port to the first.
+-- The plan for the links of ports, from the last port to the first.
 use Rattle.std.proofs.Common.{◌≡◌, ℕ, ◌+◌, List, [], ◌∷◌, ◌++◌, length, map, take, reverse, refl, ap}
 use Rattle.std.proofs.Common.{sym, ◌∙◌, append_assoc}
 use Rattle.std.proofs.Math.Seq.{take-append_seam}
@@ -54,7 +54,7 @@ module _ {I O : Type 0} where
       ∙ (ap (λ l. outputs ++ l)
       (sym (ap outputs_back popped ∙ ap (map (λ l. l.output)) (reverse-append before (link ∷ [])))) ∙ so_far))
 
-  -- what is sent over at ports, port 1 first again
+  -- the outputs of ports, port 1 first again
   pub port_1_first : (tunnel : O) (links : List (Link I O))
       → tunnel ∷ reverse (outputs_back links) ≡ outputs_of tunnel links
   port_1_first tunnel links =

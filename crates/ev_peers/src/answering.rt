@@ -1,5 +1,5 @@
-//! What an edge's worker does with a request of the operator: it enters a step as any event, or
-//! reads what the book holds, and answers.
+//! Answers the operator's requests in an edge's worker: it enters a step like any event, or reads
+//! from the edge's book.
 ghost use Rattle.std.specs.Prelude.{◌≡◌, ◌++◌, IfOk};
 ghost use Rattle.route_join.specs.Updates.{all_updates};
 ghost use Rattle.ev_edge.specs.Edge.{table_of};
@@ -23,7 +23,7 @@ use std::mem;
 use std::sync::Wait;
 use std::sync::ledger::Ledger;
 
-/// What a book answered, with the reply that was written.
+/// Returns the book's answer, with the reply that the book wrote.
 fn replied(answer: Result<(), BookRefusal>, reply: &mut Reply) -> Result<Reply, BookRefusal>
     ensures { result ≡ answered answer reply.old }
 {
@@ -33,7 +33,7 @@ fn replied(answer: Result<(), BookRefusal>, reply: &mut Reply) -> Result<Reply, 
     }
 }
 
-/// The step as an event of an edge.
+/// Returns the step as an event of an edge.
 fn event_of(command: &Command) -> Event<'static>
     ensures { result ≡ event_of command.now }
 {
@@ -47,7 +47,7 @@ fn event_of(command: &Command) -> Event<'static>
     }
 }
 
-/// Enters a step, and passes on what it gives out, as any event.
+/// Enters a step, and sends its frames and records, as for any event.
 fn obey<L: Ledger, O: Outlet + Drop, G: Gate, R: Wait>(
     worker: &mut Worker<'_, L, O, G, R>,
     command: &Command,
@@ -64,7 +64,7 @@ fn obey<L: Ledger, O: Outlet + Drop, G: Gate, R: Wait>(
     answer
 }
 
-/// The updates of all registers of an edge's table.
+/// Returns the updates of all registers of an edge's table.
 fn updates_of(alloc: Global, edge: &Edge) -> Result<Vec<Update>, AllocError>
     ensures { ShowsTable edge.now result }
 {
@@ -75,7 +75,7 @@ fn updates_of(alloc: Global, edge: &Edge) -> Result<Vec<Update>, AllocError>
     Ok(updates)
 }
 
-/// A copy of networks.
+/// Returns a copy of these networks.
 fn copied(alloc: Global, vnis: &[Vni]) -> Result<Vec<Vni>, AllocError>
     ensures { IfOk result (λ copy. copy.items ≡ vnis.now) }
 {
@@ -84,7 +84,7 @@ fn copied(alloc: Global, vnis: &[Vni]) -> Result<Vec<Vni>, AllocError>
     Ok(copy)
 }
 
-/// What an edge serves.
+/// Returns the address, the ports and the networks of an edge.
 fn served_by(alloc: Global, edge: &Edge) -> Result<Served, AllocError>
     ensures { ShowsServed edge.now result }
 {
@@ -96,7 +96,7 @@ fn served_by(alloc: Global, edge: &Edge) -> Result<Served, AllocError>
     })
 }
 
-/// How a bridge has a port, if there is one of this number.
+/// Returns the state of a bridge's port, if the bridge has a port with this number.
 fn view_of(bridge: &Bridge, port: u8) -> Option<PortView>
     ensures { ShowsPort bridge.now port result }
 {
@@ -109,7 +109,7 @@ fn view_of(bridge: &Bridge, port: u8) -> Option<PortView>
     })
 }
 
-/// What is told of a question of an edge.
+/// Returns the text of the answer to a question about an edge.
 fn view_text(
     alloc: Global,
     number: u64,
@@ -121,7 +121,7 @@ fn view_text(
     ev_view::view_of(alloc, number, edge, question)
 }
 
-/// What a reading shows of an edge.
+/// Returns the answer to a reading, from this edge.
 fn shown(edge: &Edge, reading: &Reading) -> Answer
     ensures { Shows edge.now reading.now result }
 {
@@ -135,7 +135,7 @@ fn shown(edge: &Edge, reading: &Reading) -> Answer
     }
 }
 
-/// What a reading shows of a book.
+/// Returns the answer to a reading, from this book.
 fn seen<L: Ledger>(book: &Book<L>, reading: &Reading) -> Answer
     ensures shows { Shows book.now.edge reading.now result }
     ensures looked { Looked reading.now result }
@@ -143,7 +143,7 @@ fn seen<L: Ledger>(book: &Book<L>, reading: &Reading) -> Answer
     shown(book.edge(), reading)
 }
 
-/// What a reading shows of the edge's book, which stays as it is. The lock is held meanwhile.
+/// Returns the answer to a reading, from the edge's book, which it locks and does not change.
 fn look<L: Ledger, G: Gate, R: Wait>(
     shared_edge: &SharedEdge<'_, L, G, R>,
     reading: &Reading,
@@ -154,7 +154,7 @@ fn look<L: Ledger, G: Gate, R: Wait>(
     seen(&*book, reading)
 }
 
-/// Does what is asked for.
+/// Fulfils a request, and returns the answer.
 fn fulfil<L: Ledger, O: Outlet + Drop, G: Gate, R: Wait>(
     worker: &mut Worker<'_, L, O, G, R>,
     request: &Request,
@@ -170,7 +170,7 @@ fn fulfil<L: Ledger, O: Outlet + Drop, G: Gate, R: Wait>(
     }
 }
 
-/// Does what is asked for, and answers.
+/// Fulfils a request, and gives the answer to the operator.
 pub(crate) fn answer<L: Ledger, O: Outlet + Drop, G: Gate, R: Wait>(
     worker: &mut Worker<'_, L, O, G, R>,
     request: &Request,

@@ -25,15 +25,15 @@ use std::sync::{Mutex, Wait};
 use std::thread;
 use std::thread::{Scope, Threads};
 
-/// The address from which an edge's bridge speaks.
+/// Returns the MAC address from which an edge's bridge sends.
 fn bridge_of(config: &EdgeConfig) -> Mac
     ensures { result ≡ bridge_address config.now.tree.identifier }
 {
     Mac::new(config.tree.identifier.address())
 }
 
-/// What the workers of an edge begin with, ready to run. It is seen as how many
-/// passes the tasks have.
+/// The arguments of an edge's workers, ready to run. Its model is the number of
+/// passes of the tasks.
 #[derive(Drop)]
 struct ReadyThreads<'x, L: Ledger, I: Drop, O: Drop, G, R> {
     threads: EdgeThreads<L, I, O>,
@@ -109,12 +109,12 @@ fn run_within<
     )
 }
 
-/// What an edge runs over.
+/// The surroundings of an edge.
 #[derive(Drop)]
 pub struct Host<'x, G, R> {
-    /// What may wait, and starts threads.
+    /// Waits, and starts threads.
     pub rt: &'x R,
-    /// What gives memory.
+    /// The allocator.
     pub alloc: Global,
     /// Is told of each call of the edge's book.
     pub gate: &'x G,
@@ -124,7 +124,7 @@ pub struct Host<'x, G, R> {
     pub peers: Peers<'x>,
 }
 
-/// What the workers of an edge enter into its book, give to, and share.
+/// The book, the lines and the shared data of an edge's workers.
 fn workplace_of<'x, L: Ledger, G, R>(
     host: &Host<'x, G, R>,
     bridge: Mac,
@@ -179,16 +179,16 @@ fn run_workers<
 }
 
 /// Opens an edge's book under a ledger of its own, runs the edge's workers, and closes the book
-/// with the passes that they give back: passes 0, 1 .. are those of the ports, then of the tunnel,
+/// with the passes that they return: passes 0, 1 .. are those of the ports, then of the tunnel,
 /// the clock and the other edges' records.
 ///
-/// What comes back from a thread is known by its type alone, and so is the book that was under the
-/// lock: no clause says what the workers did meanwhile, nor what they ended with, but that each has
-/// its count.
+/// Only the type of a thread's result is known, and of a book that was under a lock. So no clause
+/// contains the workers' events or faults: the contract promises that each worker has its count of
+/// calls.
 ///
 /// # Errors
 ///
-/// Where memory is refused before a worker has begun.
+/// `AllocError` if memory is refused before a worker has begun.
 pub fn edge_worker<
     L: Ledger + Send + Sync,
     I: LinkIn + Drop + Send,

@@ -1,4 +1,4 @@
-//! What an edge comes to when its workers have ended, and what these ended with.
+//! The outcome of an edge whose workers have ended, and their faults.
 ghost use Rattle.std.specs.Prelude.{◌≡◌};
 ghost use Rattle.ev_peers.specs.Inner.Outcome.{no_faults, both_faults, is_device, is_memory, with_end, with_memory, with_sent};
 
@@ -6,21 +6,21 @@ use crate::shared_edge::Ended;
 use ev_book::Totals;
 use ev_edge::Edge;
 
-/// What an edge comes to when its workers have ended.
+/// The outcome of an edge whose workers have ended.
 #[derive(Drop)]
 pub struct Outcome {
     /// The edge.
     pub edge: Edge,
     /// How many calls of each worker were counted.
     pub totals: Totals,
-    /// What its workers ended with.
+    /// The faults of its workers.
     pub faults: Faults,
-    /// How many frames found no room: on the line of the tunnel, and behind it on those of the
+    /// How many frames found no room: on the line of the tunnel, then on the lines of the
     /// ports, port 1 first.
     pub dropped: Vec<u64>,
 }
 
-/// What the workers of an edge ended with.
+/// The faults of the workers of an edge.
 #[derive(Clone, Copy, Debug, PartialEq, Eq)]
 pub struct Faults {
     /// How many frames were lost in failed calls of links.
@@ -31,7 +31,7 @@ pub struct Faults {
     pub memory: bool,
 }
 
-/// What a thread that sends frames gives back: how many were lost, and whether there was a thread.
+/// The result of a thread that sends frames: how many were lost, and whether there was a thread.
 pub(crate) type Sent = (u64, Ended);
 
 /// Returns `true` if a worker ended because its link failed.
@@ -55,7 +55,7 @@ fn is_memory(ended: Ended) -> bool
 }
 
 impl Faults {
-    /// Workers that ended as they should.
+    /// Returns the faults of workers that ended without one.
     pub(crate) fn none() -> Self
         ensures { result ≡ no_faults }
     {
@@ -66,7 +66,7 @@ impl Faults {
         }
     }
 
-    /// Both together.
+    /// Returns the faults of both.
     pub(crate) fn and(self, other: Faults) -> Self
         ensures { result ≡ both_faults self other }
     {
@@ -77,7 +77,7 @@ impl Faults {
         }
     }
 
-    /// With what one more worker ended with.
+    /// Adds the end of one more worker.
     pub(crate) fn with(self, ended: Ended) -> Self
         ensures { result ≡ with_end ended self }
     {
@@ -88,7 +88,7 @@ impl Faults {
         }
     }
 
-    /// With whether a call of the book was refused memory.
+    /// Adds whether a call of the book was refused memory.
     pub(crate) fn with_out_of_memory(self, out_of_memory: bool) -> Self
         ensures { result ≡ with_memory out_of_memory self }
     {
@@ -98,7 +98,7 @@ impl Faults {
         }
     }
 
-    /// With what was lost over one more link.
+    /// Adds the lost frames of one more link.
     pub(crate) fn with_lost(self, sent: Sent) -> Self
         ensures { result ≡ with_sent sent self }
     {

@@ -1,5 +1,5 @@
-//! Where the workers of an edge give what the book answers: frames to the lines of its links,
-//! records to the other edges, alerts and failing links to the operator.
+//! The outlet of an edge's workers: frames go to the lines of its links, records to the other
+//! edges, alerts and failures of links to the operator.
 ghost use Rattle.std.specs.Prelude.{◌≡◌, ◌∷◌, [], Option, List, slice_get, option_copied};
 ghost use Rattle.ev_peers.specs.Giving.{Parcel, parcel, first_parcel};
 ghost use Rattle.ev_peers.specs.Inner.Giving.{place_of};
@@ -14,7 +14,7 @@ use route_wire::Update;
 use std::alloc::AllocError;
 use std::sync::Wait;
 
-/// Which link of an edge gets a frame.
+/// The link of an edge that gets a frame.
 #[derive(Clone, Copy, Debug, PartialEq, Eq)]
 pub enum Target {
     /// The access port with this number, from 1.
@@ -23,17 +23,17 @@ pub enum Target {
     Edge(Addr),
 }
 
-/// Where the workers of an edge give frames and records.
+/// Takes the frames and records of an edge's workers.
 pub trait Outlet {
-    /// The frames that were given and the links that got them, in their order, where it tells them.
+    /// The frames that it took, each with its link, in their order; `None` if it shows none.
     ghost parcels: { Self → Option (List Parcel) };
 
-    /// What was spoken of the other edges and with the operator, where it tells it: each answer on
-    /// their room, each record that was given, each second, each alert, each change of a link that
-    /// is received over, and each answer to a request, in their order.
+    /// The messages to the other edges and to the operator, in their order: each answer about
+    /// room, each record, second and alert, each failure or recovery of a link that receives, and
+    /// each answer to a request; `None` if it shows none.
     ghost records: { Self → Option (List Word) };
 
-    /// Takes a frame for a link, whose line has room for it or drops and counts it.
+    /// Takes a frame for a link. If the link's line is full, the line drops and counts the frame.
     fn frame(&mut self, to: Target, octets: &[u8])
         ensures given { parcels self.new
             ≡ behind (parcels self.old) (parcel to octets.now ∷ []) }
@@ -45,7 +45,7 @@ pub trait Outlet {
             ≡ behind (parcels self.old) (first_parcel port frame.now ∷ []) }
         ensures records { records self.new ≡ records self.old };
 
-    /// Whether each of the other edges has room for one more record.
+    /// Returns `true` if each of the other edges has room for one more record.
     fn has_room(&mut self) -> bool
         ensures told { records self.new ≡ behind (records self.old) (has_room result ∷ []) }
         ensures parcels { parcels self.new ≡ parcels self.old };
@@ -55,17 +55,17 @@ pub trait Outlet {
         ensures given { records self.new ≡ behind (records self.old) (record_of update ∷ []) }
         ensures parcels { parcels self.new ≡ parcels self.old };
 
-    /// Tells the operator's board that a second passes.
+    /// Reports to the operator's board that a second passed.
     fn second(&mut self)
         ensures told { records self.new ≡ behind (records self.old) (second_passes ∷ []) }
         ensures parcels { parcels self.new ≡ parcels self.old };
 
-    /// Puts an alert on the operator's board, which may hold it back and counts it then.
+    /// Puts an alert on the operator's board, or counts it if the board's rate is exceeded.
     fn alarm(&mut self, alarm: Alarm)
         ensures told { records self.new ≡ behind (records self.old) (tells alarm ∷ []) }
         ensures parcels { parcels self.new ≡ parcels self.old };
 
-    /// Tells the operator that receiving over a link failed, or works again.
+    /// Reports to the operator that receiving over a link failed, or works again.
     fn reception(&mut self, reception: Reception)
         ensures told { records self.new ≡ behind (records self.old) (hears reception ∷ []) }
         ensures parcels { parcels self.new ≡ parcels self.old };
@@ -79,9 +79,9 @@ pub trait Outlet {
 /// The lines to an edge's links, the mailboxes of the other edges, and the operator's board. It
 /// refers to them, and is copied for each worker.
 pub(crate) struct Senders<'x, R> {
-    /// What may wait for a lock.
+    /// Waits for a lock.
     pub(crate) rt: &'x R,
-    /// To the link of the tunnel, and behind it to those of the access ports, port 1 first.
+    /// To the link of the tunnel, then to those of the access ports, port 1 first.
     pub(crate) lines: &'x [SharedLine],
     /// To the other edges, and to the operator.
     pub(crate) peers: Peers<'x>,

@@ -1,5 +1,5 @@
-//! What the threads of an edge need: what each of them enters or sends over, what they share, and
-//! room for them and for what they give back. All of it is made before the first thread starts.
+//! Prepares the threads of an edge: the link of each thread, the shared data, and room for the
+//! threads and their results. It allocates everything before the first thread starts.
 ghost use Rattle.std.specs.Prelude.{◌≡◌, ◌+◌, ◌<◌, ◌≤◌, ◌∷◌, [], ◌++◌, reverse, vec_len, vec_capacity, IfOk};
 ghost use Rattle.ev_peers.specs.Inner.EdgeThreads.{HasRoom};
 ghost use Rattle.ev_peers.specs.Inner.Plan.{vni_at, port_tasks, tasks_of, outputs_back, outputs_of};
@@ -17,10 +17,10 @@ use std::sync::atomic::AtomicBool;
 use std::sync::ledger::Ledger;
 use std::thread::JoinHandle;
 
-/// What a thread that enters events gives back.
+/// The result of a thread that enters events.
 pub(crate) type Entered<L> = (Pass<L>, Ended);
 
-/// What a worker enters.
+/// The events that a worker enters.
 #[derive(Drop)]
 pub(crate) enum Task<I: Drop> {
     /// The frames that come over this link at the port with this number, of this network.
@@ -29,50 +29,51 @@ pub(crate) enum Task<I: Drop> {
     Tunnel(I),
     /// The ticks of this clock.
     Clock(I),
-    /// What the other edges send.
+    /// The records of the other edges.
     Peer,
 }
 
-/// What the threads of an edge share.
+/// The data that the threads of an edge share.
 #[derive(Drop)]
 pub(crate) struct Shared {
-    /// What is sent over the tunnel's link, and behind it what is over those of the ports, port 1
+    /// The line of frames to the tunnel's link, then the lines to the links of the ports, port 1
     /// first.
     pub(crate) lines: Vec<SharedLine>,
-    /// Whether there was no thread, for each task.
+    /// For each task, whether it got no thread.
     pub(crate) no_entering: Vec<AtomicBool>,
-    /// Whether there was no thread, for each that sends.
+    /// For each link that is sent over, whether it got no thread.
     pub(crate) no_sending: Vec<AtomicBool>,
-    /// Whether there was no thread for what other edges send.
+    /// Whether the records of other edges got no thread.
     pub(crate) no_peer: AtomicBool,
     /// Whether a call of the book was refused memory.
     pub(crate) out_of_memory: AtomicBool,
 }
 
-/// What there is of the threads that enter events.
+/// The threads that enter events.
 #[derive(Drop)]
 pub(crate) struct Entering<L: Ledger> {
-    /// Those that run.
+    /// The threads that run.
     pub(crate) running: Vec<JoinHandle<Entered<L>>>,
-    /// The passes that came back.
+    /// The passes that they returned.
     pub(crate) passes: Vec<Pass<L>>,
 }
 
-/// What the threads of an edge begin and end with, so that this needs no memory.
+/// The arguments and the results of an edge's threads, with room for all of them, so that
+/// starting and joining the threads allocates nothing.
 #[derive(Drop)]
 pub(crate) struct EdgeThreads<L: Ledger, I: Drop, O: Drop> {
-    /// What is entered from links: of the clock, the tunnel, and the ports from
-    /// the last to the first.
+    /// The tasks of the clock, of the tunnel, and of the ports from the last
+    /// to the first.
     pub(crate) tasks: Vec<Task<I>>,
-    /// The links that are sent over: that of the tunnel, and those of the ports, port 1 first.
+    /// The links to send over: the tunnel's, then those of the ports, port 1 first.
     pub(crate) outputs: Vec<O>,
-    /// Room for the threads that enter, and for the passes that come back.
+    /// Room for the threads that enter events, and for the passes that they return.
     pub(crate) entering: Entering<L>,
     /// Room for the threads that send.
     pub(crate) sending: Vec<JoinHandle<Sent>>,
 }
 
-/// So many lines on which nothing waits.
+/// Returns `count` empty lines.
 fn empty_lines(alloc: Global, count: usize) -> Result<Vec<SharedLine>, AllocError>
     ensures { IfOk result (λ lines. vec_len lines ≡ count) }
 {
@@ -84,7 +85,7 @@ fn empty_lines(alloc: Global, count: usize) -> Result<Vec<SharedLine>, AllocErro
     Ok(lines)
 }
 
-/// So many words that say no.
+/// Returns `count` flags that are `false`.
 fn no_words(alloc: Global, count: usize) -> Result<Vec<AtomicBool>, AllocError>
     ensures { IfOk result (λ words. vec_len words ≡ count) }
 {
@@ -106,7 +107,7 @@ fn vni_of(config: &EdgeConfig, place: usize) -> Vni
     }
 }
 
-/// Returns what is entered over the link of the port at a place.
+/// Returns the task of the port at a place, with its link.
 fn task_of<I: Drop>(config: &EdgeConfig, place: usize, input: I) -> Task<I>
     requires { place < 253 }
     ensures { result ≡ Port (place + 1) (vni_at config.now.ports.items place) input }
@@ -114,7 +115,7 @@ fn task_of<I: Drop>(config: &EdgeConfig, place: usize, input: I) -> Task<I>
     Task::Port(place as u8 + 1, vni_of(config, place), input)
 }
 
-/// Puts the tasks of these links behind others, and what is sent over them, the last port first.
+/// Appends the tasks of these links, and their outputs, the last port first.
 fn plan_ports<I: Drop, O: Drop>(
     config: &EdgeConfig,
     links: Vec<Link<I, O>>,
@@ -142,7 +143,7 @@ fn plan_ports<I: Drop, O: Drop>(
     (tasks, outputs)
 }
 
-/// Returns what is sent over: the tunnel's link, and behind it the others from the last one on.
+/// Returns the tunnel's link, followed by the others from the last one on.
 fn with_tunnel<O: Drop>(outputs: Vec<O>, tunnel: O) -> Vec<O>
     requires { vec_len outputs < vec_capacity outputs }
     ensures items { result.items ≡ tunnel ∷ reverse outputs.items }
@@ -208,7 +209,7 @@ fn plan_links<I: Drop, O: Drop>(
     Ok((tasks, with_tunnel(outputs, output)))
 }
 
-/// What the threads of an edge with these links and ports need.
+/// Prepares the threads of an edge with these links and ports.
 pub(crate) fn planned<L: Ledger, I: Drop, O: Drop>(
     alloc: Global,
     links: EdgeLinks<I, O>,

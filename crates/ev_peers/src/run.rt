@@ -18,8 +18,8 @@ use std::sync::ledger::Blank;
 use std::thread;
 use std::thread::{JoinHandle, Scope, Threads};
 
-/// What an edge is opened with, and its links, of 64 ports at most. It is seen as that and as how
-/// many ports those are.
+/// The configuration of an edge, and its links, for at most 64 ports. Its model is the
+/// configuration and the number of ports.
 #[derive(Drop)]
 pub struct Setup<I: Drop, O: Drop> {
     config: EdgeConfig,
@@ -43,7 +43,7 @@ impl<I: Drop, O: Drop> Model for Setup<I, O> {
 }
 
 impl<I: Drop, O: Drop> Setup<I, O> {
-    /// An edge with these links.
+    /// Returns an edge with these links.
     pub fn new(config: EdgeConfig, links: EdgeLinks<I, O>) -> Self
         requires config { IsConfig config }
         requires few { vec_len links.ports ≤ 64 }
@@ -52,16 +52,16 @@ impl<I: Drop, O: Drop> Setup<I, O> {
         Setup { config, links }
     }
 
-    /// How many workers send updates of it: one a port, and three.
+    /// Returns how many workers send updates of it: one per port, and three.
     fn workers(&self) -> u32 {
         self.links.ports.len() as u32 + 3
     }
 }
 
-/// What a thread of an edge gives back.
+/// The result of an edge's thread.
 type Ran = Result<Outcome, AllocError>;
 
-/// How many workers these edges have, which send each other updates: one a port, and three.
+/// Returns how many workers of these edges send each other updates: one per port, and three.
 fn workers_of<I: Drop, O: Drop>(setups: &[Setup<I, O>]) -> u32 {
     let mut workers = 0u32;
     for setup in setups {
@@ -70,23 +70,23 @@ fn workers_of<I: Drop, O: Drop>(setups: &[Setup<I, O>]) -> u32 {
     workers
 }
 
-/// What edges run over beside each other.
+/// The surroundings that edges share.
 #[derive(Drop)]
 struct Common<'x, G, R> {
-    /// What may wait, and starts threads.
+    /// Waits, and starts threads.
     rt: &'x R,
-    /// What gives memory.
+    /// The allocator.
     alloc: Global,
-    /// Is told of each call of a book.
+    /// Called at three points of each call of a book.
     gate: &'x G,
-    /// What waits for each edge.
+    /// A mailbox for each edge.
     mailboxes: &'x Mailboxes,
-    /// What the operator is told.
+    /// The boards that the operator reads.
     boards: &'x Boards,
 }
 
 impl<'x, G, R> Common<'x, G, R> {
-    /// What the edge with this number runs over.
+    /// Returns the surroundings of the edge with this number.
     fn host(&self, number: usize) -> Host<'x, G, R>
         ensures number { result.number ≡ number }
         ensures rt { result.rt.now ≡ self.now.rt.now }
@@ -102,7 +102,7 @@ impl<'x, G, R> Common<'x, G, R> {
     }
 }
 
-/// One edge, under a ledger of its own.
+/// Runs one edge, under a ledger of its own.
 fn run_one<
     I: LinkIn + Drop + Send,
     O: LinkOut + Drop + Send,
@@ -171,7 +171,7 @@ fn join_edges<R: Threads>(
     ended
 }
 
-/// Edges that are ready to run. They are seen as how many edges those are.
+/// Edges that are ready to run. Its model is their number.
 #[derive(Drop)]
 struct Ready<I: Drop, O: Drop> {
     setups: Vec<Setup<I, O>>,
@@ -191,12 +191,12 @@ impl<I: Drop, O: Drop> Model for Ready<I, O> {
         (vec_capacity s.running) (vec_len s.ended) (vec_capacity s.ended) };
 }
 
-/// What edges that are to run beside each other begin with. It is seen as how many edges those are.
+/// Edges that are about to run beside each other. Its model is their number.
 #[derive(Drop)]
 pub struct Start<I: Drop, O: Drop> {
     ready: Ready<I, O>,
     mailboxes: Mailboxes,
-    /// What gives the edges memory.
+    /// The allocator of the edges.
     alloc: Global,
 }
 
@@ -209,11 +209,11 @@ impl<I: Drop, O: Drop> Model for Start<I, O> {
 }
 
 impl<I: Drop, O: Drop> Start<I, O> {
-    /// What these edges begin with. What each of them opens besides takes memory from here, too.
+    /// Prepares these edges. Each edge also allocates its book from here, when it begins.
     ///
     /// # Errors
     ///
-    /// Where memory is refused.
+    /// `AllocError` if memory is refused.
     pub fn new(alloc: Global, setups: Vec<Setup<I, O>>) -> Result<Self, AllocError>
         ensures { IfOk result (λ start. start ≡ vec_len setups) }
     {
@@ -288,10 +288,10 @@ fn run_ready<
 }
 
 /// Runs edges beside each other, each on a thread with its workers, until `until` has returned and
-/// the links have ended; it is `until` that makes them end, and it can ask the edges meanwhile. The
-/// outcomes are in the edges' order, with an error where an edge was refused memory or a thread
-/// before it began. What the operator is to know meanwhile waits on these boards, which get no more
-/// once it returns.
+/// the links have ended. `until` makes the links end, and can query the edges meanwhile. The
+/// outcomes are in the edges' order, with an error if an edge was refused memory or a thread
+/// before it began. Alerts for the operator go to these boards, which get no more once it
+/// returns.
 pub fn run_all<
     I: LinkIn + Drop + Send,
     O: LinkOut + Drop + Send,

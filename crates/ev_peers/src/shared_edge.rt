@@ -1,4 +1,5 @@
-//! An edge as its workers share it: its book under a lock, and what tells of each call of it.
+//! An edge as its workers share it: its book under a lock, and the gate that is called at each call
+//! of the book.
 ghost use Rattle.std.specs.Prelude.{◌≡◌};
 ghost use Rattle.ev_book.specs.Entering.{answered, CallsBook};
 ghost use Rattle.ev_notices.specs.Alarm.{alert_of};
@@ -30,11 +31,11 @@ pub enum Ended {
 /// An edge as its workers share it.
 #[derive(Drop)]
 pub struct SharedEdge<'x, L: Ledger, G, R> {
-    /// What may wait for the lock.
+    /// Waits for the lock.
     pub rt: &'x R,
     /// The edge's book.
     pub book: &'x Mutex<Book<L>>,
-    /// What is told of each call of the book.
+    /// Called at three points of each call of the book.
     pub gate: &'x G,
     /// The edge's number for the gate.
     pub edge: usize,
@@ -45,7 +46,7 @@ pub struct SharedEdge<'x, L: Ledger, G, R> {
 }
 
 impl<L: Ledger, G: Gate, R: Wait> SharedEdge<'_, L, G, R> {
-    /// One call of the book, with all three points. The lock is held for the call alone.
+    /// Calls the book once, with all three points. Only the call itself holds the lock.
     pub(crate) fn enter(
         &self,
         pass: &mut Pass<L>,
@@ -67,7 +68,7 @@ impl<L: Ledger, G: Gate, R: Wait> SharedEdge<'_, L, G, R> {
         answer
     }
 
-    /// Asks for the edge's next announcement. There is none where the call is refused, too.
+    /// Returns the edge's next announcement, or `None` if there is none or the call is refused.
     pub(crate) fn ask(&self, pass: &mut Pass<L>, reply: &mut Reply) -> Option<Update>
         ensures { Asked pass.old result pass.new }
     {
@@ -86,8 +87,8 @@ fn is_no_memory(alert: Option<Alert>) -> bool
     }
 }
 
-/// Returns `true` if an answer says that memory was refused: for the event, or for a station that
-/// isn't learnt.
+/// Returns `true` if memory was refused for the event, or for a station, which was then not
+/// learnt.
 fn lacks_memory(answer: &Result<(), BookRefusal>, reply: &Reply) -> bool
     ensures { result ≡ is_no_memory (alert_of (answered answer.now reply.now)) }
 {

@@ -4,7 +4,7 @@ use Rattle.ether_wire.specs.Ends.{End}
 use Rattle.ev_report.specs.Ends.{Devices, has_failed, Holds}
 use Rattle.ev_report.specs.Originators.{Text, originators_of_text, list_text}
 
--- A text on the arguments or on what they name was written to the notes, or a call of them failed.
+-- A text about the arguments, or about a file that they name, was written to the notes, or a call of them failed.
 pub record IsTold (text : Text) (before after : End) (status : ℕ) : Type 0 where
   pub noted : Holds before after text
   pub status_is : status ≡ (if has_failed before after then 4 else 2)

@@ -1,12 +1,12 @@
 //! The statuses of the programs.
 
-/// All was done.
+/// Everything succeeded.
 pub const DONE: u8 = 0;
 
-/// The stream shows a fault, or ended within a record.
+/// The stream has a fault, or ended within a record.
 pub const BROKEN: u8 = 1;
 
-/// The arguments are invalid, or what they name has a fault.
+/// The arguments are invalid, or a file that they name has a fault.
 pub const USAGE: u8 = 2;
 
 /// Memory was refused.

@@ -48,11 +48,11 @@ fn run_words<R: In, W: Out, N: Out>(
 }
 
 /// Runs the program: reports the records of its input, or prints the fault of its arguments on the
-/// notes. It takes the devices and returns them. If reading or writing failed, the notes say so at
-/// the end, unless they failed themselves.
+/// notes. It takes the devices and returns them. If reading or writing failed, the last line of the
+/// notes reports it, unless the notes failed themselves.
 ///
-/// The status is the greatest that applies: 4 where a device failed, 3 where memory was refused, 2
-/// where the words aren't one list of originators, 1 where the input is broken, else 0.
+/// The status is the greatest that applies: 4 if a device failed, 3 if memory was refused, 2 if
+/// the words aren't one list of originators, 1 if the input is broken, else 0.
 pub(crate) fn run<R: In, W: Out, N: Out>(
     alloc: Global,
     line: &Line,

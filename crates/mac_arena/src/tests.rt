@@ -51,7 +51,7 @@ impl Run {
         None
     }
 
-    // Does nothing if there is no such port, or if the second is below an earlier one.
+    // Does nothing if the port doesn't exist, or if the second is below an earlier one.
     fn learn(&mut self, key: Station, port: u8, second: u64) -> Option<Learnt> {
         if port == 0 || port > PORTS || second < self.now {
             return None;

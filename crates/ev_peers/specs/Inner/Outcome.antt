@@ -1,4 +1,4 @@
--- What the workers of an edge ended with.
+-- The faults of the workers of an edge.
 use Rattle.std.specs.Prelude.{ℕ, ◌+◌, ◌-◌, ◌^◌, min, ◌||◌, Bool, true, false}
 use Rattle.ev_peers.specs.declared.shared_edge.Ended.{Ended}
 use Rattle.ev_peers.specs.declared.shared_edge.Ended.TheVariants.{End, Device as Failed, NoMemory}
@@ -7,7 +7,7 @@ use Rattle.ev_peers.specs.declared.outcome.Faults.{Faults}
 abbrev pub faults_of : ℕ → Bool → Bool → Faults
 faults_of lost device memory = record { lost = lost; device = device; memory = memory }
 
--- each worker ended as it should
+-- no worker had a fault
 abbrev pub no_faults : Faults
 no_faults = faults_of 0 false false
 
@@ -29,7 +29,7 @@ is_memory End = false
 is_memory Failed = false
 is_memory NoMemory = true
 
--- one more worker ended so
+-- one more worker with this end
 abbrev pub with_end : Ended → Faults → Faults
 with_end ended f = faults_of f.lost (f.device || is_device ended) (f.memory || is_memory ended)
 
@@ -37,7 +37,7 @@ with_end ended f = faults_of f.lost (f.device || is_device ended) (f.memory || i
 abbrev pub with_memory : Bool → Faults → Faults
 with_memory refused f = faults_of f.lost f.device (f.memory || refused)
 
--- one more worker that sends lost so many frames, and ended so
+-- one more worker that sends, with the number of frames that it lost and with its end
 abbrev pub with_sent : ℕ × Ended → Faults → Faults
 with_sent sent f =
     faults_of (both_lost f.lost sent.0) (f.device || is_device sent.1) (f.memory || is_memory sent.1)

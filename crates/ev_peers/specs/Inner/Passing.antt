@@ -1,4 +1,4 @@
--- What an edge notes of the answers of its book.
+-- The notes of an edge about its book's answers.
 use Rattle.std.specs.Prelude.{Bool, true, false, Option, Some, None}
 use Rattle.ev_mobility.specs.declared.alert.Alert.{Alert}
 use Rattle.ev_mobility.specs.declared.alert.Alert.TheVariants.{NoMemory}

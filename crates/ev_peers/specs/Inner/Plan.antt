@@ -1,11 +1,11 @@
--- What the threads of an edge begin with: what each enters, and over which link each sends.
+-- The plan for the threads of an edge: the task of each, and the link over which each sends.
 use Rattle.std.specs.Prelude.{ℕ, ◌+◌, List, [], ◌∷◌, length, map, reverse, slice_get, Option, Some, None}
 use Rattle.ev_edge.specs.declared.config.PortConfig.{PortConfig}
 use Rattle.ev_peers.specs.declared.edge_links.Link.{Link}
 use Rattle.ev_peers.specs.declared.plan.Task.{Task}
 use Rattle.ev_peers.specs.declared.plan.Task.TheVariants.{Port, Tunnel, Clock}
 
--- the network of a port, or network 0 where there is no such port
+-- the network of a port, or network 0 if the port doesn't exist
 abbrev pub vni_in : Option PortConfig → ℕ
 vni_in None = 0
 vni_in (Some port) = port.vni
@@ -20,14 +20,14 @@ port_tasks ports [] = []
 port_tasks ports (link ∷ before) =
     Port (length before + 1) (vni_at ports (length before)) link.input ∷ port_tasks ports before
 
--- that of the clock, that of the tunnel, and those of the ports, the last port first
+-- the tasks of the clock, of the tunnel, and of the ports, the last port first
 abbrev pub tasks_of : {I O : Type 0} → List PortConfig → I → I → List (Link I O) → List (Task I)
 tasks_of ports clock tunnel links = Clock clock ∷ Tunnel tunnel ∷ port_tasks ports (reverse links)
 
--- the links that are sent over at ports, the last port first
+-- the outputs of ports, the last port first
 abbrev pub outputs_back : {I O : Type 0} → List (Link I O) → List O
 outputs_back links = map (λ link. link.output) (reverse links)
 
--- what is sent over: the tunnel's link, and behind it those of the ports, port 1 first
+-- all outputs: the tunnel's, then those of the ports, port 1 first
 abbrev pub outputs_of : {I O : Type 0} → O → List (Link I O) → List O
 outputs_of tunnel links = tunnel ∷ map (λ link. link.output) links

@@ -1,4 +1,4 @@
--- What a migration makes of updates of versions 1 and 2, in which a register was an originator's network and MAC
+-- The migrated updates of versions 1 and 2, in which a register was an originator's network and MAC
 use Rattle.std.specs.Prelude.{if◌then◌else◌, List, [], ◌∷◌}
 use Rattle.route_wire.specs.Fields.{Fields}
 use Rattle.ev_report.specs.Migrated.{is_same_old, newer_old}

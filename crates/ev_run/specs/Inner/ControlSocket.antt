@@ -1,4 +1,4 @@
--- What is done with what is found at the path of a control socket, and who can use the socket's file.
+-- The decision on a file found at the path of a control socket, and the mode of the socket's file.
 use Rattle.std.specs.Prelude.{◌≡◌, ℕ, Result, Err, IsOk}
 use Rattle.ev_run.specs.declared.control_socket.ListenError.{ListenError}
 use Rattle.ev_run.specs.declared.control_socket.ListenError.TheVariants as listen_error
@@ -15,12 +15,12 @@ what_to_do Served = Refuse listen_error.InUse
 what_to_do Foreign = Refuse listen_error.NotSocket
 what_to_do (Hidden why) = Refuse why
 
--- Nothing stands in the way, or this reason; whether a file can be removed is the system's.
+-- The path is free, or this is the reason against it. The system decides whether a file can be removed.
 abbrev pub Follows : Decision → Result (Unit {0}) ListenError → Type 0
 Follows Bind result = IsOk result
 Follows Replace result = Unit {0}
 Follows (Refuse why) result = result ≡ Err why
 
--- 0600: its user reads and writes it, and nobody else
+-- 0600: only its user reads and writes it
 abbrev pub socket_mode : ℕ
 socket_mode = 384

@@ -1,4 +1,4 @@
--- Where a frame goes (RFC 7432, section 11, and RFC 8365, section 5, for flooding by ingress replication and for split
+-- The destinations of a frame (RFC 7432, section 11; ingress replication and split horizon: RFC 8365, section 5)
 use Rattle.ether_wire.specs.Ports.{IsPort}
 use Rattle.ev_tunnel.specs.declared.place.Place.{Place}
 use Rattle.ev_tunnel.specs.declared.place.Place.TheVariants.{Everywhere, AtPort, AtEdge}
