@@ -47,6 +47,34 @@ CHANGING = re.compile(
 )
 
 
+# Programs of the project and of the kit: a code span that begins with one and has an argument is a command.
+PROGRAM = re.compile(r"(evpnd[a-z_-]*(\.py)?|(tools|tests|examples)/\S+|rt|bash|cat|socat) ")
+# The commands in sentences that no block contains, each with the test that runs it: a file, and a pattern in that file.
+IN_SENTENCES = {
+    "bash .ci/run": (".ci/run", "tools/gate/make.py"),
+    "cat DIRECTORY/*.records | evpnd report ..": ("tests/tools/test_audit_views.py", '"report", "--originators"'),
+    "evpnd version": ("tests/statuses.txt", "\\| version \\| 0 \\|"),
+    "evpnd-audit fabric LIST --run 'ssh {leaf}'": ("tests/tools/test_audit_routed.py", r'"fabric", "a,b", "--run", f"\{path\} \{\{leaf'),
+    "evpnd-audit plot DIRECTORY 5001 MAC > owner.svg": ("tests/tools/test_audit_views.py", r'"plot", place, "5001", SHARED'),
+    "evpnd-audit record DIRECTORY": ("tests/tools/test_audit_views.py", r'run\("record", place'),
+    "evpnd-bgp --own LIST --withdraw": ("tests/outside/bgp_fabric.py", r'gateway\("--withdraw"\)'),
+    "evpnd_records.py frr --vni 5001 --before old.json new.json": ("tests/tools/test_records.py", r'"frr", "--vni", "5001", "--before"'),
+    "evpndctl --json 1 counts": ("tests/program/test_serve.py", r'\["1", "counts", "--json"\]'),
+    "evpndctl 1 report --network 5001 --mac 02:00:00:00:00:0b": ("tests/tools/test_evpndctl.py", r'"--network", "5001", "report", "--mac"'),
+    "rt run": ("tools/gate/proofs.py", r'calls\.check\(folder, "run"'),
+    "rt run -- version": ("tools/gate/proofs.py", r'calls\.check\(folder, "run"'),
+    'socat EXEC:"evpndctl records" EXEC:"ssh other evpndctl records"': ("tests/outside/served_fabric.py", "EXEC:.* records"),
+    "tests/outside/fabric.sh EVPND failures": ("tests/outside/fabric.sh", "failures"),
+    "tests/outside/package.sh --monitoring": ("tests/outside/package.sh", "monitoring"),
+    "tests/outside/package.sh ROOT": ("tests/outside/package.sh", "chroot"),
+    "tests/outside/tap_relay.py NETNS DEVICE HERE THERE": ("tests/outside/lab.sh", r"tap_relay\.py"),
+    "tests/tools/many_vnis.py FOLDER 25 1000": ("tests/tools/test_pages.py", r'"many_vnis\.py"'),
+    "tools/evpndctl records": ("tests/program/test_joined.py", r'\*TOOL, path, "records"'),
+    "tools/evpndctl watch": ("tests/program/test_serve.py", '"watch", "0.1"'),
+    "tools/package.sh package --unproved": ("tests/outside/package.sh", r'tools/package\.sh" "\$work/made" "\$@"'),
+}
+
+
 class Stage(NamedTuple):
     """Sections of a page whose commands tests/outside/pages.sh runs in one lab."""
 
@@ -130,6 +158,17 @@ def blocks_of(page: str) -> List[Block]:
             elif line.startswith("#"):
                 section = line.lstrip("# ")
     return blocks
+
+
+def commands_in_sentences(page: str) -> Iterator[str]:
+    """Yields the commands of a page that stand outside its blocks."""
+    in_block = False
+    with open(os.path.join(TOP, page), encoding="utf-8") as stream:
+        for line in stream.read().split("\n"):
+            if FENCE.match(line):
+                in_block = not in_block
+            elif not in_block:
+                yield from (it for it in re.findall(r"`([^`]+)`", line) if PROGRAM.match(it))
 
 
 def blocks_in(stage: Stage) -> List[Block]:

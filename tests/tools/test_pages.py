@@ -18,7 +18,8 @@ from typing import Dict, List
 
 TOP = os.path.dirname(os.path.dirname(os.path.dirname(os.path.abspath(__file__))))
 sys.path.insert(0, os.path.join(TOP, "tests"))
-from pages import COMPARED, PAGES, STAGES, Block, blocks_in, blocks_of, is_among, missing, with_commands  # noqa: E402
+from pages import COMPARED, IN_SENTENCES, PAGES, STAGES, Block  # noqa: E402
+from pages import blocks_in, blocks_of, commands_in_sentences, is_among, missing, with_commands  # noqa: E402
 
 PATIENCE = 1200  # seconds; the first builds of both programs are included
 KNOWN = r"sh( status=[0-9]+| debian| (root|frr|proof)( status=[0-9]+| brief| meanwhile| on=[0-9.]+| (before|since)=[0-9]+)*)?"
@@ -162,6 +163,31 @@ class Texts(unittest.TestCase):
                 self.assertIn("\n".join(block.lines), text, block.name)
             for line in block.lines:
                 self.assertIn(line.strip() if path else line.partition("=")[0], text, block.name)
+
+
+class Sentences(unittest.TestCase):
+    """The commands in sentences: a block of a page contains each, or a test runs it."""
+
+    def test_each_runs_somewhere(self) -> None:
+        """A final word in capitals is a placeholder, so a block may have any word there."""
+        pages = [page for page in PAGES if page != "CONTRIBUTING.md"]
+        blocks = "\n".join(line for page in pages for block in blocks_of(page) if block.kind == "sh" for line in block.lines)
+        commands = {command for page in pages for command in commands_in_sentences(page)}
+        elsewhere = {it for it in commands if re.sub(r" [A-Z]+$", " ", it) not in blocks}
+        self.assertEqual(elsewhere, set(IN_SENTENCES))
+
+    def test_the_tests_exist(self) -> None:
+        for command, (path, pattern) in IN_SENTENCES.items():
+            self.assertRegex(text_of(path), pattern, command)
+
+    def test_view_of_a_large_leaf(self) -> None:
+        """The audit reads the view that the page names, here with 2 networks of 1,000 stations: one of each is wrong."""
+        with tempfile.TemporaryDirectory() as folder:
+            words = [os.path.join(TOP, "tests", "tools", "many_vnis.py"), folder, "2", "1000"]
+            subprocess.run([sys.executable, *words], check=True)
+            audit = [sys.executable, os.path.join(TOP, "tools", "evpnd_audit.py"), folder]
+            done = subprocess.run(audit, capture_output=True, text=True, check=False)
+            self.assertEqual((done.returncode, done.stdout.count(" wrong,")), (1, 2), done.stdout + done.stderr)
 
 
 class Pages(unittest.TestCase):
