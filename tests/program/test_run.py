@@ -483,7 +483,7 @@ class Beginning(unittest.TestCase):
         for it in cables:
             it.here.close()
 
-    def limited(self, threads: int, subcommand: str, text: str) -> subprocess.Popen:
+    def limited(self, threads: int, words: List[str], text: str) -> subprocess.Popen:
         """The program as a user of its own, whom the system allows this many threads. Only root can start it."""
         user = 1_000_000 + os.getpid() % 1_000_000
         folder = tempfile.TemporaryDirectory()
@@ -495,7 +495,7 @@ class Beginning(unittest.TestCase):
         shutil.copy(PROGRAM, program)
         os.chmod(program, 0o755)
         with open(config, "w", encoding="utf-8") as it:
-            it.write(f'control = "{folder.name}/socket/it"\n{text}' if subcommand == "serve" else text)
+            it.write(f'control = "{folder.name}/socket/it"\n{text}' if words[-1].endswith("serve") else text)
 
         def become_user() -> None:
             resource.setrlimit(resource.RLIMIT_NPROC, (threads, threads))
@@ -504,7 +504,7 @@ class Beginning(unittest.TestCase):
             os.setuid(user)
 
         pipes = {"stdin": subprocess.PIPE, "stdout": subprocess.PIPE, "stderr": subprocess.PIPE, "text": True}
-        return subprocess.Popen([program, subcommand, "--config", config], preexec_fn=become_user, **pipes)
+        return subprocess.Popen([program, *words, "--config", config], preexec_fn=become_user, **pipes)
 
     @unittest.skipIf(os.getuid(), "only root can give a user a limit of its own")
     def test_refused_thread_is_told_at_once(self) -> None:
@@ -513,7 +513,7 @@ class Beginning(unittest.TestCase):
         text = edge(ONE, 1, one) + edge(TWO, 2, two)
         for subcommand, needed in (("run", 16), ("serve", 17)):
             for allowed in (1, 2, needed // 2, needed - 1):
-                with self.subTest(subcommand=subcommand, allowed=allowed), self.limited(allowed, subcommand, text) as program:
+                with self.subTest(subcommand=subcommand, allowed=allowed), self.limited(allowed, [subcommand], text) as program:
                     try:
                         self.assertEqual(program.wait(5), 3)
                         self.assertEqual(
@@ -522,9 +522,14 @@ class Beginning(unittest.TestCase):
                         )
                     finally:
                         program.kill()
+                with self.subTest(check=subcommand, allowed=allowed), self.limited(allowed, ["check", f"--{subcommand}"], text) as program:
+                    self.assertEqual(program.communicate(timeout=20), ("", f"{needed} threads, allowed are {allowed}\n"))
+                    self.assertEqual(program.returncode, 2)
+            with self.subTest(check=subcommand), self.limited(needed, ["check", f"--{subcommand}"], text) as program:
+                self.assertEqual((program.communicate(timeout=20)[1], program.returncode), ("", 0))
             # exactly as many as it needs: it runs, ten times, since the system counts a thread for a moment after its end
             for turn in range(10):
-                with self.subTest(subcommand=subcommand, turn=turn), self.limited(needed, subcommand, text) as program:
+                with self.subTest(subcommand=subcommand, turn=turn), self.limited(needed, [subcommand], text) as program:
                     time.sleep(0.3)
                     self.assertEqual((program.communicate(timeout=20)[1], program.returncode), ("", 0))
         one.here.close()

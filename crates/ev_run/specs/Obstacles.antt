@@ -13,12 +13,13 @@ use Rattle.ev_run.specs.declared.obstacles.End.{End}
 use Rattle.ev_run.specs.declared.obstacles.End.TheVariants.{Local, Remote}
 use Rattle.ev_run.specs.declared.obstacles.Cause.{Cause}
 use Rattle.ev_run.specs.declared.obstacles.Cause.TheVariants.{NoPort, NoHost, Tunnel, Taken}
+use Rattle.ev_run.specs.declared.obstacles.Limits.{Limits}
 use Rattle.ev_run.specs.declared.obstacles.Seat.{Seat}
 use Rattle.ev_run.specs.declared.obstacles.Obstacle.{Obstacle}
-use Rattle.ev_run.specs.declared.obstacles.Obstacle.TheVariants.{Unheard, Useless, TooMany}
+use Rattle.ev_run.specs.declared.obstacles.Obstacle.TheVariants.{Unheard, Useless, TooMany, TooManyThreads}
 use Rattle.ev_run.specs.RunEdges.{endpoint_text}
 use Rattle.ev_view.specs.EdgeViews.{each_from}
-use Rattle.ev_run.specs.Needs.{sockets_of}
+use Rattle.ev_run.specs.Needs.{sockets_of, threads_of}
 use Rattle.ev_run.specs.Sockets.{tunnel_of}
 
 -- ---- sockets that clash
@@ -99,11 +100,20 @@ abbrev pub count_obstacles : ℕ → Option ℕ → List Obstacle
 count_obstacles sockets None = []
 count_obstacles sockets (Some most) = if nat_lt (most - 3) sockets then TooMany sockets most ∷ [] else []
 
+-- a run begins with more threads than are allowed, if that limit is known
+abbrev pub thread_obstacles : ℕ → Option ℕ → List Obstacle
+thread_obstacles threads None = []
+thread_obstacles threads (Some most) = if nat_lt most threads then TooManyThreads threads most ∷ [] else []
+
+-- the limits that are too low for a run
+abbrev pub limit_obstacles : List EdgeConfig → Bool → Limits → List Obstacle
+limit_obstacles edges is_asked limits = count_obstacles (sockets_of is_asked edges) limits.descriptors
+    ++ thread_obstacles (threads_of is_asked edges) limits.threads
+
 -- the obstacles of a run, which clients may query if `is_asked`
-abbrev pub obstacles_of : List EdgeConfig → List (ArrayVec PortEndpoints) → Bool → Option ℕ → List Obstacle
-obstacles_of edges all is_asked most =
-    (each_from edge_obstacles 1 edges ++ all_ports_obstacles edges all)
-    ++ count_obstacles (sockets_of is_asked edges) most
+abbrev pub obstacles_of : List EdgeConfig → List (ArrayVec PortEndpoints) → Bool → Limits → List Obstacle
+obstacles_of edges all is_asked limits =
+    (each_from edge_obstacles 1 edges ++ all_ports_obstacles edges all) ++ limit_obstacles edges is_asked limits
 
 -- ---- the text
 
@@ -132,11 +142,15 @@ end_text end at = lead_text end ++ endpoint_text at
 abbrev pub most_text : ℕ → Text
 most_text most = codes " sockets and 3 standard streams, allowed are " ++ decimal most ++ codes " descriptors\n"
 
+abbrev pub most_threads_text : ℕ → Text
+most_threads_text most = codes " threads, allowed are " ++ decimal most ++ codes "\n"
+
 abbrev pub obstacle_text : Obstacle → Text
 obstacle_text (Unheard edge) = codes "edge " ++ decimal edge
     ++ codes ": address is 0.0.0.0, from which no edge is heard\n"
 obstacle_text (Useless seat end at cause) = seat_text seat ++ end_text end at ++ cause_text cause
 obstacle_text (TooMany sockets most) = decimal sockets ++ most_text most
+obstacle_text (TooManyThreads threads most) = decimal threads ++ most_threads_text most
 
 -- the text is independent of the number
 abbrev pub told_of : ℕ → Obstacle → Text

@@ -2,10 +2,10 @@
 //! to which nothing can be sent.
 ghost use Rattle.std.specs.Prelude.{◌≡◌, ◌==◌, ◌||◌, ◌++◌, OnOk, IfOk};
 ghost use Rattle.std.specs.List.{list_any};
-ghost use Rattle.ev_run.specs.Obstacles.{clashes, is_tunnel, is_local, local_cause, remote_cause, useless, local_obstacles, remote_obstacles, port_obstacles, ports_obstacles, all_ports_obstacles, edge_obstacles, count_obstacles, obstacles_of};
+ghost use Rattle.ev_run.specs.Obstacles.{clashes, is_tunnel, is_local, local_cause, remote_cause, useless, local_obstacles, remote_obstacles, port_obstacles, ports_obstacles, all_ports_obstacles, edge_obstacles, count_obstacles, thread_obstacles, limit_obstacles, obstacles_of};
 ghost use Rattle.ev_view.specs.EdgeViews.{each_from};
 
-use crate::needs::sockets_of;
+use crate::needs::{sockets_of, threads_of};
 use crate::sockets::tunnel_of;
 use arrayvec::ArrayVec;
 use ether_wire::Addr;
@@ -54,6 +54,18 @@ pub enum Obstacle {
     /// The first number is that of the sockets. The second is that of the descriptors that are
     /// allowed, which are too few.
     TooMany(u64, u64),
+    /// The first number is that of the threads with which a run begins. The second is that of the
+    /// threads that are allowed, which are too few.
+    TooManyThreads(u64, u64),
+}
+
+/// The limits of the process, as far as they are known.
+#[derive(Clone, Copy, Debug, PartialEq, Eq)]
+pub struct Limits {
+    /// The number of descriptors that the process may have.
+    pub descriptors: Option<u64>,
+    /// The number of threads that all processes of its user may have together.
+    pub threads: Option<u64>,
 }
 
 /// The ends with which the ends of a port are compared.
@@ -300,8 +312,32 @@ fn add_count(found: &mut Vec<Obstacle>, sockets: u64, most: Option<u64>) -> Resu
     }
 }
 
-/// Returns the parts of a configuration that no run can use, in its order. If `is_asked`, clients
-/// may query the run; `most` is the number of descriptors that are allowed, if it is known.
+/// Adds that a run begins with more threads than are allowed, if that limit is known.
+fn add_threads(found: &mut Vec<Obstacle>, threads: u64, most: Option<u64>) -> Result<(), AllocError>
+    ensures { OnOk result (found.new.items ≡ found.old.items ++ thread_obstacles threads most) }
+{
+    match most {
+        Some(most) if threads > most => Ok(found.push(Obstacle::TooManyThreads(threads, most))?),
+        _ => Ok(()),
+    }
+}
+
+/// Adds the limits that are too low for a run, which clients may query if `is_asked`.
+fn add_limits(
+    found: &mut Vec<Obstacle>,
+    config: &Config,
+    is_asked: bool,
+    limits: Limits,
+) -> Result<(), AllocError>
+    ensures { OnOk result (found.new.items ≡ found.old.items
+        ++ limit_obstacles config.now.edges.items is_asked limits) }
+{
+    add_count(found, sockets_of(config, is_asked), limits.descriptors)?;
+    add_threads(found, threads_of(config, is_asked), limits.threads)
+}
+
+/// Returns the parts of a configuration that no run can use, in its order, and the limits that are
+/// too low for it. If `is_asked`, clients may query the run.
 ///
 /// # Errors
 ///
@@ -310,14 +346,14 @@ pub fn obstacles_of(
     alloc: Global,
     config: &Config,
     is_asked: bool,
-    most: Option<u64>,
+    limits: Limits,
 ) -> Result<Vec<Obstacle>, AllocError>
     ensures { IfOk result (λ found. found.items
-        ≡ obstacles_of config.now.edges.items config.now.links.items is_asked most) }
+        ≡ obstacles_of config.now.edges.items config.now.links.items is_asked limits) }
 {
     let mut found = Vec::new(alloc);
     add_edges(&mut found, config.edges.as_slice())?;
     add_all_ports(&mut found, config.edges.as_slice(), config.links.as_slice())?;
-    add_count(&mut found, sockets_of(config, is_asked), most)?;
+    add_limits(&mut found, config, is_asked, limits)?;
     Ok(found)
 }

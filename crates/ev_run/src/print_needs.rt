@@ -3,7 +3,7 @@
 ghost use Rattle.ether_wire.specs.Ends.{IsOpen, Puts};
 ghost use Rattle.std.specs.Prelude.{◌++◌, [], if◌then◌else◌};
 ghost use Rattle.ev_run.specs.Needs.{threads_text, sockets_text, memory_text, needs_text, clients_text, asked_text};
-ghost use Rattle.ev_run.specs.Obstacles.{lead_text, cause_text, port_text, seat_text, end_text, most_text, obstacle_text, told_of, obstacles_text};
+ghost use Rattle.ev_run.specs.Obstacles.{lead_text, cause_text, port_text, seat_text, end_text, most_text, most_threads_text, obstacle_text, told_of, obstacles_text};
 
 use crate::needs::Needs;
 use crate::obstacles::{Cause, End, Obstacle, Seat};
@@ -193,6 +193,28 @@ fn put_too_many<N: Out>(notes: &mut N, sockets: u64, most: u64) -> Result<(), De
     put_most(notes, most)
 }
 
+/// Writes the number of threads that are allowed.
+#[tactic(auto, using(ether_wire::proofs::Appending::with_text_twice))]
+fn put_most_threads<N: Out>(notes: &mut N, most: u64) -> Result<(), Device>
+    requires { IsOpen (N.end notes.old) }
+    ensures { Puts (N.end notes.old) (N.end notes.new) (most_threads_text most) result }
+{
+    notes.put(b" threads, allowed are ")?;
+    put_decimal(notes, most)?;
+    notes.put(b"\n")
+}
+
+/// Writes that there are too many threads.
+#[tactic(auto, using(ether_wire::proofs::Appending::with_text_twice))]
+fn put_too_many_threads<N: Out>(notes: &mut N, threads: u64, most: u64) -> Result<(), Device>
+    requires { IsOpen (N.end notes.old) }
+    ensures { Puts (N.end notes.old) (N.end notes.new)
+        (obstacle_text (Obstacle.TooManyThreads threads most)) result }
+{
+    put_decimal(notes, threads)?;
+    put_most_threads(notes, most)
+}
+
 /// Writes an obstacle.
 fn put_obstacle<N: Out>(notes: &mut N, obstacle: Obstacle) -> Result<(), Device>
     requires { IsOpen (N.end notes.old) }
@@ -202,6 +224,7 @@ fn put_obstacle<N: Out>(notes: &mut N, obstacle: Obstacle) -> Result<(), Device>
         Obstacle::Unheard(edge) => put_unheard(notes, edge),
         Obstacle::Useless(seat, end, at, cause) => put_useless(notes, seat, end, at, cause),
         Obstacle::TooMany(sockets, most) => put_too_many(notes, sockets, most),
+        Obstacle::TooManyThreads(threads, most) => put_too_many_threads(notes, threads, most),
     }
 }
 

@@ -109,13 +109,14 @@ checked_ready purpose text (Ok config) s input out out' notes notes' status h do
     told [] takes t = open_behind (t.1.0 ++ takes) t.0 t.1.1 t.1.2
     told (one ∷ more) takes t = absurd (two_or_four (has_failed notes notes') status t.1.status_is done)
 
-    run : (is_asked : Bool) → SumsRun is_asked purpose.most config out out' notes notes' status → IsReady s out' notes'
+    run : (is_asked : Bool) → SumsRun is_asked purpose.limits config out out' notes notes' status
+        → IsReady s out' notes'
     run is_asked (inl t) =
-        told (obstacles_of config.edges.items config.links.items is_asked purpose.most)
+        told (obstacles_of config.edges.items config.links.items is_asked purpose.limits)
         (asked_text is_asked (needs_of config.edges.items)) t
     run is_asked (inr m) = let three = m.2 in absurd (omega (arith, three, done))
 
-    go : (wanted : Use) → SumsFor wanted purpose.most config out out' notes notes' status → IsReady s out' notes'
+    go : (wanted : Use) → SumsFor wanted purpose.limits config out out' notes notes' status → IsReady s out' notes'
     go Any p = open_behind p.1.0 p.0 p.1.1 p.1.2
     go Run p = run false p
     go Serve p = run true p

@@ -14,6 +14,7 @@ use Rattle.ev_report.specs.Usage.{IsTold}
 use Rattle.ev_config.specs.declared.whole.Use.{Use}
 use Rattle.ev_config.specs.Told.{AreFaultLines}
 use Rattle.ev_config.specs.declared.whole.Use.TheVariants.{Any, Run, Serve}
+use Rattle.ev_run.specs.declared.obstacles.Limits.{Limits}
 use Rattle.ev_run.specs.declared.obstacles.Obstacle.{Obstacle}
 use Rattle.ev_run.specs.Needs.{needs_of, asked_text}
 use Rattle.ev_run.specs.Obstacles.{obstacles_of, obstacles_text}
@@ -95,25 +96,25 @@ TellsObstacles [] takes out out' notes notes' status = (notes' ≡ notes) × Sum
 TellsObstacles (one ∷ more) takes out out' notes notes' status =
     (out' ≡ out) × IsTold (obstacles_text (one ∷ more)) notes notes' status
 
--- The obstacles or the resources of a configuration's run, served or not, given the limit of descriptors; or there was
+-- The obstacles or the resources of a configuration's run, served or not, given the limits of the process; or there was
 -- no memory for the obstacles.
-abbrev pub SumsRun : Bool → Option ℕ → Config → End → End → End → End → ℕ → Type 0
-SumsRun is_asked most config out out' notes notes' status =
-    TellsObstacles (obstacles_of config.edges.items config.links.items is_asked most)
+abbrev pub SumsRun : Bool → Limits → Config → End → End → End → End → ℕ → Type 0
+SumsRun is_asked limits config out out' notes notes' status =
+    TellsObstacles (obstacles_of config.edges.items config.links.items is_asked limits)
     (asked_text is_asked (needs_of config.edges.items)) out out' notes notes' status
     ⊎ ((out' ≡ out) × (notes' ≡ notes) × (status ≡ 3))
 
 -- the summary of a configuration for a use; for a run, its obstacles or its resources
-abbrev pub SumsFor : Use → Option ℕ → Config → End → End → End → End → ℕ → Type 0
-SumsFor Any most config out out' notes notes' status = (notes' ≡ notes) × Sums out out' status
-SumsFor Run most config out out' notes notes' status = SumsRun false most config out out' notes notes' status
-SumsFor Serve most config out out' notes notes' status = SumsRun true most config out out' notes notes' status
+abbrev pub SumsFor : Use → Limits → Config → End → End → End → End → ℕ → Type 0
+SumsFor Any limits config out out' notes notes' status = (notes' ≡ notes) × Sums out out' status
+SumsFor Run limits config out out' notes notes' status = SumsRun false limits config out out' notes notes' status
+SumsFor Serve limits config out out' notes notes' status = SumsRun true limits config out out' notes notes' status
 
 -- A text's configuration is summed up on the output for its purpose (0); its faults are reported on the notes (2), or
 -- there was no memory (3); nothing was read, nothing else written.
 abbrev pub Checks : Purpose → Text → Result Config ConfigRefusal → Devices → Devices → ℕ → Type 0
 Checks purpose text (Ok config) before after status = (after.input ≡ before.input)
-    × SumsFor purpose.wanted purpose.most config before.out after.out before.notes after.notes status
+    × SumsFor purpose.wanted purpose.limits config before.out after.out before.notes after.notes status
 Checks purpose text (Err (refusal.Key key)) before after status = (after.input ≡ before.input)
     × (after.out ≡ before.out) × TellsFaults purpose.wanted text before.notes after.notes status
 Checks purpose text (Err refusal.Text) before after status = (after.input ≡ before.input)

@@ -63,7 +63,7 @@ use_of aim.Serve = used.Serve
 
 -- the subject of a check
 abbrev pub purpose_of : Aim → Descriptors → Purpose
-purpose_of aim descriptors = record { wanted = use_of aim; most = descriptors.most }
+purpose_of aim descriptors = record { wanted = use_of aim; limits = descriptors.limits }
 
 -- the effect of each subcommand with the values of its options and its flags
 abbrev pub FollowsAs : Descriptors → Subcommand → Text → Option Text → Aim → Desk → Desk → ℕ → Type 0

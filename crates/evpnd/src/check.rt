@@ -16,7 +16,7 @@ use crate::files::{Files, Named, text_at};
 use ether_wire::{Device, Out};
 use ev_config::{Config, ConfigRefusal, Use, config_for, put_refusal, summary_line};
 use ev_report::{DEVICE, DONE, MEMORY, usage_status};
-use ev_run::{Obstacle, needs_of, obstacles_of, put_asked_needs, put_obstacles};
+use ev_run::{Limits, Obstacle, needs_of, obstacles_of, put_asked_needs, put_obstacles};
 use std::alloc::Global;
 
 /// The purpose of a check.
@@ -24,8 +24,8 @@ use std::alloc::Global;
 pub(crate) struct Purpose {
     /// The use of the configuration.
     pub(crate) wanted: Use,
-    /// The limit of descriptors in a run, if known.
-    pub(crate) most: Option<u64>,
+    /// The limits of a run, as far as they are known.
+    pub(crate) limits: Limits,
 }
 
 /// The subject of a check.
@@ -108,8 +108,8 @@ fn tell_run<W: Out, N: Out>(
 struct Run {
     /// Whether clients may query the edges meanwhile.
     is_asked: bool,
-    /// The limit of descriptors, if known.
-    most: Option<u64>,
+    /// The limits, as far as they are known.
+    limits: Limits,
 }
 
 /// Writes the resources of a configuration's run, or reports its obstacles.
@@ -122,10 +122,10 @@ fn sum_up_or_tell<W: Out, N: Out>(
 ) -> u8
     requires out { IsOpen (W.end out.old) }
     requires notes { IsOpen (N.end notes.old) }
-    ensures { SumsRun run.is_asked run.most config.now (W.end out.old) (W.end out.new)
+    ensures { SumsRun run.is_asked run.limits config.now (W.end out.old) (W.end out.new)
         (N.end notes.old) (N.end notes.new) result }
 {
-    match obstacles_of(alloc, config, run.is_asked, run.most) {
+    match obstacles_of(alloc, config, run.is_asked, run.limits) {
         Ok(found) => tell_run(config, run.is_asked, found.as_slice(), out, notes),
         Err(_) => MEMORY,
     }
@@ -141,19 +141,19 @@ fn sum_up_for<W: Out, N: Out>(
 ) -> u8
     requires out { IsOpen (W.end out.old) }
     requires notes { IsOpen (N.end notes.old) }
-    ensures { SumsFor purpose.wanted purpose.most config.now (W.end out.old) (W.end out.new)
+    ensures { SumsFor purpose.wanted purpose.limits config.now (W.end out.old) (W.end out.new)
         (N.end notes.old) (N.end notes.new) result }
 {
-    let most = purpose.most;
+    let limits = purpose.limits;
     match purpose.wanted {
         Use::Any => sum_up(config, out),
         Use::Run => {
             let is_asked = false;
-            sum_up_or_tell(alloc, Run { is_asked, most }, config, out, notes)
+            sum_up_or_tell(alloc, Run { is_asked, limits }, config, out, notes)
         }
         Use::Serve => {
             let is_asked = true;
-            sum_up_or_tell(alloc, Run { is_asked, most }, config, out, notes)
+            sum_up_or_tell(alloc, Run { is_asked, limits }, config, out, notes)
         }
     }
 }

@@ -1,15 +1,16 @@
 //! The system that the program runs on.
 
 use crate::streams::Stream;
+use ev_run::Limits;
 use std::alloc::Global;
 
-/// The system's limit of descriptors when the program begins.
+/// The standard streams and the limits of the process when the program begins.
 #[derive(Clone, Copy, Debug)]
 pub(crate) struct Descriptors {
     /// The first standard stream that is closed, if one is.
     pub(crate) closed: Option<Stream>,
-    /// The limit of descriptors, if known.
-    pub(crate) most: Option<u64>,
+    /// The limits, as far as they are known.
+    pub(crate) limits: Limits,
 }
 
 /// The system's resources.
@@ -19,6 +20,6 @@ pub(crate) struct Host<'a, H> {
     pub(crate) rt: &'a H,
     /// Memory.
     pub(crate) alloc: Global,
-    /// Its descriptors.
+    /// Its descriptors and limits.
     pub(crate) descriptors: Descriptors,
 }

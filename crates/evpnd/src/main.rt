@@ -21,8 +21,10 @@ use crate::program::{Argv, run};
 use crate::streams::Stream;
 use ether_wire::{Reader, Writer};
 use ev_report::Devices;
+use ev_run::Limits;
 use ev_words::ClapParser;
 use std::os::fd::AsFd;
+use std::os::unix::fs::MetadataExt;
 use std::process::ExitCode;
 use std::{fs, io};
 
@@ -30,7 +32,7 @@ use std::{fs, io};
 fn main(rt: HostRuntime) -> ExitCode {
     let descriptors = Descriptors {
         closed: first_closed(&rt),
-        most: most_descriptors(&rt),
+        limits: limits_of(&rt),
     };
     let argv = argv_of(&rt);
     let mut parser = ClapParser::new(rt.alloc());
@@ -76,11 +78,36 @@ fn first_closed(rt: &HostRuntime) -> Option<Stream> {
     None
 }
 
-/// Returns the limit of descriptors, as Linux gives it in `/proc/self/limits`.
-fn most_descriptors(rt: &HostRuntime) -> Option<u64> {
-    let limits = fs::read_to_string(rt, "/proc/self/limits").ok()?;
-    let (_, line) = limits.as_str().split_once("Max open files")?;
+/// Returns the first of the two numbers of a limit in `/proc/self/limits`.
+fn limit_of(limits: &str, name: &str) -> Option<u64> {
+    let (_, line) = limits.split_once(name)?;
     line.split_ascii_whitespace().next()?.parse::<u64>().ok()
+}
+
+/// Returns `true` if the process belongs to root, for whom Linux ignores the limit of threads.
+fn is_root(rt: &HostRuntime) -> bool {
+    match fs::metadata(rt, "/proc/self") {
+        Ok(found) => found.uid() == 0,
+        Err(_) => false,
+    }
+}
+
+/// Returns the limits of the process, as Linux gives them in `/proc/self/limits`.
+fn limits_of(rt: &HostRuntime) -> Limits {
+    let Ok(limits) = fs::read_to_string(rt, "/proc/self/limits") else {
+        return Limits {
+            descriptors: None,
+            threads: None,
+        };
+    };
+    Limits {
+        descriptors: limit_of(limits.as_str(), "Max open files"),
+        threads: if is_root(rt) {
+            None
+        } else {
+            limit_of(limits.as_str(), "Max processes")
+        },
+    }
 }
 
 /// Returns the system's arguments.

@@ -98,7 +98,7 @@ fn wanted_of<'a>(descriptors: Descriptors, invocation: &Invocation<'a>) -> Wante
         script: invocation.more,
         purpose: Purpose {
             wanted: use_of(invocation.aim),
-            most: descriptors.most,
+            limits: descriptors.limits,
         },
     }
 }
