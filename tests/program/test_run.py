@@ -483,6 +483,14 @@ class Beginning(unittest.TestCase):
         for it in cables:
             it.here.close()
 
+    def test_small_stack(self) -> None:
+        """A stack of 64 KiB: a line, and no crash."""
+        for subcommand in ("run", "check", "serve"):
+            with self.subTest(subcommand=subcommand):
+                running = Running(edge(ONE, 1), subcommand=subcommand, before=lambda: resource.setrlimit(resource.RLIMIT_STACK, (65536, -1)))
+                self.addCleanup(running.kill)
+                self.assertEqual(running.end(), (3, "", "error: the stack is limited to 64 KiB, and evpnd needs 1024 KiB: raise ulimit -s\n"))
+
     def limited(self, threads: int, words: List[str], text: str) -> subprocess.Popen:
         """The program as a user of its own, whom the system allows this many threads. Only root can start it."""
         user = 1_000_000 + os.getpid() % 1_000_000

@@ -1,6 +1,8 @@
 //! EVPN edge bridges: the program.
 #![tactic(auto)]
 
+ghost use Rattle.ether_wire.specs.Ends.{IsOpen};
+
 mod check;
 mod check_script;
 mod configured;
@@ -19,8 +21,8 @@ use crate::files::SystemFiles;
 use crate::host::{Descriptors, Host};
 use crate::program::{Argv, run};
 use crate::streams::Stream;
-use ether_wire::{Reader, Writer};
-use ev_report::Devices;
+use ether_wire::{Device, Out, Reader, Writer, put_decimal};
+use ev_report::{DEVICE, Devices, MEMORY};
 use ev_run::Limits;
 use ev_words::ClapParser;
 use std::os::fd::AsFd;
@@ -28,8 +30,12 @@ use std::os::unix::fs::MetadataExt;
 use std::process::ExitCode;
 use std::{fs, io};
 
-/// Collects the system's resources and arguments, and runs the subcommand.
+/// Collects the system's resources and arguments, and runs the subcommand. If the stack is too
+/// small, reports that instead.
 fn main(rt: HostRuntime) -> ExitCode {
+    if let Some(size) = small_stack(&rt) {
+        return tell_small_stack(&rt, size);
+    }
     let descriptors = Descriptors {
         closed: first_closed(&rt),
         limits: limits_of(&rt),
@@ -76,6 +82,42 @@ fn first_closed(rt: &HostRuntime) -> Option<Stream> {
         return Some(Stream::Error);
     }
     None
+}
+
+/// The octets of stack that suffice for each subcommand. A run needs more than 512 KiB, and less
+/// than 560 KiB (2026-11-27).
+const ENOUGH_STACK: u64 = 1_048_576;
+
+/// Returns the limit of the stack in octets if it is too low.
+fn small_stack(rt: &HostRuntime) -> Option<u64> {
+    let limits = fs::read_to_string(rt, "/proc/self/limits").ok()?;
+    let size = limit_of(limits.as_str(), "Max stack size")?;
+    if size < ENOUGH_STACK {
+        Some(size)
+    } else {
+        None
+    }
+}
+
+/// Writes that the stack is limited to this number of octets.
+fn put_small_stack<N: Out>(notes: &mut N, size: u64) -> Result<(), Device>
+    requires { IsOpen (N.end notes.old) }
+{
+    notes.put(b"error: the stack is limited to ")?;
+    put_decimal(notes, size / 1024)?;
+    notes.put(b" KiB, and evpnd needs ")?;
+    put_decimal(notes, ENOUGH_STACK / 1024)?;
+    notes.put(b" KiB: raise ulimit -s\n")
+}
+
+/// Reports that the stack is too small, and returns the status.
+fn tell_small_stack(rt: &HostRuntime, size: u64) -> ExitCode {
+    let stderr = rt.stderr();
+    let mut notes = Writer::new(io::writer(&stderr));
+    match put_small_stack(&mut notes, size) {
+        Ok(()) => ExitCode::from(MEMORY),
+        Err(Device) => ExitCode::from(DEVICE),
+    }
 }
 
 /// Returns the first of the two numbers of a limit in `/proc/self/limits`.
