@@ -663,6 +663,8 @@ class RefusedGrowth(Preloaded):
                     told += kept.notes.startswith("edge ")
                     if kept.status == 3:
                         self.assertRegex(kept.notes, LINES)
+                    if kept.report.count("edge ") == 1:
+                        self.assertIn(": no memory\n", kept.notes, "an edge didn't begin")
                     self.assertEqual(kept.notes.endswith(": there is no memory\n"), kept.status == 4)
                     self.assertLessEqual(kept.report.count("edge "), 2 if kept.status != 4 else 0)
                     if kept.status == 0:

@@ -8,7 +8,7 @@ use crate::edge_links::EdgeLinks;
 use crate::entering::{Workplace, join_entering, start_entering, start_peer};
 use crate::gate::Gate;
 use crate::outcome::{Faults, Outcome};
-use crate::outlet::Senders;
+use crate::outlet::{Senders, report_refused};
 use crate::plan::{EdgeThreads, Shared, planned};
 use crate::sending::{all_dropped, join_sending, start_sending, stop_sending};
 use crate::shared_edge::SharedEdge;
@@ -94,6 +94,9 @@ fn run_within<
     let (sending, no_sent) = start_sending(scope, rt, workplace.shared, outputs, sending);
     let peer = start_peer::<L, I, G, R>(scope, workplace, peer);
     let (entering, begun) = start_entering(scope, workplace, tasks, fresh, entering);
+    if no_sent.memory || begun.memory || peer.is_err() {
+        report_refused(rt, outlet.peers);
+    }
     let (mut passes, entered) = join_entering(rt, entering);
     outlet.peers.end(rt);
     let (pass, ended) = match peer {

@@ -9,6 +9,7 @@ ghost use Rattle.ev_peers.specs.Passing.{Word, has_room, record_of, second_passe
 use crate::shared_line::SharedLine;
 use ether_wire::Addr;
 use ev_mailboxes::{Answer, Peers};
+use ev_mobility::Alert;
 use ev_notices::{Alarm, Reception};
 use route_wire::Update;
 use std::alloc::AllocError;
@@ -156,4 +157,16 @@ impl<R: Wait> Outlet for Senders<'_, R> {
     fn answer(&mut self, answer: Answer) {
         self.peers.answer(self.rt, answer);
     }
+}
+
+/// Reports to the operator that an edge was refused memory or a thread at its start.
+pub(crate) fn report_refused<R: Wait>(rt: &R, peers: Peers<'_>) {
+    peers.alarm(
+        rt,
+        Alarm {
+            alert: Alert::NoMemory,
+            station: None,
+            port: None,
+        },
+    );
 }

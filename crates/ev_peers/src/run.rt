@@ -8,6 +8,7 @@ use crate::edge_links::EdgeLinks;
 use crate::edge_threads::{Host, edge_worker};
 use crate::gate::Gate;
 use crate::outcome::Outcome;
+use crate::outlet::report_refused;
 use ev_edge::EdgeConfig;
 use ev_links::{LinkIn, LinkOut};
 use ev_mailboxes::{Boards, Mailboxes, Running};
@@ -113,6 +114,9 @@ fn run_one<
     let blank = Blank::new(links.ports.len() as u64 + 3);
     let (rt, peers) = (host.rt, host.peers);
     let ran = edge_worker::<Brand, I, O, G, R>(host, blank, config, links);
+    if ran.is_err() {
+        report_refused(rt, peers);
+    }
     peers.leave(rt);
     ran
 }
@@ -142,6 +146,7 @@ fn start_edges<
         let handle = match scope.spawn(move || run_one(host, setup)) {
             Ok(handle) => Some(handle),
             Err(_) => {
+                report_refused(common.rt, peers);
                 peers.leave(common.rt);
                 None
             }
