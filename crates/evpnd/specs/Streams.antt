@@ -1,10 +1,15 @@
 -- The standard streams, and the effect on a run if one is closed.
-use Rattle.std.specs.Prelude.{◌≡◌, ℕ, codes, Option, Some, None}
+use Rattle.std.specs.Prelude.{◌≡◌, ℕ, Bool, if◌then◌else◌, codes, Option, Some, None}
 use Rattle.ev_report.specs.Ends.{Holds}
 use Rattle.evpnd.specs.declared.streams.Stream.{Stream}
 use Rattle.evpnd.specs.declared.streams.Stream.TheVariants.{Input, Output, Error}
 use Rattle.evpnd.specs.Files.{Text}
 use Rattle.evpnd.specs.Checks.{Desk}
+
+-- the first of the standard streams that is closed, by whether each is
+abbrev pub first_closed : Bool → Bool → Bool → Option Stream
+first_closed input output error =
+    if input then Some Input else if output then Some Output else if error then Some Error else None
 
 -- `STREAM: it is closed`
 abbrev pub closed_text : Stream → Text

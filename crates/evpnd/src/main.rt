@@ -20,7 +20,7 @@ mod version;
 use crate::files::SystemFiles;
 use crate::host::{Descriptors, Host};
 use crate::program::{Argv, run};
-use crate::streams::Stream;
+use crate::streams::{Stream, first_closed};
 use ether_wire::{Device, Out, Reader, Writer, put_decimal};
 use ev_report::{DEVICE, Devices, MEMORY};
 use ev_run::Limits;
@@ -37,7 +37,7 @@ fn main(rt: HostRuntime) -> ExitCode {
         return tell_small_stack(&rt, size);
     }
     let descriptors = Descriptors {
-        closed: first_closed(&rt),
+        closed: closed_stream(&rt),
         limits: limits_of(&rt),
     };
     let argv = argv_of(&rt);
@@ -71,17 +71,10 @@ fn is_closed<S: AsFd>(stream: &S) -> bool {
 
 /// Returns the first standard stream that is closed, if one is. A file that is opened later may get
 /// its number.
-fn first_closed(rt: &HostRuntime) -> Option<Stream> {
-    if is_closed(&rt.stdin()) {
-        return Some(Stream::Input);
-    }
-    if is_closed(&rt.stdout()) {
-        return Some(Stream::Output);
-    }
-    if is_closed(&rt.stderr()) {
-        return Some(Stream::Error);
-    }
-    None
+fn closed_stream(rt: &HostRuntime) -> Option<Stream> {
+    let is_input_closed = is_closed(&rt.stdin());
+    let is_output_closed = is_closed(&rt.stdout());
+    first_closed(is_input_closed, is_output_closed, is_closed(&rt.stderr()))
 }
 
 /// The octets of stack that suffice for each subcommand. A run needs more than 512 KiB, and less

@@ -4,7 +4,7 @@ ghost use Rattle.ether_wire.specs.Ends.{IsOpen, Puts};
 ghost use Rattle.ev_report.specs.Ends.{AreOpen};
 ghost use Rattle.evpnd.specs.Checks.{desk};
 ghost use Rattle.evpnd.specs.Files.{Shelf};
-ghost use Rattle.evpnd.specs.Streams.{closed_text, IsClosed};
+ghost use Rattle.evpnd.specs.Streams.{first_closed, closed_text, IsClosed};
 
 use ether_wire::{Device, In, Out};
 use ev_report::{DEVICE, Devices};
@@ -18,6 +18,26 @@ pub(crate) enum Stream {
     Output,
     /// Standard error, descriptor 2.
     Error,
+}
+
+/// Returns the first standard stream that is closed, if one is, by whether each of them is closed.
+pub(crate) fn first_closed(
+    is_input_closed: bool,
+    is_output_closed: bool,
+    is_error_closed: bool,
+) -> Option<Stream>
+    ensures { result ≡ first_closed is_input_closed is_output_closed is_error_closed }
+{
+    if is_input_closed {
+        return Some(Stream::Input);
+    }
+    if is_output_closed {
+        return Some(Stream::Output);
+    }
+    if is_error_closed {
+        return Some(Stream::Error);
+    }
+    None
 }
 
 /// Writes `STREAM: it is closed`.
