@@ -11,14 +11,15 @@ use Rattle.ev_fabric.specs.Fabric.{nth}
 pub at_next : {X : Type 0} (xs : List X) (i n : ℕ) (x d : X) → n ≡ suc i → nth xs n ≡ Some x → get_or xs i d ≡ x
 at_next xs i n x d is at = get_or_from_slice_get xs i x d (subst (λ m. nth xs m ≡ Some x) is at)
 
+-- one more element
+pub one_more : {X A : Type 0} (f : X → List A) (xs : List X) (x : X) → flat_map f (xs ++ x ∷ []) ≡ flat_map f xs ++ f x
+one_more f xs x = flat_map-append f xs (x ∷ []) ∙ ap (λ t. flat_map f xs ++ t) (append-nil (f x))
+
 -- one more element, if its text doesn't depend on its place
 pub one_behind : {X : Type 0} (text : X → List ℕ) (all : List X) (place : ℕ) (d : X) → place < length all
     → flat_map text (take (place + 1) all) ≡ flat_map text (take place all) ++ text (get_or all place d)
-one_behind text all place d within =
-    let before = take place all in
-    let one = get_or all place d in
-    ap (flat_map text) (take_more all place d within) ∙ flat_map-append text before (one ∷ [])
-    ∙ ap (λ t. flat_map text before ++ t) (append-nil (text one))
+one_behind text all place d within = ap (flat_map text) (take_more all place d within)
+    ∙ one_more text (take place all) (get_or all place d)
 
 -- there is no element after the last one
 pub none_past : {X : Type 0} (xs : List X) (n : ℕ) → length xs < n → nth xs n ≡ None

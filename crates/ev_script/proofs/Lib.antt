@@ -1,7 +1,7 @@
 pub mod Each
 pub mod Looking
-pub mod Minding
 pub mod Pairs
 pub mod Playings
-pub mod Putting
+pub mod Showing
 pub mod Simulating
+pub mod Telling

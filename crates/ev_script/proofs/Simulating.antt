@@ -1,7 +1,6 @@
 -- The status and the notes at the end of a simulation.
-use Rattle.std.proofs.Common.{◌≡◌, ◌≢◌, ◌⊎◌, inl, inr, ℕ, ◌+◌, Bool, true, false, not, ◌||◌, List, [], length, Option}
-use Rattle.std.proofs.Common.{Some, None, is_some, Result, Ok, Err, is_ok, refl, sym, ap, subst, ◌∙◌, arith}
-use Rattle.std.proofs.lemmas.Bool.Decides.{nat_tests}
+use Rattle.std.proofs.Common.{◌≡◌, inl, inr, ℕ, ◌+◌, Bool, true, false, not, ◌||◌, List, [], length, Option}
+use Rattle.std.proofs.Common.{Some, None, is_some, Result, Ok, Err, is_ok, refl, sym, ap, subst, ◌∙◌}
 use Rattle.ether_wire.specs.declared.ends.Device as device
 use Rattle.ether_wire.specs.Ends.{End, Source, Puts}
 use Rattle.ev_edge.specs.declared.config.EdgeConfig.{EdgeConfig}
@@ -12,55 +11,62 @@ use Rattle.ev_script.specs.declared.script.mode.Mode.{Mode}
 use Rattle.ev_script.specs.declared.simulate.simulator.BadLine.{BadLine}
 use Rattle.ev_script.specs.declared.simulate.simulator.Simulator.{Simulator}
 use Rattle.ev_script.specs.Script.{cut_line}
-use Rattle.ev_report.specs.Ends.{Devices, has_failed, Holds, Finishes, Passes}
+use Rattle.ev_report.specs.Ends.{Devices, has_failed, Holds, Tells, Passes}
 use Rattle.ev_report.specs.Input.{ReadsWhole}
 use Rattle.ev_report.specs.Notes.{status_of}
 use Rattle.ev_report.proofs.Silence.{status_as, is_silent, refused_memory, passed_silent, passed_refused, passed_four}
-use Rattle.ev_script.specs.Simulation.{Goes, joined, ran_out_of_memory, bad_line, note_of, CountsFailure}
+use Rattle.ev_script.specs.Simulation.{RunsLines, made_by, text_of, ran_out_of_memory, bad_line, note_of}
 use Rattle.ev_script.specs.Inner.Simulation.{note_of_line}
 use Rattle.ev_script.specs.Simulation.{PlaysOn, PlaysRead, Simulates}
 use Rattle.ev_script.specs.Inner.Simulation.{read_error_status}
-use Rattle.ev_script.specs.Inner.Printing.{Minds}
 use Rattle.ev_script.specs.Inner.Playing.{PlaysTo}
-use Rattle.ev_report.proofs.Finishing.{put_holds, put_failed, passed_notes, passed_status, failed_notes}
-use Rattle.ev_script.proofs.Minding.{minds_failed, minds_counts}
+use Rattle.ev_report.proofs.Finishing.{put_holds, put_failed, passed_out, passed_notes, passed_status, failed_out}
+use Rattle.ev_report.proofs.Finishing.{failed_notes}
+use Rattle.ev_script.proofs.Telling.{told_holds, told_failed}
 
 -- ---- a run on a fabric
 
 module _ (mode : Mode) (start : Fabric) (script : List ℕ) (p final : Simulator) (out out' notes notes' : End)
     (r : Result (Unit {0}) device.Device) (status : ℕ)
-    (from : p.fabric ≡ start) (fed : p.is_out_of_memory ≡ false) (told : Minds out out' true final.is_told) where
-  status_played : (bad : Option BadLine) (out_of_memory : Bool) → Puts notes notes' (note_of_line bad) r
+    (from : p.fabric ≡ start) (fed : p.is_out_of_memory ≡ false) (first : p.is_told ≡ true) where
+  said : (text : List ℕ) → Tells out out' p.is_told final.is_told text → Tells out out' true final.is_told text
+  said text told = subst (λ b. Tells out out' b final.is_told text) first told
+
+  status_played : (bad : Option BadLine) (out_of_memory : Bool) (text : List ℕ)
+      → Tells out out' p.is_told final.is_told text → Puts notes notes' (note_of_line bad) r
       → final.is_out_of_memory ≡ (p.is_out_of_memory || out_of_memory)
       → status ≡ status_of (not final.is_told || not (is_ok r)) final.is_out_of_memory (is_some bad)
       → status ≡ status_of (has_failed out out' || has_failed notes notes') out_of_memory (is_some bad)
-  status_played bad out_of_memory put s is =
+  status_played bad out_of_memory text told put s is =
       is ∙ status_as (not final.is_told) (not (is_ok r)) (has_failed out out') (has_failed notes notes')
       final.is_out_of_memory out_of_memory (is_some bad)
-      (sym (minds_failed out out' final.is_told told)) (sym (put_failed notes notes' r (note_of_line bad) put)) (s
-      ∙ ap (λ b. b || out_of_memory) fed)
+      (sym (told_failed out out' final.is_told text (said text told)))
+      (sym (put_failed notes notes' r (note_of_line bad) put)) (s ∙ ap (λ b. b || out_of_memory) fed)
 
-  pub plays_on : (bad : Option BadLine) → PlaysTo mode script p final bad → Puts notes notes' (note_of_line bad) r
+  pub plays_on : (bad : Option BadLine) → PlaysTo mode script p final out out' bad
+      → Puts notes notes' (note_of_line bad) r
       → status ≡ status_of (not final.is_told || not (is_ok r)) final.is_out_of_memory (is_some bad)
       → PlaysOn mode start script out out' notes notes' status
   plays_on None h put is =
       let played = h.1 in
+      let text = text_of played.ran in
       record {
         lines = played.lines;
         rest = [];
         is_bad = false;
         follows = played.follows;
         ends = refl;
-        made = played.made;
-        asked = played.asked;
+        ran = played.ran;
         final = final.fabric;
-        goes = subst (λ (f : Fabric). Goes f (joined played.made) final.fabric) from played.makes.goes;
-        written = minds_counts out out' final.is_told told;
+        runs = subst (λ (f : Fabric). RunsLines mode script played.lines f played.ran final.fabric) from played.runs;
+        written = told_holds out out' final.is_told text (said text played.told);
         noted = put_holds notes notes' r [] put;
-        status_is = status_played None (ran_out_of_memory (joined played.made)) put played.makes.out_of_memory is;
+        status_is = status_played None (ran_out_of_memory (made_by played.ran)) text played.told put
+            played.out_of_memory is;
       }
   plays_on (Some bad) h put is =
       let played = h.5 in
+      let text = text_of played.ran in
       let number = bad.number in
       let at : number ≡ length played.lines + 1 = h.2 ∙ ap (λ n. n + 1) (sym played.count) in
       record {
@@ -69,16 +75,15 @@ module _ (mode : Mode) (start : Fabric) (script : List ℕ) (p final : Simulator
         is_bad = true;
         follows = played.follows;
         ends = h.4;
-        made = played.made;
-        asked = played.asked;
+        ran = played.ran;
         final = final.fabric;
-        goes = subst (λ (f : Fabric). Goes f (joined played.made) final.fabric) from played.makes.goes;
-        written = minds_counts out out' final.is_told told;
+        runs = subst (λ (f : Fabric). RunsLines mode script played.lines f played.ran final.fabric) from played.runs;
+        written = told_holds out out' final.is_told text (said text played.told);
         noted = subst (λ l. Holds notes notes' (bad_line (length played.lines + 1) l)) h.3
             (subst (λ n. Holds notes notes' (bad_line n bad.line.now)) at
             (put_holds notes notes' r (bad_line number bad.line.now) put));
-        status_is = status_played (Some bad) (ran_out_of_memory (joined played.made)) put played.makes.out_of_memory
-            is;
+        status_is = status_played (Some bad) (ran_out_of_memory (made_by played.ran)) text played.told put
+            played.out_of_memory is;
       }
 
 -- ---- nothing is run
@@ -90,38 +95,13 @@ plays_read_error mode configs NoMemory out notes status is = refused_memory out 
 
 -- ---- writers that get several texts in one call
 
-module _ (a b c : End) (q : Bool) (counts : CountsFailure a b) (f : Finishes a.failures b c q) where
-  -- the contract of a run doesn't specify the text that was written, only whether a call failed
-  late : c.failures ≡ a.failures + 1 → CountsFailure a c
-  late e = inr e
-
-  pub finish_late : q ≡ false → c.failures ≡ a.failures + 1
-  finish_late e = go (f.failed e) counts
-    where
-      go : ((b.failures ≢ a.failures) × (c.failures ≡ b.failures))
-          ⊎ ((b.failures ≡ a.failures) × (c.failures ≡ a.failures + 1)) → CountsFailure a b
-          → c.failures ≡ a.failures + 1
-      go (inl p) (inl e) = absurd (p.0 e)
-      go (inl p) (inr e) = p.1 ∙ e
-      go (inr p) e = p.1
-
-  pub finish_kept : q ≡ true → c.failures ≡ a.failures
-  finish_kept e = let p = f.passed e in ap (λ (x : End). x.failures) p.0 ∙ p.1
-
-pub finish_counts : (a b c : End) (q : Bool) → CountsFailure a b → Finishes a.failures b c q → CountsFailure a c
-finish_counts a b c true counts f = inl (finish_kept a b c true counts f refl)
-finish_counts a b c false counts f = inr (finish_late a b c false counts f refl)
-
-pub finish_told : (a b c : End) (q : Bool) → CountsFailure a b → Finishes a.failures b c q → has_failed a c ≡ not q
-finish_told a b c true counts f = let same = finish_kept a b c true counts f refl in grind (arith, nat_tests)
-finish_told a b c false counts f = let one = finish_late a b c false counts f refl in grind (arith, nat_tests)
-
 module _ (mode : Mode) (configs : List EdgeConfig) (before held after : Devices) (status last : ℕ)
     (p : Passes before.out.failures before.notes.failures held after status last) where
   passed_plays : (start : Fabric) (script : List ℕ)
       → PlaysOn mode start script before.out held.out before.notes held.notes status
       → PlaysOn mode start script before.out after.out before.notes after.notes last
   passed_plays start script r =
+      let text = text_of r.ran in
       let note = note_of r.is_bad (length r.lines + 1) (cut_line r.rest).0 in
       record {
         lines = r.lines;
@@ -129,14 +109,13 @@ module _ (mode : Mode) (configs : List EdgeConfig) (before held after : Devices)
         is_bad = r.is_bad;
         follows = r.follows;
         ends = r.ends;
-        made = r.made;
-        asked = r.asked;
+        ran = r.ran;
         final = r.final;
-        goes = r.goes;
-        written = finish_counts before.out held.out after.out p.is_written r.written p.out;
+        runs = r.runs;
+        written = passed_out before held after status last p text r.written;
         noted = passed_notes before held after status last p note r.noted;
-        status_is = passed_status before held after status last p false (ran_out_of_memory (joined r.made)) r.is_bad
-            (finish_told before.out held.out after.out p.is_written r.written p.out)
+        status_is = passed_status before held after status last p false (ran_out_of_memory (made_by r.ran)) r.is_bad
+            (failed_out before held after status last p text r.written)
             (failed_notes before held after status last p note r.noted) r.status_is;
       }
 

@@ -1,6 +1,6 @@
--- The texts that are printed for a step, for a refusal and for a port.
-use Rattle.std.specs.Prelude.{ℕ, ◌/◌, ◌%◌, Bool, true, false, if◌then◌else◌, List, [], ◌∷◌, ◌++◌, codes}
-use Rattle.std.specs.Prelude.{decimal, get_or, Option, Some, None}
+-- The texts that are printed for a line, for a step, for a refusal and for a port.
+use Rattle.std.specs.Prelude.{ℕ, ◌/◌, ◌%◌, ◌==◌, Bool, true, false, if◌then◌else◌, List, [], ◌∷◌, ◌++◌, codes}
+use Rattle.std.specs.Prelude.{decimal, get_or, Option, Some, None, Result, Ok, Err}
 use Rattle.std.specs.List.{flat_map}
 use Rattle.ether_wire.specs.Addr.{addr_text}
 use Rattle.ether_wire.specs.Ports.{ports_text}
@@ -9,6 +9,7 @@ use Rattle.bpdu_wire.specs.Writing.{octets_of}
 use Rattle.rstp_state.specs.declared.port.PortState.{PortState}
 use Rattle.rstp_state.specs.declared.port.Role.{Role}
 use Rattle.rstp_state.specs.declared.port.Role.TheVariants.{Disabled, Root, Designated, Alternate, Backup}
+use Rattle.route_wire.specs.Fields.{Fields}
 use Rattle.route_join.specs.declared.table.Taken.{Taken}
 use Rattle.route_join.specs.declared.table.Taken.TheVariants.{Newer, Known}
 use Rattle.ev_tunnel.specs.declared.decision.Decision.{Decision}
@@ -21,8 +22,15 @@ use Rattle.ev_fabric.specs.declared.refusal.FabricRefusal.{FabricRefusal}
 use Rattle.ev_fabric.specs.declared.refusal.FabricRefusal.TheVariants.{NoMemory, NoSuchEdge, NoSuchUpdate, NoHigher}
 use Rattle.ev_fabric.specs.declared.refusal.FabricRefusal.TheVariants.{Edge}
 use Rattle.ev_fabric.specs.Refusal.{refusal_number}
+use Rattle.ev_script.specs.declared.script.mode.Mode.{Mode}
+use Rattle.ev_script.specs.declared.script.mode.Mode.TheVariants.{Simulate, Play}
 
 -- ---- lines
+
+-- `> LINE` if the script is played
+abbrev pub shown_text : Mode → List ℕ → List ℕ
+shown_text Simulate line = []
+shown_text Play line = codes "> " ++ line ++ codes "\n"
 
 -- an edge's number, and a text after it
 abbrev pub words_text : ℕ → List ℕ → List ℕ
@@ -106,6 +114,28 @@ part_of (Edge refusal) = edge_part refusal
 -- `E refused PART N`
 abbrev pub refusal_text : ℕ → FabricRefusal → List ℕ
 refusal_text edge refusal = number_text edge (part_of refusal) (refusal_number refusal)
+
+-- ---- the answers of a fabric
+
+-- the answer to a step
+abbrev pub step_text : ℕ → Result Reply FabricRefusal → List ℕ
+step_text edge (Ok reply) = reply_text edge reply
+step_text edge (Err refusal) = refusal_text edge refusal
+
+-- the BPDUs that are sent in a second; only the first second of a command (0) prints a refusal
+abbrev pub second_text : ℕ → ℕ → Result Reply FabricRefusal → List ℕ
+second_text edge turn (Ok reply) = bpdu_lines edge reply.bpdus.items
+second_text edge turn (Err refusal) = if turn == 0 then refusal_text edge refusal else []
+
+-- `E pool K` for the update that is the K-th of the pool now; `E none` if nothing was pending
+abbrev pub announced_text : ℕ → ℕ → Option Fields → List ℕ
+announced_text edge last None = words_text edge (codes " none\n")
+announced_text edge last (Some u) = number_text edge (codes " pool ") last
+
+-- the answer to an announcement, after which the pool has `last` updates
+abbrev pub announcement_text : ℕ → ℕ → Result Reply FabricRefusal → List ℕ
+announcement_text edge last (Ok reply) = announced_text edge last reply.announced
+announcement_text edge last (Err refusal) = refusal_text edge refusal
 
 -- ---- a port
 

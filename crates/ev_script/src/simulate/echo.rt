@@ -1,6 +1,6 @@
 //! Prints the line of a command or a query if a script is played.
 ghost use Rattle.ether_wire.specs.Ends.{IsOpen, Puts};
-ghost use Rattle.ev_script.specs.Inner.Shown.{shown_text};
+ghost use Rattle.ev_script.specs.Printing.{shown_text};
 
 use crate::script::Mode;
 use ether_wire::{Device, Out};

@@ -1,11 +1,12 @@
 //! Plays commands on a fabric, one after the other.
-ghost use Rattle.std.specs.Prelude.{◌≡◌, ◌+◌, ◌<◌, ◌^◌, [], ◌∷◌, ◌++◌, length, true, false, ℕ, Option, Some, None};
-ghost use Rattle.ether_wire.specs.Ends.{IsOpen};
+ghost use Rattle.std.specs.Prelude.{◌≡◌, [], ◌∷◌, ◌++◌, length, true, false, ℕ};
+ghost use Rattle.ether_wire.specs.Ends.{IsOpen, Puts};
+ghost use Rattle.ev_fabric.specs.Fabric.{nth};
 ghost use Rattle.ev_report.specs.Ends.{Tells};
-ghost use Rattle.ev_script.specs.Inner.Printing.{PutsSome, Minds};
-ghost use Rattle.ev_script.specs.Inner.Shown.{shown_text};
-ghost use Rattle.ev_script.specs.Inner.Views.{view_text};
-ghost use Rattle.ev_script.specs.Simulation.{port_number, is_out_of_memory};
+ghost use Rattle.ev_script.specs.Inner.Printing.{seen_text};
+ghost use Rattle.ev_script.specs.Printing.{shown_text, step_text, second_text, announcement_text};
+ghost use Rattle.ev_script.specs.Simulation.{port_number, is_out_of_memory, ShowsPort, ShowsPortOf, report_text};
+ghost use Rattle.ev_script.specs.Views.{view_text};
 
 use crate::script::{Command, Hex, Mode, Question, cut_line, parse};
 use crate::simulate::echo::put_shown;
@@ -16,6 +17,7 @@ use crate::simulate::viewing::{edge_of, put_view};
 use ether_wire::{Addr, Device, Out};
 use ev_edge::{Edge, EdgeRefusal, Reply};
 use ev_fabric::{Fabric, FabricRefusal, LocalEvent, Step};
+use rstp_state::port::PortState;
 
 /// The number of the refusal and of the alert that report refused memory.
 const NO_MEMORY: u8 = 15;
@@ -61,14 +63,13 @@ fn is_out_of_memory(answer: &Result<Reply, FabricRefusal>) -> bool
 }
 
 /// Prints the result of a step.
-#[tactic(auto, using(crate::proofs::Putting::some_put))]
 fn put_answer<W: Out>(
     out: &mut W,
     edge: u64,
     answer: &Result<Reply, FabricRefusal>,
 ) -> Result<(), Device>
     requires { IsOpen (W.end out.old) }
-    ensures { PutsSome (W.end out.old) (W.end out.new) result }
+    ensures { Puts (W.end out.old) (W.end out.new) (step_text edge answer.now) result }
 {
     match answer {
         Ok(reply) => put_reply(out, edge, reply),
@@ -78,7 +79,7 @@ fn put_answer<W: Out>(
 
 /// Prints the result of a second, the first one (0) or a later one. Prints a refusal only for the
 /// first one.
-#[tactic(auto, using(crate::proofs::Putting::some_put))]
+#[tactic(auto, using(ether_wire::proofs::Appending::with_text_none))]
 fn put_second<W: Out>(
     out: &mut W,
     edge: u64,
@@ -86,7 +87,7 @@ fn put_second<W: Out>(
     answer: &Result<Reply, FabricRefusal>,
 ) -> Result<(), Device>
     requires { IsOpen (W.end out.old) }
-    ensures { PutsSome (W.end out.old) (W.end out.new) result }
+    ensures { Puts (W.end out.old) (W.end out.new) (second_text edge turn answer.now) result }
 {
     match answer {
         Ok(reply) => put_bpdus(out, edge, reply.bpdus.as_slice()),
@@ -97,7 +98,6 @@ fn put_second<W: Out>(
 
 /// Prints the number in the pool of the announced update, if one was announced. It is the pool's
 /// last update.
-#[tactic(auto, using(crate::proofs::Putting::some_put))]
 fn put_announced<W: Out>(
     out: &mut W,
     edge: u64,
@@ -105,7 +105,7 @@ fn put_announced<W: Out>(
     answer: &Result<Reply, FabricRefusal>,
 ) -> Result<(), Device>
     requires { IsOpen (W.end out.old) }
-    ensures { PutsSome (W.end out.old) (W.end out.new) result }
+    ensures { Puts (W.end out.old) (W.end out.new) (announcement_text edge last answer.now) result }
 {
     match answer {
         Ok(reply) => match reply.announced {
@@ -116,38 +116,49 @@ fn put_announced<W: Out>(
     }
 }
 
-/// Prints the role and state of an edge's port in the spanning tree.
-#[tactic(auto, using(crate::proofs::Putting::some_put))]
-fn put_port_of<W: Out>(out: &mut W, number: u64, edge: &Edge, port: u8) -> Result<(), Device>
-    requires { IsOpen (W.end out.old) }
-    ensures { PutsSome (W.end out.old) (W.end out.new) result }
+/// Returns the role and state of an edge's port in the spanning tree, and whether frames pass there.
+fn port_of(edge: &Edge, port: u8) -> Result<(PortState, bool), FabricRefusal>
+    ensures { (e : ℕ) → ShowsPort e port edge.now.tree (seen_text e port result) }
 {
     let bridge = edge.bridge();
     if port == 0 || usize::from(port) > bridge.len() {
-        let refusal = FabricRefusal::Edge(ev_edge::Refusal::Edge(EdgeRefusal::NoSuchPort));
-        return put_refusal(out, number, &refusal);
+        return Err(FabricRefusal::Edge(ev_edge::Refusal::Edge(EdgeRefusal::NoSuchPort)));
     }
-    put_port(out, number, port, bridge.port(port), bridge.passes(port))
+    Ok((*bridge.port(port), bridge.passes(port)))
 }
 
-/// Prints the role and state of a port in the spanning tree, or a refusal if there is no edge of
+/// Returns the role and state of a port in the spanning tree, or a refusal if there is no edge of
 /// this number.
-#[tactic(auto, using(crate::proofs::Putting::some_put))]
-fn put_port_at<W: Out>(fabric: &Fabric, edge: u64, port: u64, out: &mut W) -> Result<(), Device>
-    requires { IsOpen (W.end out.old) }
-    ensures { PutsSome (W.end out.old) (W.end out.new) result }
+fn port_at(fabric: &Fabric, edge: u64, port: u8) -> Result<(PortState, bool), FabricRefusal>
+    ensures { ShowsPortOf edge port (nth fabric.now.edges edge) (seen_text edge port result) }
 {
     match edge_of(fabric, edge) {
-        Some(found) => put_port_of(out, edge, found, port_number(port)),
-        None => put_refusal(out, edge, &FabricRefusal::NoSuchEdge),
+        Some(found) => port_of(found, port),
+        None => Err(FabricRefusal::NoSuchEdge),
+    }
+}
+
+/// Prints the role and state of a port, or a refusal.
+fn put_seen<W: Out>(
+    out: &mut W,
+    edge: u64,
+    port: u8,
+    seen: &Result<(PortState, bool), FabricRefusal>,
+) -> Result<(), Device>
+    requires { IsOpen (W.end out.old) }
+    ensures { Puts (W.end out.old) (W.end out.new) (seen_text edge port seen.now) result }
+{
+    match seen {
+        Ok((state, passes)) => put_port(out, edge, port, state, *passes),
+        Err(refusal) => put_refusal(out, edge, refusal),
     }
 }
 
 /// Prints the report of an edge's table, or a refusal if there is no edge of this number.
-#[tactic(auto, using(crate::proofs::Putting::some_put))]
 fn put_report_of<W: Out>(fabric: &Fabric, edge: u64, out: &mut W) -> Result<(), Device>
     requires { IsOpen (W.end out.old) }
-    ensures { PutsSome (W.end out.old) (W.end out.new) result }
+    ensures { Puts (W.end out.old) (W.end out.new)
+        (report_text edge (nth fabric.now.edges edge)) result }
 {
     match edge_of(fabric, edge) {
         Some(found) => put_report(out, found.table()),
@@ -156,10 +167,10 @@ fn put_report_of<W: Out>(fabric: &Fabric, edge: u64, out: &mut W) -> Result<(), 
 }
 
 impl Simulator {
-    ghost use Rattle.ev_fabric.specs.declared.step.Step.TheVariants.{Local, Announce};
+    ghost use Rattle.ev_fabric.specs.declared.step.Step.TheVariants.{Local};
     ghost use Rattle.ev_fabric.specs.declared.step.LocalEvent.TheVariants.{Second};
-    ghost use Rattle.ev_script.specs.Script.{command_of, octets_of, second, frame, tunnel};
-    ghost use Rattle.ev_script.specs.Inner.Playing.{Makes, MakesOne, Performs, PlaysLine, PlaysTo, Answers};
+    ghost use Rattle.ev_script.specs.Script.{command_of, octets_of, second, frame, tunnel, announce, port as shown_port, report};
+    ghost use Rattle.ev_script.specs.Inner.Playing.{Makes, MakesOne, Performs, PlaysLine, PlaysTo};
 
     /// Returns a simulator that has made no step yet.
     pub(crate) fn new(fabric: Fabric) -> Simulator
@@ -202,8 +213,8 @@ impl Simulator {
     /// Makes a step, and prints its result.
     fn single<W: Out>(&mut self, edge: u64, step: &Step<'_>, out: &mut W)
         requires { self.old.is_told ≡ true → IsOpen (W.end out.old) }
-        ensures made { MakesOne step.now self.old self.new }
-        ensures told { Minds (W.end out.old) (W.end out.new) self.old.is_told self.new.is_told }
+        ensures { MakesOne step.now (step_text edge) self.old self.new
+            (W.end out.old) (W.end out.new) }
     {
         let answer = self.step(step);
         self.is_told = self.is_told && put_answer(out, edge, &answer).is_ok();
@@ -212,8 +223,8 @@ impl Simulator {
     /// Lets a second pass at an edge, the first one (0) of a command or a later one.
     fn second<W: Out>(&mut self, edge: u64, turn: u64, out: &mut W)
         requires { self.old.is_told ≡ true → IsOpen (W.end out.old) }
-        ensures made { MakesOne (Local edge Second) self.old self.new }
-        ensures told { Minds (W.end out.old) (W.end out.new) self.old.is_told self.new.is_told }
+        ensures { MakesOne (Local edge Second) (second_text edge turn) self.old self.new
+            (W.end out.old) (W.end out.new) }
     {
         let answer = self.step(&Step::Local(edge as usize, LocalEvent::Second));
         self.is_told = self.is_told && put_second(out, edge, turn, &answer).is_ok();
@@ -222,8 +233,7 @@ impl Simulator {
     /// Lets `seconds` seconds pass at an edge.
     fn seconds<W: Out>(&mut self, edge: u64, seconds: u64, out: &mut W)
         requires { self.old.is_told ≡ true → IsOpen (W.end out.old) }
-        ensures made { Performs edge (second seconds) self.old self.new }
-        ensures told { Minds (W.end out.old) (W.end out.new) self.old.is_told self.new.is_told }
+        ensures { Performs edge (second seconds) self.old self.new (W.end out.old) (W.end out.new) }
     {
         for turn in 0..seconds {
             self.second(edge, turn, out);
@@ -233,8 +243,7 @@ impl Simulator {
     /// Announces the oldest pending update of an edge, which puts it into the pool.
     fn announce<W: Out>(&mut self, edge: u64, out: &mut W)
         requires { self.old.is_told ≡ true → IsOpen (W.end out.old) }
-        ensures made { MakesOne (Announce edge) self.old self.new }
-        ensures told { Minds (W.end out.old) (W.end out.new) self.old.is_told self.new.is_told }
+        ensures { Performs edge announce self.old self.new (W.end out.old) (W.end out.new) }
     {
         let answer = self.step(&Step::Announce(edge as usize));
         let last = self.fabric.pool().len();
@@ -244,9 +253,8 @@ impl Simulator {
     /// Receives octets at a port.
     fn frame<W: Out>(&mut self, edge: u64, port: u64, hex: Hex<'_>, out: &mut W)
         requires { self.old.is_told ≡ true → IsOpen (W.end out.old) }
-        ensures made { Performs edge
-            (frame port (octets_of hex.entry.digits.now)) self.old self.new }
-        ensures told { Minds (W.end out.old) (W.end out.new) self.old.is_told self.new.is_told }
+        ensures { Performs edge (frame port (octets_of hex.entry.digits.now)) self.old self.new
+            (W.end out.old) (W.end out.new) }
     {
         let octets = hex.octets();
         let event = LocalEvent::Frame(port_number(port), octets.as_slice());
@@ -256,9 +264,8 @@ impl Simulator {
     /// Receives a datagram from another edge.
     fn tunnel<W: Out>(&mut self, edge: u64, from: Addr, hex: Hex<'_>, out: &mut W)
         requires { self.old.is_told ≡ true → IsOpen (W.end out.old) }
-        ensures made { Performs edge
-            (tunnel from (octets_of hex.entry.digits.now)) self.old self.new }
-        ensures told { Minds (W.end out.old) (W.end out.new) self.old.is_told self.new.is_told }
+        ensures { Performs edge (tunnel from (octets_of hex.entry.digits.now)) self.old self.new
+            (W.end out.old) (W.end out.new) }
     {
         let octets = hex.octets();
         let event = LocalEvent::TunnelFrame(from, octets.as_slice());
@@ -268,17 +275,18 @@ impl Simulator {
     /// Prints the role and state of a port in the spanning tree.
     fn port<W: Out>(&mut self, edge: u64, port: u64, out: &mut W)
         requires { self.old.is_told ≡ true → IsOpen (W.end out.old) }
-        ensures made { Makes [] self.old self.new }
-        ensures told { Minds (W.end out.old) (W.end out.new) self.old.is_told self.new.is_told }
+        ensures { Performs edge (shown_port port) self.old self.new
+            (W.end out.old) (W.end out.new) }
     {
-        self.is_told = self.is_told && put_port_at(&self.fabric, edge, port, out).is_ok();
+        let number = port_number(port);
+        let seen = port_at(&self.fabric, edge, number);
+        self.is_told = self.is_told && put_seen(out, edge, number, &seen).is_ok();
     }
 
     /// Prints the report of an edge's table.
     fn report<W: Out>(&mut self, edge: u64, out: &mut W)
         requires { self.old.is_told ≡ true → IsOpen (W.end out.old) }
-        ensures made { Makes [] self.old self.new }
-        ensures told { Minds (W.end out.old) (W.end out.new) self.old.is_told self.new.is_told }
+        ensures { Performs edge report self.old self.new (W.end out.old) (W.end out.new) }
     {
         self.is_told = self.is_told && put_report_of(&self.fabric, edge, out).is_ok();
     }
@@ -286,8 +294,8 @@ impl Simulator {
     /// Does a command at an edge, and prints its results.
     fn perform<W: Out>(&mut self, edge: u64, command: &Command<'_>, out: &mut W)
         requires { self.old.is_told ≡ true → IsOpen (W.end out.old) }
-        ensures made { Performs edge (command_of command.now) self.old self.new }
-        ensures told { Minds (W.end out.old) (W.end out.new) self.old.is_told self.new.is_told }
+        ensures { Performs edge (command_of command.now) self.old self.new
+            (W.end out.old) (W.end out.new) }
     {
         match command {
             Command::Up(port) => {
@@ -365,9 +373,8 @@ impl Simulator {
     /// Runs a line. Returns `false` if it is a bad one.
     fn line<W: Out>(&mut self, mode: Mode, line: &[u8], out: &mut W) -> bool
         requires { self.old.is_told ≡ true → IsOpen (W.end out.old) }
-        ensures played { PlaysLine mode line.now self.old self.new result }
-        ensures told { Minds (W.end out.old) (W.end out.new) self.old.is_told self.new.is_told }
-        ensures answers { Answers mode line.now self.old self.new (W.end out.old) (W.end out.new) }
+        ensures { PlaysLine mode line.now self.old self.new
+            (W.end out.old) (W.end out.new) result }
     {
         if let Some(question) = mode.question(line) {
             self.answer(mode, line, &question, out);
@@ -394,8 +401,8 @@ impl Simulator {
         out: &mut W,
     ) -> Option<BadLine<'a>>
         requires { self.old.is_told ≡ true → IsOpen (W.end out.old) }
-        ensures played { PlaysTo mode script.now self.old self.new result }
-        ensures told { Minds (W.end out.old) (W.end out.new) self.old.is_told self.new.is_told }
+        ensures { PlaysTo mode script.now self.old self.new
+            (W.end out.old) (W.end out.new) result }
     {
         let mut rest = script;
         let mut number = 0u64;

@@ -2,7 +2,7 @@
 ghost use Rattle.std.specs.Prelude.{◌≡◌, option_map};
 ghost use Rattle.ether_wire.specs.Ends.{IsOpen, Puts};
 ghost use Rattle.ev_fabric.specs.Fabric.{nth};
-ghost use Rattle.ev_script.specs.Inner.Views.{help_text, edges_text, no_edge_text, edge_answer, view_text};
+ghost use Rattle.ev_script.specs.Views.{help_text, edges_text, no_edge_text, edge_answer, view_text};
 
 use crate::script::Question;
 use ether_wire::{Device, Out, put_decimal};

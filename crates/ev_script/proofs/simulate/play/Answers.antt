@@ -1,6 +1,5 @@
-use Rattle.std.proofs.Common.{Bool, not, ◌||◌, is_ok, ap, subst, ◌∙◌}
+use Rattle.std.proofs.Common.{Bool, not, ◌||◌, is_ok, ap, ◌∙◌}
 use Rattle.ev_report.specs.Notes.{status_of}
-use Rattle.ev_script.specs.Inner.Printing.{Minds}
 use Rattle.ev_script.proofs.Simulating.{plays_on}
 use Rattle.ev_script.proofs.simulate.play.Goals as goal
 
@@ -18,9 +17,8 @@ returns g c =
     c.is_told.ensures
     ∙ ap (λ (b : Bool). not final.is_told || not b) c.is_ok-is_noted.ensures.value in
     plays_on c.args.mode c.args.fabric c.args.script.now p final out out' notes notes' r c.status_of.result
-    c.new-simulator.ensures.fabric c.new-simulator.ensures.fed
-    (subst (λ (b : Bool). Minds out out' b final.is_told) c.new-simulator.ensures.told c.play-bad.ensures.told) bad
-    c.play-bad.ensures.played c.put_bad_line.ensures
+    c.new-simulator.ensures.fabric c.new-simulator.ensures.fed c.new-simulator.ensures.told bad c.play-bad.ensures
+    c.put_bad_line.ensures
     (c.status_of.ensures ∙ ap (λ (b : Bool). status_of b c.is_out_of_memory.result c.is_some.result) failed
     ∙ ap (λ (b : Bool). status_of (not final.is_told || not (is_ok r)) b c.is_some.result) c.is_out_of_memory.ensures
     ∙ ap (λ (b : Bool). status_of (not final.is_told || not (is_ok r)) final.is_out_of_memory b) c.is_some.ensures)

@@ -1,12 +1,10 @@
 use Rattle.std.proofs.Common.{◌+◌, ◌≤◌, length}
-use Rattle.ev_script.specs.Inner.Printing.{Minds}
 use Rattle.ev_script.specs.Inner.Playing.{Played}
 use Rattle.ev_script.proofs.simulate.simulator.Simulator.play.Given as goal
 
 abbrev pub invariant-lines : goal.invariant-lines
 invariant-lines g l = record {
-  played : Played l.mode l.script l.rest l.initial.self l.self l.number;
-  told : Minds (g.W.Out.end l.initial.out) (g.W.Out.end l.out) l.initial.self.is_told l.self.is_told;
+  played : Played l.mode l.script l.rest l.initial.self l.self l.number (g.W.Out.end l.initial.out) (g.W.Out.end l.out);
   few : l.number + length l.rest ≤ length l.script;
 }
 
