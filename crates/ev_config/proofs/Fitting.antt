@@ -170,3 +170,10 @@ opens_with w e heard is some few a h = subst (λ (x : Whole). AreConfigs x.0) (s
 pub listed_next : (before : List ℕ) (d : Data) (ds : Items) (t : Members) (a : ℕ) → as_table d ≡ Some t
     → peer_of before t ≡ Ok a → listed_from before (item d ds) ≡ listed_from (before ++ a ∷ []) ds
 listed_next before d ds t a p q = rw (p, q) refl
+
+-- ---- the number of edges
+
+-- there are as many edges as addresses
+pub few_edges : (e : Edges) → length e.addresses ≤ 64 → FitTogether e → length e.configs ≤ 64
+few_edges e few h =
+    subst (λ (n : ℕ). n ≤ 64) (ap length h.named ∙ length-map e.configs (λ (c : EdgeConfig). c.address)) few

@@ -3,3 +3,4 @@ pub mod Fitting
 pub mod Lines
 pub mod Agreeing
 pub mod Adding
+pub mod Counting

@@ -6,4 +6,5 @@ pub mod ConfigPeer
 pub mod Config
 pub mod Faults
 pub mod Told
+pub mod Summary
 pub mod Inner

@@ -115,7 +115,8 @@ fn told(
     links: Vec<ArrayVec<PortEndpoints, 64>>,
     addresses: &ArrayVec<Addr, 64>,
 ) -> Config
-    requires { vec_len links ≡ vec_len configs }
+    requires each { vec_len links ≡ vec_len configs }
+    requires few { vec_len configs ≤ 64 }
     ensures { view_of result ≡ (map (listening addresses.now.items) configs.items, links.items) }
 {
     let mut edges = configs;

@@ -23,5 +23,5 @@ pub use config::{ConfigRefusal, config_for, config_of, served_config_of};
 pub use endpoint::{Endpoint, PortEndpoints};
 pub use laws::readings_agree;
 pub use refusal::put_refusal;
-pub use summary::summary_line;
+pub use summary::put_summary;
 pub use whole::{Config, Served, Use};

@@ -1,97 +1,162 @@
-//! The summary of a valid configuration. Its text is tested, not proved.
-ghost use Rattle.std.specs.Prelude.{◌≡◌, OnOk};
-ghost use Rattle.ether_wire.specs.Ends.{IsOpen};
-ghost use Rattle.ether_wire.specs.Memory.{page_end};
+//! The summary of a valid configuration.
+ghost use Rattle.std.specs.Prelude.{◌≡◌, ◌+◌, ◌≤◌, ◌++◌, ◌==◌, if◌then◌else◌, [], length, codes, eqb};
+ghost use Rattle.std.specs.List.{list_any};
+ghost use Rattle.ether_wire.specs.Ends.{IsOpen, Puts};
+ghost use Rattle.ev_config.specs.Summary.{port_count, count_different, all_vnis, vni_count, peer_count, counted, peers_text, ports_text, vnis_text, summary_text};
 
-use crate::advice::Line;
+use crate::keys::has_vni;
 use crate::whole::Config;
 use ether_wire::{Device, Out, Vni, put_decimal};
 use ev_edge::EdgeConfig;
 
 /// Returns the number of ports of the edges.
-fn count_ports(config: &Config) -> usize {
-    let mut count = 0usize;
-    for edge in config.edges.iter() {
-        count = count.saturating_add(edge.ports.len());
+fn count_ports(edges: &[EdgeConfig]) -> u64
+    requires { length edges.now ≤ 64 }
+    ensures { result ≡ port_count edges.now }
+{
+    let mut count = 0;
+    for edge in edges {
+        count += edge.ports.len() as u64;
     }
     count
 }
 
-/// Returns `true` if one of the first `edges` edges serves the VNI.
-fn is_served(config: &Config, edges: usize, vni: Vni) -> bool {
-    for edge in config.edges.iter().take(edges) {
-        if edge.vnis.contains(&vni) {
+/// Returns `true` if one of the edges serves the VNI.
+#[tactic(auto, using(crate::proofs::Counting::served_more))]
+fn is_served(edges: &[EdgeConfig], vni: Vni) -> bool
+    ensures { result ≡ list_any (λ x. eqb x vni) (all_vnis edges.now) }
+{
+    for edge in edges {
+        if has_vni(edge.vnis.as_slice(), vni) {
             return true;
         }
     }
     false
 }
 
-/// Returns the number of VNIs of this edge that none of the edges before it serves.
-fn count_new(config: &Config, edges: usize, edge: &EdgeConfig) -> usize {
-    let mut count = 0usize;
-    for vni in edge.vnis.iter() {
-        if !is_served(config, edges, *vni) {
-            count = count.saturating_add(1);
-        }
+/// Returns 0 if the VNI is one of the rest, or one of the later edges serves it, and otherwise 1.
+#[tactic(auto, using(crate::proofs::Counting::again))]
+fn count_last(vni: Vni, rest: &[Vni], later: &[EdgeConfig]) -> u64
+    ensures value { result ≡ (if list_any (λ x. eqb x vni) (rest.now ++ all_vnis later.now)
+        then 0 else 1) }
+    ensures few { result ≤ 1 }
+{
+    if has_vni(rest, vni) || is_served(later, vni) { 0 } else { 1 }
+}
+
+/// Returns the number of different VNIs among these that none of the later edges serves.
+fn count_new(vnis: &[Vni], later: &[EdgeConfig]) -> u64
+    requires { length vnis.now ≤ 64 }
+    ensures value { result + vni_count later.now
+        ≡ count_different (vnis.now ++ all_vnis later.now) }
+    ensures few { result ≤ 64 }
+{
+    let mut count = 0;
+    for (place, vni) in vnis.iter().enumerate() {
+        let (_, rest) = vnis.split_at(place + 1);
+        count += count_last(*vni, rest, later);
     }
     count
 }
 
 /// Returns the number of VNIs that the edges serve.
-fn count_vnis(config: &Config) -> usize {
-    let mut count = 0usize;
-    for (edges, edge) in config.edges.iter().enumerate() {
-        count = count.saturating_add(count_new(config, edges, edge));
+#[tactic(auto, using(crate::proofs::Counting::vnis_more))]
+fn count_vnis(edges: &[EdgeConfig]) -> u64
+    requires { length edges.now ≤ 64 }
+    ensures { result ≡ vni_count edges.now }
+{
+    let mut count = 0;
+    for (place, edge) in edges.iter().enumerate() {
+        let (_, later) = edges.split_at(place + 1);
+        count += count_new(edge.vnis.as_slice(), later);
     }
     count
 }
 
-/// Writes a number of things, after its lead.
-fn put_count(line: &mut Line, lead: &[u8], count: usize, one: &[u8]) -> Result<(), Device>
-    requires { IsOpen (page_end line.old) }
-    ensures { OnOk result ((page_end line.new).failures ≡ (page_end line.old).failures) }
+/// Returns the number of edges that run elsewhere.
+fn count_peers(edges: &[EdgeConfig]) -> u64
+    ensures { result ≡ peer_count edges.now }
 {
-    line.put(lead)?;
-    put_decimal(line, count as u64)?;
-    line.put(one)?;
-    line.put(if count == 1 { b"" } else { b"s" })
+    match edges {
+        [] => 0,
+        [edge, ..] => edge.originators.len().saturating_sub(edges.len()) as u64,
+    }
 }
 
-/// Returns the number of edges that run elsewhere.
-fn count_peers(config: &Config) -> usize {
-    match config.edges.first() {
-        Some(edge) => edge.originators.len().saturating_sub(config.edges.len()),
-        None => 0,
+/// Writes the plural's ending, unless the number is 1.
+#[tactic(auto, using(ether_wire::proofs::Appending::with_text_none))]
+fn put_ending<W: Out>(out: &mut W, count: u64) -> Result<(), Device>
+    requires { IsOpen (W.end out.old) }
+    ensures { Puts (W.end out.old) (W.end out.new)
+        (if count == 1 then [] else codes "s") result }
+{
+    if count == 1 {
+        return Ok(());
     }
+    out.put(b"s")
+}
+
+/// Writes a number of things, and their word.
+#[tactic(auto, using(ether_wire::proofs::Appending::with_text_twice))]
+fn put_count<W: Out>(out: &mut W, count: u64, word: &[u8]) -> Result<(), Device>
+    requires { IsOpen (W.end out.old) }
+    ensures { Puts (W.end out.old) (W.end out.new) (counted count word.now) result }
+{
+    put_decimal(out, count)?;
+    out.put(word)?;
+    put_ending(out, count)
 }
 
 /// Writes the number of edges that run elsewhere, if there are any.
-fn put_peers(line: &mut Line, count: usize) -> Result<(), Device>
-    requires { IsOpen (page_end line.old) }
-    ensures { OnOk result ((page_end line.new).failures ≡ (page_end line.old).failures) }
+#[tactic(auto, using(ether_wire::proofs::Appending::with_text_twice, ether_wire::proofs::Appending::with_text_none))]
+fn put_peers<W: Out>(out: &mut W, count: u64) -> Result<(), Device>
+    requires { IsOpen (W.end out.old) }
+    ensures { Puts (W.end out.old) (W.end out.new) (peers_text count) result }
 {
-    match count {
-        0 => Ok(()),
-        _ => put_count(line, b", ", count, b" peer"),
+    if count == 0 {
+        return Ok(());
     }
+    out.put(b", ")?;
+    put_count(out, count, b" peer")
 }
 
-/// Writes the numbers of edges, ports, VNIs and peers.
-fn put_summary(line: &mut Line, config: &Config) -> Result<(), Device>
-    requires { IsOpen (page_end line.old) }
-    ensures { OnOk result ((page_end line.new).failures ≡ (page_end line.old).failures) }
+/// Writes the numbers of edges and ports.
+#[tactic(auto, using(ether_wire::proofs::Appending::with_text_twice))]
+fn put_ports<W: Out>(out: &mut W, edges: &[EdgeConfig]) -> Result<(), Device>
+    requires few { length edges.now ≤ 64 }
+    requires out { IsOpen (W.end out.old) }
+    ensures { Puts (W.end out.old) (W.end out.new) (ports_text edges.now) result }
 {
-    put_count(line, b"ok: ", config.edges.len(), b" edge")?;
-    put_count(line, b", ", count_ports(config), b" port")?;
-    put_count(line, b", ", count_vnis(config), b" VNI")?;
-    put_peers(line, count_peers(config))?;
-    line.put(b"\n")
+    out.put(b"ok: ")?;
+    put_count(out, edges.len() as u64, b" edge")?;
+    out.put(b", ")?;
+    put_count(out, count_ports(edges), b" port")
 }
 
-/// Returns the summary line of a valid configuration.
-pub fn summary_line(config: &Config) -> Line {
-    let mut line = Line::new();
-    let _fits = put_summary(&mut line, config);
-    line
+/// Writes the numbers of VNIs and peers.
+#[tactic(auto, using(ether_wire::proofs::Appending::with_text_twice))]
+fn put_vnis<W: Out>(out: &mut W, edges: &[EdgeConfig]) -> Result<(), Device>
+    requires few { length edges.now ≤ 64 }
+    requires out { IsOpen (W.end out.old) }
+    ensures { Puts (W.end out.old) (W.end out.new) (vnis_text edges.now) result }
+{
+    out.put(b", ")?;
+    put_count(out, count_vnis(edges), b" VNI")?;
+    put_peers(out, count_peers(edges))?;
+    out.put(b"\n")
+}
+
+/// Writes the summary of a valid configuration: the numbers of edges, ports, VNIs and peers.
+///
+/// # Errors
+///
+/// `Device` exactly if a call of the writer failed; then no further call is made.
+#[tactic(auto, using(ether_wire::proofs::Appending::with_text_twice))]
+pub fn put_summary<W: Out>(out: &mut W, config: &Config) -> Result<(), Device>
+    requires { IsOpen (W.end out.old) }
+    ensures { Puts (W.end out.old) (W.end out.new) (summary_text config.now.edges.items) result }
+{
+    let edges = config.edges.as_slice();
+    put_ports(out, edges)?;
+    put_vnis(out, edges)
 }

@@ -1,5 +1,5 @@
 //! The content of a whole document.
-ghost use Rattle.std.specs.Prelude.{◌≡◌, vec_len};
+ghost use Rattle.std.specs.Prelude.{◌≡◌, ◌≤◌, vec_len};
 
 use crate::endpoint::PortEndpoints;
 use arrayvec::ArrayVec;
@@ -13,6 +13,7 @@ pub struct Config {
     /// For each edge, the endpoints of its ports.
     pub links: Vec<ArrayVec<PortEndpoints, 64>>,
     ghost each: { vec_len links ≡ vec_len edges },
+    ghost few: { vec_len edges ≤ 64 },
 }
 
 /// The purpose of a configuration.

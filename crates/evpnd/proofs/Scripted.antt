@@ -15,14 +15,14 @@ use Rattle.ev_report.proofs.Silence.{status_as}
 use Rattle.ev_script.specs.declared.checking.Found.{Found}
 use Rattle.ev_script.specs.Faults.{faults_text, ChecksLines}
 use Rattle.evpnd.specs.Files.{Text, Shelf, HasRoom, IsTextOf}
+use Rattle.ev_config.specs.Summary.{summary_text}
 use Rattle.ev_run.specs.declared.obstacles.Obstacle.{Obstacle}
-use Rattle.ev_run.specs.Needs.{needs_of, asked_text}
 use Rattle.ev_run.specs.Obstacles.{obstacles_of}
 use Rattle.evpnd.specs.declared.check.Purpose.{Purpose}
 use Rattle.ev_config.specs.declared.whole.Use.{Use}
 use Rattle.ev_config.specs.declared.whole.Use.TheVariants.{Any, Run, Serve}
 use Rattle.ev_config.specs.Config.{ConfigFor}
-use Rattle.evpnd.specs.Checks.{Desk, desk, OfFile, TellsObstacles, SumsRun, SumsFor, Checks}
+use Rattle.evpnd.specs.Checks.{Desk, desk, OfFile, run_text, TellsObstacles, SumsRun, SumsFor, Checks}
 use Rattle.evpnd.specs.Scripts.{lines_text, Looks, OfScript, Behind, ChecksAll}
 
 -- notes that may have failed
@@ -104,20 +104,20 @@ checked_ready purpose text (Ok config) s input out out' notes notes' status h do
               (λ (e : End). IsOpen e) (sym same) n;
         }
 
-    told : (found : List Obstacle) (takes : Text) → TellsObstacles found takes out out' notes notes' status
+    told : (found : List Obstacle) (text : Text) → TellsObstacles found text out out' notes notes' status
         → IsReady s out' notes'
-    told [] takes t = open_behind (t.1.0 ++ takes) t.0 t.1.1 t.1.2
-    told (one ∷ more) takes t = absurd (two_or_four (has_failed notes notes') status t.1.status_is done)
+    told [] text t = open_behind text t.0 t.1.0 t.1.1
+    told (one ∷ more) text t = absurd (two_or_four (has_failed notes notes') status t.1.status_is done)
 
     run : (is_asked : Bool) → SumsRun is_asked purpose.limits config out out' notes notes' status
         → IsReady s out' notes'
     run is_asked (inl t) =
         told (obstacles_of config.edges.items config.links.items is_asked purpose.limits)
-        (asked_text is_asked (needs_of config.edges.items)) t
+        (run_text is_asked config.edges.items) t
     run is_asked (inr m) = let three = m.2 in absurd (omega (arith, three, done))
 
     go : (wanted : Use) → SumsFor wanted purpose.limits config out out' notes notes' status → IsReady s out' notes'
-    go Any p = open_behind p.1.0 p.0 p.1.1 p.1.2
+    go Any p = open_behind (summary_text config.edges.items) p.0 p.1.0 p.1.1
     go Run p = run false p
     go Serve p = run true p
 checked_ready purpose text (Err (refusal.Key key)) s input out out' notes notes' status h done room o n =

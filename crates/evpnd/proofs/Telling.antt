@@ -16,22 +16,14 @@ use Rattle.evpnd.specs.Files.{Shelf}
 use Rattle.evpnd.specs.declared.host.Descriptors.{Descriptors}
 use Rattle.ev_report.proofs.Finishing.{put_holds}
 use Rattle.ev_report.proofs.Told.{failed_put}
-use Rattle.evpnd.specs.Checks.{desk, Sums, SumsWith}
+use Rattle.evpnd.specs.Checks.{desk, Sums}
 use Rattle.evpnd.specs.Program.{world, RunsWords}
 use Rattle.evpnd.specs.Inner.Program.{TellsFault}
 
 -- a text was put on the output
 pub sums_put : (a b : End) (r : Result (Unit {0}) Device) (text : Text) (status : ℕ) → Puts a b text r
-    → ◌≡◌ {A = ℕ} status (cond (is_ok r) 0 4) → Sums a b status
-sums_put a b r text status h is = (text, put_holds a b r text h, is ∙ failed_put a b r text 0 h (is_ok r) refl)
-
--- a text was put, followed by another one
-pub put_behind : (a b c : End) (text more : Text) (r : Result (Unit {0}) Device) → b ≡ with_text a text
-    → Puts b c more r
-    → (t : Text) × Puts a c (t ++ more) r
-put_behind a b c text more (Ok x) first h =
-    (text, h ∙ ap (λ (e : End). with_text e more) first ∙ with_text_twice a text more)
-put_behind a b c text more (Err d) first h = (text, h ∙ ap (λ (e : End). e.failures + 1) first)
+    → ◌≡◌ {A = ℕ} status (cond (is_ok r) 0 4) → Sums text a b status
+sums_put a b r text status h is = (put_holds a b r text h, is ∙ failed_put a b r text 0 h (is_ok r) refl)
 
 -- a text was put, followed by the lines for one that is no configuration
 pub put_before : (wanted : Use) (document : Text) (a b c : End) (text : Text) (r : Result (Unit {0}) Device)
@@ -42,13 +34,6 @@ put_before wanted document a b c text (Ok x) first (t, are, h) =
     (t, are, h ∙ ap (λ (e : End). with_text e t) first ∙ with_text_twice a text t)
 put_before wanted document a b c text (Err d) first (t, are, h) =
     (t, are, h ∙ ap (λ (e : End). e.failures + 1) first)
-
-pub sums_with : (more : Text) (a b : End) (r : Result (Unit {0}) Device) (status : ℕ) → (t : Text)
-    × Puts a b (t ++ more) r
-    → ◌≡◌ {A = ℕ} status (cond (is_ok r) 0 4) → SumsWith more a b status
-sums_with more a b r status put is =
-    let text = put.0 ++ more in
-    (put.0, put_holds a b r text put.1, is ∙ failed_put a b r text 0 put.1 (is_ok r) refl)
 
 among_some : (k : ErrorKind) (ks : Kinds) → IsAmong k ks → ks ≢ []
 among_some k [] among none = among

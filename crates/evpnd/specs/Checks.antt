@@ -2,6 +2,7 @@
 use Rattle.std.specs.Prelude.{◌≡◌, ℕ, ◌+◌, ◌⊎◌, Bool, true, false, List, [], ◌∷◌, ◌++◌, Option, Result, Ok, Err}
 use Rattle.std.specs.Prelude.{if◌then◌else◌}
 use Rattle.ether_wire.specs.Ends.{End}
+use Rattle.ev_edge.specs.declared.config.EdgeConfig.{EdgeConfig}
 use Rattle.ev_config.specs.declared.whole.Config.{Config}
 use Rattle.ev_config.specs.declared.config.ConfigRefusal.{ConfigRefusal}
 use Rattle.ev_config.specs.declared.config.ConfigRefusal.TheVariants as refusal
@@ -13,6 +14,7 @@ use Rattle.ev_report.specs.Ends.{Devices, devices, has_failed, Holds}
 use Rattle.ev_report.specs.Usage.{IsTold}
 use Rattle.ev_config.specs.declared.whole.Use.{Use}
 use Rattle.ev_config.specs.Told.{AreFaultLines}
+use Rattle.ev_config.specs.Summary.{summary_text}
 use Rattle.ev_config.specs.declared.whole.Use.TheVariants.{Any, Run, Serve}
 use Rattle.ev_run.specs.declared.obstacles.Limits.{Limits}
 use Rattle.ev_run.specs.declared.obstacles.Obstacle.{Obstacle}
@@ -75,38 +77,37 @@ OfFile gives uses path before after status = IsTextless named.Config path before
 
 -- ---- a check
 
--- a line was written on the output, or a call of it failed
-abbrev pub Sums : End → End → ℕ → Type 0
-Sums before after status = (text : Text) × Holds before after text
-    × (status ≡ (if has_failed before after then 4 else 0))
+-- a text was written on the output, or a call of it failed
+abbrev pub Sums : Text → End → End → ℕ → Type 0
+Sums text before after status = Holds before after text × (status ≡ (if has_failed before after then 4 else 0))
+
+-- the summary of a configuration's edges, and the resources of their run
+abbrev pub run_text : Bool → List EdgeConfig → Text
+run_text is_asked edges = summary_text edges ++ asked_text is_asked (needs_of edges)
 
 -- the lines for a text that is no configuration are written to the notes, or a call of them failed
 abbrev pub TellsFaults : Use → Text → End → End → ℕ → Type 0
 TellsFaults wanted text before after status =
     (told : Text) × AreFaultLines wanted text told × IsTold told before after status
 
--- some text followed by this one was written on the output, or a call of it failed
-abbrev pub SumsWith : Text → End → End → ℕ → Type 0
-SumsWith more before after status =
-    (text : Text) × Holds before after (text ++ more) × (status ≡ (if has_failed before after then 4 else 0))
-
--- A run has no obstacles, and its resources are written; or its obstacles are reported.
+-- A run has no obstacles, and this text is written; or its obstacles are reported.
 abbrev pub TellsObstacles : List Obstacle → Text → End → End → End → End → ℕ → Type 0
-TellsObstacles [] takes out out' notes notes' status = (notes' ≡ notes) × SumsWith takes out out' status
-TellsObstacles (one ∷ more) takes out out' notes notes' status =
+TellsObstacles [] text out out' notes notes' status = (notes' ≡ notes) × Sums text out out' status
+TellsObstacles (one ∷ more) text out out' notes notes' status =
     (out' ≡ out) × IsTold (obstacles_text (one ∷ more)) notes notes' status
 
--- The obstacles or the resources of a configuration's run, served or not, given the limits of the process; or there was
--- no memory for the obstacles.
+-- The obstacles of a configuration's run, or its summary and resources, served or not, given the limits of the process;
+-- or there was no memory for the obstacles.
 abbrev pub SumsRun : Bool → Limits → Config → End → End → End → End → ℕ → Type 0
 SumsRun is_asked limits config out out' notes notes' status =
     TellsObstacles (obstacles_of config.edges.items config.links.items is_asked limits)
-    (asked_text is_asked (needs_of config.edges.items)) out out' notes notes' status
+    (run_text is_asked config.edges.items) out out' notes notes' status
     ⊎ ((out' ≡ out) × (notes' ≡ notes) × (status ≡ 3))
 
 -- the summary of a configuration for a use; for a run, its obstacles or its resources
 abbrev pub SumsFor : Use → Limits → Config → End → End → End → End → ℕ → Type 0
-SumsFor Any limits config out out' notes notes' status = (notes' ≡ notes) × Sums out out' status
+SumsFor Any limits config out out' notes notes' status =
+    (notes' ≡ notes) × Sums (summary_text config.edges.items) out out' status
 SumsFor Run limits config out out' notes notes' status = SumsRun false limits config out out' notes notes' status
 SumsFor Serve limits config out out' notes notes' status = SumsRun true limits config out out' notes notes' status
 

@@ -1,20 +1,20 @@
 //! `evpnd check`: checks whether a configuration is valid.
-ghost use Rattle.std.specs.Prelude.{◌≡◌, ◌++◌, is_ok, if◌then◌else◌, option_map};
+ghost use Rattle.std.specs.Prelude.{◌≡◌, is_ok, if◌then◌else◌, option_map};
 ghost use Rattle.ether_wire.specs.Ends.{Source, IsOpen, Puts};
 ghost use Rattle.ev_report.specs.Ends.{devices};
 ghost use Rattle.ev_config.specs.Config.{ConfigFor};
-ghost use Rattle.evpnd.specs.Files.{Text, HasRoom};
+ghost use Rattle.evpnd.specs.Files.{HasRoom};
 ghost use Rattle.ev_report.specs.Usage.{IsTold};
-ghost use Rattle.ev_run.specs.Needs.{needs_of, asked_text};
+ghost use Rattle.ev_config.specs.Summary.{summary_text};
 ghost use Rattle.ev_run.specs.Obstacles.{obstacles_of, obstacles_text};
-ghost use Rattle.evpnd.specs.Checks.{desk, OfFile, Sums, TellsFaults, SumsWith, TellsObstacles, SumsRun, SumsFor, Checks};
+ghost use Rattle.evpnd.specs.Checks.{desk, OfFile, Sums, run_text, TellsFaults, TellsObstacles, SumsRun, SumsFor, Checks};
 ghost use Rattle.evpnd.specs.Inner.Checks.{ChecksText};
 ghost use Rattle.evpnd.specs.Scripts.{ChecksAll};
 
 use crate::check_script::check_script;
 use crate::files::{Files, Named, text_at};
 use ether_wire::{Device, Out};
-use ev_config::{Config, ConfigRefusal, Use, config_for, put_refusal, summary_line};
+use ev_config::{Config, ConfigRefusal, Use, config_for, put_refusal, put_summary};
 use ev_report::{DEVICE, DONE, MEMORY, usage_status};
 use ev_run::{Limits, Obstacle, needs_of, obstacles_of, put_asked_needs, put_obstacles};
 use std::alloc::Global;
@@ -50,28 +50,31 @@ pub(crate) fn done_status(written: Result<(), Device>) -> u8
 }
 
 /// Writes the summary of a configuration.
+#[tactic(auto, using(crate::proofs::Telling::sums_put))]
 fn sum_up<W: Out>(config: &Config, out: &mut W) -> u8
     requires { IsOpen (W.end out.old) }
-    ensures { Sums (W.end out.old) (W.end out.new) result }
+    ensures { Sums (summary_text config.now.edges.items) (W.end out.old) (W.end out.new) result }
 {
-    done_status(out.put(summary_line(config).octets()))
+    done_status(put_summary(out, config))
 }
 
 /// Writes the summary of a configuration, and the resources of its run.
+#[tactic(auto, using(ether_wire::proofs::Appending::with_text_twice))]
 fn put_sums<W: Out>(config: &Config, is_asked: bool, out: &mut W) -> Result<(), Device>
     requires { IsOpen (W.end out.old) }
-    ensures { (text : Text) × Puts (W.end out.old) (W.end out.new)
-        (text ++ asked_text is_asked (needs_of config.now.edges.items)) result }
+    ensures { Puts (W.end out.old) (W.end out.new)
+        (run_text is_asked config.now.edges.items) result }
 {
-    out.put(summary_line(config).octets())?;
+    put_summary(out, config)?;
     put_asked_needs(out, needs_of(config), is_asked)
 }
 
 /// Writes the summary of a configuration, and the resources of its run, and returns the status.
+#[tactic(auto, using(crate::proofs::Telling::sums_put))]
 fn sum_up_run<W: Out>(config: &Config, is_asked: bool, out: &mut W) -> u8
     requires { IsOpen (W.end out.old) }
-    ensures { SumsWith (asked_text is_asked (needs_of config.now.edges.items)) (W.end out.old)
-        (W.end out.new) result }
+    ensures { Sums (run_text is_asked config.now.edges.items) (W.end out.old) (W.end out.new)
+        result }
 {
     done_status(put_sums(config, is_asked, out))
 }
@@ -84,7 +87,7 @@ fn tell_obstacles<N: Out>(found: &[Obstacle], notes: &mut N) -> u8
     usage_status(put_obstacles(notes, found))
 }
 
-/// Writes the resources of a run without obstacles, or reports the obstacles.
+/// Writes the summary and the resources of a run without obstacles, or reports the obstacles.
 fn tell_run<W: Out, N: Out>(
     config: &Config,
     is_asked: bool,
@@ -94,7 +97,7 @@ fn tell_run<W: Out, N: Out>(
 ) -> u8
     requires out { IsOpen (W.end out.old) }
     requires notes { IsOpen (N.end notes.old) }
-    ensures { TellsObstacles found.now (asked_text is_asked (needs_of config.now.edges.items))
+    ensures { TellsObstacles found.now (run_text is_asked config.now.edges.items)
         (W.end out.old) (W.end out.new) (N.end notes.old) (N.end notes.new) result }
 {
     match found {

@@ -1,6 +1,7 @@
+use Rattle.std.proofs.Common.{ℕ, ◌≤◌, sym, subst}
 use Rattle.ev_config.specs.Config.{view_of}
 use Rattle.ev_config.specs.Inner.Config.{edges_view}
-use Rattle.ev_config.proofs.Fitting.{opens_with}
+use Rattle.ev_config.proofs.Fitting.{opens_with, few_edges}
 use Rattle.ev_config.proofs.edges.with_peers.Goals as goal
 
 pub returns-clause-opens : goal.returns-clause-opens
@@ -13,3 +14,8 @@ returns-clause-opens c =
       all = c.in_ok-listed.ensures.listed;
     })
     c.requires.together
+
+pub told-requires-clause-few : goal.told-requires-clause-few
+told-requires-clause-few c =
+    subst (λ (n : ℕ). n ≤ 64) (sym c.args.edges.configs.ok.0)
+    (few_edges (edges_view c.args.edges) c.requires.few c.requires.together)
