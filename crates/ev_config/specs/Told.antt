@@ -1,11 +1,15 @@
 -- The messages for a text that is no configuration.
-use Rattle.std.specs.Prelude.{◌≡◌, ℕ, ◌+◌, ◌⊎◌, List, [], ◌∷◌, ◌++◌, length, Some, Result, Ok, Err}
+use Rattle.std.specs.Prelude.{◌≡◌, ℕ, ◌+◌, ◌⊎◌, Bool, true, not, nat_lt, ◌&&◌, ◌||◌, List, [], ◌∷◌, ◌++◌, length, codes}
+use Rattle.std.specs.Prelude.{Some, Result, Ok, Err}
+use Rattle.std.specs.Fmt.{decimal}
+use Rattle.std.specs.List.{list_any}
 use Rattle.toml.specs.Data.{Members}
 use Rattle.toml.specs.Parse.{parse_document}
 use Rattle.ether_wire.specs.declared.ends.Device.{Device}
 use Rattle.ether_wire.specs.Ends.{End, with_text, Puts}
 use Rattle.ev_config.specs.declared.whole.Use.{Use}
-use Rattle.ev_config.specs.Faults.{faults_in}
+use Rattle.ev_config.specs.Keys.{Key}
+use Rattle.ev_config.specs.Faults.{Spot, File, Edge, Port, Peer, Faulty, faults_in}
 
 -- this text, and a line feed (10)
 abbrev pub line_text : List ℕ → List ℕ
@@ -15,17 +19,56 @@ abbrev pub lines_text : List (List ℕ) → List ℕ
 lines_text [] = []
 lines_text (words ∷ more) = line_text words ++ lines_text more
 
--- A line is written for each of these, or a call failed.
-abbrev pub TellsEach : {X : Type 0} → List X → End → End → Result (Unit {0}) Device → Type 0
-TellsEach xs old new (Ok done) =
-    (words : List (List ℕ)) × (length words ≡ length xs) × (new ≡ with_text old (lines_text words))
-TellsEach xs old new (Err device) = new.failures ≡ old.failures + 1
+-- ---- the line of a fault
+
+-- a name and a number
+abbrev pub numbered : List ℕ → ℕ → List ℕ
+numbered name n = name ++ decimal n
+
+-- `edge 2, port 3: `; the keys of the document itself have no such words
+abbrev pub spot_text : Spot → List ℕ
+spot_text File = []
+spot_text (Edge n) = numbered (codes "edge ") n ++ codes ": "
+spot_text (Port n m) = numbered (codes "edge ") n ++ numbered (codes ", port ") m ++ codes ": "
+spot_text (Peer n) = numbered (codes "peer ") n ++ codes ": "
+
+-- an octet that isn't a printable character of ASCII
+abbrev pub is_odd : ℕ → Bool
+is_odd octet = nat_lt octet 32 || nat_lt 126 octet
+
+-- at most 100 octets, all of them printable
+abbrev pub is_plain : Key → Bool
+is_plain key = nat_lt (length key) 101 && not (list_any is_odd key)
+
+-- a plain key is shown as it is
+abbrev pub IsShown : Key → List ℕ → Type 0
+IsShown key shown = is_plain key ≡ true → shown ≡ key
+
+-- where the fault is, its key, and some advice
+abbrev pub IsAbout : Faulty → List ℕ → Type 0
+IsAbout fault words =
+    (shown advice : List ℕ) × IsShown fault.1 shown × (words ≡ spot_text fault.0 ++ shown ++ advice)
+
+-- as many lines as faults, each about one of them, in their order
+abbrev pub AreAbout : List Faulty → List (List ℕ) → Type 0
+AreAbout [] [] = Unit {0}
+AreAbout [] (words ∷ more) = ⊥
+AreAbout (fault ∷ faults) [] = ⊥
+AreAbout (fault ∷ faults) (words ∷ more) = IsAbout fault words × AreAbout faults more
+
+-- ---- the lines that are written
+
+-- A line is written about each of these faults, or a call failed.
+abbrev pub TellsEach : List Faulty → End → End → Result (Unit {0}) Device → Type 0
+TellsEach faults old new (Ok done) =
+    (lines : List (List ℕ)) × AreAbout faults lines × (new ≡ with_text old (lines_text lines))
+TellsEach faults old new (Err device) = new.failures ≡ old.failures + 1
 
 -- one line, or a call failed
 abbrev pub TellsOne : End → End → Result (Unit {0}) Device → Type 0
 TellsOne old new result = (words : List ℕ) × Puts old new (line_text words) result
 
--- a line for each fault of a text's document
+-- a line about each fault of a text's document
 abbrev pub TellsAll : Use → List ℕ → End → End → Result (Unit {0}) Device → Type 0
 TellsAll wanted text old new result =
     (t : Members) × (parse_document text ≡ Some t) × TellsEach (faults_in wanted t) old new result
@@ -36,12 +79,12 @@ TellsRefusal wanted text old new result = TellsAll wanted text old new result �
 
 -- ---- the text of these lines
 
--- a line for each fault of a text's document
+-- a line about each fault of a text's document
 pub record IsLineEach (wanted : Use) (text told : List ℕ) : Type 0 where
   pub document : Members
   pub parsed : parse_document text ≡ Some document
   pub lines : List (List ℕ)
-  pub count : length lines ≡ length (faults_in wanted document)
+  pub about : AreAbout (faults_in wanted document) lines
   pub told_is : told ≡ lines_text lines
 
 -- one line
@@ -49,6 +92,6 @@ pub record IsOneLine (told : List ℕ) : Type 0 where
   pub words : List ℕ
   pub told_is : told ≡ line_text words
 
--- A line for each fault; or one line, if there is no document, or there was no memory to find more.
+-- A line about each fault; or one line, if there is no document, or there was no memory to find more.
 abbrev pub AreFaultLines : Use → List ℕ → List ℕ → Type 0
 AreFaultLines wanted text told = IsLineEach wanted text told ⊎ IsOneLine told

@@ -1,4 +1,5 @@
-//! The messages about a configuration. Their texts are tested, not proved.
+//! The advice about a faulty key: its value, why it is wrong, and the allowed values. Its text is
+//! tested, not proved.
 ghost use Rattle.std.specs.Prelude.{◌≡◌, OnOk};
 ghost use Rattle.ether_wire.specs.Ends.{IsOpen};
 ghost use Rattle.ether_wire.specs.Memory.{page_end};
@@ -141,29 +142,6 @@ fn put_number(line: &mut Line, name: &[u8], number: usize) -> Result<(), Device>
     line.put(name)?;
     line.put(b" ")?;
     put_decimal(line, number as u64)
-}
-
-/// Writes where the table is: `edge 2, port 3: `.
-fn put_place(line: &mut Line, place: Place<'_>) -> Result<(), Device>
-    requires { IsOpen (page_end line.old) }
-    ensures { OnOk result ((page_end line.new).failures ≡ (page_end line.old).failures) }
-{
-    match place {
-        Place::File(_) => Ok(()),
-        Place::Edge(edge, _) => {
-            put_number(line, b"edge", edge)?;
-            line.put(b": ")
-        }
-        Place::Port(edge, port, _) => {
-            put_number(line, b"edge", edge)?;
-            put_number(line, b", port", port)?;
-            line.put(b": ")
-        }
-        Place::Peer(peer, _) => {
-            put_number(line, b"peer", peer)?;
-            line.put(b": ")
-        }
-    }
 }
 
 /// Returns the table of a place.
@@ -342,12 +320,11 @@ fn put_reason(
     }
 }
 
-/// Writes a key, its value, and why that is wrong, if it is known.
+/// Writes the value of a key, and why that is wrong, if it is known.
 fn put_found(line: &mut Line, document: &Table, place: Place<'_>, key: &str) -> Result<(), Device>
     requires { IsOpen (page_end line.old) }
     ensures { OnOk result ((page_end line.new).failures ≡ (page_end line.old).failures) }
 {
-    put_shown(line, key)?;
     match table_of(place).get(key) {
         Some(value) => {
             line.put(b" is ")?;
@@ -405,8 +382,8 @@ fn put_allowed(
     put_meant(line, alloc, wanted, place, key)
 }
 
-/// Writes the place of a faulty key, its value, why it is wrong, and the allowed values.
-fn put_fault(
+/// Writes the value of a faulty key, why it is wrong, and the allowed values.
+fn put_advice(
     line: &mut Line,
     alloc: Global,
     wanted: Use,
@@ -417,19 +394,18 @@ fn put_fault(
     ensures { OnOk result ((page_end line.new).failures ≡ (page_end line.old).failures) }
 {
     let FaultyKey { place, key } = fault;
-    put_place(line, place)?;
     put_found(line, document, place, key)?;
     put_allowed(line, alloc, wanted, place, key)
 }
 
-/// Returns the line for a faulty key.
-pub(crate) fn fault_line(
+/// Returns the advice that follows a faulty key.
+pub(crate) fn advice_line(
     alloc: Global,
     wanted: Use,
     document: &Table,
     fault: FaultyKey<'_>,
 ) -> Line {
     let mut line = Line::new();
-    let _fits = put_fault(&mut line, alloc, wanted, document, fault);
+    let _fits = put_advice(&mut line, alloc, wanted, document, fault);
     line
 }

@@ -1,14 +1,19 @@
-//! The messages for a text that is no configuration. Their texts are tested, not proved.
-ghost use Rattle.std.specs.Prelude.{◌≡◌, OnOk};
+//! The messages for a text that is no configuration: the place and the key of each fault, and
+//! advice. The text of the advice is tested, not proved.
+ghost use Rattle.std.specs.Prelude.{◌≡◌, ◌+◌, OnOk};
+ghost use Rattle.std.specs.List.{list_any};
 ghost use Rattle.toml.specs.View.{table_view};
 ghost use Rattle.ether_wire.specs.Ends.{IsOpen, Puts};
 ghost use Rattle.ether_wire.specs.Memory.{page_end, page_octets};
-ghost use Rattle.ev_config.specs.Told.{line_text, TellsEach, TellsRefusal};
-ghost use Rattle.ev_config.specs.Inner.Told.{TellsFaults};
+ghost use Rattle.ev_config.specs.Faults.{Port};
+ghost use Rattle.ev_config.specs.Inner.Faults.{spot_of, faulty_of, faults_view};
+ghost use Rattle.ev_config.specs.Told.{line_text, numbered, spot_text, is_odd, is_plain, TellsEach, TellsRefusal};
+ghost use Rattle.ev_config.specs.Inner.Told.{PutsKey, TellsFault, TellsFaults, line_at};
 
-use crate::advice::{Line, fault_line, put_shown};
+use crate::advice::{Line, advice_line, put_shown};
 use crate::document::faults_of;
 use crate::faults::FaultyKey;
+use crate::place::Place;
 use crate::whole::Use;
 use ether_wire::{Device, Out, put_decimal};
 use std::alloc::Global;
@@ -32,11 +37,17 @@ fn line_of(text: &str, error: &Error) -> u64 {
         Some(span) => span.start,
         None => 0,
     };
-    let mut number = 1u64;
-    for octet in text.as_bytes().iter().take(start) {
-        if *octet == b'\n' {
-            number = number.saturating_add(1);
-        }
+    line_at(text.as_bytes(), start)
+}
+
+/// Returns the line of the octet at a place of a text, from 1.
+fn line_at(text: &[u8], place: usize) -> u64
+    ensures { result ≡ line_at text.now place }
+{
+    let (before, _) = text.split_at(place.min(text.len()));
+    let mut number = 1;
+    for octet in before {
+        number += u64::from(*octet == b'\n');
     }
     number
 }
@@ -74,6 +85,109 @@ fn put_line<N: Out>(notes: &mut N, line: &Line) -> Result<(), Device>
     notes.put(b"\n")
 }
 
+/// Writes the number of a table of this name: `edge 2`.
+#[tactic(auto, using(ether_wire::proofs::Appending::with_text_twice))]
+fn put_number<N: Out>(notes: &mut N, name: &[u8], number: usize) -> Result<(), Device>
+    requires { IsOpen (N.end notes.old) }
+    ensures { Puts (N.end notes.old) (N.end notes.new) (numbered name.now number) result }
+{
+    notes.put(name)?;
+    put_decimal(notes, number as u64)
+}
+
+/// Writes the place of a port: `edge 2, port 3: `.
+#[tactic(auto, using(ether_wire::proofs::Appending::with_text_twice))]
+fn put_port<N: Out>(notes: &mut N, edge: usize, port: usize) -> Result<(), Device>
+    requires { IsOpen (N.end notes.old) }
+    ensures { Puts (N.end notes.old) (N.end notes.new) (spot_text (Port edge port)) result }
+{
+    put_number(notes, b"edge ", edge)?;
+    put_number(notes, b", port ", port)?;
+    notes.put(b": ")
+}
+
+/// Writes where a table is: `edge 2: `.
+#[tactic(auto, using(ether_wire::proofs::Appending::with_text_twice, ether_wire::proofs::Appending::with_text_none))]
+fn put_place<N: Out>(notes: &mut N, place: Place<'_>) -> Result<(), Device>
+    requires { IsOpen (N.end notes.old) }
+    ensures { Puts (N.end notes.old) (N.end notes.new) (spot_text (spot_of place.entry)) result }
+{
+    match place {
+        Place::File(_) => Ok(()),
+        Place::Edge(edge, _) => {
+            put_number(notes, b"edge ", edge)?;
+            notes.put(b": ")
+        }
+        Place::Port(edge, port, _) => put_port(notes, edge, port),
+        Place::Peer(peer, _) => {
+            put_number(notes, b"peer ", peer)?;
+            notes.put(b": ")
+        }
+    }
+}
+
+/// Returns `true` if an octet isn't a printable character of ASCII.
+fn is_odd(octet: u8) -> bool
+    ensures { result ≡ is_odd octet }
+{
+    octet < 32 || 126 < octet
+}
+
+/// Returns `true` if one of these octets isn't a printable character of ASCII.
+fn has_odd(octets: &[u8]) -> bool
+    ensures { result ≡ list_any is_odd octets.now }
+{
+    for octet in octets {
+        if is_odd(*octet) {
+            return true;
+        }
+    }
+    false
+}
+
+/// Returns `true` if a key has at most 100 octets, all of them printable.
+fn is_plain(key: &[u8]) -> bool
+    ensures { result ≡ is_plain key.now }
+{
+    key.len() < 101 && !has_odd(key)
+}
+
+/// Returns the part of a key that fits into a line, with a question mark for each character that
+/// could control a terminal.
+fn shown_line(key: &str) -> Line {
+    let mut line = Line::new();
+    let _fits = put_shown(&mut line, key);
+    line
+}
+
+/// Writes a key, as it is if it is plain.
+fn put_key<N: Out>(notes: &mut N, key: &str) -> Result<(), Device>
+    requires { IsOpen (N.end notes.old) }
+    ensures { PutsKey key.now (N.end notes.old) (N.end notes.new) result }
+{
+    if is_plain(key.as_bytes()) {
+        notes.put(key.as_bytes())
+    } else {
+        notes.put(shown_line(key).octets())
+    }
+}
+
+/// Writes the line of a fault: its place, its key, and advice.
+fn put_fault<N: Out>(
+    notes: &mut N,
+    alloc: Global,
+    wanted: Use,
+    document: &Table,
+    fault: FaultyKey<'_>,
+) -> Result<(), Device>
+    requires { IsOpen (N.end notes.old) }
+    ensures { TellsFault (faulty_of fault.entry) (N.end notes.old) (N.end notes.new) result }
+{
+    put_place(notes, fault.place)?;
+    put_key(notes, fault.key)?;
+    put_line(notes, &advice_line(alloc, wanted, document, fault))
+}
+
 /// Writes a line for each of these faults.
 fn put_lines<N: Out>(
     notes: &mut N,
@@ -83,10 +197,10 @@ fn put_lines<N: Out>(
     faults: &[FaultyKey<'_>],
 ) -> Result<(), Device>
     requires { IsOpen (N.end notes.old) }
-    ensures { TellsEach faults.now (N.end notes.old) (N.end notes.new) result }
+    ensures { TellsEach (faults_view faults.now) (N.end notes.old) (N.end notes.new) result }
 {
     for fault in faults {
-        put_line(notes, &fault_line(alloc, wanted, document, *fault))?;
+        put_fault(notes, alloc, wanted, document, *fault)?;
     }
     Ok(())
 }
