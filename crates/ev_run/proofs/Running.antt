@@ -174,10 +174,11 @@ pub tells_nothing : (notes : End) → TellsCause Unnamed notes notes 4
 tells_nothing notes = (holds_none notes, refl)
 
 -- no edge began
-pub runs_none : (config : Config) (cause : StartError) (input : Source) (out notes notes' : End) (status : ℕ)
+pub runs_none : (is_asked : Bool) (config : Config) (cause : StartError) (input : Source) (out notes notes' : End)
+    (status : ℕ)
     → Hinders (all_ends config) (lacks_address config) cause → TellsCause cause notes notes' status
-    → RunsEdges config (devices input out notes) (devices input out notes') status
-runs_none config (Unbindable at why) input out notes notes' status hinders told = inr (inl (
+    → RunsEdges is_asked config (devices input out notes) (devices input out notes') status
+runs_none is_asked config (Unbindable at why) input out notes notes' status hinders told = inr (inl (
   refl,
   holds_none out,
   record {
@@ -189,7 +190,7 @@ runs_none config (Unbindable at why) input out notes notes' status hinders told 
     status_is = told.1;
   },
 ))
-runs_none config Unnamed input out notes notes' status hinders told = inr (inl (
+runs_none is_asked config Unnamed input out notes notes' status hinders told = inr (inl (
   refl,
   holds_none out,
   record {
@@ -201,34 +202,36 @@ runs_none config Unnamed input out notes notes' status hinders told = inr (inl (
     status_is = told.1;
   },
 ))
-runs_none config NoMemory input out notes notes' status hinders told =
+runs_none is_asked config NoMemory input out notes notes' status hinders told =
     rw told.0 (inr (inr (inl (refused_memory out notes status told.1))))
 
 -- the edges ran with sockets that are bound to the right endpoints
-pub runs_bound : (config : Config) (bound : List (List Endpoint)) (before after : Devices) (status : ℕ)
+pub runs_bound : (is_asked : Bool) (config : Config) (bound : List (List Endpoint)) (before after : Devices)
+    (status : ℕ)
     → Ran (length config.edges.items) bound before after status → bound ≡ endpoints_of config
-    → lacks_address config ≡ false → RunsEdges config before after status
-runs_bound config bound before after status ran same whole = inl (
+    → lacks_address config ≡ false → RunsEdges is_asked config before after status
+runs_bound is_asked config bound before after status ran same whole = inl (
   whole,
   subst (λ (ends : List (List Endpoint)). Ran (length config.edges.items) ends before after status) same ran,
 )
 
 -- the memory with which the edges begin was refused
-pub runs_refused : (config : Config) (input input' : Source) (out out' notes notes' : End)
-    → out' ≡ out → notes' ≡ notes → RunsEdges config (devices input out notes) (devices input' out' notes') 3
-runs_refused config input input' out out' notes notes' a b =
+pub runs_refused : (is_asked : Bool) (config : Config) (input input' : Source) (out out' notes notes' : End)
+    → out' ≡ out → notes' ≡ notes
+    → RunsEdges is_asked config (devices input out notes) (devices input' out' notes') 3
+runs_refused is_asked config input input' out out' notes notes' a b =
     rw (a, b) (inr (inr (inl (refused_memory out notes 3 refl))))
 
 -- the system allows too few threads
-pub runs_few : (config : Config) (is_asked : Bool) (lack : TooFewThreads) (input : Source) (out notes notes' : End)
+pub runs_few : (is_asked : Bool) (config : Config) (lack : TooFewThreads) (input : Source) (out notes notes' : End)
     (status : ℕ) → IsTooFew (threads_of is_asked config.edges.items) lack → TellsTooFew lack notes notes' status
-    → RunsEdges config (devices input out notes) (devices input out notes') status
-runs_few config is_asked lack input out notes notes' status few told =
+    → RunsEdges is_asked config (devices input out notes) (devices input out notes') status
+runs_few is_asked config lack input out notes notes' status few told =
     inr (inr (inr (lacks_threads config.edges.items is_asked lack input out notes notes' status few told)))
 
 -- ---- buffered writers
 
-module _ (config : Config) (before held after : Devices) (status last : ℕ)
+module _ (is_asked : Bool) (config : Config) (before held after : Devices) (status last : ℕ)
     (p : Passes before.out.failures before.notes.failures held after status last) where
   passed_ended : (alerts : List Told) (ended : List Ended) (system : List ℕ) (is_read : Bool)
       → TellsEnded alerts ended system is_read before.out held.out before.notes held.notes status
@@ -268,7 +271,7 @@ module _ (config : Config) (before held after : Devices) (status last : ℕ)
     told = passed_ended r.alerts r.ended (system_text r.table sockets) r.is_read r.told;
   }
 
-  pub passed_runs : RunsEdges config before held status → RunsEdges config before after last
+  pub passed_runs : RunsEdges is_asked config before held status → RunsEdges is_asked config before after last
   passed_runs (inl r) = inl (r.0, passed_ran (length config.edges.items) (endpoints_of config) r.1)
   passed_runs (inr (inl h)) = inr (inl (
     p.input ∙ h.0,
@@ -276,4 +279,5 @@ module _ (config : Config) (before held after : Devices) (status last : ℕ)
     passed_start_error h.2,
   ))
   passed_runs (inr (inr (inl h))) = inr (inr (inl (passed_refused before held after status last p h)))
-  passed_runs (inr (inr (inr h))) = inr (inr (inr (passed_few config.edges.items before held after status last p h)))
+  passed_runs (inr (inr (inr h))) =
+      inr (inr (inr (passed_few is_asked config.edges.items before held after status last p h)))

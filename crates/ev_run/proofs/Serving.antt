@@ -1,5 +1,5 @@
 -- A run that answers clients: the note if nothing can listen, and buffered writers.
-use Rattle.std.proofs.Common.{inl, inr, ℕ, [], Result, refl, ◌∙◌}
+use Rattle.std.proofs.Common.{inl, inr, ℕ, true, [], Result, refl, ◌∙◌}
 use Rattle.ether_wire.specs.declared.ends.Device as device
 use Rattle.ether_wire.specs.Ends.{End, Source, Puts}
 use Rattle.ev_report.specs.Originators.{Text}
@@ -37,7 +37,7 @@ module _ (path : Text) (config : Config) (before held after : Devices) (status l
   }
 
   pub passed_serves : ServesEdges path config before held status → ServesEdges path config before after last
-  passed_serves (inl r) = inl (passed_runs config before held after status last p r)
+  passed_serves (inl r) = inl (passed_runs true config before held after status last p r)
   passed_serves (inr h) = inr (
     p.input ∙ h.0,
     passed_out before held after status last p [] h.1,

@@ -30,9 +30,8 @@ unfailed e = grind (arith, nat_tests)
 pub lacks_threads : (edges : List EdgeConfig) (is_asked : Bool) (lack : TooFewThreads) (input : Source)
     (out notes notes' : End) (status : ℕ) → IsTooFew (threads_of is_asked edges) lack
     → TellsTooFew lack notes notes' status
-    → LacksThreads edges (devices input out notes) (devices input out notes') status
+    → LacksThreads is_asked edges (devices input out notes) (devices input out notes') status
 lacks_threads edges is_asked lack input out notes notes' status few told = record {
-  is_asked = is_asked;
   lack = lack;
   few = few;
   unread = refl;
@@ -42,11 +41,10 @@ lacks_threads edges is_asked lack input out notes notes' status few told = recor
       ∙ ap (λ b. status_of (b || has_failed notes notes') true false) (sym (unfailed out));
 }
 
-module _ (edges : List EdgeConfig) (before held after : Devices) (status last : ℕ)
+module _ (is_asked : Bool) (edges : List EdgeConfig) (before held after : Devices) (status last : ℕ)
     (p : Passes before.out.failures before.notes.failures held after status last) where
-  pub passed_few : LacksThreads edges before held status → LacksThreads edges before after last
+  pub passed_few : LacksThreads is_asked edges before held status → LacksThreads is_asked edges before after last
   passed_few l = record {
-    is_asked = l.is_asked;
     lack = l.lack;
     few = l.few;
     unread = p.input ∙ l.unread;

@@ -182,11 +182,12 @@ pub record IsStartError (config : Config) (notes notes' : End) (status : ℕ) : 
   pub status_is : status ≡ 4
 
 -- The edges of a configuration were run, and each port has its addresses; or no edge began, nothing was read, and only
--- the reason was written; or the memory with which the edges begin was refused, or the threads.
-abbrev pub RunsEdges : Config → Devices → Devices → ℕ → Type 0
-RunsEdges config before after status =
+-- the reason was written; or the memory with which the edges begin was refused, or the threads. Clients may query the
+-- edges meanwhile if `is_asked`.
+abbrev pub RunsEdges : Bool → Config → Devices → Devices → ℕ → Type 0
+RunsEdges is_asked config before after status =
     ((lacks_address config ≡ false) × Ran (length config.edges.items) (endpoints_of config) before after status)
     ⊎ (((after.input ≡ before.input) × Holds before.out after.out []
     × IsStartError config before.notes after.notes status)
     ⊎ (IsRefusedMemory before.out after.out before.notes after.notes status
-    ⊎ LacksThreads config.edges.items before after status))
+    ⊎ LacksThreads is_asked config.edges.items before after status))

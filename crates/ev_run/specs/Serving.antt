@@ -1,5 +1,5 @@
 -- The results of a run of edges that answers clients at a control socket meanwhile.
-use Rattle.std.specs.Prelude.{◌≡◌, ℕ, ◌⊎◌, [], ◌++◌, codes}
+use Rattle.std.specs.Prelude.{◌≡◌, ℕ, ◌⊎◌, true, [], ◌++◌, codes}
 use Rattle.ether_wire.specs.Ends.{End}
 use Rattle.ev_report.specs.Ends.{Devices, Holds}
 use Rattle.ev_report.specs.Originators.{Text}
@@ -32,6 +32,6 @@ pub record TellsListenError (path : Text) (notes notes' : End) (status : ℕ) : 
 -- a note about the path was written.
 abbrev pub ServesEdges : Text → Config → Devices → Devices → ℕ → Type 0
 ServesEdges path config before after status =
-    RunsEdges config before after status
+    RunsEdges true config before after status
     ⊎ ((after.input ≡ before.input) × Holds before.out after.out []
     × TellsListenError path before.notes after.notes status)

@@ -20,10 +20,9 @@ allowed_text allowed = codes " threads: the system allows " ++ decimal allowed
 abbrev pub too_few_text : TooFewThreads → Text
 too_few_text lack = codes "can't start " ++ decimal lack.needed ++ allowed_text lack.allowed
 
--- The system allows fewer threads than these edges need, with or without the one that accepts clients. Nothing was
+-- The system allows fewer threads than these edges need, with the one that accepts clients if `is_asked`. Nothing was
 -- read, and only a note about the threads was written.
-pub record LacksThreads (edges : List EdgeConfig) (before after : Devices) (status : ℕ) : Type 0 where
-  pub is_asked : Bool
+pub record LacksThreads (is_asked : Bool) (edges : List EdgeConfig) (before after : Devices) (status : ℕ) : Type 0 where
   pub lack : TooFewThreads
   pub few : IsTooFew (threads_of is_asked edges) lack
   pub unread : after.input ≡ before.input

@@ -1,5 +1,6 @@
 //! The incarnation of an edge whose configuration names none: the second of its start.
 ghost use Rattle.std.specs.Prelude.{◌≡◌};
+ghost use Rattle.std.specs.Bool.{OnFalse};
 ghost use Rattle.ev_edge.specs.Config.{IsConfig};
 ghost use Rattle.ev_run.specs.Inner.RunEdges.{begun_of};
 
@@ -26,7 +27,9 @@ fn second_of_start<R: Clock>(rt: &R) -> u32 {
 
 /// Returns the incarnation of edges whose configuration names none: the second of their start if
 /// clients may query them, since other processes may know an earlier life. Otherwise returns 0.
-pub(crate) fn first_incarnation<R: Clock>(rt: &R, is_served: bool) -> u32 {
+pub(crate) fn first_incarnation<R: Clock>(rt: &R, is_served: bool) -> u32
+    ensures { OnFalse is_served (result ≡ 0) }
+{
     if is_served { second_of_start(rt) } else { 0 }
 }
 

@@ -1,6 +1,6 @@
 //! Edges that carry frames until the input ends: each at its address and UDP port 4789, its access
 //! ports at sockets of their own. Alerts for the operator are written meanwhile.
-ghost use Rattle.std.specs.Prelude.{◌≡◌, ◌+◌, ◌-◌, ◌^◌, ◌||◌, min, not, nat_lt, length, map, reverse, vec_len, IfOk, OnOk, OnErr, MatchOption};
+ghost use Rattle.std.specs.Prelude.{◌≡◌, ◌+◌, ◌-◌, ◌^◌, ◌||◌, min, not, nat_lt, is_some, false, length, map, reverse, vec_len, IfOk, OnOk, OnErr, MatchOption};
 ghost use Rattle.std.specs.List.{list_any};
 ghost use Rattle.ether_wire.specs.Ends.{IsOpen, Allows};
 ghost use Rattle.ev_fabric.specs.Opening.{AreConfigs};
@@ -233,7 +233,9 @@ pub(crate) struct Host<'x, R> {
 
 impl<'x, R> Host<'x, R> {
     /// Returns these as one value.
-    pub(crate) fn new(rt: &'x R, alloc: Global, control: Option<&'x ControlSocket>) -> Self {
+    pub(crate) fn new(rt: &'x R, alloc: Global, control: Option<&'x ControlSocket>) -> Self
+        ensures { is_some result.control ≡ is_some control.entry }
+    {
         Host { rt, alloc, control }
     }
 }
@@ -363,7 +365,7 @@ pub(crate) fn run_asked<
     requires reader { Allows (2 ^ 40) (E.end reader.old) }
     requires out { IsOpen (W.end out.old) }
     requires notes { IsOpen (N.end notes.old) }
-    ensures { RunsEdges config
+    ensures { RunsEdges (is_some host.now.control) config
         (devices (E.end reader.old) (W.end out.old) (N.end notes.old))
         (devices (E.end reader.new) (W.end out.new) (N.end notes.new)) result }
 {
@@ -405,7 +407,7 @@ pub fn run_edges<R: Threads + Wait + Net + Files + Clock + Sync, E: In, W: Out, 
     requires reader { Allows (2 ^ 40) (E.end reader.old) }
     requires out { IsOpen (W.end out.old) }
     requires notes { IsOpen (N.end notes.old) }
-    ensures { RunsEdges config
+    ensures { RunsEdges false config
         (devices (E.end reader.old) (W.end out.old) (N.end notes.old))
         (devices (E.end reader.new) (W.end out.new) (N.end notes.new)) result }
 {
@@ -422,7 +424,7 @@ pub fn run_buffered<H: Threads + Wait + Net + Files + Clock + Sync, R: In, W: Ou
 ) -> (u8, Devices<R, W, N>)
     requires config { AreConfigs config.edges.items }
     requires devices { AreOpen devices }
-    ensures { RunsEdges config devices result.1 result.0 }
+    ensures { RunsEdges false config devices result.1 result.0 }
 {
     let mut all = Buffers::new(devices);
     let status = run_edges(

@@ -1,5 +1,5 @@
 -- The uses of a configuration: a script on its edges, or a run of them.
-use Rattle.std.specs.Prelude.{ℕ, string_bytes}
+use Rattle.std.specs.Prelude.{ℕ, false, string_bytes}
 use Rattle.ev_config.specs.declared.whole.Config.{Config}
 use Rattle.ev_config.specs.declared.whole.Served.{Served}
 use Rattle.ev_config.specs.declared.whole.Use.TheVariants.{Any, Run, Serve}
@@ -23,7 +23,7 @@ abbrev pub ServesConfig : Served → Devices → Devices → ℕ → Type 0
 ServesConfig served = ServesEdges (string_bytes served.control) served.config
 
 abbrev pub RunsFound : Uses Config
-RunsFound = OfFound Run RunsEdges
+RunsFound = OfFound Run (RunsEdges false)
 
 abbrev pub ServesFound : Uses Served
 ServesFound = OfFound Serve ServesConfig

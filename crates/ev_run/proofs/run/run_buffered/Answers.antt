@@ -1,3 +1,4 @@
+use Rattle.std.proofs.Common.{false}
 use Rattle.ether_wire.specs.Buffered.{buffered_end}
 use Rattle.ev_report.specs.Ends.{devices}
 use Rattle.ev_report.proofs.Finishing.{buffered}
@@ -11,7 +12,7 @@ returns g c =
     let config = c.args.config in
     let held = devices (g.R.In.end run.new.reader) (buffered_end g.W.Out.end run.new.out)
     (buffered_end g.N.Out.end run.new.notes) in
-    buffered (RunsEdges config) (passed_runs config) c.args.devices _ held
+    buffered (RunsEdges false config) (passed_runs false config) c.args.devices _ held
     c.finish.result.1 run.result c.finish.result.0 c.new-all.result.out_failures c.new-all.result.notes_failures
     c.new-all.ensures.devices
     c.new-all.ensures.out c.new-all.ensures.notes run.ensures c.finish.ensures
