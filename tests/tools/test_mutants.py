@@ -110,7 +110,7 @@ class Lists(unittest.TestCase):
         self.mutants = mutants.all_mutants()
 
     def test_each_fits_the_sources(self) -> None:
-        self.assertGreater(len(self.mutants), 40)
+        self.assertGreater(len(self.mutants), 30)
         for it in mutants.groups_of(self.mutants, True):
             self.assertEqual(len(it.mutants), 1)
 

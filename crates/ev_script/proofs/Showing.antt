@@ -1,6 +1,6 @@
 -- The text for a port, and for an edge that doesn't exist.
-use Rattle.std.proofs.Common.{◌≡◌, ◌↔◌, ℕ, ◌≤◌, ◌<◌, ◌-◌, zero, suc, Bool, true, false, List, length, Option, Some, None}
-use Rattle.std.proofs.Common.{IsTrue, nat_lt, slice_get, refl, subst, arith}
+use Rattle.std.proofs.Common.{◌≡◌, ◌↔◌, ℕ, ◌≤◌, ◌<◌, ◌-◌, zero, suc, Bool, true, false, List, length, Option, Some}
+use Rattle.std.proofs.Common.{None, IsTrue, nat_lt, slice_get, refl, subst, arith}
 use Rattle.std.proofs.lemmas.Bool.Decides.{nat_tests}
 use Rattle.std.proofs.lemmas.Option.{slice_get_past}
 use Rattle.rstp_state.specs.declared.port.PortState.{PortState}

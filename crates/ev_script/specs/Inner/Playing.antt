@@ -35,7 +35,7 @@ pub record Performs (e : ℕ) (command : Command) (old new : Simulator) (a b : E
   pub answers : AnswersCommand e command made new.fabric text
   pub told : Tells a b old.is_told new.is_told text
 
--- A line was run, and what it prints was written, or a call of the writer has failed.
+-- A line was run, and its text was written, or a call of the writer has failed.
 pub record Runs (mode : Mode) (line : List ℕ) (item : Item) (old new : Simulator) (a b : End) : Type 0 where
   pub ran : Ran
   pub after : ran.after ≡ new.fabric
@@ -48,7 +48,7 @@ abbrev pub PlaysLine : Mode → List ℕ → Simulator → Simulator → End →
 PlaysLine mode line old new a b true = (item : Item) × (item_of mode line ≡ Some item) × Runs mode line item old new a b
 PlaysLine mode line old new a b false = (item_of mode line ≡ None) × (new ≡ old) × (b ≡ a)
 
--- The lines before the rest were run, and what they print was written, or a call of the writer has failed.
+-- The lines before the rest were run, and their text was written, or a call of the writer has failed.
 pub record Played (mode : Mode) (script rest : List ℕ) (old new : Simulator) (n : ℕ) (a b : End) : Type 0 where
   pub lines : List Item
   pub follows : Follows (item_of mode) script lines rest

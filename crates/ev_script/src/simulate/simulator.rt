@@ -116,7 +116,8 @@ fn put_announced<W: Out>(
     }
 }
 
-/// Returns the role and state of an edge's port in the spanning tree, and whether frames pass there.
+/// Returns the role and state of an edge's port in the spanning tree, and whether it passes
+/// frames.
 fn port_of(edge: &Edge, port: u8) -> Result<(PortState, bool), FabricRefusal>
     ensures { (e : ℕ) → ShowsPort e port edge.now.tree (seen_text e port result) }
 {
