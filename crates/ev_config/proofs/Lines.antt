@@ -50,10 +50,13 @@ fault_told f shown advice a b c d r is place key put =
     let spot = spot_text f.0 in
     let words = spot ++ shown ++ advice in
     let same : spot ++ (shown ++ line_text advice) ≡ line_text words =
-    sym (append_assoc spot shown (line_text advice)) ∙ sym (append_assoc (spot ++ shown) advice (10 ∷ [])) in
-    (words, (shown, advice, is, refl), subst (λ t. Puts a d t r) same
-        (puts_behind a b d spot (shown ++ line_text advice) r place
-        (puts_behind b c d shown (line_text advice) r key put)))
+    sym (append_assoc spot shown (line_text advice)) ∙ sym (append_assoc (spot ++ shown) advice (10 ∷ [])) in (
+      words,
+      (shown, advice, is, refl),
+      subst (λ t. Puts a d t r) same
+          (puts_behind a b d spot (shown ++ line_text advice) r place
+          (puts_behind b c d shown (line_text advice) r key put)),
+    )
 
 -- a key that isn't plain may be shown in any way
 pub any_shown : (key bytes shown : List ℕ) (b : Bool) → b ≡ is_plain bytes → b ≡ false → bytes ≡ key

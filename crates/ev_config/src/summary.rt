@@ -41,7 +41,11 @@ fn count_last(vni: Vni, rest: &[Vni], later: &[EdgeConfig]) -> u64
         then 0 else 1) }
     ensures few { result ≤ 1 }
 {
-    if has_vni(rest, vni) || is_served(later, vni) { 0 } else { 1 }
+    if has_vni(rest, vni) || is_served(later, vni) {
+        0
+    } else {
+        1
+    }
 }
 
 /// Returns the number of different VNIs among these that none of the later edges serves.
