@@ -237,6 +237,8 @@ fn run_words<
 /// The status is the greatest that applies: 4 if a device failed, 3 if memory was refused, 2 if the
 /// arguments are invalid or request help, or a configuration is faulty, 1 if the input is broken,
 /// else 0. If a standard stream is closed, edges don't start, and the status is 4.
+// (its frame is large: in `main`, which names a small stack, it would not fit that stack)
+#[inline(never)]
 pub(crate) fn run<
     H: Threads + Wait + Net + SocketFiles + Clock + Sync,
     P: Parser,
