@@ -1,6 +1,7 @@
 #!/usr/bin/env bash
 # usage: tests/outside/fabric.sh [evpnd]                        (the built program; by default the one that `rt run` leaves)
 #        tests/outside/fabric.sh evpnd failures [NAME..]     (the cost of each failure: served_failures.py)
+#        tests/outside/fabric.sh evpnd rounds [ROUNDS] [SEED]  (random histories: fabric_rounds.py; 20 rounds, seed 1)
 #        tests/outside/fabric.sh evpnd ROUTES MINUTES
 #
 # One `evpnd serve` in a fabric of two FRR leaves with Linux's bridges and VXLAN devices, by the gateway tools/evpnd_bgp.py
@@ -24,6 +25,7 @@ needs "tap devices" "nothing, but the kernel's module tun" test -e /dev/net/tun
 program=("$here/served_fabric.py")
 case ${2-} in
   failures) program=("$here/served_failures.py" "${@:3}") ;;
+  rounds) program=("$here/fabric_rounds.py" "${3:-20}" "${4:-1}") ;;
   [0-9]*) program=("$here/served_load.py" "$2" "$3") ;;
 esac
 EVPND=$(realpath "$evpnd") exec unshare --net /usr/bin/python3 -B "${program[@]}"

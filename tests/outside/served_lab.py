@@ -15,7 +15,7 @@ import sys
 import tempfile
 import threading
 from concurrent.futures import ThreadPoolExecutor
-from typing import Any, Callable, Dict, Iterable, List, NamedTuple, Optional, Set, Tuple
+from typing import Any, Callable, Dict, Iterable, List, NamedTuple, Optional, Sequence, Set, Tuple
 
 HERE = os.path.dirname(os.path.abspath(__file__))
 TOP = os.path.dirname(os.path.dirname(HERE))
@@ -176,10 +176,10 @@ class Pings:
 class Host:
     """A host with one device, whose cable goes wherever it is plugged in."""
 
-    def __init__(self, lab: Lab, number: int) -> None:
+    def __init__(self, lab: Lab, number: int, space: str = "") -> None:
         self.lab, self.name = lab, f"host {number}"
         self.address, self.mac = f"192.168.77.{number}", f"02:00:00:00:77:{number:02x}"
-        self.netns = lab.space(f"h{number}")
+        self.netns = lab.space(f"h{space or number}")
         make_tap(self.netns, "eth", "address", self.mac)
         run("ip", "-n", self.netns, "address", "add", f"{self.address}/24", "dev", "eth")
         self.cable: Optional[Relay] = None
@@ -218,11 +218,27 @@ class Host:
         return [(int(came), int(new)) for came, new in told]
 
 
+def ports_of(vnis: Sequence[int], ports: int) -> List[Tuple[int, int]]:
+    """The numbers of an edge's ports, each with its network: so many of the first one, then of the next."""
+    return list(enumerate((vni for vni in vnis for _ in range(ports)), 1))
+
+
 class Served:
     """An `evpnd serve` with one edge, in a namespace with an address on the wire."""
 
-    def __init__(self, lab: Lab, name: str, address: str, peers: Iterable[str], capacity: int = 1024) -> None:
+    def __init__(
+        self,
+        lab: Lab,
+        name: str,
+        address: str,
+        peers: Iterable[str],
+        capacity: int = 1024,
+        vnis: Sequence[int] = (VNI,),
+        ports: int = PORTS,
+        more: str = "",
+    ) -> None:
         self.lab, self.name, self.address = lab, name, address
+        self.vnis, self.ports, self.more = list(vnis), ports, more
         self.netns = lab.space(name)
         lab.attach(self.netns, address)
         self.control = os.path.join(lab.folder, f"{name}.control")
@@ -234,10 +250,10 @@ class Served:
     def text(self) -> str:
         """Its configuration."""
         keys = f'address = "{self.address}"\nbridge = "02:aa:00:00:00:{int(self.address.rpartition(".")[2]):02x}"\n'
-        keys += f"vnis = [{VNI}]\nincarnation = {self.incarnation}\ncapacity = {self.capacity}\n"
+        keys += f"vnis = {self.vnis}\nincarnation = {self.incarnation}\ncapacity = {self.capacity}\n{self.more}"
         ports = "".join(
-            f'[[edge.port]]\nvni = {VNI}\nadmin_edge = true\nlocal = "127.0.0.1:2000{port}"\nremote = "127.0.0.1:3000{port}"\n'
-            for port in range(1, PORTS + 1)
+            f'[[edge.port]]\nvni = {vni}\nadmin_edge = true\nlocal = "127.0.0.1:2000{port}"\nremote = "127.0.0.1:3000{port}"\n'
+            for port, vni in ports_of(self.vnis, self.ports)
         )
         peers = "".join(f'[[peer]]\naddress = "{each}"\n' for each in self.peers)
         return f'control = "{self.control}"\n[[edge]]\n{keys}{ports}{peers}'
@@ -288,9 +304,11 @@ class Served:
 class Leaf(Edge):
     """An FRR leaf on the wire, with ports at which a cable can be put in."""
 
-    def __init__(self, lab: Lab, name: str, address: str, reflector: str) -> None:
-        super().__init__(name, os.environ.get("LEAVES", ""))
-        self.lab, self.name, self.address = lab, f"leaf {name}", address
+    def __init__(
+        self, lab: Lab, name: str, address: str, reflector: str, vnis: Sequence[int] = (VNI,), ports: int = PORTS
+    ) -> None:
+        super().__init__(name, os.environ.get("LEAVES", ""), vnis)
+        self.lab, self.name, self.address, self.ports = lab, f"leaf {name}", address, ports
         self.bgpd_lines = LEAF_LINES.format(address, reflector)
         lab.leaves.append(self)
         self.__enter__()
@@ -300,9 +318,10 @@ class Leaf(Edge):
         run("ip", "netns", "add", self.inside)
         run("ip", "-n", self.inside, "link", "set", "lo", "up")
         self.lab.attach(self.inside, self.address)
-        self.make_network(VNI)
-        for port in range(1, PORTS + 1):
-            make_tap(self.inside, f"acc{port}", "master", f"br{VNI}")
+        for vni in self.vnis:
+            self.make_network(vni)
+        for port, vni in ports_of(self.vnis, self.ports):
+            make_tap(self.inside, f"acc{port}", "master", f"br{vni}")
             inner = self.port(port)
             Relay(self.lab, self.inside, f"acc{port}", Place(None, inner.there, inner.here, self.address))
 
@@ -323,14 +342,21 @@ class Leaf(Edge):
             if name.endswith((".vty", ".api", ".pid")):
                 os.unlink(os.path.join(self.folder, name))
 
-    def told(self) -> Dict[str, str]:
+    def bgpd_dies(self) -> None:
+        """Kills bgpd alone."""
+        self.daemons["bgpd"].kill()
+        self.daemons["bgpd"].wait()
+        for name in ("bgpd.vty", "bgpd.pid"):
+            os.unlink(os.path.join(self.folder, name))
+
+    def told(self, vni: int = VNI) -> Dict[str, str]:
         """The stations' owners by zebra."""
-        found = json.loads(self.shell(f"show evpn mac vni {VNI} json"))["macs"]
+        found = json.loads(self.shell(f"show evpn mac vni {vni} json")).get("macs", {})
         return {mac: self.address if each["type"] == "local" else each["remoteVtep"] for mac, each in found.items()}
 
-    def kernel(self) -> Dict[str, str]:
+    def kernel(self, vni: int = VNI) -> Dict[str, str]:
         """The stations' owners by the kernel: the bridge's entry decides, and behind its VXLAN device the device's own."""
-        entries = json.loads(run("bridge", "-n", self.inside, "-j", "fdb", "show", "br", f"br{VNI}"))
+        entries = json.loads(run("bridge", "-n", self.inside, "-j", "fdb", "show", "br", f"br{vni}"))
         ports = {each["mac"]: each["ifname"] for each in entries if "master" in each}
         ends = {each["mac"]: each["dst"] for each in entries if "dst" in each}
         far = {mac: ends[mac] for mac, port in ports.items() if port.startswith("vxlan") and mac in ends}
