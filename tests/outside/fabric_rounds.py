@@ -31,7 +31,9 @@ HOSTS = 3  # in each network
 GUESTS = tuple(f"02:00:00:00:78:{number:02x}" for number in (1, 2, 3))  # stations behind hosts, in each network
 LIMIT = 15  # seconds within which all have to agree
 LATE = 45  # seconds more for which a round that doesn't is watched
+START = 60  # seconds in which all have to agree at first
 AGEING = 100000  # longer than any run, in seconds
+LEAF_FAULT = "by its own routes, fault of"
 FAULTS = (": wrong ", ": missing ", ": extra ", ": flood ", ": neighbour ", "cause: ")
 
 Key = Tuple[int, str]
@@ -340,45 +342,68 @@ class Looks:
             if took > limit:
                 return None, found
 
-    def verdicts(self) -> List[str]:
-        """Whose fault it is: a leaf's that contradicts its routes, an edge's that contradicts the leaves' owner."""
+    def verdicts(self, found: Dict[str, object]) -> List[str]:
+        """Whose fault it is: that of a leaf that contradicts its routes, else of whom the differing owners show."""
         told = []
-        for end in self.fabric.ends[2:]:
-            for vni in NETWORKS:
-                _, text = said(*end.leaf.audit_words("--vni", str(vni), "--brief"))
-                told += [f"fault of {end.name}: {line}" for line in text.splitlines() if any(kind in line for kind in FAULTS)]
+        for end, vni in itertools.product(self.fabric.ends[2:], NETWORKS):
+            _, text = said(*end.leaf.audit_words("--vni", str(vni)))
+            told += [f"{LEAF_FAULT} {end.name}: {line}" for line in text.splitlines() if any(kind in line for kind in FAULTS)]
+        told += [self.verdict(key, owners, told) for key, owners in found.items() if isinstance(owners, dict)]
+        if not any(isinstance(owners, dict) for owners in found.values()):
+            told.append("fault of the frames: all name the same owners, and pings are lost")
         return told
+
+    def verdict(self, key: str, owners: Owners, told: List[str]) -> str:
+        """Who differs at a station: each leaf follows its routes, unless the audit has told of it."""
+        station = key.partition(",")[0]
+        if any(station in line for line in told):
+            return f"{station}: by that leaf's routes it is the leaf's fault"
+        if len({*owners.values()}) == 1:
+            return f"{station}: nobody's by the routes: all name {owners['edge 1']}"
+        one, two = (owners[f"{end.name}'s zebra"] for end in self.fabric.ends[2:])
+        if one != two:
+            return f"{station}: the leaves have different routes: fault of the reflector, a session or who announces"
+        vni, mac = station.split()
+        wrong = [end for end in self.fabric.ends[:2] if owners[end.name] != one]
+        has = {end.name: [line for line in end.served.ask("1", "report") if f" {vni} {mac} " in line] for end in wrong}
+        return f"{station}: fault of {' and '.join(has) or 'nobody'}, or the gateway there; both leaves' routes say {one}; {has}"
+
+
+def play(history: History, looks: Looks, number: int) -> Tuple[Optional[float], bool]:
+    """Plays a round and tells of it; gives the seconds until all agreed, and whether a difference is only FRR's fault."""
+    told = history.round()
+    took, found = looks.agreed(LIMIT)
+    if took is not None:
+        print(f"round {number}: {len(told)} events, agreed after {took:.1f} s", flush=True)
+        return took, True
+    print(f"round {number}: not agreed after {LIMIT} s: {'; '.join(told)}", flush=True)
+    verdicts = looks.verdicts(found)
+    lines = [*(f"{key}: {each}" for key, each in found.items()), *verdicts]
+    late, _ = looks.agreed(LATE)
+    lines.append("still not agreed" if late is None else f"agreed {late:.1f} s later")
+    print("\n".join(f"   {line}" for line in lines), flush=True)
+    is_theirs = any(line.startswith(LEAF_FAULT) for line in verdicts)
+    return None, is_theirs and not any(": fault of" in line for line in verdicts if not line.startswith(LEAF_FAULT))
 
 
 def main(rounds: int, seed: int) -> int:
     """Plays so many rounds; the last line says how many agreed."""
-    agreed: List[float] = []
-    is_ours = False
     with Lab() as lab:
         fabric = Fabric(lab)
         history = History(fabric, seed)
         looks = Looks(history)
-        print(f"-- two evpnd serve, two leaves of FRR {fabric.ends[2].leaf.version()}; seed {seed}; {os.getloadavg()}", flush=True)
-        print(f"at first: agreed after {looks.agreed(60)}", flush=True)
-        for number in range(1, rounds + 1):
-            told = history.round()
-            took, found = looks.agreed(LIMIT)
-            if took is not None:
-                agreed.append(took)
-                print(f"round {number}: {len(told)} events, agreed after {took:.1f} s", flush=True)
-                continue
-            print(f"round {number}: {'; '.join(told)}; not agreed", flush=True)
-            for key, each in found.items():
-                print(f"   {key}: {each}", flush=True)
-            verdicts = looks.verdicts()
-            print("\n".join(f"   {each}" for each in verdicts), flush=True)
-            is_ours |= not verdicts
-            late, found = looks.agreed(LATE)
-            print(f"   {'agreed later, after ' + format(late, '.1f') + ' s more' if late is not None else 'still not agreed'}", flush=True)
+        version = fabric.ends[2].leaf.version()
+        print(f"-- two evpnd serve, two leaves of FRR {version}; seed {seed}; load {os.getloadavg()[0]:.1f}", flush=True)
+        took, found = looks.agreed(START)
+        if took is None:
+            raise Trouble(f"the fabric doesn't begin: {found}")
+        results = [play(history, looks, number) for number in range(1, rounds + 1)]
+    agreed = [took for took, _ in results if took is not None]
     if agreed:
-        print(f"median {statistics.median(agreed):.1f} s, longest {max(agreed):.1f} s; {looks.thawed} times thawed; load {os.getloadavg()[0]:.1f}")
+        figures = f"median {statistics.median(agreed):.1f} s, longest {max(agreed):.1f} s"
+        print(f"{figures}; {looks.thawed} times thawed; load {os.getloadavg()[0]:.1f}")
     print(f"rounds: {len(agreed)} agreed, {rounds - len(agreed)} not; seed {seed}")
-    return int(is_ours)
+    return int(not all(is_theirs for _, is_theirs in results))
 
 
 if __name__ == "__main__":

@@ -351,7 +351,8 @@ class Leaf(Edge):
 
     def told(self, vni: int = VNI) -> Dict[str, str]:
         """The stations' owners by zebra."""
-        found = json.loads(self.shell(f"show evpn mac vni {vni} json")).get("macs", {})
+        text = self.shell(f"show evpn mac vni {vni} json")  # empty where zebra doesn't know the network yet
+        found = json.loads(text).get("macs", {}) if text.strip() else {}
         return {mac: self.address if each["type"] == "local" else each["remoteVtep"] for mac, each in found.items()}
 
     def kernel(self, vni: int = VNI) -> Dict[str, str]:
