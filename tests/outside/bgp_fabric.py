@@ -147,7 +147,8 @@ def gateway_text(neighbour: str, own: str, autonomous: int = 65000) -> str:
     """The configuration of examples/fabric/gobgpd.toml, with a run's addresses and the neighbour's AS."""
     with open(os.path.join(TOP, "examples", "fabric", "gobgpd.toml"), encoding="utf-8") as stream:
         text = stream.read()
-    text = text.replace('router-id = "192.0.2.2"', f'router-id = "{own}"')  # of two with one of them a reflector's routes are dropped
+    # two with one router-id would drop each other's routes, which a reflector sends with it
+    text = text.replace('router-id = "192.0.2.2"', f'router-id = "{own}"')
     head, mark, tail = text.replace('local-address-list = ["192.0.2.2"]', f'local-address-list = ["{own}"]').partition(FIRST)
     tail = tail.replace('"192.0.2.1"', f'"{neighbour}"').replace("peer-as = 65000", f"peer-as = {autonomous}")
     return f'{head}{mark}  [neighbors.transport.config]\n    local-address = "{own}"\n{tail}'

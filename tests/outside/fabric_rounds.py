@@ -1,6 +1,6 @@
 """Random histories in a fabric of two `evpnd serve` and two FRR leaves; `fabric.sh EVPND rounds [ROUNDS] [SEED]` starts this.
 
-Each round draws some events: a host's cable goes elsewhere, a station behind a host speaks, a station is pinned or is no longer,
+Each round draws some events: a host's cable goes elsewhere, a station behind a host speaks, a station is pinned or released,
 a leaf gets a station's address, a link is away, a part is killed and begins anew. There are two networks with the same MACs.
 At rest all have to agree within 15 s: each edge's owner, `show evpn mac` and the kernel's entry at each leaf, and a ping
 from each host to each other one of its network. The audit (tools/evpnd_audit.py) judges each leaf by its own routes, so a
@@ -12,6 +12,7 @@ Status 0: each round agreed, or differed only at a leaf that contradicts its own
 import itertools
 import os
 import random
+import re
 import signal
 import statistics
 import sys
@@ -34,7 +35,7 @@ LATE = 45  # seconds more for which a round that doesn't is watched
 START = 60  # seconds in which all have to agree at first
 AGEING = 100000  # longer than any run, in seconds
 LEAF_FAULT = "by its own routes, fault of"
-FAULTS = (": wrong ", ": missing ", ": extra ", ": flood ", ": neighbour ", "cause: ")
+FAULTS = re.compile(r"(^|: )(wrong|missing|extra|flood|neighbour|cause:) ")  # of the audit's lines
 
 Key = Tuple[int, str]
 Owners = Dict[Key, str]
@@ -92,7 +93,8 @@ class Fabric:
     def make_edge(self, name: str, address: str) -> End:
         """An edge of ours with its gateway and GoBGP."""
         peers = [each for each in (*EDGES, *LEAVES) if each != address]
-        served = Served(self.lab, name.replace(" ", ""), address, peers, vnis=NETWORKS, ports=HOSTS, more=f"ageing = {AGEING}\n")
+        ageing = f"ageing = {AGEING}\n"
+        served = Served(self.lab, name.replace(" ", ""), address, peers, vnis=NETWORKS, ports=HOSTS, more=ageing)
         self.gobgpds[name] = Gobgpd(entering(served.netns), self.lab.folder, served.name, gateway_text(REFLECTOR, address))
         self.lab.keep(self.gobgpds[name])
         served.start()
@@ -225,8 +227,8 @@ class History:
         vni, number = self.drawn_host()
         host, leaf = self.fabric.hosts[vni, number], self.drawn_end(True)
         self.fabric.plug(vni, number, leaf)
-        words = ["ip", "neigh", "replace", f"198.18.{vni % 250}.{number}", "lladdr", host.mac, "dev", f"br{vni}", "nud", "reachable"]
-        leaf.leaf.within(*words)
+        address = f"198.18.{vni % 250}.{number}"
+        leaf.leaf.within("ip", "neigh", "replace", address, "lladdr", host.mac, "dev", f"br{vni}", "nud", "reachable")
         return f"host {number} of {vni} goes to {leaf.name}, with an address"
 
     def link_away(self) -> str:
@@ -305,10 +307,10 @@ class Looks:
 
     def pings(self, pool: ThreadPoolExecutor) -> List[str]:
         """The pings that are lost, of one from each host to each other one of its network."""
-        hosts = self.fabric.hosts.items()
-        pairs = [(vni, one, other) for (vni, _), one in hosts for (its, _), other in hosts if vni == its and one is not other]
+        hosts = [(vni, host) for (vni, _), host in self.fabric.hosts.items()]
+        pairs = [(vni, one, other) for (vni, one), (its, other) in itertools.permutations(hosts, 2) if vni == its]
         answered = list(pool.map(lambda pair: pair[1].reaches(pair[2]), pairs))
-        return [f"{vni}: {one.name} to {other.name}" for (vni, one, other), is_answered in zip(pairs, answered) if not is_answered]
+        return [f"{vni}: {one.name} to {other.name}" for (vni, one, other), found in zip(pairs, answered) if not found]
 
     def differing(self) -> Dict[str, object]:
         """The stations that not all name alike, or not where they are, with what each says; and the pings that are lost."""
@@ -317,7 +319,8 @@ class Looks:
             views = {name: view for end in self.fabric.ends for name, view in end.views().items()}
             answers = dict(zip(views, pool.map(lambda view: view(), views.values())))
         homes, found = self.homes(), {}
-        for key in [(vni, mac) for vni in NETWORKS for mac in (*GUESTS, *(host.mac for host in self.fabric.hosts.values()))]:
+        macs = {*GUESTS, *(host.mac for host in self.fabric.hosts.values())}
+        for key in itertools.product(NETWORKS, sorted(macs)):
             told = {name: owners.get(key, NOBODY) for name, owners in answers.items()}
             if len({*told.values(), homes.get(key, told["edge 1"])}) > 1:
                 found[f"{key[0]} {key[1]}, home {homes.get(key, 'unknown')}"] = told
@@ -343,11 +346,13 @@ class Looks:
                 return None, found
 
     def verdicts(self, found: Dict[str, object]) -> List[str]:
-        """Whose fault it is: that of a leaf that contradicts its routes, else of whom the differing owners show."""
+        """Whose fault it is: that of a leaf that contradicts its routes, which is mended, else of whom the owners show."""
         told = []
         for end, vni in itertools.product(self.fabric.ends[2:], NETWORKS):
             _, text = said(*end.leaf.audit_words("--vni", str(vni)))
-            told += [f"{LEAF_FAULT} {end.name}: {line}" for line in text.splitlines() if any(kind in line for kind in FAULTS)]
+            told += [f"{LEAF_FAULT} {end.name}: {line}" for line in text.splitlines() if FAULTS.search(line)]
+            for command in re.findall(r"mend: (.*)", text):
+                end.leaf.within("sh", "-c", command)
         told += [self.verdict(key, owners, told) for key, owners in found.items() if isinstance(owners, dict)]
         if not any(isinstance(owners, dict) for owners in found.values()):
             told.append("fault of the frames: all name the same owners, and pings are lost")
@@ -366,7 +371,8 @@ class Looks:
         vni, mac = station.split()
         wrong = [end for end in self.fabric.ends[:2] if owners[end.name] != one]
         has = {end.name: [line for line in end.served.ask("1", "report") if f" {vni} {mac} " in line] for end in wrong}
-        return f"{station}: fault of {' and '.join(has) or 'nobody'}, or the gateway there; both leaves' routes say {one}; {has}"
+        named = " and ".join(has) or "nobody"
+        return f"{station}: fault of {named}, or the gateway there; both leaves' routes say {one}; {has}"
 
 
 def play(history: History, looks: Looks, number: int) -> Tuple[Optional[float], bool]:
