@@ -6,7 +6,12 @@ At rest all have to agree within 15 s: each edge's owner, `show evpn mac` and th
 from each host to each other one of its network. The audit (tools/evpnd_audit.py) judges each leaf by its own routes, so a
 round that doesn't agree names whose fault it is. The same seed gives the same history.
 
-Status 0: each round agreed, or differed only at a leaf that contradicts its own routes (`fault of leaf ..`), which is FRR's.
+Status 0: each round agreed, or differed only at a leaf that contradicts its own routes, which is FRR's fault. What FRR 8.4.4
+does so: zebra is killed, and meanwhile a route ends whose entry it has made. The next zebra leaves this entry in the kernel.
+The audit's own commands mend that, so that the next round begins at rest.
+
+A gateway keeps what it holds for 60 s after gobgpd has ended (tools/evpnd_bgp.py, KEEP). A route that ends while gobgpd is away
+is therefore in our edge's table for as long. That is our fault by the routes, and such a round isn't agreed.
 """
 
 import itertools
