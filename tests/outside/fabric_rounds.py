@@ -39,8 +39,9 @@ LIMIT = 15  # seconds within which all have to agree
 LATE = 45  # seconds more for which a round that doesn't is watched
 START = 60  # seconds in which all have to agree at first
 AGEING = 100000  # longer than any run, in seconds
+THEIRS = "a leaf contradicts its own routes"
 LEAF_FAULT = "by its own routes, fault of"
-FAULTS = re.compile(r"(^|: )(wrong|missing|extra|flood|neighbour|cause:) ")  # of the audit's lines
+FAULTS = re.compile(r"(^|: )(wrong|missing|extra|flood|cause:) ")  # of the audit's lines
 
 Key = Tuple[int, str]
 Owners = Dict[Key, str]
@@ -364,20 +365,19 @@ class Looks:
         return told
 
     def verdict(self, key: str, owners: Owners, told: List[str]) -> str:
-        """Who differs at a station: each leaf follows its routes, unless the audit has told of it."""
+        """Who differs at a station: our edges from both leaves' routes, or a leaf's kernel from its own zebra."""
         station = key.partition(",")[0]
-        if any(station in line for line in told):
-            return f"{station}: by that leaf's routes it is the leaf's fault"
         if len({*owners.values()}) == 1:
             return f"{station}: nobody's by the routes: all name {owners['edge 1']}"
         one, two = (owners[f"{end.name}'s zebra"] for end in self.fabric.ends[2:])
-        if one != two:
+        if one != two and not any(station in line for line in told):
             return f"{station}: the leaves have different routes: fault of the reflector, a session or who announces"
         vni, mac = station.split()
-        wrong = [end for end in self.fabric.ends[:2] if owners[end.name] != one]
+        wrong = [end for end in self.fabric.ends[:2] if owners[end.name] not in (one, two)]
         has = {end.name: [line for line in end.served.ask("1", "report") if f" {vni} {mac} " in line] for end in wrong}
-        named = " and ".join(has) or "nobody"
-        return f"{station}: fault of {named}, or the gateway there; both leaves' routes say {one}; {has}"
+        if has:
+            return f"{station}: fault of {' and '.join(has)}, or the gateway there; both leaves' routes say {one}; {has}"
+        return f"{station}: {THEIRS}, or zebra doesn't take the kernel's entry"
 
 
 def play(history: History, looks: Looks, number: int) -> Tuple[Optional[float], bool]:
@@ -393,8 +393,7 @@ def play(history: History, looks: Looks, number: int) -> Tuple[Optional[float], 
     late, _ = looks.agreed(LATE)
     lines.append("still not agreed" if late is None else f"agreed {late:.1f} s later")
     print("\n".join(f"   {line}" for line in lines), flush=True)
-    is_theirs = any(line.startswith(LEAF_FAULT) for line in verdicts)
-    return None, is_theirs and not any(": fault of" in line for line in verdicts if not line.startswith(LEAF_FAULT))
+    return None, all(line.startswith(LEAF_FAULT) or THEIRS in line for line in verdicts)
 
 
 def main(rounds: int, seed: int) -> int:
