@@ -8,7 +8,8 @@ round that doesn't agree names whose fault it is. The same seed gives the same h
 
 Status 0: each round agreed, or differed only at a leaf that contradicts its own routes, which is FRR's fault. What FRR 8.4.4
 does so: zebra is killed, and meanwhile a route ends whose entry it has made. The next zebra leaves this entry in the kernel.
-The audit's own commands mend that, so that the next round begins at rest.
+The audit's own commands mend such an entry, if the audit lists it; otherwise the next rounds differ by it, too. A verdict is a
+hint: it doesn't tell a fault of zebra from a race with this script's own entries.
 
 A gateway keeps what it holds for 60 s after gobgpd has ended (tools/evpnd_bgp.py, KEEP). A route that ends while gobgpd is away
 is therefore in our edge's table for as long. That is our fault by the routes, and such a round isn't agreed.
