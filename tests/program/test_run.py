@@ -43,6 +43,12 @@ def frame(to: bytes, of: bytes, text: bytes) -> bytes:
     return to + of + b"\x88\xb5" + text.ljust(46, b"\0")
 
 
+def granted_octets() -> int:
+    """Returns the receive buffer that Linux grants to a socket for which 4 MiB are asked: twice the number, up to its limit."""
+    with open("/proc/sys/net/core/rmem_max", encoding="ascii") as most:
+        return 2 * min(4 << 20, int(most.read()))
+
+
 def free_port() -> int:
     """A UDP port that nothing has."""
     with socket.socket(socket.AF_INET, socket.SOCK_DGRAM) as it:
@@ -165,9 +171,9 @@ class TwoCables(unittest.TestCase):
         self.addCleanup(self.one.here.close)
         self.addCleanup(self.two.here.close)
 
-    def begin(self, text: str, notes: int = subprocess.PIPE) -> None:
+    def begin(self, text: str, notes: int = subprocess.PIPE, subcommand: str = "run") -> None:
         """Runs these edges."""
-        self.running = Running(text, notes)
+        self.running = Running(text, notes, subcommand)
         self.addCleanup(self.running.kill)
 
     def is_carried(self, source: Cable, to: Cable, octets: bytes) -> None:
@@ -316,14 +322,14 @@ class TwoEdges(TwoCables):
 class FullSockets(TwoCables):
     """One edge with two ports, which stands still while its tunnel's socket and that of port 1 are filled."""
 
-    def fill(self) -> None:
-        """Sends both sockets more than they hold. What is sent is no frame that any edge takes."""
+    def fill(self, tunnel: int, port: int) -> None:
+        """Sends both sockets as many datagrams, none of which is a frame that any edge takes."""
         self.running.program.send_signal(signal.SIGSTOP)
         # each of its threads goes on until it meets the signal, on a busy machine for milliseconds
         os.waitid(os.P_PID, self.running.program.pid, os.WSTOPPED | os.WNOWAIT)
-        for port, many in ((TUNNELS, 1000), (self.one.port, 2000)):
+        for at, many in ((TUNNELS, tunnel), (self.one.port, port)):
             for _ in range(many):
-                self.one.here.sendto(b"\xff" * 1400, (ONE, port))
+                self.one.here.sendto(b"\xff" * 1400, (ONE, at))
         self.running.program.send_signal(signal.SIGCONT)
 
     def lost(self, port: int) -> int:
@@ -336,15 +342,25 @@ class FullSockets(TwoCables):
         raise AssertionError(f"{row} at {port}")
 
     def filled(self, keys: str, subcommand: str) -> str:
-        """Runs the edge, and fills the sockets: what is to be told of them at the end, of port 2's nothing."""
-        self.running = Running(keys + edge(ONE, 1, self.one, self.two), subcommand=subcommand)
-        self.addCleanup(self.running.kill)
+        """Runs the edge, and overfills the sockets. Returns the lines about them at the end: none about port 2."""
+        self.begin(keys + edge(ONE, 1, self.one, self.two), subcommand=subcommand)
         self.is_carried(self.one, self.two, frame(BROADCAST, station(1), b"first"))
-        self.fill()
+        many = 2 * granted_octets() // 1400
+        self.fill(many, 2 * many)
         tunnel, port = self.lost(TUNNELS), self.lost(self.one.port)
-        self.assertTrue(0 < tunnel < 1000 and 0 < port < 2000, (tunnel, port))
+        self.assertTrue(0 < tunnel < many and 0 < port < 2 * many, (tunnel, port))
         lines = f"tunnel: {tunnel}", f"port 1: {port}"
         return "".join(f"edge 1 {line} datagrams dropped by the system\n" for line in lines)
+
+    def test_burst_fits(self) -> None:
+        """An edge that stands still for a moment loses none of a burst that fits into the buffer for which it asks the system."""
+        self.begin(edge(ONE, 1, self.one, self.two))
+        self.is_carried(self.one, self.two, frame(BROADCAST, station(1), b"first"))
+        # a datagram of 1,400 octets takes less than 2,400 of the buffer
+        many = granted_octets() // 2400
+        self.fill(many, many)
+        self.assertEqual((self.lost(TUNNELS), self.lost(self.one.port)), (0, 0))
+        self.assertEqual(self.running.end()[0], 0)
 
     def test_what_the_system_dropped_is_told(self) -> None:
         """`run` and `serve` tell it at their end."""

@@ -11,13 +11,18 @@ use ether_wire::{Device, Out, put_addr, put_decimal};
 use ev_config::{Config, Endpoint, PortEndpoints};
 use ev_edge::EdgeConfig;
 use ev_links::socket_address;
+use libc::net::{SO_RCVBUF, SOL_SOCKET, setsockopt};
 use std::alloc::Global;
 use std::io;
 use std::io::ErrorKind;
 use std::net::{Net, UdpSocket};
+use std::os::fd::AsRawFd;
 
 /// The UDP port of tunnels (RFC 7348).
 pub(crate) const TUNNELS: u16 = 4789;
+
+/// The size of each socket's receive buffer, in octets: room for some 2,000 frames of 1,400 octets.
+const RECEIVE_BUFFER: u32 = 4 << 20;
 
 /// The reason why an address can't be bound.
 #[derive(Clone, Copy, Debug, PartialEq, Eq)]
@@ -112,12 +117,23 @@ pub(crate) fn tunnel_of(edge: &EdgeConfig) -> Endpoint
     }
 }
 
-/// Returns a socket that is bound to this endpoint.
+/// Asks the system for a receive buffer of `RECEIVE_BUFFER` octets. The system grants at most what
+/// `net.core.rmem_max` allows. If it refuses, the socket keeps the buffer that it has.
+fn enlarge_buffer(socket: &UdpSocket) {
+    let mut value = [0u8; 16];
+    value[..4].copy_from_slice(&RECEIVE_BUFFER.to_ne_bytes());
+    let _ = unsafe { setsockopt(socket.as_raw_fd(), SOL_SOCKET, SO_RCVBUF, &value, 4) };
+}
+
+/// Returns a socket that is bound to this endpoint, with a large receive buffer.
 fn bind<R: Net>(rt: &R, at: Endpoint) -> Result<UdpSocket, StartError>
     ensures { IfErr result (λ why. Hinders (at ∷ []) false why) }
 {
     match UdpSocket::bind(rt, socket_address(at.address, at.port)) {
-        Ok(socket) => Ok(socket),
+        Ok(socket) => {
+            enlarge_buffer(&socket);
+            Ok(socket)
+        }
         Err(error) => Err(StartError::Unbindable(at, bind_error_of(&error))),
     }
 }
