@@ -5,7 +5,7 @@ use Rattle.std.proofs.lemmas.Bool.{le-ltb, lt-ltb, or_parts, eqb-true}
 use Rattle.std.proofs.lemmas.List.{length-append, take_more}
 use Rattle.rstp_run.specs.declared.count.Count.{Count}
 use Rattle.rstp_run.specs.declared.rule.Rule.{Rule}
-use Rattle.rstp_run.specs.Rules.{Tree, guard, after}
+use Rattle.rstp_run.specs.Rules.{Tree, guard}
 use Rattle.rstp_run.specs.Runs.{AreOffAt, AreOffBelow, AreOff, Firing}
 use Rattle.rstp_run.specs.Sweep.{Going, Walk, main_order, sending_order, fired, tries, tries_all, tries_below, pass}
 use Rattle.rstp_run.specs.Sweep.{until_idle, passes, round}
