@@ -112,7 +112,7 @@ pub tries_below-more : (rules : List Rule) (n limit : ℕ) (g : Going)
 tries_below-more rules n limit g =
     let next : n + 1 ≡ suc n = omega arith in ap (λ k. tries_below rules k limit g) next
 
-tries_all-append : (first second : List Rule) (p limit : ℕ) (g : Going)
+pub tries_all-append : (first second : List Rule) (p limit : ℕ) (g : Going)
     → tries_all (first ++ second) p limit g ≡ tries_all second p limit (tries_all first p limit g)
 tries_all-append [] second p limit g = refl
 tries_all-append (rule ∷ first) second p limit g = tries_all-append first second p limit (tries rule p limit g)

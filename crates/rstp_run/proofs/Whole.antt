@@ -23,31 +23,38 @@ until-keeps P f keeps zero g h = h
 until-keeps P f keeps (suc n) g h =
     if-keeps P _ (f g) (until_idle n f (f g)) (keeps g h) (until-keeps P f keeps n (f g) (keeps g h))
 
-module _ (P : Going → Type 0) (limit : ℕ)
-    (keeps : (rule : Rule) (p : ℕ) (g : Going) → P g → P (tries rule p limit g)) where
-  tries_all-keeps : (rules : List Rule) (p : ℕ) (g : Going) → P g → P (tries_all rules p limit g)
-  tries_all-keeps [] p g h = h
-  tries_all-keeps (rule ∷ rules) p g h = tries_all-keeps rules p (tries rule p limit g) (keeps rule p g h)
+-- what one port's rules keep
+module _ (P : Going → Type 0) (limit : ℕ) (rules : List Rule)
+    (keeps : (p : ℕ) (g : Going) → P g → P (tries_all rules p limit g)) where
+  below-keeps : (n : ℕ) (g : Going) → P g → P (tries_below rules n limit g)
+  below-keeps zero g h = h
+  below-keeps (suc n) g h = keeps n (tries_below rules n limit g) (below-keeps n g h)
 
-  tries_below-keeps : (rules : List Rule) (n : ℕ) (g : Going) → P g → P (tries_below rules n limit g)
-  tries_below-keeps rules zero g h = h
-  tries_below-keeps rules (suc n) g h =
-      tries_all-keeps rules n (tries_below rules n limit g) (tries_below-keeps rules n g h)
+  pass-keeps : (g : Going) → P g → P (pass rules limit g)
+  pass-keeps g h = below-keeps (length g.tree.ports) g h
 
-  pass-keeps : (rules : List Rule) (g : Going) → P g → P (pass rules limit g)
-  pass-keeps rules g h = tries_below-keeps rules (length g.tree.ports) g h
+  passes-keeps : (g : Going) → P g → P (passes rules limit g)
+  passes-keeps g h = until-keeps P (pass rules limit) pass-keeps limit g h
 
-  passes-keeps : (rules : List Rule) (g : Going) → P g → P (passes rules limit g)
-  passes-keeps rules g h = until-keeps P (pass rules limit) (pass-keeps rules) limit g h
-
+module _ (P : Going → Type 0) (limit : ℕ) (main : (p : ℕ) (g : Going) → P g → P (tries_all main_order p limit g))
+    (sends : (p : ℕ) (g : Going) → P g → P (tries_all sending_order p limit g)) where
   round-keeps : (g : Going) → P g → P (round limit g)
-  round-keeps g h = passes-keeps sending_order (passes main_order limit g) (passes-keeps main_order g h)
+  round-keeps g h =
+      passes-keeps P limit sending_order sends (passes main_order limit g)
+      (passes-keeps P limit main_order main g h)
 
-  swept-keeps : (s : Tree) → P (record { tree = s; firings = [] }) → P (swept limit s)
+  pub swept-keeps : (s : Tree) → P (record { tree = s; firings = [] }) → P (swept limit s)
   swept-keeps s h = until-keeps P (round limit) round-keeps limit (record { tree = s; firings = [] }) h
 
+-- what one rule keeps
+pub all-keeps : (P : Going → Type 0) (limit : ℕ) → ((rule : Rule) (p : ℕ) (g : Going) → P g → P (tries rule p limit g))
+    → (rules : List Rule) (p : ℕ) (g : Going) → P g → P (tries_all rules p limit g)
+all-keeps P limit keeps [] p g h = h
+all-keeps P limit keeps (rule ∷ rules) p g h =
+    all-keeps P limit keeps rules p (tries rule p limit g) (keeps rule p g h)
+
 -- whether the rule fires
-tries-cases : (Q : Going → Type 0) (rule : Rule) (p limit : ℕ) (g : Going)
+pub tries-cases : (Q : Going → Type 0) (rule : Rule) (p limit : ℕ) (g : Going)
     → (length g.firings < limit → guard rule g.tree p ≡ true → Q (fired rule p g)) → Q g → Q (tries rule p limit g)
 tries-cases Q rule p limit g fires stays =
     elim (cases_lt (length g.firings) limit) [
@@ -71,7 +78,9 @@ tries-run limit s rule p g h =
 
 pub swept-run : (limit : ℕ) (s : Tree)
     → Run (swept limit s).firings s (swept limit s).tree × (length (swept limit s).firings ≤ limit)
-swept-run limit s = swept-keeps (IsRun limit s) limit (tries-run limit s) s (refl, omega arith)
+swept-run limit s =
+    let keeps = all-keeps (IsRun limit s) limit (tries-run limit s) in
+    swept-keeps (IsRun limit s) limit (keeps main_order) (keeps sending_order) s (refl, omega arith)
 
 -- ---- where nothing fires
 
@@ -83,25 +92,32 @@ tries-grows limit m rule p g h =
 all-grows : (limit : ℕ) (rules : List Rule) (p : ℕ) (g : Going)
     → length g.firings ≤ length (tries_all rules p limit g).firings
 all-grows limit rules p g =
-    tries_all-keeps (λ x. length g.firings ≤ length x.firings) limit (tries-grows limit (length g.firings)) rules p g
+    all-keeps (λ x. length g.firings ≤ length x.firings) limit (tries-grows limit (length g.firings)) rules p g
     (omega arith)
 
 below-grows : (limit : ℕ) (rules : List Rule) (n : ℕ) (g : Going)
     → length g.firings ≤ length (tries_below rules n limit g).firings
 below-grows limit rules n g =
-    tries_below-keeps (λ x. length g.firings ≤ length x.firings) limit (tries-grows limit (length g.firings)) rules n g
+    below-keeps (λ x. length g.firings ≤ length x.firings) limit rules
+    (all-keeps (λ x. length g.firings ≤ length x.firings) limit (tries-grows limit (length g.firings)) rules) n g
     (omega arith)
 
 pass-grows : (limit m : ℕ) (rules : List Rule) (g : Going) → m ≤ length g.firings
     → m ≤ length (pass rules limit g).firings
-pass-grows limit m rules g h = pass-keeps (λ x. m ≤ length x.firings) limit (tries-grows limit m) rules g h
+pass-grows limit m rules g h =
+    pass-keeps (λ x. m ≤ length x.firings) limit rules
+    (all-keeps (λ x. m ≤ length x.firings) limit (tries-grows limit m) rules) g h
 
 passes-grows : (limit m : ℕ) (rules : List Rule) (g : Going) → m ≤ length g.firings
     → m ≤ length (passes rules limit g).firings
-passes-grows limit m rules g h = passes-keeps (λ x. m ≤ length x.firings) limit (tries-grows limit m) rules g h
+passes-grows limit m rules g h =
+    passes-keeps (λ x. m ≤ length x.firings) limit rules
+    (all-keeps (λ x. m ≤ length x.firings) limit (tries-grows limit m) rules) g h
 
 round-grows : (limit m : ℕ) (g : Going) → m ≤ length g.firings → m ≤ length (round limit g).firings
-round-grows limit m g h = round-keeps (λ x. m ≤ length x.firings) limit (tries-grows limit m) g h
+round-grows limit m g h =
+    let keeps = all-keeps (λ x. m ≤ length x.firings) limit (tries-grows limit m) in
+    round-keeps (λ x. m ≤ length x.firings) limit (keeps main_order) (keeps sending_order) g h
 
 abbrev IsIdleBy : (Going → Going) → Going → Type 0
 IsIdleBy f g = length (f g).firings ≡ length g.firings

@@ -4,6 +4,7 @@ ghost use Rattle.rstp_run.specs.Events.{OneOutcome, RunsHappen};
 ghost use Rattle.rstp_run.specs.Laws.{EdgeRests};
 ghost use Rattle.rstp_run.specs.RootPort.{OneRootPort};
 ghost use Rattle.rstp_run.specs.Settled.{
+  EventsSettle,
   OfSettledPorts,
   Sends,
   HasWhatItSends,
@@ -58,6 +59,12 @@ pub fn runs_happen()
 /// flushed ports are functions of the bridge, the event and the limit.
 pub fn one_outcome()
     ensures { OneOutcome }
+{}
+
+/// Every event of a bridge ends settled, if its limit of firings is at least `enough_firings` of
+/// the number of ports, and the Hello time isn't 0. So no rules of the table fire in a circle.
+pub fn events_settle()
+    ensures { EventsSettle }
 {}
 
 /// At a port that is down, Edge and NotEdge don't enable each other after Discard has fired there.
