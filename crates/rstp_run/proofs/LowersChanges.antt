@@ -139,7 +139,7 @@ propagating_stays timing port =
     timed (λ q. selecting (record q { flush = true; propagate_topology_change = false }) ≤ selecting port) timing port
     (omega arith) (omega arith) (omega arith)
 
--- ---- the port that tells the others of a change, and the others
+-- ---- a port that announces a change to all others, and the others
 
 pub telling_raises : (n : ℕ) (timing : Timing) (port : PortState)
     → acting n timing (with_propagation port) ≤ acting n timing port + 2

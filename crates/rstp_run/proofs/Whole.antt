@@ -1,4 +1,4 @@
--- The whole sweep: its firings are a run, and it ends where no rule is enabled, or with as many firings as may be.
+-- The whole sweep: its firings are a run, and it ends in a settled bridge or at the limit of firings.
 use Rattle.std.proofs.Common.{◌≡◌, ℕ, zero, suc, ◌+◌, ◌≤◌, ◌<◌, ◌==◌, ◌⊎◌, inl, inr, Bool, true, false, List, []}
 use Rattle.std.proofs.Common.{◌∷◌, length, refl, sym, ◌∙◌, ap, subst, arith, if◌then◌else◌, below_more}
 use Rattle.std.proofs.lemmas.Bool.{cases_lt, eqb-true, eqb-false}
@@ -11,7 +11,7 @@ use Rattle.rstp_run.proofs.Ordered.{tries-full, tries-off, tries-on, tries_below
 use Rattle.rstp_run.proofs.Ordered.{until-more, until-once}
 use Rattle.rstp_run.proofs.Settled.{settled-off}
 
--- ---- what each rule keeps, the whole sweep keeps
+-- ---- invariants of the sweep
 
 if-keeps : (P : Going → Type 0) (b : Bool) (x y : Going) → P x → P y → P (if b then x else y)
 if-keeps P true x y h k = h
@@ -23,7 +23,7 @@ until-keeps P f keeps zero g h = h
 until-keeps P f keeps (suc n) g h =
     if-keeps P _ (f g) (until_idle n f (f g)) (keeps g h) (until-keeps P f keeps n (f g) (keeps g h))
 
--- what one port's rules keep
+-- an invariant of the rules of one port
 module _ (P : Going → Type 0) (limit : ℕ) (rules : List Rule)
     (keeps : (p : ℕ) (g : Going) → P g → P (tries_all rules p limit g)) where
   below-keeps : (n : ℕ) (g : Going) → P g → P (tries_below rules n limit g)
@@ -46,14 +46,14 @@ module _ (P : Going → Type 0) (limit : ℕ) (main : (p : ℕ) (g : Going) → 
   pub swept-keeps : (s : Tree) → P (record { tree = s; firings = [] }) → P (swept limit s)
   swept-keeps s h = until-keeps P (round limit) round-keeps limit (record { tree = s; firings = [] }) h
 
--- what one rule keeps
+-- an invariant of each rule
 pub all-keeps : (P : Going → Type 0) (limit : ℕ) → ((rule : Rule) (p : ℕ) (g : Going) → P g → P (tries rule p limit g))
     → (rules : List Rule) (p : ℕ) (g : Going) → P g → P (tries_all rules p limit g)
 all-keeps P limit keeps [] p g h = h
 all-keeps P limit keeps (rule ∷ rules) p g h =
     all-keeps P limit keeps rules p (tries rule p limit g) (keeps rule p g h)
 
--- whether the rule fires
+-- the rule fires, or nothing changes
 pub tries-cases : (Q : Going → Type 0) (rule : Rule) (p limit : ℕ) (g : Going)
     → (length g.firings < limit → guard rule g.tree p ≡ true → Q (fired rule p g)) → Q g → Q (tries rule p limit g)
 tries-cases Q rule p limit g fires stays =
@@ -66,7 +66,7 @@ tries-cases Q rule p limit g fires stays =
     go below true on = subst Q (sym (tries-on rule p limit g below on)) (fires below on)
     go below false off = subst Q (sym (tries-off rule p limit g off)) stays
 
--- ---- a run of so many firings
+-- ---- a run of at most limit firings
 
 abbrev IsRun : ℕ → Tree → Going → Type 0
 IsRun limit s g = Run g.firings s g.tree × (length g.firings ≤ limit)
@@ -82,7 +82,7 @@ swept-run limit s =
     let keeps = all-keeps (IsRun limit s) limit (tries-run limit s) in
     swept-keeps (IsRun limit s) limit (keeps main_order) (keeps sending_order) s (refl, omega arith)
 
--- ---- where nothing fires
+-- ---- parts of the sweep that fire nothing
 
 tries-grows : (limit m : ℕ) (rule : Rule) (p : ℕ) (g : Going) → m ≤ length g.firings
     → m ≤ length (tries rule p limit g).firings
@@ -162,7 +162,7 @@ pass-idle : (rules : List Rule) (limit : ℕ) (g : Going) → length g.firings <
     → AreOff rules g.tree
 pass-idle rules limit g below idle = below-idle rules (length g.tree.ports) limit g below idle
 
--- ---- how a repetition ends: it was as often as it may, with a firing each time, or the last time was idle
+-- ---- the end of a repetition: its last time is idle, or each time fires something up to the greatest number of times
 
 abbrev EndsIdle : (Going → Going) → Going → Type 0
 EndsIdle f r = (g : Going) × (r ≡ f g) × IsIdleBy f g
@@ -193,7 +193,7 @@ until-ends f grows (suc n) g = go (until-ends f grows n (f g)) (length (f g).fir
 abbrev IsAll : ℕ → Going → Type 0
 IsAll limit g = limit ≤ length g.firings
 
--- passes end where their rules are off, or with as many firings as may be
+-- passes end if their rules are off, or at the limit
 passes-ends : (rules : List Rule) (limit : ℕ) (g : Going)
     → IsAll limit (passes rules limit g) ⊎ AreOff rules (passes rules limit g).tree
 passes-ends rules limit g =
@@ -215,7 +215,7 @@ passes-ends rules limit g =
         ap (λ (y : Going). length y.firings) is ∙ idle in
         inl (omega (arith, same, full))
 
--- passes by which nothing fires
+-- if passes fire nothing, their rules are off
 passes-idle : (rules : List Rule) (limit : ℕ) (g : Going) → length g.firings < limit → IsIdleBy (passes rules limit) g
     → AreOff rules g.tree
 passes-idle rules zero g below idle = absurd (omega (arith, below))
@@ -239,7 +239,7 @@ passes-idle rules (suc n) g below idle = go (cases_lt (length g.firings) (length
         let same : length (pass rules (suc n) g).firings ≡ length g.firings = omega (arith, less, grown) in
         pass-idle rules (suc n) g below same
 
--- the sweep ends at a settled bridge, or with as many firings as may be
+-- the sweep ends at a settled bridge, or at the limit
 pub swept-ends : (limit : ℕ) (s : Tree) → (limit ≤ length (swept limit s).firings) ⊎ IsSettled (swept limit s).tree
 swept-ends limit s =
     elim (until-ends (round limit) (λ x. round-grows limit (length x.firings) x (omega arith)) limit

@@ -1,5 +1,5 @@
 -- Laws of the ports of a settled bridge that is reachable from its start by events: the information that they have and
--- the messages that they send.
+-- the messages that they send. And the number of firings after which a bridge is settled.
 use Rattle.std.specs.Prelude.{ℕ, Bool, true, ◌≡◌, ◌+◌, ◌*◌, ◌<◌, ◌≤◌, ◌%◌, ◌^◌, List, length}
 use Rattle.bpdu_wire.specs.Id.{port_number}
 use Rattle.rstp_state.specs.declared.port.PortState.{PortState}
