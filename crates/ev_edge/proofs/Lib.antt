@@ -15,3 +15,4 @@ pub mod Advertised
 pub mod Removing
 pub mod Staying
 pub mod Remaining
+pub mod Single

@@ -126,3 +126,32 @@ abbrev pub TakesNoMemory : Type 0
 TakesNoMemory =
     (e e' : Edge) (event : Event) (result : Result Reply Refusal) → takes_none e event ≡ true
     → Steps e event result e' → TellsNoMemory result → ⊥
+
+-- ---- the bridge
+
+-- the octets are a message to the bridge
+abbrev pub is_message : Result Arrival Refusal → Bool
+is_message (Ok (Message b)) = true
+is_message (Err r) = false
+is_message (Ok Dropped) = false
+is_message (Ok (Data vni destination source)) = false
+
+-- an event of the bridge: a second, a port that goes up or down, a check of migration, or a frame with a BPDU
+abbrev pub is_of_bridge : Edge → Event → Bool
+is_of_bridge e (events.Frame port octets) = is_message (frame_arrival e port octets.now)
+is_of_bridge e events.Second = true
+is_of_bridge e (events.PortUp port) = true
+is_of_bridge e (events.PortDown port) = true
+is_of_bridge e (events.Mcheck port) = true
+is_of_bridge e (events.TunnelFrame from octets) = false
+is_of_bridge e (events.Take u) = false
+is_of_bridge e (events.Pin s port) = false
+is_of_bridge e (events.Unpin s) = false
+is_of_bridge e (events.Thaw s) = false
+is_of_bridge e events.Announce = false
+
+-- two steps of an edge by the same event of the bridge have the same answer and the same edge afterwards
+abbrev pub BridgeHasOneOutcome : Type 0
+BridgeHasOneOutcome =
+    (e a b : Edge) (event : Event) (x y : Result Reply Refusal) → is_of_bridge e event ≡ true → Steps e event x a
+    → Steps e event y b → (x ≡ y) × (a ≡ b)

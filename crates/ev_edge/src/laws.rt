@@ -5,7 +5,7 @@ ghost use Rattle.ev_claims.specs.Opening.{Opens};
 ghost use Rattle.ev_edge.specs.Config.{IsConfig};
 ghost use Rattle.ev_edge.specs.Opening.{IsOpening, start_of};
 ghost use Rattle.ev_edge.specs.Steps.{Steps};
-ghost use Rattle.ev_edge.specs.Laws.{decision_in, IsReserved, HoldsReserved, StaysGood, ChangesItsOwn, LeavesByMembers, LeavesNoTunnelByOne, OwnsItsAdverts, TakesNoMemory};
+ghost use Rattle.ev_edge.specs.Laws.{decision_in, IsReserved, HoldsReserved, StaysGood, ChangesItsOwn, LeavesByMembers, LeavesNoTunnelByOne, OwnsItsAdverts, TakesNoMemory, BridgeHasOneOutcome};
 ghost use Rattle.ev_edge.specs.Removed.{StepsRemove};
 
 use crate::config::EdgeConfig;
@@ -14,6 +14,7 @@ use crate::event::Event;
 use crate::refusal::Refusal;
 use crate::reply::Reply;
 use ether_wire::Addr;
+use rstp_run::laws::one_outcome;
 
 /// A good edge is good after each event, whatever the answer: it follows from the definition of a
 /// step, and needs nothing that only this code does.
@@ -96,3 +97,11 @@ pub fn takes_no_memory()
 pub fn steps_remove()
     ensures { StepsRemove }
 {}
+
+/// An event of the bridge has one answer and one edge afterwards: a second, a port that goes up or
+/// down, a check of migration, or a frame with a BPDU. They are functions of the edge and the event.
+pub fn bridge_has_one_outcome()
+    ensures { BridgeHasOneOutcome }
+{
+    one_outcome();
+}

@@ -23,9 +23,9 @@ pub use config::{EdgeConfig, PortConfig};
 pub use edge::Edge;
 pub use event::Event;
 pub use laws::{
-    advertises_its_own, leaves_by_members_that_pass, never_from_tunnel_to_tunnel,
-    opening_originates, own_changes, reserved_goes_nowhere, reserved_in_tunnel_goes_nowhere,
-    stays_good, steps_remove, takes_no_memory,
+    advertises_its_own, bridge_has_one_outcome, leaves_by_members_that_pass,
+    never_from_tunnel_to_tunnel, opening_originates, own_changes, reserved_goes_nowhere,
+    reserved_in_tunnel_goes_nowhere, stays_good, steps_remove, takes_no_memory,
 };
 pub use learning::Case;
 pub use pinning::PinCase;

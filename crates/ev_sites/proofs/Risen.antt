@@ -14,13 +14,12 @@ use Rattle.rstp_state.specs.Selection.{selected_ports, selected_root, best_path}
 use Rattle.rstp_state.specs.declared.start.Settings.{Settings}
 use Rattle.rstp_run.specs.declared.event.Event.{Event}
 use Rattle.rstp_run.specs.declared.event.Event.TheVariants as tree_events
-use Rattle.rstp_run.specs.declared.rule.TheConstants.{MAIN, SENDS}
 use Rattle.rstp_run.specs.Events.{direct, start, sent_from, firings_at, Happens, RunsHappen, Passes, Learns, IsPort}
 use Rattle.rstp_run.specs.Rules.{Tree}
 use Rattle.rstp_run.specs.Runs.{IsSettled}
 use Rattle.rstp_run.specs.Settled.{SettledByLists}
-use Rattle.rstp_net.proofs.Histories.{runs, all_fire, run_is, coming_up}
-use Rattle.rstp_net.proofs.Ring.{settings_of, two_ports, off_at_two, root_bridge, root_settled}
+use Rattle.rstp_net.proofs.Histories.{AreSwept, runs, coming_up, swept-is}
+use Rattle.rstp_net.proofs.Ring.{settings_of, two_ports, root_bridge, root_settled}
 use Rattle.ev_tunnel.specs.declared.decision.Decision.{Decision}
 use Rattle.ev_tunnel.specs.declared.decision.Source.{Source}
 use Rattle.ev_tunnel.specs.declared.decision.Source.TheVariants.{Port}
@@ -105,17 +104,13 @@ down = start root_settings two_ports
 abbrev half : Tree
 half = runs (coming_up 0) (direct (tree_events.PortUp 1) down)
 
-half_fires : all_fire (coming_up 0) (direct (tree_events.PortUp 1) down) ≡ true
+half_swept : AreSwept 192 (coming_up 0) (direct (tree_events.PortUp 1) down)
 unfolding selected_ports selected_root best_path
-half_fires = refl
+half_swept = refl
 
-both_fire : all_fire (coming_up 1) (direct (tree_events.PortUp 2) half) ≡ true
+both_swept : AreSwept 192 (coming_up 1) (direct (tree_events.PortUp 2) half)
 unfolding selected_ports selected_root best_path
-both_fire = refl
-
-half_settled : SettledByLists → IsSettled half
-unfolding selected_ports selected_root best_path
-half_settled law = law half (off_at_two half MAIN refl refl refl) (off_at_two half SENDS refl refl refl)
+both_swept = refl
 
 half_limit : firings_at half ≡ 192
 unfolding selected_ports selected_root best_path
@@ -191,16 +186,14 @@ runs_on (step ∷ steps) more old mid new h k = (h.0, h.1, h.2, runs_on steps mo
 module _ (lists : SettledByLists) (happens : RunsHappen) where
   half_goes : BridgeGoes (tree_events.PortUp 1) down half 0 (sent_from 1 half.ports)
   half_goes =
-      let (settled, does) =
-      happens (tree_events.PortUp 1) 192 down half (coming_up 0)
-      (run_is (coming_up 0) (direct (tree_events.PortUp 1) down) half_fires) (lit≤ tt) (inr (half_settled lists)) in
+      let (settled, does) = happens (tree_events.PortUp 1) 192 down half (coming_up 0)
+      (swept-is 192 (coming_up 0) (direct (tree_events.PortUp 1) down) half_swept) in
       record { settled = settled; happens = does; slots = refl }
 
   root_goes : BridgeGoes (tree_events.PortUp 2) half root_bridge 0 (sent_from 1 root_bridge.ports)
   root_goes =
-      let (settled, does) =
-      happens (tree_events.PortUp 2) 192 half root_bridge (coming_up 1)
-      (run_is (coming_up 1) (direct (tree_events.PortUp 2) half) both_fire) (lit≤ tt) (inr (root_settled lists)) in
+      let (settled, does) = happens (tree_events.PortUp 2) 192 half root_bridge (coming_up 1)
+      (swept-is 192 (coming_up 1) (direct (tree_events.PortUp 2) half) both_swept) in
       record {
         settled = settled;
         happens = subst (λ n. Happens (tree_events.PortUp 2) n half root_bridge settled 0)

@@ -1,5 +1,5 @@
 -- Bridges that are reachable from their starts by events, each event with the rules that fire at it.
-use Rattle.std.proofs.Common.{◌≡◌, ◌≤◌, Bool, true, false, ◌&&◌, List, [], ◌∷◌, length, inl, refl, arith}
+use Rattle.std.proofs.Common.{◌≡◌, List, [], ◌∷◌, length, refl, sym, ◌∙◌, ap}
 use Rattle.std.specs.Prelude.{ℕ, map}
 use Rattle.rstp_state.specs.declared.start.PortSettings.{PortSettings}
 use Rattle.rstp_state.specs.declared.start.Settings.{Settings}
@@ -14,16 +14,11 @@ use Rattle.rstp_run.specs.declared.rule.TopologyRule.TheVariants as topology_rul
 use Rattle.rstp_run.specs.declared.rule.TransmitRule.TheVariants as transmit_rule
 use Rattle.rstp_run.specs.Events.{direct, start, RunsHappen}
 use Rattle.rstp_run.specs.RootPort.{CanBe, Comes}
-use Rattle.rstp_run.specs.Rules.{Tree, guard, after}
+use Rattle.rstp_run.specs.Rules.{Tree, after}
 use Rattle.rstp_run.specs.Runs.{Firing, Run, flushed}
-
-left : (a b : Bool) → a && b ≡ true → a ≡ true
-left true b h = refl
-left false b h = cc
-
-right : (a b : Bool) → a && b ≡ true → b ≡ true
-right true b h = h
-right false b h = cc
+use Rattle.rstp_run.specs.Sweep.{Going, swept}
+use Rattle.rstp_run.proofs.Whole.{swept-run}
+use Rattle.rstp_net.proofs.Computing.{sweep, sweep-is}
 
 -- ---- firings
 
@@ -32,15 +27,23 @@ abbrev pub runs : List Firing → Tree → Tree
 runs [] s = s
 runs (f ∷ earlier) s = after f.rule (runs earlier s) f.place
 
--- each rule may fire in the state that the earlier firings led to
-abbrev pub all_fire : List Firing → Tree → Bool
-all_fire [] s = true
-all_fire (f ∷ earlier) s = all_fire earlier s && guard f.rule (runs earlier s) f.place
+run-is : (firings : List Firing) (s t : Tree) → Run firings s t → t ≡ runs firings s
+run-is [] s t run = run
+run-is (f ∷ earlier) s t (mid, run, fires) =
+    fires.1 ∙ ap (λ v. after f.rule v f.place) (run-is earlier s mid run)
 
-pub run_is : (firings : List Firing) (s : Tree) → all_fire firings s ≡ true → Run firings s (runs firings s)
-run_is [] s h = refl
-run_is (f ∷ earlier) s h =
-    (runs earlier s, run_is earlier s (left (all_fire earlier s) _ h), (right (all_fire earlier s) _ h, refl))
+-- these are the firings of the sweep with this limit
+abbrev pub AreSwept : ℕ → List Firing → Tree → Type 0
+AreSwept limit firings s = (sweep limit s).firings ≡ firings
+
+-- so the sweep leads to the bridge after them
+pub swept-is : (limit : ℕ) (firings : List Firing) (s : Tree) → AreSwept limit firings s
+    → swept limit s ≡ record { tree = runs firings s; firings = firings }
+swept-is limit firings s are =
+    let same : (swept limit s).firings ≡ firings = sym (ap (λ (g : Going). g.firings) (sweep-is limit s)) ∙ are in
+    let tree = run-is (swept limit s).firings s (swept limit s).tree (swept-run limit s).0 in
+    ap (λ t. record { tree = t; firings = (swept limit s).firings }) tree
+    ∙ ap (λ fs. record { tree = runs fs s; firings = fs }) same
 
 -- ---- histories
 
@@ -54,32 +57,32 @@ abbrev pub come_to : List Happening → Tree → Tree
 come_to [] s = s
 come_to (h ∷ earlier) s = runs h.firings (direct h.event (come_to earlier s))
 
-abbrev pub all_happen : List Happening → Tree → Bool
-all_happen [] s = true
-all_happen (h ∷ earlier) s = all_happen earlier s && all_fire h.firings (direct h.event (come_to earlier s))
+-- the firings are those of the sweep at each event
+abbrev pub AllHappen : List Happening → Tree → Type 0
+AllHappen [] s = Unit {0}
+AllHappen (h ∷ earlier) s = AllHappen earlier s × AreSwept (length h.firings) h.firings (direct h.event (come_to earlier s))
 
-comes : RunsHappen → (history : List Happening) (s : Tree) → all_happen history s ≡ true
+comes : RunsHappen → (history : List Happening) (s : Tree) → AllHappen history s
     → Comes (map (λ h. h.event) history) s (come_to history s)
-comes law [] s e = refl
-comes law (h ∷ earlier) s e =
+comes law [] s all = refl
+comes law (h ∷ earlier) s all =
     let mid = come_to earlier s in
-    let within : length h.firings ≤ length h.firings = omega arith in
-    let run = run_is h.firings (direct h.event mid) (right (all_happen earlier s) _ e) in
-    let (settled, happens) = law h.event (length h.firings) mid (runs h.firings (direct h.event mid)) h.firings run
-    within (inl refl) in (
+    let (settled, happens) =
+    law h.event (length h.firings) mid (runs h.firings (direct h.event mid)) h.firings
+    (swept-is (length h.firings) h.firings (direct h.event mid) all.1) in (
       mid,
       length h.firings,
       settled,
       flushed h.firings 0,
-      comes law earlier s (left (all_happen earlier s) _ e),
+      comes law earlier s all.0,
       happens,
     )
 
 -- so a bridge with these settings may reach this state
 pub can_be : RunsHappen → (settings : Settings) (ports : List PortSettings) (history : List Happening)
-    → all_happen history (start settings ports) ≡ true
+    → AllHappen history (start settings ports)
     → CanBe settings ports (come_to history (start settings ports))
-can_be law settings ports history e = (map (λ h. h.event) history, comes law history (start settings ports) e)
+can_be law settings ports history all = (map (λ h. h.event) history, comes law history (start settings ports) all)
 
 -- ---- the firings
 
@@ -99,9 +102,9 @@ coming_up p =
 -- when a bridge receives the root at its first port
 abbrev pub hearing : List Firing
 hearing =
-    fire (rules.Transmit transmit_rule.SendRst) 0 ∷ fire (rules.Topology topology_rule.Detected) 0
-    ∷ fire (rules.Role role_rule.RootAgreed) 0 ∷ fire (rules.Role role_rule.Root) 0
-    ∷ fire rules.Select 0 ∷ fire (rules.Information information_rule.Superior) 0
+    fire (rules.Transmit transmit_rule.SendRst) 0 ∷ fire (rules.Role role_rule.RootAgreed) 0
+    ∷ fire (rules.Role role_rule.Root) 0 ∷ fire rules.Select 0
+    ∷ fire (rules.Topology topology_rule.Detected) 0 ∷ fire (rules.Information information_rule.Superior) 0
     ∷ fire (rules.Receive receive_rule.Receive) 0 ∷ []
 
 -- when the bridge receives, at its second port, from a bridge that is as near to the root, and takes that bridge's port
@@ -110,7 +113,8 @@ abbrev pub blocking : List Firing
 blocking =
     fire (rules.Transmit transmit_rule.SendRst) 1 ∷ fire (rules.Topology topology_rule.Flush) 1
     ∷ fire (rules.Topology topology_rule.TcInactive) 1 ∷ fire (rules.Role role_rule.Alternate) 1
-    ∷ fire (rules.State state_rule.ToDiscarding) 1 ∷ fire (rules.Role role_rule.AlternateAgreed) 1
-    ∷ fire (rules.Role role_rule.Block) 1
-    ∷ fire rules.Select 0 ∷ fire (rules.Information information_rule.Superior) 1
-    ∷ fire (rules.Receive receive_rule.Receive) 1 ∷ []
+    ∷ fire (rules.Topology topology_rule.TcBack) 1 ∷ fire (rules.State state_rule.ToDiscarding) 1
+    ∷ fire (rules.Role role_rule.AlternateAgreed) 1 ∷ fire (rules.Role role_rule.Block) 1
+    ∷ fire (rules.Topology topology_rule.Flush) 0 ∷ fire (rules.Topology topology_rule.Propagating) 0
+    ∷ fire rules.Select 0 ∷ fire (rules.Topology topology_rule.Detected) 1
+    ∷ fire (rules.Information information_rule.Superior) 1 ∷ fire (rules.Receive receive_rule.Receive) 1 ∷ []

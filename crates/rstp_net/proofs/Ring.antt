@@ -20,7 +20,7 @@ use Rattle.rstp_run.specs.Runs.{IsSettled, AreOff, AreOffAt}
 use Rattle.rstp_run.specs.Settled.{IsReached, SettledByLists}
 use Rattle.rstp_net.specs.Network.{Spot, Network, IsBridgeAt, IsPortAt, IsNetwork, HasTimesOf, IsTold, IsAtRest}
 use Rattle.rstp_net.specs.Network.{PassesAt, Crosses, CanBeAtRest, IsBlockedRing, RingCanBeAtRest}
-use Rattle.rstp_net.proofs.Histories.{Happening, come_to, all_happen, can_be, coming_up, hearing, blocking}
+use Rattle.rstp_net.proofs.Histories.{Happening, come_to, AllHappen, can_be, coming_up, hearing, blocking}
 
 no : {A : Type 0} → false ≡ true → A
 no h = let e : ⊥ = cc in absurd e
@@ -395,17 +395,17 @@ second_bridge = bridge_of 9223374966022471682 second_history
 abbrev pub third_bridge : Tree
 third_bridge = bridge_of 9223374966022471683 third_history
 
-pub root_happens : all_happen root_history (start (settings_of 1152924433774542849) two_ports) ≡ true
+pub root_happens : AllHappen root_history (start (settings_of 1152924433774542849) two_ports)
 unfolding selected_ports selected_root best_path
-root_happens = refl
+root_happens = ((tt, refl), refl)
 
-second_happens : all_happen second_history (start (settings_of 9223374966022471682) two_ports) ≡ true
+second_happens : AllHappen second_history (start (settings_of 9223374966022471682) two_ports)
 unfolding selected_ports selected_root best_path
-second_happens = refl
+second_happens = (((tt, refl), refl), refl)
 
-third_happens : all_happen third_history (start (settings_of 9223374966022471683) two_ports) ≡ true
+third_happens : AllHappen third_history (start (settings_of 9223374966022471683) two_ports)
 unfolding selected_ports selected_root best_path
-third_happens = refl
+third_happens = ((((tt, refl), refl), refl), refl)
 
 pub off_at_two : (s : Tree) (rules : List Rule) → AreOffAt rules 0 s → AreOffAt rules 1 s → length s.ports ≡ 2
     → AreOff rules s
@@ -429,7 +429,7 @@ third_settled law = law third_bridge (off_at_two third_bridge MAIN refl refl ref
     (off_at_two third_bridge SENDS refl refl refl)
 
 reached : RunsHappen → (id : ℕ) (history : List Happening)
-    → all_happen history (start (settings_of id) two_ports) ≡ true → IsReached (bridge_of id history)
+    → AllHappen history (start (settings_of id) two_ports) → IsReached (bridge_of id history)
 reached law id history e = (settings_of id, two_ports, can_be law (settings_of id) two_ports history e)
 
 abbrev port_at : List PortState → ℕ → PortState

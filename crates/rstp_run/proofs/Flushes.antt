@@ -1,6 +1,6 @@
 -- The mask has exactly the ports at which the flush rule fired.
 use Rattle.std.proofs.Common.{◌≡◌, ℕ, ◌≤◌, ◌<◌, ◌-◌, ◌^◌, ◌&&◌, ◌||◌, ◌==◌, Bool, true, false, List, [], ◌∷◌, length}
-use Rattle.std.proofs.Common.{refl, sym, arith, if◌then◌else◌, bit_or, max, ◌≢◌, ◌+◌, ◌⊎◌, inl, inr, subst, ap, ◌∙◌}
+use Rattle.std.proofs.Common.{refl, sym, arith, if◌then◌else◌, bit_or, max, ◌≢◌, ◌+◌, ◌⊎◌, inl, inr, subst, ap, ◌∙◌, ◌↔◌, IsTrue}
 use Rattle.std.specs.Int.{bit_at}
 use Rattle.std.proofs.lemmas.Bool.{eqb-true, eqb-false}
 use Rattle.std.proofs.lemmas.List.{append-nil}
@@ -11,8 +11,9 @@ use Rattle.rstp_run.specs.Runs.{Firing, Run, IsSettled, flushed, is_flush}
 use Rattle.rstp_run.specs.Sweep.{Going, swept}
 use Rattle.rstp_run.specs.Inner.Runs.{Goes, done, swept_on}
 use Rattle.rstp_run.specs.Rules.{Tree}
-use Rattle.rstp_run.specs.Events.{flushes, direct, Happens, IsSwept}
+use Rattle.rstp_run.specs.Events.{flushes, direct, Happens, IsSameOutcome}
 use Rattle.rstp_run.proofs.Settled.{both-ways, settled_or_not}
+use Rattle.rstp_run.proofs.Whole.{swept-run, swept-ends}
 use Rattle.rstp_run.specs.declared.count.Count.{Count}
 use Rattle.rstp_run.specs.declared.event.Event.{Event}
 
@@ -55,7 +56,7 @@ has_port-flushed [] p = has_port-none (p + 1)
 has_port-flushed (f ∷ earlier) p =
     step (is_flush f.rule) (flushed earlier 0) f.place p (flushes p earlier) (has_port-flushed earlier p)
 
--- a run from no firings meets the definition of an event
+-- a whole sweep from no firings meets the definition of an event
 pub happens-from_goes : (event : Event) (limit : ℕ) (s m t : Tree) (b : Count) (settled : Bool) → m ≡ direct event s
     → Goes swept_on done m (record { fired = 0; limit = limit; flush = 0 }) t b
     → (settled ≡ true → IsSettled t) → (settled ≡ false → IsSettled t → ⊥) → (settled ≡ false → b.fired ≡ b.limit)
@@ -63,6 +64,8 @@ pub happens-from_goes : (event : Event) (limit : ℕ) (s m t : Tree) (b : Count)
 happens-from_goes event limit s m t b settled start goes is_so not_so full = record {
   firings = goes.firings;
   run = (let P : Tree → Type 0 = λ v. Run goes.firings v t in subst P start goes.run);
+  order = ap (swept limit) (sym start) ∙ goes.order [] refl
+      ∙ ap (λ list. record { tree = t; firings = list }) (append-nil goes.firings);
   few = (let f : b.fired ≡ 0 + length goes.firings = goes.fired in
       let l : b.limit ≡ limit = goes.limit in
       let w : b.fired ≤ b.limit = goes.within in omega arith);
@@ -72,40 +75,60 @@ happens-from_goes event limit s m t b settled start goes is_so not_so full = rec
       let l : b.limit ≡ limit = goes.limit in
       let e : b.fired ≡ b.limit = full off in omega arith);
   flush = (λ p. rw goes.flush (has_port-flushed goes.firings p));
+  bits = goes.flush;
 }
 
-pub any_run : (event : Event) (limit : ℕ) (s t : Tree) (firings : List Firing) → Run firings (direct event s) t
-    → length firings ≤ limit
-    → (length firings ≡ limit) ⊎ IsSettled t → (settled : Bool) × Happens event limit s t settled (flushed firings 0)
-any_run event limit s t firings run few ends =
+pub any_run : (event : Event) (limit : ℕ) (s t : Tree) (firings : List Firing)
+    → swept limit (direct event s) ≡ record { tree = t; firings = firings }
+    → (settled : Bool) × Happens event limit s t settled (flushed firings 0)
+any_run event limit s t firings order =
     elim (settled_or_not t) [
       | inl rests ↦ (true, happens true (λ e. rests) (λ e q. (let f : ⊥ = cc in f)) (λ e. (let f : ⊥ = cc in absurd f)))
       | inr goes_on ↦ (false, happens false (λ e. (let f : ⊥ = cc in absurd f)) (λ e. goes_on) (λ e. full goes_on ends))
     ]
   where
+    runs : Run firings (direct event s) t × (length firings ≤ limit)
+    runs = subst (λ (g : Going). Run g.firings (direct event s) g.tree × (length g.firings ≤ limit)) order
+        (swept-run limit (direct event s))
+
+    ends : (limit ≤ length firings) ⊎ IsSettled t
+    ends = subst (λ (g : Going). (limit ≤ length g.firings) ⊎ IsSettled g.tree) order
+        (swept-ends limit (direct event s))
+
     happens : (settled : Bool) → (settled ≡ true → IsSettled t) → (settled ≡ false → IsSettled t → ⊥)
         → (settled ≡ false → length firings ≡ limit) → Happens event limit s t settled (flushed firings 0)
-    happens settled is_so not_so full = record {
+    happens settled is_so not_so all = record {
       firings = firings;
-      run = run;
-      few = few;
+      run = runs.0;
+      order = order;
+      few = runs.1;
       settles = both-ways settled (IsSettled t) is_so not_so;
-      unsettled = full;
+      unsettled = all;
       flush = has_port-flushed firings;
+      bits = refl;
     }
 
-    full : (IsSettled t → ⊥) → (length firings ≡ limit) ⊎ IsSettled t → length firings ≡ limit
-    full goes_on (inl all) = all
+    full : (IsSettled t → ⊥) → (limit ≤ length firings) ⊎ IsSettled t → length firings ≡ limit
+    full goes_on (inl all) = let few = runs.1 in omega (arith, all, few)
     full goes_on (inr rests) = absurd (goes_on rests)
 
--- a whole sweep from no firings meets the definition
-pub swept-from_goes : (event : Event) (limit : ℕ) (s m t : Tree) (b : Count) → m ≡ direct event s
-    → Goes swept_on done m (record { fired = 0; limit = limit; flush = 0 }) t b → IsSwept event limit s t b.flush
-swept-from_goes event limit s m t b start goes =
-    let order : swept limit (direct event s) ≡ record { tree = t; firings = goes.firings } =
-    ap (swept limit) (sym start) ∙ goes.order [] refl
-    ∙ ap (λ list. record { tree = t; firings = list }) (append-nil goes.firings) in
+-- two answers to the same question
+same_answer : (b c : Bool) (P : Type 0) → IsTrue b ↔ P → IsTrue c ↔ P → b ≡ c
+same_answer true true P h k = refl
+same_answer true false P h k = let e : false ≡ true = k.1 (h.0 refl) in cc
+same_answer false true P h k = let e : false ≡ true = h.1 (k.0 refl) in cc
+same_answer false false P h k = refl
+
+pub one_outcome : (event : Event) (limit : ℕ) (s t t' : Tree) (settled settled' : Bool) (mask mask' : ℕ)
+    → Happens event limit s t settled mask → Happens event limit s t' settled' mask'
+    → IsSameOutcome t t' settled settled' mask mask'
+one_outcome event limit s t t' settled settled' mask mask' h k =
+    let same : record { tree = t; firings = h.firings } ≡ record { tree = t'; firings = k.firings } =
+    sym h.order ∙ k.order in
+    let bridge : t ≡ t' = ap (λ (g : Going). g.tree) same in
+    let P : Tree → Type 0 = λ v. IsTrue settled' ↔ IsSettled v in
     record {
-      bridge = ap (λ (g : Going). g.tree) (sym order);
-      flush = goes.flush ∙ ap (λ (g : Going). flushed g.firings 0) (sym order);
+      bridge = bridge;
+      settles = same_answer settled settled' (IsSettled t) h.settles (subst P (sym bridge) k.settles);
+      flush = h.bits ∙ ap (λ (g : Going). flushed g.firings 0) same ∙ sym k.bits;
     }

@@ -5,7 +5,7 @@ use Rattle.std.proofs.lemmas.Bool.{le-ltb, lt-ltb, or_parts, eqb-true}
 use Rattle.std.proofs.lemmas.List.{length-append, take_more}
 use Rattle.rstp_run.specs.declared.count.Count.{Count}
 use Rattle.rstp_run.specs.declared.rule.Rule.{Rule}
-use Rattle.rstp_run.specs.Rules.{Tree, guard, after}
+use Rattle.rstp_run.specs.Rules.{Tree, guard}
 use Rattle.rstp_run.specs.Runs.{AreOffAt, AreOffBelow, AreOff, Firing}
 use Rattle.rstp_run.specs.Sweep.{Going, Walk, main_order, sending_order, fired, tries, tries_all, tries_below, pass}
 use Rattle.rstp_run.specs.Sweep.{until_idle, passes, round}
@@ -112,7 +112,7 @@ pub tries_below-more : (rules : List Rule) (n limit : ℕ) (g : Going)
 tries_below-more rules n limit g =
     let next : n + 1 ≡ suc n = omega arith in ap (λ k. tries_below rules k limit g) next
 
-tries_all-append : (first second : List Rule) (p limit : ℕ) (g : Going)
+pub tries_all-append : (first second : List Rule) (p limit : ℕ) (g : Going)
     → tries_all (first ++ second) p limit g ≡ tries_all second p limit (tries_all first p limit g)
 tries_all-append [] second p limit g = refl
 tries_all-append (rule ∷ first) second p limit g = tries_all-append first second p limit (tries rule p limit g)

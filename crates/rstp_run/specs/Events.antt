@@ -1,5 +1,5 @@
 -- The possible effects of an event on a bridge, and its result.
-use Rattle.std.specs.Prelude.{ℕ, Bool, true, false, ◌≡◌, ◌⊎◌, ◌↔◌, ◌+◌, ◌*◌, ◌≤◌, ◌&&◌, ◌==◌, List, [], ◌∷◌, length}
+use Rattle.std.specs.Prelude.{ℕ, Bool, true, false, ◌≡◌, ◌↔◌, ◌+◌, ◌*◌, ◌≤◌, ◌&&◌, ◌==◌, List, [], ◌∷◌, length}
 use Rattle.std.specs.Prelude.{map, Option, Some, None, IsTrue}
 use Rattle.std.specs.List.{list_any}
 use Rattle.ether_wire.specs.Ports.{has_port, place_of_port}
@@ -45,28 +45,37 @@ direct event s = record s { ports = ports_at event (map without_slot s.ports) }
 abbrev pub flushes : ℕ → List Firing → Bool
 flushes p firings = list_any (λ f. is_flush f.rule && f.place == p) firings
 
--- The bridge changes from s to t by the event and at most limit firings. It is settled exactly if no rule is enabled in
--- t. It is unsettled only after exactly limit firings.
+-- The bridge changes from s to t by the event and at most limit firings: those of the sweep. It is settled exactly if no
+-- rule is enabled in t. It is unsettled only after exactly limit firings.
 pub record Happens (event : Event) (limit : ℕ) (s t : Tree) (settled : Bool) (mask : ℕ) : Type 0 where
   pub firings : List Firing
   pub run : Run firings (direct event s) t
+  pub order : swept limit (direct event s) ≡ record { tree = t; firings = firings }
   pub few : length firings ≤ limit
   pub settles : IsTrue settled ↔ IsSettled t
   pub unsettled : settled ≡ false → length firings ≡ limit
   pub flush : (p : ℕ) → has_port mask (p + 1) ≡ flushes p firings
+  pub bits : mask ≡ flushed firings 0
 
--- A run from the event's direct effect is a possible effect of the event, if it has exactly limit firings, or fewer and
--- ends in a settled bridge.
+-- The result of the sweep from the event's direct effect is a possible effect of the event.
 abbrev pub RunsHappen : Type 0
 RunsHappen =
-    (event : Event) (limit : ℕ) (s t : Tree) (firings : List Firing) → Run firings (direct event s) t
-    → length firings ≤ limit → (length firings ≡ limit) ⊎ IsSettled t
+    (event : Event) (limit : ℕ) (s t : Tree) (firings : List Firing)
+    → swept limit (direct event s) ≡ record { tree = t; firings = firings }
     → (settled : Bool) × Happens event limit s t settled (flushed firings 0)
 
--- the effect of the sweep at the event: the bridge after it, and the ports at which it flushes
-pub record IsSwept (event : Event) (limit : ℕ) (s t : Tree) (mask : ℕ) : Type 0 where
-  pub bridge : t ≡ (swept limit (direct event s)).tree
-  pub flush : mask ≡ flushed (swept limit (direct event s)).firings 0
+-- the same bridge, settled or not, with the same flushed ports
+pub record IsSameOutcome (t t' : Tree) (settled settled' : Bool) (mask mask' : ℕ) : Type 0 where
+  pub bridge : t ≡ t'
+  pub settles : settled ≡ settled'
+  pub flush : mask ≡ mask'
+
+-- an event of a bridge has one outcome
+abbrev pub OneOutcome : Type 0
+OneOutcome =
+    (event : Event) (limit : ℕ) (s t t' : Tree) (settled settled' : Bool) (mask mask' : ℕ)
+    → Happens event limit s t settled mask → Happens event limit s t' settled' mask'
+    → IsSameOutcome t t' settled settled' mask mask'
 
 -- the greatest number of firings at an event
 abbrev pub firings_at : Tree → ℕ

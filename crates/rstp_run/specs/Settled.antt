@@ -1,6 +1,6 @@
 -- Laws of the ports of a settled bridge that is reachable from its start by events: the information that they have and
--- the messages that they send.
-use Rattle.std.specs.Prelude.{ℕ, true, ◌≡◌, ◌+◌, ◌<◌, ◌%◌, ◌^◌, List}
+-- the messages that they send. And the number of firings after which a bridge is settled.
+use Rattle.std.specs.Prelude.{ℕ, Bool, true, ◌≡◌, ◌+◌, ◌*◌, ◌<◌, ◌≤◌, ◌%◌, ◌^◌, List, length}
 use Rattle.bpdu_wire.specs.Id.{port_number}
 use Rattle.rstp_state.specs.declared.port.PortState.{PortState}
 use Rattle.rstp_state.specs.declared.start.PortSettings.{PortSettings}
@@ -8,7 +8,8 @@ use Rattle.rstp_state.specs.declared.start.Settings.{Settings}
 use Rattle.rstp_state.specs.Port.{is_designated, is_root}
 use Rattle.rstp_state.specs.Selection.{designated_times, designated_vector, times_beyond}
 use Rattle.rstp_run.specs.declared.rule.TheConstants.{MAIN, SENDS}
-use Rattle.rstp_run.specs.Events.{Passes}
+use Rattle.rstp_run.specs.declared.event.Event.{Event}
+use Rattle.rstp_run.specs.Events.{Happens, Passes}
 use Rattle.rstp_run.specs.Laws.{IsInTree}
 use Rattle.rstp_run.specs.RootPort.{CanBe, IsAtPlace}
 use Rattle.rstp_run.specs.Rules.{Tree}
@@ -53,3 +54,13 @@ PortsAreNumbered =
 -- a bridge is settled if no rule of the two lists is enabled at any of its ports
 abbrev pub SettledByLists : Type 0
 SettledByLists = (s : Tree) → AreOff MAIN s → AreOff SENDS s → IsSettled s
+
+-- A number of firings that settles any event of a bridge with n ports. It is far above what events take.
+abbrev pub enough_firings : ℕ → ℕ
+enough_firings n = (13 * n + 1) * (n * (24 * n * n + 122 * n + 168) + 1)
+
+-- with enough firings every event ends settled, if the bridge's Hello time isn't 0
+abbrev pub EventsSettle : Type 0
+EventsSettle =
+    (event : Event) (limit : ℕ) (s t : Tree) (settled : Bool) (mask : ℕ) → 1 ≤ s.settings.hello
+    → enough_firings (length s.ports) ≤ limit → Happens event limit s t settled mask → settled ≡ true

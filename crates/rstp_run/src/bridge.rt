@@ -8,7 +8,6 @@ ghost use Rattle.rstp_run.specs.Events.{
   Happens,
   IsAt,
   IsPort,
-  IsSwept,
   Learns,
   Passes,
   sent_from,
@@ -96,7 +95,6 @@ impl Bridge {
     ) -> Effect
         requires { IsAt event (length self.old.ports) }
         ensures happens { Happens event limit self.old self.new result.settled result.flush }
-        ensures order { IsSwept event limit self.old self.new result.flush }
         ensures settled { IsTrue result.settled ↔ IsSettled self.new }
         ensures out { out.new.items ≡ sent_from 1 self.new.ports }
         ensures ports { length self.new.ports ≡ length self.old.ports }
@@ -124,7 +122,6 @@ impl Bridge {
         requires some { 1 ≤ limit }
         requires most { limit ≤ firings_at self.old }
         ensures happens { Happens event limit self.old self.new result.settled result.flush }
-        ensures order { IsSwept event limit self.old self.new result.flush }
         ensures settled { IsTrue result.settled ↔ IsSettled self.new }
         ensures out { result.out.items ≡ sent_from 1 self.new.ports }
         ensures ports { length self.new.ports ≡ length self.old.ports }
@@ -148,7 +145,6 @@ impl Bridge {
         requires { IsAt event (length self.old.ports) }
         ensures happens { Happens event (firings_at self.old) self.old self.new
             result.settled result.flush }
-        ensures order { IsSwept event (firings_at self.old) self.old self.new result.flush }
         ensures settled { IsTrue result.settled ↔ IsSettled self.new }
         ensures out { result.out.items ≡ sent_from 1 self.new.ports }
         ensures ports { length self.new.ports ≡ length self.old.ports }
@@ -168,7 +164,6 @@ impl Bridge {
         requires { IsAt event (length self.old.ports) }
         ensures happens { Happens event (firings_at self.old) self.old self.new
             result.settled result.flush }
-        ensures order { IsSwept event (firings_at self.old) self.old self.new result.flush }
         ensures settled { IsTrue result.settled ↔ IsSettled self.new }
         ensures out { out.new.items ≡ sent_from 1 self.new.ports }
         ensures ports { length self.new.ports ≡ length self.old.ports }

@@ -4,7 +4,7 @@ ghost use Rattle.std.specs.Prelude.{◌≡◌, ◌≤◌, ◌<◌, length, map, 
 ghost use Rattle.std.specs.List.{list_any};
 ghost use Rattle.ether_wire.specs.Ports.{place_of_port};
 ghost use Rattle.rstp_state.specs.Direct.{with_second, without_slot};
-ghost use Rattle.rstp_run.specs.Events.{direct, Happens, IsAt, IsSwept, ports_at, sent_from, start};
+ghost use Rattle.rstp_run.specs.Events.{direct, Happens, IsAt, ports_at, sent_from, start};
 ghost use Rattle.rstp_run.specs.Rules.{
   Tree,
   after,
@@ -351,7 +351,6 @@ impl Engine {
     ) -> Effect
         requires { IsAt event (length self.old.ports) }
         ensures happens { Happens event limit self.old self.new result.settled result.flush }
-        ensures order { IsSwept event limit self.old self.new result.flush }
         ensures yes { result.settled ≡ true → IsSettled self.new }
         ensures no { result.settled ≡ false → ¬ IsSettled self.new }
         ensures out { out.new.items ≡ sent_from 1 self.new.ports }

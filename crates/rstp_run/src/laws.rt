@@ -1,9 +1,10 @@
 //! Laws of every bridge that is reachable from its start by events.
 
-ghost use Rattle.rstp_run.specs.Events.{RunsHappen};
+ghost use Rattle.rstp_run.specs.Events.{OneOutcome, RunsHappen};
 ghost use Rattle.rstp_run.specs.Laws.{EdgeRests};
 ghost use Rattle.rstp_run.specs.RootPort.{OneRootPort};
 ghost use Rattle.rstp_run.specs.Settled.{
+  EventsSettle,
   OfSettledPorts,
   Sends,
   HasWhatItSends,
@@ -49,10 +50,21 @@ pub fn settled_by_lists()
     ensures { SettledByLists }
 {}
 
-/// A run from the event's direct effect is a possible effect of the event, if it has exactly
-/// `limit` firings, or fewer and ends in a settled bridge.
+/// The result of the sweep from the event's direct effect is a possible effect of the event.
 pub fn runs_happen()
     ensures { RunsHappen }
+{}
+
+/// An event of a bridge has one outcome: the bridge afterwards, whether it is settled, and the
+/// flushed ports are functions of the bridge, the event and the limit.
+pub fn one_outcome()
+    ensures { OneOutcome }
+{}
+
+/// Every event of a bridge ends settled, if its limit of firings is at least `enough_firings` of
+/// the number of ports, and the Hello time isn't 0. So no rules of the table fire in a circle.
+pub fn events_settle()
+    ensures { EventsSettle }
 {}
 
 /// At a port that is down, Edge and NotEdge don't enable each other after Discard has fired there.

@@ -2,8 +2,10 @@
 use super::{
     FIRST_PROPOSAL, USUAL_PORT, bridge_of_one, happen, learns, passes, sent_by, sent_in_second,
 };
+use crate::bridge::{Bridge, BridgeConfig};
 use crate::event::Event;
-use rstp_state::start::PortSettings;
+use bpdu_wire::BridgeId;
+use rstp_state::start::{PortSettings, Settings};
 use std::test::Fail;
 
 const FIRST: u64 = 0x02aa_0000_0001;
@@ -83,5 +85,26 @@ fn one_firing_leaves_the_bridge_unsettled(rt: HostRuntime) -> Result<(), Fail> {
     let outcome = happen(&mut bridge, Event::Second);
     assert_eq!(rt; outcome.as_ref().map(|outcome| outcome.settled), Some(true));
     assert_eq!(rt; sent_by(outcome).as_slice(), FIRST_PROPOSAL.as_slice());
+    Ok(())
+}
+
+/// With a Hello time of 0 the rule Periodic stays enabled after it fires, so no event settles.
+/// `events_settle` needs its premise.
+#[test]
+fn hello_of_zero_never_settles(rt: HostRuntime) -> Result<(), Fail> {
+    let mut bridge = Bridge::new(BridgeConfig {
+        settings: Settings {
+            identifier: BridgeId::new(0x8000_02aa_0000_0001),
+            hello: 0,
+            max_age: 20,
+            forward_delay: 15,
+            hold: 6,
+        },
+        ports: &[USUAL_PORT],
+    });
+    for event in [Event::Second, Event::PortUp(1), Event::Second] {
+        let outcome = happen(&mut bridge, event);
+        assert_eq!(rt; outcome.map(|outcome| outcome.settled), Some(false));
+    }
     Ok(())
 }
