@@ -22,7 +22,8 @@ either (suc x) p n h =
     ap (λ (b : Bool). b || is_set n) (positive (suc x) (omega arith))
     ∙ sym (positive (suc x * p + n) (omega (arith, some)))
 
-any_number : (n : ℕ) (xs : List ℕ) → n ≤ length xs → (0 < 256 ^ n) × (list_any is_set (take n xs) ≡ is_set (big_number n xs))
+any_number : (n : ℕ) (xs : List ℕ) → n ≤ length xs
+    → (0 < 256 ^ n) × (list_any is_set (take n xs) ≡ is_set (big_number n xs))
 any_number zero xs h = (omega arith, refl)
 any_number (suc n) [] h = absurd (omega (arith, h))
 any_number (suc n) (x ∷ xs) h =
@@ -33,7 +34,8 @@ any_number (suc n) (x ∷ xs) h =
     )
 
 pub any_of_ten : (xs : List ℕ) → 10 ≤ length xs
-    → list_any is_set (take 10 xs) ≡ (is_set (big_number 8 xs) || is_set (slice_index xs 8)) || is_set (slice_index xs 9)
+    → list_any is_set (take 10 xs)
+    ≡ (is_set (big_number 8 xs) || is_set (slice_index xs 8)) || is_set (slice_index xs 9)
 any_of_ten xs h =
     list_any_more is_set xs 9 0 (omega (arith, h)) ∙ ap (λ (b : Bool). b || is_set (slice_index xs 9))
     (list_any_more is_set xs 8 0 (omega (arith, h)) ∙ ap (λ (b : Bool). b || is_set (slice_index xs 8))

@@ -18,7 +18,8 @@ returns-in-Length-clause-read c = λ stream answers r.
     (sym c.self.view_is)
     (c.whole_up_to.ensures ∙ ap (whole_up_to c.self.inside.newest) c.as_slice.ensures.value) c.in-Length.field-0
     c.in-Length.is c.self.invariant.1 stream answers r in
-    let answer : added (next_with c.answer.result c.read_into-refusal.new.update) ≡ reading c.self.inside.held.items ∷ [] =
+    let answer : added (next_with c.answer.result c.read_into-refusal.new.update)
+    ≡ reading c.self.inside.held.items ∷ [] =
     ap added (c.answer.ensures c.read_into-refusal.new.update)
     ∙ added_answer (unless_refused c.read_into-refusal.result c.read_into-refusal.new.update)
     ∙ ap (λ (x : Result Fields ℕ). x ∷ []) (c.read_into-refusal.ensures
