@@ -1,5 +1,4 @@
 use Rattle.std.proofs.Common.{◌≡◌, Err, sym, ap, ◌||◌, ◌∙◌, refl}
-use Rattle.route_wire.specs.declared.stream.Next.TheVariants.{More, Record, Refused, Fault}
 use Rattle.route_wire.specs.Record.{is_length}
 use Rattle.route_wire.specs.declared.stream.Answer.{Answer}
 use Rattle.route_wire.specs.Fields.{Fields}
