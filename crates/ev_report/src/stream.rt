@@ -14,7 +14,7 @@ use crate::notes::{put_fault, put_refused, put_truncated};
 use arrayvec::ArrayVec;
 use ether_wire::{Addr, Device, In, Out};
 use route_join::{Table, TakeError};
-use route_wire::{Feed, Next, Truncated, Update};
+use route_wire::{Answer, Feed, Truncated, Update};
 use std::alloc::Global;
 
 /// The records of a stream on their way into a table.
@@ -85,12 +85,18 @@ impl Intake {
         }
     }
 
-    /// Takes octets at the front of a piece, up to a record's end, and tells how many.
+    /// Takes octets at the front of a piece, up to a record's end, and returns their number.
+    /// `update` is the place of a record's update: a result of that size would be copied.
     ///
     /// # Errors
     ///
     /// The fault that the stream shows then. All of the piece is taken with it.
-    fn step<N: Out>(&mut self, piece: &[u8], notes: &mut N) -> Result<usize, u8>
+    fn step<N: Out>(
+        &mut self,
+        piece: &[u8],
+        update: &mut Update,
+        notes: &mut N,
+    ) -> Result<usize, u8>
         requires feed { shown self.old.feed ≡ Rest }
         requires piece { 0 < length piece.now }
         requires count { self.old.count + 1 < 2 ^ 64 }
@@ -102,13 +108,12 @@ impl Intake {
         ensures shows { shown self.new.feed ≡ shown_by result }
         ensures few { self.new.count ≤ self.old.count + 1 }
     {
-        // by reference: an update is large, and would be copied at each step on its way
-        let taken = self.feed.take(piece);
-        match &taken.1 {
-            Next::More => {}
-            Next::Record(update) => self.take(update, notes),
-            Next::Refused(refusal) => self.refuse(*refusal, notes),
-            Next::Fault(fault) => return Err(*fault),
+        let taken = self.feed.take_into(piece, update);
+        match taken.1 {
+            Answer::More => {}
+            Answer::Record => self.take(update, notes),
+            Answer::Refused(refusal) => self.refuse(refusal, notes),
+            Answer::Fault(fault) => return Err(fault),
         }
         Ok(taken.0)
     }
@@ -128,8 +133,9 @@ impl Intake {
         ensures few { self.new.count ≤ self.old.count + length piece.now }
     {
         let mut rest = piece;
+        let mut update = Update::placeholder();
         while !rest.is_empty() {
-            let n = self.step(rest, notes)?;
+            let n = self.step(rest, &mut update, notes)?;
             let (_, behind) = rest.split_at(n);
             rest = behind;
         }

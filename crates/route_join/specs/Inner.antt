@@ -3,6 +3,7 @@ pub mod Groups
 pub mod Hashes
 pub mod LargeGroup
 pub mod Lines
+pub mod Names
 pub mod Place
 pub mod Ranks
 pub mod Report

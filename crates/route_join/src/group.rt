@@ -129,17 +129,30 @@ impl Group {
         }
     }
 
-    /// Puts the updates into a tree if there are too many for a list. If there is no memory for it,
-    /// they stay in their list.
-    fn settle(&mut self, alloc: Global)
+    /// Puts the updates of a list into a tree. If there is no memory for it, they stay in the list.
+    #[inline(never)]
+    fn grow(&mut self, alloc: Global)
         ensures { self.new ≡ self.old }
     {
         if let Storage::SmallGroup(few) = &self.kept {
-            if few.is_large() {
-                if let Ok(many) = spread(alloc, few) {
-                    self.kept = Storage::LargeGroup(many);
-                }
+            if let Ok(many) = spread(alloc, few) {
+                self.kept = Storage::LargeGroup(many);
             }
+        }
+    }
+
+    /// Puts the updates into a tree if there are too many for a list.
+    #[inline(always)]
+    fn settle(&mut self, alloc: Global)
+        ensures { self.new ≡ self.old }
+    {
+        let is_large = match &self.kept {
+            Storage::One(_) => false,
+            Storage::SmallGroup(few) => few.is_large(),
+            Storage::LargeGroup(_) => false,
+        };
+        if is_large {
+            self.grow(alloc);
         }
     }
 

@@ -14,6 +14,7 @@ ghost use Rattle.route_join.specs.Inner.Report.{report_lines};
 ghost use Rattle.route_join.specs.Inner.Lines.{group_lines};
 
 use crate::group::Group;
+use crate::names::Names;
 use crate::report::{LINE, put_owner, put_updates, subject_text};
 use crate::salt::Salted;
 use crate::subject::{Subject, subject_of};
@@ -163,6 +164,7 @@ impl<'a> Iterator for GroupsIter<'a> {
 fn put_group<O: Out>(
     out: &mut O,
     line: &mut [u8; LINE],
+    names: &mut Names,
     subject: &Subject,
     group: &Group,
 ) -> Result<(), Device>
@@ -172,10 +174,10 @@ fn put_group<O: Out>(
     ensures { Puts (O.end out.old) (O.end out.new) (report_lines (entries_of group.now)) result }
 {
     let text = subject_text(subject);
-    put_updates(out, line, &text, group.updates())?;
+    put_updates(out, line, names, &text, group.updates())?;
     match subject.mac() {
         None => Ok(()),
-        Some(_) => put_owner(out, line, &text, group.owner()),
+        Some(_) => put_owner(out, line, names, &text, group.owner()),
     }
 }
 
@@ -186,8 +188,9 @@ pub(crate) fn put_groups<O: Out>(out: &mut O, groups: &Groups) -> Result<(), Dev
     ensures { Puts (O.end out.old) (O.end out.new) (group_lines groups.now) result }
 {
     let mut line = [0; LINE];
+    let mut names = Names::new();
     for (subject, group) in groups.iter() {
-        put_group(out, &mut line, subject, group)?;
+        put_group(out, &mut line, &mut names, subject, group)?;
     }
     Ok(())
 }

@@ -6,6 +6,7 @@ mod group;
 mod groups;
 mod large_group;
 mod laws;
+mod names;
 mod owner;
 mod place;
 mod register_key;

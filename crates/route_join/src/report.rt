@@ -10,6 +10,7 @@ ghost use Rattle.route_join.specs.Subject.{subject_of};
 ghost use Rattle.route_join.specs.Inner.Lines.{subject_text, register_lines, HaveText};
 ghost use Rattle.route_join.specs.Report.{spaced, counter_text, flood_state, mac_state, label2_words, origin_text, mac_words, register_line, owner_name};
 
+use crate::names::Names;
 use crate::subject::Subject;
 use crate::updates::UpdatesOf;
 use ether_wire::{
@@ -17,7 +18,7 @@ use ether_wire::{
 };
 use route_wire::{Addr6, Advert, Content, Ip, Key, Register, Update, Value};
 
-/// More octets than a line has: 8 for its first word, 48 for its subject, 19 for an originator, 49
+/// More octets than a line has: 8 for its first word, 48 for its subject, 20 for an originator, 49
 /// for a counter, 33 for a state, 43 for an IP address, 32 for a second label and 3 between them.
 pub(crate) const LINE: usize = 256;
 
@@ -143,15 +144,21 @@ fn counter_at(line: &mut [u8], at: usize, value: &Value) -> usize
 }
 
 /// Writes an originator and the counter of its value, with a space before them.
-fn origin_at(line: &mut [u8], at: usize, originator: Addr, value: &Value) -> usize
-    requires { at + 70 ≤ length line.old }
+fn origin_at(
+    line: &mut [u8],
+    at: usize,
+    names: &mut Names,
+    originator: Addr,
+    value: &Value,
+) -> usize
+    requires { at + 71 ≤ length line.old }
     ensures text { take result line.new
         ≡ take at line.old ++ spaced (origin_text originator value.now) }
-    ensures end { result ≤ at + 70 }
+    ensures end { result ≤ at + 71 }
     ensures len { length line.new ≡ length line.old }
 {
     let at = word_at(line, at, b" ");
-    let at = addr_at(line, at, originator);
+    let at = names.name_at(line, at, originator);
     let at = word_at(line, at, b" ");
     counter_at(line, at, value)
 }
@@ -215,6 +222,7 @@ fn mac_words_at(line: &mut [u8], at: usize, ip: Option<Ip>, content: &Content) -
 /// Writes the line of a flood list, whose subject has this text.
 fn flood_line_at(
     line: &mut [u8; LINE],
+    names: &mut Names,
     subject: &Piece<SUBJECT>,
     originator: Addr,
     value: &Value,
@@ -226,7 +234,7 @@ fn flood_line_at(
 {
     let at = word_at(line, 0, b"flood ");
     let at = subject.write_at(line, at);
-    let at = origin_at(line, at, originator, value);
+    let at = origin_at(line, at, names, originator, value);
     let at = word_at(line, at, b" ");
     let at = flood_state_at(line, at, &value.content);
     word_at(line, at, b"\n")
@@ -235,6 +243,7 @@ fn flood_line_at(
 /// Writes the line of a MAC address, whose subject has this text.
 fn mac_line_at(
     line: &mut [u8; LINE],
+    names: &mut Names,
     subject: &Piece<SUBJECT>,
     ip: Option<Ip>,
     originator: Addr,
@@ -247,7 +256,7 @@ fn mac_line_at(
 {
     let at = word_at(line, 0, b"mac ");
     let at = subject.write_at(line, at);
-    let at = origin_at(line, at, originator, value);
+    let at = origin_at(line, at, names, originator, value);
     let at = mac_words_at(line, at, ip, &value.content);
     word_at(line, at, b"\n")
 }
@@ -256,6 +265,7 @@ fn mac_line_at(
 pub(crate) fn put_update<O: Out>(
     out: &mut O,
     line: &mut [u8; LINE],
+    names: &mut Names,
     subject: &Piece<SUBJECT>,
     update: &Update,
 ) -> Result<(), Device>
@@ -267,22 +277,22 @@ pub(crate) fn put_update<O: Out>(
     let Register { originator, key } = update.register();
     let value = update.value();
     let end = match key {
-        Key::Flood(_) => flood_line_at(line, subject, originator, &value),
-        Key::Mac(_, _, ip) => mac_line_at(line, subject, ip, originator, &value),
+        Key::Flood(_) => flood_line_at(line, names, subject, originator, &value),
+        Key::Mac(_, _, ip) => mac_line_at(line, names, subject, ip, originator, &value),
     };
     out.put(&line[..end])
 }
 
 /// Writes the address of an owner, or `none`.
-fn owner_name_at(line: &mut [u8], at: usize, owner: Option<Addr>) -> usize
-    requires { at + 19 ≤ length line.old }
+fn owner_name_at(line: &mut [u8], at: usize, names: &mut Names, owner: Option<Addr>) -> usize
+    requires { at + 20 ≤ length line.old }
     ensures text { take result line.new ≡ take at line.old ++ owner_name owner }
-    ensures end { result ≤ at + 19 }
+    ensures end { result ≤ at + 20 }
     ensures len { length line.new ≡ length line.old }
 {
     match owner {
         None => word_at(line, at, b"none"),
-        Some(originator) => addr_at(line, at, originator),
+        Some(originator) => names.name_at(line, at, originator),
     }
 }
 
@@ -290,6 +300,7 @@ fn owner_name_at(line: &mut [u8], at: usize, owner: Option<Addr>) -> usize
 pub(crate) fn put_owner<O: Out>(
     out: &mut O,
     line: &mut [u8; LINE],
+    names: &mut Names,
     subject: &Piece<SUBJECT>,
     owner: Option<Addr>,
 ) -> Result<(), Device>
@@ -300,7 +311,7 @@ pub(crate) fn put_owner<O: Out>(
     let at = word_at(line, 0, b"owner ");
     let at = subject.write_at(line, at);
     let at = word_at(line, at, b" ");
-    let at = owner_name_at(line, at, owner);
+    let at = owner_name_at(line, at, names, owner);
     let end = word_at(line, at, b"\n");
     out.put(&line[..end])
 }
@@ -310,6 +321,7 @@ pub(crate) fn put_owner<O: Out>(
 pub(crate) fn put_updates<O: Out>(
     out: &mut O,
     line: &mut [u8; LINE],
+    names: &mut Names,
     subject: &Piece<SUBJECT>,
     updates: UpdatesOf<'_>,
 ) -> Result<(), Device>
@@ -319,7 +331,7 @@ pub(crate) fn put_updates<O: Out>(
         (register_lines (entries_of updates.entry)) result }
 {
     for update in updates {
-        put_update(out, line, subject, &update)?;
+        put_update(out, line, names, subject, &update)?;
     }
     Ok(())
 }

@@ -1,6 +1,8 @@
 //! The table of route updates: the newest value of each register, of the
 //! originators that it listens to.
 ghost use Rattle.std.specs.Prelude.{◌≡◌, ◌+◌, ◌↔◌, false, Some, None, Ok, Err, IfOk, OnOk, OnErr, IfErr, MatchOption, ℕ, true};
+ghost use Rattle.std.specs.Prelude.{eqb};
+ghost use Rattle.std.specs.List.{list_any};
 ghost use Rattle.std.specs.FinMap.{empty};
 ghost use Rattle.ether_wire.specs.Ends.{IsOpen, Puts};
 ghost use Rattle.route_join.specs.Report.{report_of};
@@ -70,10 +72,35 @@ impl TakeError {
     }
 }
 
+/// The number of guesses: one for each value of an address's last six bits.
+const GUESSES: usize = 64;
+
+/// Returns for each value of the last six bits the place of an address that ends in them. A guess
+/// is compared before it is used, so nothing depends on it but time.
+fn guesses_of(addresses: &[Addr]) -> [u8; GUESSES] {
+    let mut guesses = [0; GUESSES];
+    for (place, address) in addresses.iter().enumerate() {
+        guesses[address.number() as usize % GUESSES] = (place % 256) as u8;
+    }
+    guesses
+}
+
+/// Returns `true` if an address is among others, of which the one at `guess` is compared first.
+fn is_among(addresses: &[Addr], guess: usize, address: Addr) -> bool
+    ensures { result ≡ list_any (λ x. eqb x address) addresses.now }
+{
+    if guess < addresses.len() && addresses[guess] == address {
+        return true;
+    }
+    addresses.contains(&address)
+}
+
 /// The newest value of each register, of the originators that the table listens to.
 #[derive(Drop)]
 pub struct Table {
     originators: ArrayVec<Addr, 64>,
+    // the place of an originator, guessed by its last six bits
+    guesses: [u8; GUESSES],
     groups: Groups,
     // The number of registers that all groups hold: a merge can count that many.
     held: usize,
@@ -110,8 +137,10 @@ impl Table {
         requires { AreOriginators originators.items }
         ensures { result ≡ record { originators = originators.items; registers = empty } }
     {
+        let guesses = guesses_of(originators.as_slice());
         Table {
             originators,
+            guesses,
             groups: Groups::new(alloc, salt),
             held: 0,
         }
@@ -164,7 +193,9 @@ impl Table {
         ensures err { OnErr result (self.new ≡ self.old) }
         ensures listeners { self.new.originators ≡ self.old.originators }
     {
-        if !self.originators.contains(&update.register().originator) {
+        let originator = update.register().originator;
+        let guess = usize::from(self.guesses[originator.number() as usize % GUESSES]);
+        if !is_among(self.originators.as_slice(), guess, originator) {
             return Err(TakeError::UnknownOriginator);
         }
         update.always_well_formed();

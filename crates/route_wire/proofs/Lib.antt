@@ -1,7 +1,7 @@
 pub mod Newer
 mod Digits
 pub mod Wholes
-pub mod Readings
+pub mod Segments
 pub mod Prefixes
 pub mod Spelt
 pub mod Streams

@@ -20,14 +20,13 @@ use Rattle.route_wire.specs.Fields.{Fields, IsUpdate, flood_advert}
 use Rattle.route_wire.specs.Order.{vni_of}
 use Rattle.ether_wire.specs.Frame.{first_of}
 use Rattle.route_wire.specs.Stream.{IsWhole}
-use Rattle.route_wire.specs.Refusal.{refusal_tests}
-use Rattle.route_wire.specs.Record.{header_in, update_in, reading, Spells, Reads}
+use Rattle.route_wire.specs.Refusal.{refusal_of, refusal_tests}
+use Rattle.route_wire.specs.Record.{header_in, update_in, unless_refused, reading, Spells, Reads}
 use Rattle.route_wire.specs.Encode.{mac_route, flood_route, route_octets, kind_of, record_octets}
 use Rattle.route_wire.specs.Inner.Encode.{IpFits, Label2Fits}
 use Rattle.route_wire.specs.Inner.Encode.{RouteFits}
 use Rattle.route_wire.proofs.Wholes.{AllUnmet, found_long}
 use Rattle.route_wire.proofs.Prefixes.{whole_again}
-use Rattle.route_wire.proofs.Readings.{spelt}
 
 pub none_of : (tests : List (Bool × ℕ)) → AllUnmet tests → first_of tests ≡ None
 none_of [] u = refl
@@ -85,10 +84,12 @@ module _ (o incarnation counter vni : ℕ) (ho : o < 2 ^ 32) (hi : incarnation <
   spells : (kind : ℕ) (route : List ℕ) (u : Fields) → IsWhole (octets kind route)
       → AllUnmet (refusal_tests (header (kind == 2)) route) → update_in (header (kind == 2)) route ≡ u
       → Spells (octets kind route) u
+  unfolding reading
   spells kind route u w unmet e = (
     w,
-    sym (spelt (octets kind route) route (header (kind == 2)) u (sym (header_again kind route)) refl
-        (sym (none_of (refusal_tests (header (kind == 2)) route) unmet)) (sym e)),
+    ap (λ (h : Header). unless_refused (refusal_of h route) (update_in h route)) (header_again kind route)
+        ∙ ap (λ o. unless_refused o (update_in (header (kind == 2)) route))
+        (none_of (refusal_tests (header (kind == 2)) route) unmet) ∙ ap Ok e,
   )
 
   same_originator : (big_number 4 (big_bytes 4 o ++ []) == o) ≡ true

@@ -6,6 +6,9 @@ use Rattle.route_wire.specs.declared.stream.Whole.{Whole}
 use Rattle.route_wire.specs.declared.stream.Whole.TheVariants.{Rest, Fault, Length}
 use Rattle.route_wire.specs.declared.stream.Next.{Next}
 use Rattle.route_wire.specs.declared.stream.Next.TheVariants.{More, Record, Refused, Fault as Faulty}
+use Rattle.route_wire.specs.declared.stream.Answer.{Answer}
+use Rattle.route_wire.specs.declared.stream.Answer.TheVariants.{More as Unfed, Record as Read, Refused as Denied}
+use Rattle.route_wire.specs.declared.stream.Answer.TheVariants.{Fault as Broken}
 use Rattle.route_wire.specs.declared.stream.Truncated.{Truncated}
 use Rattle.route_wire.specs.Fields.{Fields}
 use Rattle.route_wire.specs.Stream.{whole_up_to}
@@ -55,6 +58,13 @@ Feeds old new piece n = OnTrue (is_fault (shown old)) (Skips old new piece n)
 abbrev pub answer_of : Result Fields ℕ → Next
 answer_of (Ok u) = Record u
 answer_of (Err refusal) = Refused refusal
+
+-- the answer of a call that writes the update of a record elsewhere
+abbrev pub next_with : Answer → Fields → Next
+next_with Unfed u = More
+next_with Read u = Record u
+next_with (Denied refusal) u = Refused refusal
+next_with (Broken fault) u = Faulty fault
 
 abbrev pub next_by : Whole → List ℕ → Next
 next_by Rest rest = More

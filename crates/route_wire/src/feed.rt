@@ -3,11 +3,13 @@ ghost use Rattle.std.specs.Prelude.{◌≡◌, ◌+◌, ◌≤◌, ◌<◌, ◌+
 ghost use Rattle.arrayvec.specs.ArrayVec.{array_vec_len};
 ghost use Rattle.route_wire.specs.Fields.{Fields};
 ghost use Rattle.route_wire.specs.Stream.{whole_up_to};
-ghost use Rattle.route_wire.specs.Feed.{is_rest, answer_of};
+ghost use Rattle.route_wire.specs.Record.{unless_refused};
+ghost use Rattle.route_wire.specs.Feed.{is_rest, answer_of, next_with};
 
-use crate::record::read_one;
+use crate::record::read_into;
 use crate::stream::{
-    HEAD, LENGTH_PLACE, LONGEST, NEWEST, Next, SECOND_VERSION, Truncated, Whole, whole_up_to,
+    Answer, HEAD, LENGTH_PLACE, LONGEST, NEWEST, Next, SECOND_VERSION, Truncated, Whole,
+    whole_up_to,
 };
 use crate::update::Update;
 use arrayvec::ArrayVec;
@@ -97,19 +99,32 @@ fn take_octets(newest: u8, held: &mut ArrayVec<u8, LONGEST>, piece: &[u8]) -> us
     head + take_body(newest, held, rest)
 }
 
-/// Returns the answer to a whole record.
-fn answer(reading: Result<Update, u8>) -> Next
-    ensures { result ≡ answer_of reading }
+/// Returns the answer to a whole record, by its refusal.
+fn answer(refusal: Option<u8>) -> Answer
+    ensures { (u : Fields) → next_with result u ≡ answer_of (unless_refused refusal u) }
 {
-    match reading {
-        Ok(update) => Next::Record(update),
-        Err(refusal) => Next::Refused(refusal),
+    match refusal {
+        None => Answer::Record,
+        Some(refusal) => Answer::Refused(refusal),
+    }
+}
+
+/// Returns an answer with the update of its record.
+fn next_with(answer: Answer, update: Update) -> Next
+    ensures { result ≡ next_with answer update }
+{
+    match answer {
+        Answer::More => Next::More,
+        Answer::Record => Next::Record(update),
+        Answer::Refused(refusal) => Next::Refused(refusal),
+        Answer::Fault(fault) => Next::Fault(fault),
     }
 }
 
 impl Feed {
     ghost use Rattle.route_wire.specs.declared.stream.Next.TheVariants.{More};
-    ghost use Rattle.route_wire.specs.Feed.{shown, Feeds, TakesNext, next_of, after_next, end_of, added, HasRead};
+    ghost use Rattle.route_wire.specs.declared.stream.Answer.TheVariants.{More as Unfed};
+    ghost use Rattle.route_wire.specs.Feed.{shown, Feeds, TakesNext, next_of, next_with, after_next, end_of, added, HasRead};
 
     /// Returns a feed of records of all versions.
     pub fn new() -> Self
@@ -150,6 +165,27 @@ impl Feed {
         }
     }
 
+    /// Writes the update of the record that is held whole, or returns its refusal, and discards the
+    /// record; or returns the fault; or `More` if there is neither.
+    fn next_into(&mut self, update: &mut Update) -> Answer
+        ensures value { next_with result update.new ≡ next_of self.old }
+        ensures after { self.new ≡ after_next self.old }
+        ensures more { result ≡ Unfed → is_rest (shown self.new) ≡ true }
+        ensures read { (stream : List ℕ) (answers : List (Result Fields ℕ))
+            → HasRead self.old stream answers
+            → HasRead self.new stream (answers ++ added (next_with result update.new)) }
+    {
+        match whole_up_to(self.newest, self.held.as_slice()) {
+            Whole::Rest => Answer::More,
+            Whole::Fault(fault) => Answer::Fault(fault),
+            Whole::Length(_) => {
+                let refusal = read_into(self.held.as_slice(), update);
+                self.held.clear();
+                answer(refusal)
+            }
+        }
+    }
+
     /// Returns the answer to the record that is held whole, and discards the record; or the fault;
     /// or `More` if there is neither.
     pub fn next(&mut self) -> Next
@@ -160,15 +196,9 @@ impl Feed {
             → HasRead self.old stream answers
             → HasRead self.new stream (answers ++ added result) }
     {
-        match whole_up_to(self.newest, self.held.as_slice()) {
-            Whole::Rest => Next::More,
-            Whole::Fault(fault) => Next::Fault(fault),
-            Whole::Length(_) => {
-                let reading = read_one(self.held.as_slice());
-                self.held.clear();
-                answer(reading)
-            }
-        }
+        let mut update = Update::placeholder();
+        let answer = self.next_into(&mut update);
+        next_with(answer, update)
     }
 
     /// Takes octets from the piece as `feed` does, and returns their number and the answer that
@@ -182,14 +212,47 @@ impl Feed {
             → HasRead self.old stream answers
             → HasRead self.new (stream ++ take result.0 piece.now) (answers ++ added result.1) }
     {
+        let mut update = Update::placeholder();
+        let (n, answer) = self.take_into(piece, &mut update);
+        (n, next_with(answer, update))
+    }
+
+    /// Takes octets from the piece as `take` does, and returns their number and the answer. The
+    /// update of a whole record is written to the caller's place, so that nothing copies it.
+    #[inline(always)]
+    pub fn take_into(&mut self, piece: &[u8], update: &mut Update) -> (usize, Answer)
+        ensures fits { result.0 ≤ length piece.now }
+        ensures takes { TakesNext self.old self.new piece.now result.0
+            (next_with result.1 update.new) }
+        ensures more { result.1 ≡ Unfed → is_rest (shown self.new) ≡ true }
+        ensures read { (stream : List ℕ) (answers : List (Result Fields ℕ))
+            → HasRead self.old stream answers
+            → HasRead self.new (stream ++ take result.0 piece.now)
+            (answers ++ added (next_with result.1 update.new)) }
+    {
         if self.held.as_slice().is_empty() {
             if let Whole::Length(n) = whole_up_to(self.newest, piece) {
                 let (record, _) = piece.split_at(n);
-                return (n, answer(read_one(record)));
+                return (n, answer(read_into(record, update)));
             }
         }
+        self.take_cut(piece, update)
+    }
+
+    /// Does what `take_into` does with a record that isn't whole in the piece.
+    #[inline(never)]
+    fn take_cut(&mut self, piece: &[u8], update: &mut Update) -> (usize, Answer)
+        ensures fits { result.0 ≤ length piece.now }
+        ensures takes { TakesNext self.old self.new piece.now result.0
+            (next_with result.1 update.new) }
+        ensures more { result.1 ≡ Unfed → is_rest (shown self.new) ≡ true }
+        ensures read { (stream : List ℕ) (answers : List (Result Fields ℕ))
+            → HasRead self.old stream answers
+            → HasRead self.new (stream ++ take result.0 piece.now)
+            (answers ++ added (next_with result.1 update.new)) }
+    {
         let n = self.feed(piece);
-        (n, self.next())
+        (n, self.next_into(update))
     }
 
     /// Returns `Ok` if the stream may end here, or the number of octets of an unfinished record.

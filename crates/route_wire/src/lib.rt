@@ -25,7 +25,7 @@ pub use reason::{
     UNKNOWN_TYPE,
 };
 pub use record::read_one;
-pub use stream::{Next, Truncated, Whole, whole_of};
+pub use stream::{Answer, Next, Truncated, Whole, whole_of};
 pub use update::{Addr6, Advert, Content, Ip, Key, Register, Update, Value};
 
 #[cfg(test)]

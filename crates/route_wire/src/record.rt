@@ -13,7 +13,7 @@ ghost use Rattle.route_wire.specs.Stream.{IsWhole};
 ghost use Rattle.route_wire.specs.Route.{ip_len, has_label2, ip_in, label2_in, route_type, tail_of};
 ghost use Rattle.route_wire.specs.Inner.Route.{HasRoute};
 ghost use Rattle.route_wire.specs.Inner.Refusal.{IsReadable};
-ghost use Rattle.route_wire.specs.Record.{route_place, first_header_in, later_header_in, header_in, is_flagged, advert_in, names_no_ip, key_in, content_in, update_in, reading};
+ghost use Rattle.route_wire.specs.Record.{route_place, first_header_in, later_header_in, header_in, is_flagged, advert_in, names_no_ip, key_in, content_in, update_in, unless_refused, reading};
 
 use crate::refusal::refusal;
 use crate::route::{
@@ -115,11 +115,12 @@ fn header_in(bytes: &[u8]) -> Header
 }
 
 /// Returns the IP address of a MAC's route.
-fn ip_in(route: &[u8]) -> Option<Ip>
-    requires { LABEL2_PLACE + ip_len route.now ≤ length route.now }
+fn ip_in(route: &[u8], ip_octets: usize) -> Option<Ip>
+    requires octets { ip_octets ≡ ip_len route.now }
+    requires fits { LABEL2_PLACE + ip_len route.now ≤ length route.now }
     ensures { result ≡ ip_in route.now }
 {
-    match ip_len(route) {
+    match ip_octets {
         0 => None,
         4 => Some(Ip::V4(Addr::new(BigEndian::read_u32(&route[IP_PLACE..])))),
         _ => Some(Ip::V6(Addr6::new(BigEndian::read_u128(&route[IP_PLACE..])))),
@@ -127,13 +128,14 @@ fn ip_in(route: &[u8]) -> Option<Ip>
 }
 
 /// Returns the second label of a MAC's route.
-fn label2_in(route: &[u8]) -> Option<Vni>
-    requires { LABEL2_PLACE + ip_len route.now
+fn label2_in(route: &[u8], ip_octets: usize) -> Option<Vni>
+    requires octets { ip_octets ≡ ip_len route.now }
+    requires fits { LABEL2_PLACE + ip_len route.now
         + (if has_label2 route.now then 3 else 0) ≤ length route.now }
     ensures { result ≡ label2_in route.now }
 {
-    if has_label2(route) {
-        Some(Vni::from_octets(&route[LABEL2_PLACE + ip_len(route)..]))
+    if has_label2(route, ip_octets) {
+        Some(Vni::from_octets(&route[LABEL2_PLACE + ip_octets..]))
     } else {
         None
     }
@@ -147,7 +149,8 @@ fn is_flagged(flags: u8) -> bool
 }
 
 /// Returns the advert of a MAC's route and the octets after it.
-fn advert_in(route: &[u8]) -> Advert
+fn advert_in(route: &[u8], ip_octets: usize) -> Advert
+    requires octets { ip_octets ≡ ip_len route.now }
     requires fits { HasRoute route.now }
     requires mac { route_type route.now ≡ MAC_ROUTE }
     requires tail { (length (tail_of route.now) ≡ 0) ⊎ (length (tail_of route.now) ≡ 8) }
@@ -165,7 +168,7 @@ fn advert_in(route: &[u8]) -> Advert
     Advert {
         is_static,
         sequence,
-        label2: label2_in(route),
+        label2: label2_in(route, ip_octets),
     }
 }
 
@@ -177,8 +180,9 @@ fn names_no_ip(header: &Header) -> bool
 }
 
 /// Returns the key of the route.
-fn key_in(header: &Header, route: &[u8]) -> Key
-    requires { HasRoute route.now }
+fn key_in(header: &Header, route: &[u8], ip_octets: usize) -> Key
+    requires octets { ip_octets ≡ ip_len route.now }
+    requires fits { HasRoute route.now }
     ensures { result ≡ key_in header.now route.now }
 {
     if route[0] != MAC_ROUTE {
@@ -187,21 +191,22 @@ fn key_in(header: &Header, route: &[u8]) -> Key
     let ip = if names_no_ip(header) {
         None
     } else {
-        ip_in(route)
+        ip_in(route, ip_octets)
     };
     Key::Mac(header.vni, Mac::from_octets(&route[MAC_PLACE..]), ip)
 }
 
 /// Returns the content of the update.
-fn content_in(header: &Header, route: &[u8]) -> Content
-    requires { IsReadable header.now route.now }
+fn content_in(header: &Header, route: &[u8], ip_octets: usize) -> Content
+    requires octets { ip_octets ≡ ip_len route.now }
+    requires readable { IsReadable header.now route.now }
     ensures { result ≡ content_in header.now route.now }
 {
     if header.is_withdrawal {
         return Content::Withdrawn;
     }
     if route[0] == MAC_ROUTE {
-        return Content::Advert(advert_in(route));
+        return Content::Advert(advert_in(route, ip_octets));
     }
     Content::Advert(Advert {
         is_static: false,
@@ -210,35 +215,54 @@ fn content_in(header: &Header, route: &[u8]) -> Content
     })
 }
 
-/// Returns the update of a record that isn't refused.
-fn update_in(header: &Header, route: &[u8]) -> Update
-    requires { IsReadable header.now route.now }
-    ensures { result ≡ update_in header.now route.now }
+/// Writes the update of a record that isn't refused.
+fn write_update(header: &Header, route: &[u8], ip_octets: usize, update: &mut Update)
+    requires octets { ip_octets ≡ ip_len route.now }
+    requires readable { IsReadable header.now route.now }
+    ensures { update.new ≡ update_in header.now route.now }
 {
     let register = Register {
         originator: header.originator,
-        key: key_in(header, route),
+        key: key_in(header, route, ip_octets),
     };
     let value = Value {
         incarnation: header.incarnation,
         counter: header.counter,
-        content: content_in(header, route),
+        content: content_in(header, route, ip_octets),
     };
-    Update::new(register, value)
+    *update = Update::new(register, value);
+}
+
+/// Writes the update that a whole record spells to a place of the caller, or returns its refusal,
+/// the first that applies.
+// In place: a whole update in a result would be copied at each step of its way.
+#[tactic(auto, using(crate::proofs::Wholes::whole_long), unfolding(crate::specs::Record::reading))]
+pub(crate) fn read_into(bytes: &[u8], update: &mut Update) -> Option<u8>
+    requires { IsWhole bytes.now }
+    ensures { unless_refused result update.new ≡ reading bytes.now }
+{
+    let header = header_in(bytes);
+    let (_, route) = bytes.split_at(route_place(bytes));
+    let ip_octets = ip_len(route);
+    match refusal(&header, route, ip_octets) {
+        Some(refusal) => Some(refusal),
+        None => {
+            write_update(&header, route, ip_octets, update);
+            None
+        }
+    }
 }
 
 /// Returns the update that a whole record spells, or its refusal, the first that applies:
 /// UnknownType (5), BadRoute (6), RdMismatch (7), Multihomed (8), TagUnsupported (9), LabelMismatch
 /// (10), BadMac (11) or CounterZero (14).
-#[tactic(auto, using(crate::proofs::Wholes::whole_long))]
 pub fn read_one(bytes: &[u8]) -> Result<Update, u8>
     requires { IsWhole bytes.now }
     ensures { result ≡ reading bytes.now }
 {
-    let header = header_in(bytes);
-    let (_, route) = bytes.split_at(route_place(bytes));
-    match refusal(&header, route) {
+    let mut update = Update::placeholder();
+    match read_into(bytes, &mut update) {
         Some(refusal) => Err(refusal),
-        None => Ok(update_in(&header, route)),
+        None => Ok(update),
     }
 }

@@ -77,11 +77,13 @@ pub(crate) const FLAGS_PLACE: usize = 2;
 /// The place of its sequence number.
 pub(crate) const SEQUENCE_PLACE: usize = 4;
 
-/// Returns the number of octets of the IP address in a route of this length.
+/// Returns the number of octets of the IP address in a MAC's route of this length.
 pub(crate) fn ip_len(route: &[u8]) -> usize
-    requires { 2 ≤ length route.now }
     ensures { result ≡ ip_len route.now }
 {
+    if route.len() < 2 {
+        return 0;
+    }
     if route[1] < MAC_LEN_V4 {
         0
     } else if route[1] < MAC_LEN_V6 {
@@ -91,21 +93,24 @@ pub(crate) fn ip_len(route: &[u8]) -> usize
     }
 }
 
-/// Returns `true` if a route of this length has a second label.
-pub(crate) fn has_label2(route: &[u8]) -> bool
-    requires { 2 ≤ length route.now }
+/// Returns `true` if a route of this length, with `ip_octets` octets of an IP address, has a second
+/// label.
+pub(crate) fn has_label2(route: &[u8], ip_octets: usize) -> bool
+    requires short { 2 ≤ length route.now }
+    requires octets { ip_octets ≡ ip_len route.now }
     ensures { result ≡ has_label2 route.now }
 {
-    usize::from(route[1]) == usize::from(MAC_LEN_LABEL2) + ip_len(route)
+    usize::from(route[1]) == usize::from(MAC_LEN_LABEL2) + ip_octets
 }
 
 /// Returns `true` if a route of this type may have this length.
-pub(crate) fn is_listed_len(route: &[u8]) -> bool
-    requires { 2 ≤ length route.now }
+pub(crate) fn is_listed_len(route: &[u8], ip_octets: usize) -> bool
+    requires short { 2 ≤ length route.now }
+    requires octets { ip_octets ≡ ip_len route.now }
     ensures { result ≡ is_listed_len route.now }
 {
     if route[0] == MAC_ROUTE {
-        usize::from(route[1]) == usize::from(MAC_LEN) + ip_len(route) || has_label2(route)
+        usize::from(route[1]) == usize::from(MAC_LEN) + ip_octets || has_label2(route, ip_octets)
     } else {
         route[1] == FLOOD_LEN
     }

@@ -74,6 +74,19 @@ pub enum Next {
     Fault(u8),
 }
 
+/// The next answer of a feed that writes each update to a place of its caller.
+#[derive(Clone, Copy, Debug, PartialEq, Eq)]
+pub enum Answer {
+    /// Nothing, until it is fed more.
+    More,
+    /// A whole record, whose update is written.
+    Record,
+    /// The refusal of a whole record: 5 to 11 or 14.
+    Refused(u8),
+    /// The stream's fault, 1 to 4, for good.
+    Fault(u8),
+}
+
 /// The stream ended within a record, of which there are this many octets.
 #[derive(Clone, Copy, Debug, PartialEq, Eq)]
 pub struct Truncated {

@@ -375,6 +375,8 @@ impl Model for Update {
 }
 
 impl Update {
+    ghost use Rattle.route_wire.specs.declared.update.Key.TheVariants.{Flood};
+    ghost use Rattle.route_wire.specs.declared.update.Content.TheVariants.{Withdrawn};
     ghost use Rattle.route_wire.specs.Fields.{IsUpdate};
     ghost use Rattle.route_wire.specs.Order.{is_newer};
 
@@ -385,6 +387,26 @@ impl Update {
         ensures { result ≡ record { register = register; value = value } }
     {
         Update { register, value }
+    }
+
+    /// Returns an update of no meaning, in the place to which a call writes one: the withdrawal of
+    /// the flood list of network 0 by 0.0.0.0.
+    pub fn placeholder() -> Self
+        ensures { result ≡ record {
+          register = record { originator = 0; key = Flood 0 };
+          value = record { counter = 1; incarnation = 0; content = Withdrawn };
+        } }
+    {
+        let register = Register {
+            originator: Addr::new(0),
+            key: Key::Flood(Vni::new(0)),
+        };
+        let value = Value {
+            incarnation: 0,
+            counter: 1,
+            content: Content::Withdrawn,
+        };
+        Update::new(register, value)
     }
 
     /// Returns the register: the originator and the key.

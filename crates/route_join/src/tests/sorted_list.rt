@@ -3,6 +3,7 @@
 ghost use Rattle.std.specs.Prelude.{◌≤◌, length};
 
 use crate::Table;
+use crate::names::Names;
 use crate::owner::advert_in;
 use crate::report::{LINE, put_owner, put_update, subject_text};
 use crate::subject::{Subject, subject_of};
@@ -134,6 +135,7 @@ impl Plain {
             let _ = put_owner(
                 page,
                 &mut [0; LINE],
+                &mut Names::new(),
                 &subject_text(&Subject::address(vni, mac)),
                 self.owner(vni, mac),
             );
@@ -147,6 +149,7 @@ impl Plain {
                 && put_update(
                     &mut page,
                     &mut [0; LINE],
+                    &mut Names::new(),
                     &subject_text(&subject_of(&update.register().key)),
                     update,
                 )

@@ -13,8 +13,8 @@ use Rattle.route_join.proofs.table.Table.take.Goals as goal
 pub returns-in_default-clause-unknown : goal.returns-in_default-clause-unknown
 returns-in_default-clause-unknown c =
     subst (λ (t : Table). _ ↔ (is_listed t c.args.update.now.register.originator ≡ false)) c.self.view_is
-    (not_unknown _ _ (listed_by c.self.inside.originators.items _ c.args.update.now.register _ c.deref.ensures.0
-    c.register.ensures c.if-not-contains.ensures.value) (λ h. cc))
+    (not_unknown _ _ (listed_by c.self.inside.originators.items _ c.args.update.now.register _ c.as_slice.ensures.value
+    c.register-originator.ensures c.if-not-is_among.ensures) (λ h. cc))
 
 pub returns-in_default-clause-no_memory : goal.returns-in_default-clause-no_memory
 returns-in_default-clause-no_memory c = λ h.
@@ -27,8 +27,8 @@ invariant_of-self-2 c = record {
   grouped = record {
     kept = kept_with c.self.inside.originators.items (updates_in c.self.inside.groups) (updates_in c.take.new.self)
         c.args.update.now c.self.invariant.grouped.kept c.in-Ok.ensures.takes.entries c.always_well_formed.ensures
-        (listed_by c.self.inside.originators.items _ c.args.update.now.register _ c.deref.ensures.0 c.register.ensures
-        c.if-not-contains.ensures.value);
+        (listed_by c.self.inside.originators.items _ c.args.update.now.register _ c.as_slice.ensures.value
+        c.register-originator.ensures c.if-not-is_among.ensures);
     groups = c.in-Ok.ensures.groups;
   };
   counted = counted_with (updates_in c.self.inside.groups) (updates_in c.take.new.self) c.args.update.now
@@ -52,8 +52,8 @@ pub returns-clause-unknown : goal.returns-clause-unknown
 returns-clause-unknown c =
     subst (λ (t : Table). (◌≡◌ {A = Result Taken TakeError} (Ok c.in-Ok.taken) (Err UnknownOriginator))
     ↔ (is_listed t c.args.update.now.register.originator ≡ false)) c.self.view_is
-    (not_unknown _ _ (listed_by c.self.inside.originators.items _ c.args.update.now.register _ c.deref.ensures.0
-    c.register.ensures c.if-not-contains.ensures.value) (taken_known c.in-Ok.taken))
+    (not_unknown _ _ (listed_by c.self.inside.originators.items _ c.args.update.now.register _ c.as_slice.ensures.value
+    c.register-originator.ensures c.if-not-is_among.ensures) (taken_known c.in-Ok.taken))
 
 -- an update of a listed originator at a known register is always taken
 pub returns-clause-there : goal.returns-clause-there
