@@ -99,7 +99,7 @@ abbrev pub configs_of : Settings → List EdgeConfig
 configs_of tree = config_of tree 0x0a000001 ∷ config_of tree 0x0a000002 ∷ []
 
 -- a property of two elements holds for each element of their list
-each : (P : EdgeConfig → Type 0) (x y : EdgeConfig) → P x → P y → (c : EdgeConfig) → Contains (x ∷ y ∷ []) c → P c
+pub each : (P : EdgeConfig → Type 0) (x y : EdgeConfig) → P x → P y → (c : EdgeConfig) → Contains (x ∷ y ∷ []) c → P c
 each P x y h k c (zero, l, e) = subst P e h
 each P x y h k c (suc zero, l, e) = subst P e k
 each P x y h k c (suc (suc n), l, e) = absurd (omega (arith, l))
