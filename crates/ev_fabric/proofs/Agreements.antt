@@ -40,26 +40,24 @@ not_ahead b u h = inr (h.says, h.there, go h.order)
     go (inr less) = not_newer_lower u.value h.says (h.present ∙ sym h.alive) less
 
 pub none_ahead : NoneAhead
-none_ahead f h i j a b at_a at_b r v mine is = elim (cases_eq (address_of a) (address_of b)) as (λ _. IsNotAhead b r
-    v) [
-      | inl same ↦
-          let place : i ≡ j = h.apart i j a b at_a at_b same in
-          let edge : a ≡ b = (let at_b' : IsEdge f i b = subst (λ n. IsEdge f n b) (sym place) at_b in cc) in
-          inr (v, subst (λ (e : Edge). value_at (table_of e) r ≡ Some v) edge is, not_newer_itself v)
-      | inr ne ↦ elim ((h.told j b at_b).behind (update_of r v)
-          ((h.told i a at_a).foreign r v (λ q. ne (sym q ∙ mine)) is)
-          mine) as (λ _. IsNotAhead b r v) [
-            | inl earlier ↦ inl earlier
-            | inr told ↦ not_ahead b (update_of r v) told
-          ]
-    ]
+none_ahead f h i j a b at_a at_b r v mine is = elim (cases_eq (address_of a) (address_of b)) [
+  | inl same ↦
+      let place : i ≡ j = h.apart i j a b at_a at_b same in
+      let edge : a ≡ b = (let at_b' : IsEdge f i b = subst (λ n. IsEdge f n b) (sym place) at_b in cc) in
+      inr (v, subst (λ (e : Edge). value_at (table_of e) r ≡ Some v) edge is, not_newer_itself v)
+  | inr ne ↦ elim ((h.told j b at_b).behind (update_of r v)
+      ((h.told i a at_a).foreign r v (λ q. ne (sym q ∙ mine)) is)
+      mine) [
+        | inl earlier ↦ inl earlier
+        | inr told ↦ not_ahead b (update_of r v) told
+      ]
+]
 
 pub announced : Announced
-announced f h i a at r v is quiet = elim (cases_eq r.originator (address_of a)) as (λ _. Contains f.pool
-    (update_of r v)) [
-      | inl mine ↦ (h.told i a at).own r v mine is (quiet mine)
-      | inr ne ↦ (h.told i a at).foreign r v ne is
-    ]
+announced f h i a at r v is quiet = elim (cases_eq r.originator (address_of a)) [
+  | inl mine ↦ (h.told i a at).own r v mine is (quiet mine)
+  | inr ne ↦ (h.told i a at).foreign r v ne is
+]
 
 -- ---- equal tables
 

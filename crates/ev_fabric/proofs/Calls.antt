@@ -94,7 +94,7 @@ no_update f e k a h there none = refuses f (Deliver e k) NoSuchUpdate h
 -- ---- an announcement
 answered : (reply : Reply) (answer : Result Reply edge.Refusal) → Ok reply ≡ of_edge answer → answer ≡ Ok reply
 answered reply (Ok r) is = let same : reply ≡ r = cc in ap (λ (x : Reply). Ok x) (sym same)
-answered reply (Err r) is = absurd cc
+answered reply (Err r) is = cc
 
 pub announce_does : (f : Fabric) (ys : List Edge) (grown : List Fields) (e : ℕ) (reply : Reply) → IsSound f
     → OneSteps f.edges e events.Announce (Ok reply) ys → grown ≡ with_announced f.pool reply.announced
@@ -175,11 +175,11 @@ restart_does f e n a b c h there config high opened good =
 -- the incarnation that a restart has to be above
 pub incarnation_is : (f : Fabric) (e : ℕ) (a : Edge) (c : EdgeConfig) → IsSound f → nth f.edges e ≡ Some a
     → nth f.configs e ≡ Some c → incarnation_of a ≡ c.incarnation
-incarnation_is f zero a c h there config = absurd cc
+incarnation_is f zero a c h there config = cc
 incarnation_is f (suc i) a c h there config = (h.configs i c a config there).life
 
 -- the configuration with which an edge was opened
 pub config_fits : (f : Fabric) (e n : ℕ) (a : Edge) (c : EdgeConfig) → IsSound f → nth f.edges e ≡ Some a
     → nth f.configs e ≡ Some c → IsConfig (in_incarnation c n)
-config_fits f zero n a c h there config = absurd cc
+config_fits f zero n a c h there config = cc
 config_fits f (suc i) n a c h there config = fit_in_life c n (h.configs i c a config there).config

@@ -2,6 +2,7 @@
 use Rattle.std.proofs.Common.{◌≡◌, ◌≢◌, ◌⊎◌, inl, inr, ◌+◌, ◌≤◌, ◌<◌, Bool, true, false, cond, nat_lt, Option, Some}
 use Rattle.std.proofs.Common.{None, List, [], ◌∷◌, ◌++◌, length, refl, sym, ap, subst, ◌∙◌, arith}
 use Rattle.std.proofs.lemmas.Bool.Decides.{nat_tests}
+use Rattle.std.proofs.lemmas.Bool.{and_parts, and_right}
 use Rattle.std.specs.Prelude.{Contains, is_some, not, ◌==◌, ◌&&◌}
 use Rattle.std.specs.List.{list_any}
 use Rattle.std.specs.Option.{option_map}
@@ -23,7 +24,7 @@ use Rattle.mac_arena.specs.declared.station.Station.{Station}
 use Rattle.mac_arena.specs.declared.station.Entry.{Entry}
 use Rattle.mac_arena.specs.Learning.{entry_at}
 use Rattle.ev_claims.specs.Pending.{marked}
-use Rattle.ev_claims.specs.Speaker.{Speaker, own_register, own, own_advert, KeepsNumbers, is_at, next_value}
+use Rattle.ev_claims.specs.Speaker.{Speaker, own_register, own_advert, KeepsNumbers, is_at, next_value}
 use Rattle.ev_claims.specs.Speaker.{after_originating}
 use Rattle.ev_claims.specs.Speaker.{after_importing, is_newest, is_ahead, is_returning, is_spent}
 use Rattle.ev_claims.specs.LocalRoutes.{LocalRoutes, KeepsRoutes, key_of, after_removal, after_update, after_own}
@@ -53,8 +54,8 @@ later_trans a b c h g = record {
   incarnation = g.incarnation ∙ h.incarnation;
   originators = g.originators ∙ h.originators;
   news = λ r w is. g.news r w (h.news r w is);
-  fades = λ k. elim (g.fades k) as (λ _. (own c k ≡ own a k) ⊎ (own_advert c k ≡ None)) [
-    | inl same ↦ elim (h.fades k) as (λ _. (own c k ≡ own a k) ⊎ (own_advert c k ≡ None)) [
+  fades = λ k. elim (g.fades k) [
+    | inl same ↦ elim (h.fades k) [
       | inl before ↦ inl (same ∙ before)
       | inr none ↦ inr (ap advert_of same ∙ none)
     ]
@@ -72,24 +73,21 @@ update_cases t u r = go (is_news (value_at t u.register) u.value) refl
         → ((r ≡ u.register) × (is_news (value_at t u.register) u.value ≡ true)
         × (value_at (cond b (with_value t u.register u.value) t) r ≡ Some u.value))
         ⊎ (value_at (cond b (with_value t u.register u.value) t) r ≡ value_at t r)
-    go true e = elim (same_or_other r u.register) as (λ _. ((r ≡ u.register)
-        × (is_news (value_at t u.register) u.value ≡ true)
-        × (value_at (with_value t u.register u.value) r ≡ Some u.value))
-        ⊎ (value_at (with_value t u.register u.value) r ≡ value_at t r)) [
-          | inl same ↦ inl (
-            same,
-            e,
-            ap (value_at (with_value t u.register u.value)) same
-                ∙ at_same t u.register u.value,
-          )
-          | inr ne ↦ inr (at_other t u.register u.value r ne)
-        ]
+    go true e = elim (same_or_other r u.register) [
+      | inl same ↦ inl (
+        same,
+        e,
+        ap (value_at (with_value t u.register u.value)) same
+            ∙ at_same t u.register u.value,
+      )
+      | inr ne ↦ inr (at_other t u.register u.value r ne)
+    ]
     go false e = inr refl
 
 -- a value that is no news for a table is no news after any update
 pub news_stay : (t : Table) (u : Fields) (r : Register) (w : Value) → is_news (value_at t r) w ≡ false
     → is_news (value_at (with_update t u) r) w ≡ false
-news_stay t u r w h = elim (update_cases t u r) as (λ _. is_news (value_at (with_update t u) r) w ≡ false) [
+news_stay t u r w h = elim (update_cases t u r) [
   | inl c ↦ go (value_at t r) refl h c.2 (ap (λ q. is_news (value_at t q) u.value) c.0 ∙ c.1)
   | inr kept ↦ ap (λ o. is_news o w) kept ∙ h
 ]
@@ -97,7 +95,7 @@ news_stay t u r w h = elim (update_cases t u r) as (λ _. is_news (value_at (wit
     go : (o : Option Value) → value_at t r ≡ o → is_news (value_at t r) w ≡ false
         → value_at (with_update t u) r ≡ Some u.value → is_news (value_at t r) u.value ≡ true
         → is_news (value_at (with_update t u) r) w ≡ false
-    go None at old new more = let never : is_news None w ≡ false = ap (λ o. is_news o w) (sym at) ∙ old in absurd cc
+    go None at old new more = let never : is_news None w ≡ false = ap (λ o. is_news o w) (sym at) ∙ old in cc
     go (Some x) at old new more = ap (λ o. is_news o w) new ∙ pick (is_newer w u.value) refl
       where
         pick : (b : Bool) → is_newer w u.value ≡ b → is_newer w u.value ≡ false
@@ -115,12 +113,11 @@ said_later e k h = record {
   originators = refl;
   news = λ r w is. ap (λ t. is_news (value_at t r) w) (sym (said_joins e k Withdrawn h))
       ∙ news_stay e.table (record { register = own_register e k; value = next_value e Withdrawn }) r w is;
-  fades = λ j. elim (key_or_other j k) as (λ _. (own (after_originating e k Withdrawn) j ≡ own e j)
-      ⊎ (own_advert (after_originating e k Withdrawn) j ≡ None)) [
-        | inl same ↦ inr (ap (λ q. own_advert (after_originating e k Withdrawn) q) same
-            ∙ ap advert_of (own_same e k Withdrawn))
-        | inr ne ↦ inl (own_other e k Withdrawn j ne)
-      ];
+  fades = λ j. elim (key_or_other j k) [
+    | inl same ↦ inr (ap (λ q. own_advert (after_originating e k Withdrawn) q) same
+        ∙ ap advert_of (own_same e k Withdrawn))
+    | inr ne ↦ inl (own_other e k Withdrawn j ne)
+  ];
 }
 
 -- ---- an own advert that comes back
@@ -130,21 +127,12 @@ pub record ComesBack (e : Speaker) (u : Fields) : Type 0 where
   pub earlier : nat_lt u.value.incarnation e.incarnation ≡ true
   pub advert : is_some (advert_in u.value.content) ≡ true
 
-both_true : (x y : Bool) → (x && y) ≡ true → (x ≡ true) × (y ≡ true)
-both_true true true e = (refl, refl)
-both_true true false e = absurd cc
-both_true false y e = absurd cc
-
-and_false : (x : Bool) → (x && false) ≡ false
-and_false true = refl
-and_false false = refl
-
 pub comes : (e : Speaker) (u : Fields) → comes_back e u ≡ true → ComesBack e u
 comes e u h =
-    let p = both_true (u.register.originator == e.address) (is_returning e u) h in
-    let q = both_true (is_newest e u) (nat_lt u.value.incarnation e.incarnation && is_some (advert_in u.value.content))
+    let p = and_parts (u.register.originator == e.address) (is_returning e u) h in
+    let q = and_parts (is_newest e u) (nat_lt u.value.incarnation e.incarnation && is_some (advert_in u.value.content))
     p.1 in
-    let r = both_true (nat_lt u.value.incarnation e.incarnation) (is_some (advert_in u.value.content)) q.1 in
+    let r = and_parts (nat_lt u.value.incarnation e.incarnation) (is_some (advert_in u.value.content)) q.1 in
     let mine : u.register.originator ≡ e.address = (let eq = p.0 in grind (arith, nat_tests)) in
     record { mine = mine; newest = q.0; earlier = r.0; advert = r.1 }
 
@@ -203,7 +191,7 @@ hears c u = choose (u.register.originator == c.speaker.address) refl
         subst (λ v. Heard c u (record c { speaker = v })) (sym (refuted_is c.speaker u Withdrawn mine))
         (Back (rw (test, back) refl))
     own_one mine false stays = Kept (ap (λ b. u.register.originator == c.speaker.address && b) stays
-        ∙ and_false (u.register.originator == c.speaker.address))
+        ∙ and_right (u.register.originator == c.speaker.address) false refl)
 
     pick : u.register.originator ≢ c.speaker.address → (s : Station) (b : Bool) → is_lost (after_update c u) s ≡ b
         → Heard c u (cond b (after_removal (after_update c u) s) (after_update c u))
@@ -247,11 +235,10 @@ kept_later e u ok not = record {
   incarnation = refl;
   originators = same_listeners e.table u;
   news = λ r w is. news_stay e.table u r w is;
-  fades = λ k. elim (update_cases e.table u (own_register e k)) as (λ _. (own (after_importing e u) k ≡ own e k)
-      ⊎ (own_advert (after_importing e u) k ≡ None)) [
-        | inl c ↦ inr (ap advert_of c.2 ∙ silent e u ok not (ap (λ (r : Register). r.originator) (sym c.0)) c.1)
-        | inr kept ↦ inl kept
-      ];
+  fades = λ k. elim (update_cases e.table u (own_register e k)) [
+    | inl c ↦ inr (ap advert_of c.2 ∙ silent e u ok not (ap (λ (r : Register). r.originator) (sym c.0)) c.1)
+    | inr kept ↦ inl kept
+  ];
 }
 
 heard_later_by : (c : LocalRoutes) (u : Fields) (d : LocalRoutes) → KeepsNumbers c.speaker → Accepts c.speaker u
@@ -289,7 +276,7 @@ may_return pool a u = comes_back a u && is_latest pool u
 
 pub returns_before : (pool : List Fields) (a b : Speaker) → IsLater a b → (u : Fields) → may_return pool b u ≡ true
     → may_return pool a u ≡ true
-returns_before pool a b h u is = let t = both_true (comes_back b u) (is_latest pool u) is in
+returns_before pool a b h u is = let t = and_parts (comes_back b u) (is_latest pool u) is in
     let back = comes_before a b h u t.0 in let last = t.1 in rw (back, last) refl
 
 -- an own update of the edge in the pool is of an earlier incarnation, or is no news to it
@@ -310,7 +297,7 @@ pub counted : (pool : List Fields) (a : Speaker) (u : Fields) → KnowsOwn pool 
 counted pool a u knows in' back =
     let c = comes a u back in
     let n = newest pool u c.advert in
-    let inside : Contains pool n.update = elim n.from as (λ _. Contains pool n.update) [
+    let inside : Contains pool n.update = elim n.from [
       | inl here ↦ here
       | inr same ↦ subst (Contains pool) (sym same) in'
     ] in
@@ -318,7 +305,7 @@ counted pool a u knows in' back =
     let news : is_newest a n.update ≡ true = ap (λ r. is_news (value_at a.table r) n.update.value) n.register
     ∙ news_up (value_at a.table u.register) u n.update c.newest n.order in
     let earlier : n.update.value.incarnation < a.incarnation =
-    elim (knows n.update inside mine) as (λ _. n.update.value.incarnation < a.incarnation) [
+    elim (knows n.update inside mine) [
       | inl less ↦ less
       | inr none ↦ absurd (let bad : false ≡ true = sym none ∙ news in cc)
     ] in
@@ -401,17 +388,13 @@ heard_pays_by pool c u _ knows in' routes h ok (Back back) =
 heard_pays_by pool c u _ knows in' routes h ok (Lost s other lost) =
     let later = heard_later_by c u (after_removal (after_update c u) s) h ok (Lost s other lost) in
     let fewer = returning_later pool c.speaker _ later in
-    let some = first (is_some (own_advert (after_importing c.speaker u) (key_of s)))
-    (is_at (owner (after_importing c.speaker u).table s.vni s.mac) c.speaker.address) lost in
+    let some = (and_parts (is_some (own_advert (after_importing c.speaker u) (key_of s)))
+    (not (is_at (owner (after_importing c.speaker u).table s.vni s.mac) c.speaker.address)) lost).0 in
     let there = learnt c s routes (ap (λ o. is_some (advert_of o)) (sym (own_stays c.speaker u other (key_of s)))
     ∙ some) in
     let less = size_gone c.learned s there.0 there.1 in
     let marks = marked_length c.speaker.pending (own_register c.speaker (key_of s)) in
     record { numbers = omega (arith, less, fewer); announcements = omega (arith, less, fewer, marks); returns = fewer }
-  where
-    first : (x y : Bool) → (x && not y) ≡ true → x ≡ true
-    first true y e = refl
-    first false y e = cc
 heard_pays_by pool c u _ knows in' routes h ok (Kept not) =
     let fewer = returning_later pool c.speaker _ (kept_later c.speaker u ok not) in
     record { numbers = omega (arith, fewer); announcements = omega (arith, fewer); returns = fewer }

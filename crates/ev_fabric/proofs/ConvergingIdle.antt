@@ -3,7 +3,6 @@ use Rattle.std.proofs.Common.{◌≡◌, ◌≢◌, ◌⊎◌, inl, inr, ℕ, Bo
 use Rattle.std.proofs.Common.{sym, ap, subst, ◌∙◌, arith}
 use Rattle.std.proofs.lemmas.Bool.Decides.{nat_tests}
 use Rattle.std.specs.Prelude.{Contains, IsSome, is_some, not, ◌==◌, ◌&&◌}
-use Rattle.std.specs.Option.{MatchOption}
 use Rattle.route_wire.specs.declared.update.Ip.{Ip}
 use Rattle.route_wire.specs.declared.update.Key.{Key}
 use Rattle.route_wire.specs.declared.update.Key.TheVariants.{Flood, Mac}
@@ -12,9 +11,8 @@ use Rattle.route_wire.specs.declared.update.Advert.{Advert}
 use Rattle.route_wire.specs.declared.update.Content.TheVariants.{Withdrawn}
 use Rattle.route_wire.specs.Fields.{Fields}
 use Rattle.route_join.specs.Table.{Table, value_at, with_value, register_of}
-use Rattle.route_join.specs.Owner.{advert_in, advert_of, advert_at, owner, IsOwner, IsUnowned}
+use Rattle.route_join.specs.Owner.{advert_in, advert_of, advert_at, owner, IsOwner}
 use Rattle.route_join.proofs.Tables.{same_or_other, at_same, at_other}
-use Rattle.route_join.proofs.Owners.{owner_is, one_owner}
 use Rattle.mac_arena.specs.declared.station.Station.{Station}
 use Rattle.ev_claims.specs.Speaker.{Speaker, own_register, own_advert, KeepsNumbers, is_at, next_value}
 use Rattle.ev_claims.specs.Speaker.{after_originating}
@@ -25,18 +23,11 @@ use Rattle.ev_claims.specs.LocalRoutes.{after_take}
 use Rattle.ev_claims.proofs.Numbers.{marked_only, own_stays}
 use Rattle.ev_edge.specs.Edge.{OwnsAt}
 use Rattle.ev_fabric.specs.ConvergenceEdge.{comes_back}
+use Rattle.ev_fabric.proofs.Sends.{owner_found}
 use Rattle.ev_fabric.proofs.ConvergingEdge.{update_cases, Accepts, Heard, Back, Lost, Kept, heard, hears, silent}
 use Rattle.ev_fabric.proofs.ConvergingEdge.{others_stay_away}
 
 -- ---- owners
-pub owner_found : (t : Table) (vni mac o : ℕ) → IsOwner t vni mac o → owner t vni mac ≡ Some o
-owner_found t vni mac o h = go (owner t vni mac) refl (owner_is t vni mac)
-  where
-    go : (p : Option ℕ) → owner t vni mac ≡ p → MatchOption p (IsUnowned t vni mac) (IsOwner t vni mac)
-        → owner t vni mac ≡ Some o
-    go None is none = absurd (let bad : None ≡ Some h.advert = sym (none o h.ip) ∙ h.own in cc)
-    go (Some p) is owns = is ∙ ap Some (one_owner t vni mac p o owns h)
-
 fewer_owner : (t u : Table) (vni mac o : ℕ) → IsOwner t vni mac o
     → ((ip : Option Ip) → advert_at u o (Mac vni mac ip) ≡ advert_at t o (Mac vni mac ip))
     → ((p : ℕ) (j : Option Ip) (b : Advert) → advert_at u p (Mac vni mac j) ≡ Some b
@@ -61,14 +52,13 @@ still_owner c u owns other idle s = go (own_advert (after_importing c.speaker u)
 
     kept : (p : ℕ) (j : Option Ip) (b : Advert) → advert_at (after_importing c.speaker u).table p (Mac s.vni s.mac j)
         ≡ Some b → advert_at c.speaker.table p (Mac s.vni s.mac j) ≡ Some b
-    kept p j b is = elim (update_cases c.speaker.table u (register_of p (Mac s.vni s.mac j))) as (λ _. advert_at
-        c.speaker.table p (Mac s.vni s.mac j) ≡ Some b) [
-          | inl h ↦ elim idle as (λ _. advert_at c.speaker.table p (Mac s.vni s.mac j) ≡ Some b) [
-            | inl old ↦ absurd (let bad : false ≡ true = sym old ∙ h.1 in cc)
-            | inr none ↦ absurd (let bad : None ≡ Some b = sym none ∙ ap advert_of (sym h.2) ∙ is in cc)
-          ]
-          | inr same ↦ ap advert_of (sym same) ∙ is
-        ]
+    kept p j b is = elim (update_cases c.speaker.table u (register_of p (Mac s.vni s.mac j))) [
+      | inl h ↦ elim idle [
+        | inl old ↦ absurd (let bad : false ≡ true = sym old ∙ h.1 in cc)
+        | inr none ↦ absurd (let bad : None ≡ Some b = sym none ∙ ap advert_of (sym h.2) ∙ is in cc)
+      ]
+      | inr same ↦ ap advert_of (sym same) ∙ is
+    ]
 
     go : (o : Option Advert) → own_advert (after_importing c.speaker u) (key_of s) ≡ o
         → is_lost (after_update c u) s ≡ false
@@ -89,7 +79,7 @@ pub idle_hearing : (c : LocalRoutes) (u : Fields) → ((s : Station) → OwnsAt 
 idle_hearing c u owns idle = choose (u.register.originator == c.speaker.address) refl
   where
     quiet : is_returning c.speaker u ≡ false
-    quiet = elim idle as (λ _. is_returning c.speaker u ≡ false) [
+    quiet = elim idle [
       | inl old ↦ ap (λ b. b && (nat_lt u.value.incarnation c.speaker.incarnation
           && is_some (advert_in u.value.content)))
           old
@@ -134,27 +124,24 @@ abbrev pub Mourns : Speaker → Type 0
 Mourns e = (r : Register) → Contains e.pending r → advert_of (value_at e.table r) ≡ None
 
 said_mourns : (e : Speaker) (k : Key) → Mourns e → Mourns (after_originating e k Withdrawn)
-said_mourns e k h r in' = elim (same_or_other r (own_register e k)) as (λ _. advert_of
-    (value_at (after_originating e k Withdrawn).table r) ≡ None) [
-      | inl same ↦ ap (λ q. advert_of (value_at (after_originating e k Withdrawn).table q)) same
-          ∙ ap advert_of (at_same e.table (own_register e k) (next_value e Withdrawn))
-      | inr ne ↦ elim (marked_only e.pending (own_register e k) r in') as (λ _. advert_of
-          (value_at (after_originating e k Withdrawn).table r) ≡ None) [
-            | inl before ↦ ap advert_of (at_other e.table (own_register e k) (next_value e Withdrawn) r ne) ∙ h r before
-            | inr now ↦ absurd (ne (sym now))
-          ]
-    ]
+said_mourns e k h r in' = elim (same_or_other r (own_register e k)) [
+  | inl same ↦ ap (λ q. advert_of (value_at (after_originating e k Withdrawn).table q)) same
+      ∙ ap advert_of (at_same e.table (own_register e k) (next_value e Withdrawn))
+  | inr ne ↦ elim (marked_only e.pending (own_register e k) r in') [
+    | inl before ↦ ap advert_of (at_other e.table (own_register e k) (next_value e Withdrawn) r ne) ∙ h r before
+    | inr now ↦ absurd (ne (sym now))
+  ]
+]
 
 -- pending registers are own ones, so an accepted update that doesn't come back leaves them without advert
 kept_mourns : (e : Speaker) (u : Fields) → KeepsNumbers e → Accepts e u → comes_back e u ≡ false → Mourns e
     → Mourns (after_importing e u)
-kept_mourns e u n ok not h r in' = elim (update_cases e.table u r) as (λ _. advert_of
-    (value_at (after_importing e u).table r) ≡ None) [
-      | inl c ↦ ap advert_of c.2 ∙ silent e u ok not (ap (λ (q : Register). q.originator) (sym c.0)
-          ∙ (n.pending r in').3)
-          c.1
-      | inr kept ↦ ap advert_of kept ∙ h r in'
-    ]
+kept_mourns e u n ok not h r in' = elim (update_cases e.table u r) [
+  | inl c ↦ ap advert_of c.2 ∙ silent e u ok not (ap (λ (q : Register). q.originator) (sym c.0)
+      ∙ (n.pending r in').3)
+      c.1
+  | inr kept ↦ ap advert_of kept ∙ h r in'
+]
 
 heard_mourns_by : (c : LocalRoutes) (u : Fields) (d : LocalRoutes) → KeepsNumbers c.speaker → Accepts c.speaker u
     → Heard c u d

@@ -129,7 +129,7 @@ module _ (b : Edge) (s : Station) (c : Edge) (unknown : entry_at b.routes.learne
       (λ is. without _ is unknown) (λ new. learns 0 b.windows) (λ n new. learns n _) x h refl
     where
       heard : IsHeard b q → c ≡ refreshed b q port → LearnsIt b s c
-      heard h is = elim (same_or_other s q) as (λ _. LearnsIt b s c) [
+      heard h is = elim (same_or_other s q) [
         | inl this ↦ absurd (let no : IsSome {T = Entry} None = subst IsSome
             (ap (entry_at b.routes.learned) (sym this) ∙ unknown) h.known in cc)
         | inr ne ↦ without _ is ((learn_entry b.routes.learned q port b.clock
@@ -138,7 +138,7 @@ module _ (b : Edge) (s : Station) (c : Edge) (unknown : entry_at b.routes.learne
 
       learns : (n : ℕ) (windows : FinMap station_cmp Window)
           → c ≡ record b { routes = after_advert b.routes q port b.clock n; windows = windows } → LearnsIt b s c
-      learns n windows is = elim (same_or_other s q) as (λ _. LearnsIt b s c) [
+      learns n windows is = elim (same_or_other s q) [
         | inl this ↦ record {
           content = moving n;
           advert = refl;
@@ -177,13 +177,13 @@ module _ (b : Edge) (s : Station) (c : Edge) (unknown : entry_at b.routes.learne
   pinned : (q : Station) (port : ℕ) (k : PinCase) → pin_case b q port ≡ k → (told : Option Alert)
       → DoesPin k b q port told c → LearnsIt b s c
   pinned q port pins.Keep e told h = same h.1
-  pinned q port pins.Shift e told h = elim (same_or_other q s) as (λ _. LearnsIt b s c) [
+  pinned q port pins.Shift e told h = elim (same_or_other q s) [
     | inl is ↦ absurd (no_shift q port is e)
     | inr ne ↦ without _ h.1 ((pin_entry b.routes.learned q port).others s (λ is. ne (sym is)) ∙ unknown)
   ]
   pinned q port (pins.Deny alert) e told h = same h.1
-  pinned q port pins.Pin e told h = elim h as (λ _. LearnsIt b s c) [
-    | inl is ↦ elim (same_or_other q s) as (λ _. LearnsIt b s c) [
+  pinned q port pins.Pin e told h = elim h [
+    | inl is ↦ elim (same_or_other q s) [
       | inl this ↦ record {
         content = fixed;
         advert = refl;

@@ -1,11 +1,11 @@
 -- The effect of an announcement or a delivery on a fabric.
-use Rattle.std.proofs.Common.{◌≡◌, ◌⊎◌, inl, inr, ℕ, zero, suc, ◌+◌, ◌-◌, ◌<◌, ◌≤◌, Bool, true, false, cond, eqb}
+use Rattle.std.proofs.Common.{◌≡◌, ◌⊎◌, inl, inr, ℕ, suc, ◌+◌, ◌≤◌, Bool, true, false, cond, eqb}
 use Rattle.std.proofs.Common.{Option, Some, None, Result, Ok, Err, List, [], ◌∷◌, ◌++◌, length, refl, sym, ap, subst}
 use Rattle.std.proofs.Common.{◌∙◌, arith}
 use Rattle.std.proofs.lemmas.Bool.Decides.{nat_tests}
 use Rattle.std.proofs.lemmas.List.Elements.{Contains-push_cases}
 use Rattle.std.specs.Prelude.{not, ◌&&◌, ◌==◌, Contains, slice_get, slice_set, drop}
-use Rattle.std.specs.Option.{MatchOption, option_map}
+use Rattle.std.specs.Option.{option_map}
 use Rattle.std.specs.List.{list_any}
 use Rattle.route_wire.specs.declared.update.Register.{Register}
 use Rattle.route_wire.specs.declared.update.Value.{Value}
@@ -22,15 +22,15 @@ use Rattle.ev_edge.specs.declared.refusal.Refusal as edge
 use Rattle.ev_edge.specs.Edge.{Edge, table_of, address_of}
 use Rattle.ev_edge.specs.Steps.{Steps, nothing, Takes as TakesBy}
 use Rattle.ev_fabric.specs.declared.refusal.FabricRefusal.{FabricRefusal}
-use Rattle.ev_fabric.specs.declared.refusal.FabricRefusal.TheVariants.{NoSuchEdge, NoSuchUpdate}
 use Rattle.ev_fabric.specs.declared.step.Step.{Step}
 use Rattle.ev_fabric.specs.declared.step.Step.TheVariants.{Local, Announce, Deliver, Restart}
-use Rattle.ev_fabric.specs.Fabric.{Fabric, nth, IsEdge}
-use Rattle.ev_fabric.specs.Steps.{with_edge, with_announced, IsRefused, StepsAt, AnnouncesAt, FabricSteps}
+use Rattle.ev_fabric.specs.Fabric.{Fabric, IsEdge}
+use Rattle.ev_fabric.specs.Steps.{with_edge, with_announced, AnnouncesAt, FabricSteps}
 use Rattle.ev_fabric.specs.Sound.{update_of, IsBehind, IsSound}
 use Rattle.ev_fabric.specs.ConvergenceEdge.{is_over, is_latest, comes_back, returning, unsaid, unannounced, IsLater}
 use Rattle.ev_fabric.specs.Convergence.{IsQuiet, Rests, full_pool, to_come}
-use Rattle.ev_fabric.proofs.Places.{set_cases, contains_at, push_length}
+use Rattle.ev_fabric.proofs.Places.{minus, set_cases, contains_at, push_length}
+use Rattle.ev_fabric.proofs.Cases.{at_edge, at_delivery}
 use Rattle.ev_fabric.proofs.ConvergingSums.{sum_set, count_le, count_push, set_itself, set_kept}
 use Rattle.ev_fabric.proofs.ConvergingNewest.{any_front}
 use Rattle.ev_fabric.proofs.ConvergingEdge.{later_itself, later_trans, Accepts, heard, heard_later, may_return}
@@ -62,11 +62,10 @@ sound_kept f h = record {
   apart = h.apart;
   keeps = λ i a at. (good_kept a (h.good i a at)).0;
   steady = λ i a at. (good_kept a (h.good i a at)).1;
-  knows = λ i a at u in' mine. elim ((h.told i a at).behind u in' mine) as (λ _.
-      (u.value.incarnation < a.routes.speaker.incarnation) ⊎ (is_newest a.routes.speaker u ≡ false)) [
-        | inl earlier ↦ inl earlier
-        | inr b ↦ inr (behind_no_news a.routes.speaker u b)
-      ];
+  knows = λ i a at u in' mine. elim ((h.told i a at).behind u in' mine) [
+    | inl earlier ↦ inl earlier
+    | inr b ↦ inr (behind_no_news a.routes.speaker u b)
+  ];
   sources = h.sources;
   listed = h.listed;
 }
@@ -82,9 +81,6 @@ pub data Move (old : Fabric) : Fabric → Type 0 where
       })
   Takes : (i : ℕ) (a : Edge) (u : Fields) → IsEdge old i a → Contains old.pool u → Accepts a.routes.speaker u
       → Move old (record old { edges = slice_set old.edges i (record a { routes = heard a.routes u }) })
-
-pub minus : (i : ℕ) → suc i - 1 ≡ i
-minus i = omega arith
 
 pub same_edges : (f : Fabric) (i : ℕ) (a : Edge) → IsEdge f i a → record f { edges = slice_set f.edges i a } ≡ f
 same_edges f i a at = λ j. record f { edges = set_itself f.edges i a at j }
@@ -187,12 +183,14 @@ pub moved : (old new : Fabric) (step : Step) (result : Result Reply FabricRefusa
     → FabricSteps old step result new → Move old new
 moved old new (Local e event) result k quiet h = absurd quiet
 moved old new (Restart e n) result k quiet h = absurd quiet
-moved old new (Announce e) result k quiet h = go e (nth old.edges e) refl h
+moved old new (Announce e) result k quiet h =
+    at_edge (Move old new) old new result (λ e a. AnnouncesAt old e a result new) e h
+    (λ is. subst (Move old) (sym is.1) Stays) (λ i a _ is. announces i a is result)
   where
-    at : (i : ℕ) (a : Edge) → IsEdge old i a → (result : Result Reply FabricRefusal)
+    announces : (i : ℕ) (a : Edge) → IsEdge old i a → (result : Result Reply FabricRefusal)
         → AnnouncesAt old (suc i) a result new
         → Move old new
-    at i a is (Ok reply) h = moved_announce old new i a h.0 reply.announced a.routes.speaker.pending
+    announces i a is (Ok reply) h = moved_announce old new i a h.0 reply.announced a.routes.speaker.pending
         (k.keeps i a is).numbers is refl (told h.1.0) h.1.1 h.2
       where
         told : {o : Option Fields} → ◌≡◌ {A = Result Reply edge.Refusal} (Ok reply)
@@ -201,30 +199,11 @@ moved old new (Announce e) result k quiet h = go e (nth old.edges e) refl h
           | Ok r ↦ r.announced
           | Err r ↦ None
         ]) e in same
-    at i a is (Err why) h = subst (Move old) (sym h.1) Stays
-
-    go : (e : ℕ) (o : Option Edge) → nth old.edges e ≡ o
-        → MatchOption o (IsRefused NoSuchEdge old result new) (λ a. AnnouncesAt old e a result new) → Move old new
-    go e None is h = subst (Move old) (sym h.1) Stays
-    go zero (Some a) is h = cc
-    go (suc i) (Some a) is h = at i a is result h
-moved old new (Deliver e n) result k quiet h = go e (nth old.edges e) refl h
-  where
-    at : (i : ℕ) (a : Edge) → IsEdge old i a → (n : ℕ) (o : Option Fields) → nth old.pool n ≡ o
-        → MatchOption o (IsRefused NoSuchUpdate old result new) (λ u. StepsAt old (suc i) a (events.Take u) result new)
-        → Move old new
-    at i a is n None there h = subst (Move old) (sym h.1) Stays
-    at i a is zero (Some u) there h = cc
-    at i a is (suc n) (Some u) there h = moved_take old new i a h.after u h.answer (k.keeps i a is) is
-        (contains_at old.pool n u there) h.steps h.new_is
-
-    go : (e : ℕ) (o : Option Edge) → nth old.edges e ≡ o
-        → MatchOption o (IsRefused NoSuchEdge old result new)
-        (λ a. MatchOption (nth old.pool n) (IsRefused NoSuchUpdate old result new)
-        (λ u. StepsAt old e a (events.Take u) result new)) → Move old new
-    go e None is h = subst (Move old) (sym h.1) Stays
-    go zero (Some a) is h = cc
-    go (suc i) (Some a) is h = at i a is n (nth old.pool n) refl h
+    announces i a is (Err why) h = subst (Move old) (sym h.1) Stays
+moved old new (Deliver e n) result k quiet h =
+    at_delivery (Move old new) old new result e n h (λ why is. subst (Move old) (sym is.1) Stays)
+    (λ i a n u _ _ is there s. moved_take old new i a s.after u s.answer (k.keeps i a is) is
+    (contains_at old.pool n u there) s.steps s.new_is)
 
 -- ---- each edge afterwards is a later state of the one before, and pays for its numbers
 pub record Before (old new : Fabric) (j : ℕ) (b : Edge) : Type 0 where
@@ -246,7 +225,7 @@ push_returns pool a u none =
   where
     off : (x : Bool) → not x ≡ true → x ≡ false
     off false e = refl
-    off true e = absurd cc
+    off true e = cc
 
     front : (x : Fields) (b : Bool) → (b && is_latest (pool ++ u ∷ []) x) ≡ true → (b && is_latest pool x) ≡ true
     front x true is = ap not (any_front (is_over x) pool (u ∷ []) (off (list_any (is_over x) (pool ++ u ∷ [])) is))
@@ -284,7 +263,7 @@ before old _ Stays h j b at = record {
   returns = omega arith;
 }
 before old _ (Tells i a r rs v at pend is) h j b at_b =
-    elim (set_cases old.edges i after j b at_b) as (λ _. Before old next j b) [
+    elim (set_cases old.edges i after j b at_b) [
       | inl p ↦ subst (Before old next j) (sym p.1) (record {
         was = a;
         at = subst (λ n. IsEdge old n a) (sym p.0) at;
@@ -316,27 +295,26 @@ before old _ (Tells i a r rs v at pend is) h j b at_b =
 
     mine : returning (old.pool ++ u ∷ []) (quieter a.routes rs).speaker ≤ returning old.pool a.routes.speaker
     mine = push_returns old.pool (quieter a.routes rs).speaker u (announced_away (quieter a.routes rs).speaker r v is)
-before old _ (Takes i a u at in' ok) h j b at_b = elim (set_cases old.edges i after j b at_b) as (λ _. Before old next j
-    b) [
-      | inl p ↦
-          let pays = heard_pays old.pool a.routes u (h.knows i a at) in' (h.keeps i a at).routes
-          (h.keeps i a at).numbers
-          ok in
-          subst (Before old next j) (sym p.1) (record {
-            was = a;
-            at = subst (λ n. IsEdge old n a) (sym p.0) at;
-            later = heard_later a.routes u (h.keeps i a at).numbers ok;
-            numbers = pays.numbers;
-            returns = pays.returns;
-          })
-      | inr p ↦ record {
-        was = b;
-        at = p.1;
-        later = later_itself b.routes.speaker;
-        numbers = omega arith;
-        returns = omega arith;
-      }
-    ]
+before old _ (Takes i a u at in' ok) h j b at_b = elim (set_cases old.edges i after j b at_b) [
+  | inl p ↦
+      let pays = heard_pays old.pool a.routes u (h.knows i a at) in' (h.keeps i a at).routes
+      (h.keeps i a at).numbers
+      ok in
+      subst (Before old next j) (sym p.1) (record {
+        was = a;
+        at = subst (λ n. IsEdge old n a) (sym p.0) at;
+        later = heard_later a.routes u (h.keeps i a at).numbers ok;
+        numbers = pays.numbers;
+        returns = pays.returns;
+      })
+  | inr p ↦ record {
+    was = b;
+    at = p.1;
+    later = later_itself b.routes.speaker;
+    numbers = omega arith;
+    returns = omega arith;
+  }
+]
   where
     after : Edge
     after = record a { routes = heard a.routes u }
@@ -398,13 +376,13 @@ forward old _ (Takes i c u at_c in' ok) j a at = set_kept old.edges i (record c 
 move_keeps : (old new : Fabric) → Move old new → Kept old → (j : ℕ) (b : Edge) → IsEdge new j b → Keeps b.routes b.clock
 move_keeps old _ Stays h j b at = h.keeps j b at
 move_keeps old _ (Tells i a r rs v at pend is) h j b at_b =
-    elim (set_cases old.edges i (record a { routes = quieter a.routes rs }) j b at_b) as (λ _. Keeps b.routes b.clock) [
+    elim (set_cases old.edges i (record a { routes = quieter a.routes rs }) j b at_b) [
       | inl p ↦ subst (λ (x : Edge). Keeps x.routes x.clock) (sym p.1)
           (quieter_keeps a.routes r rs a.clock pend (h.keeps i a at))
       | inr p ↦ h.keeps j b p.1
     ]
 move_keeps old _ (Takes i a u at in' ok) h j b at_b = elim (set_cases old.edges i
-    (record a { routes = heard a.routes u }) j b at_b) as (λ _. Keeps b.routes b.clock) [
+    (record a { routes = heard a.routes u }) j b at_b) [
       | inl p ↦ subst (λ (x : Edge). Keeps x.routes x.clock) (sym p.1)
           (heard_keeps a.routes u a.clock ok (h.keeps i a at))
       | inr p ↦ h.keeps j b p.1
@@ -416,9 +394,7 @@ move_pool : (old new : Fabric) → Move old new → Kept old → (w : Fields) �
     × (is_newest a.routes.speaker w ≡ false))
 move_pool old _ Stays h w in' = inl in'
 move_pool old _ (Tells i a r rs v at pend is) h w in' =
-    elim (Contains-push_cases old.pool (update_of r v) w in') as (λ _. Contains old.pool w
-    ⊎ ((i : ℕ) × (a : Edge) × IsEdge old i a × (w.register.originator ≡ address_of a)
-    × (is_newest a.routes.speaker w ≡ false))) [
+    elim (Contains-push_cases old.pool (update_of r v) w in') [
       | inl earlier ↦ inl earlier
       | inr now ↦ inr (
         i,
@@ -434,12 +410,12 @@ move_pool old _ (Takes i a u at in' ok) h w in'' = inl in''
 move_steady : (old new : Fabric) → Move old new → Kept old → (j : ℕ) (b : Edge) → IsEdge new j b → IsSteady b
 move_steady old _ Stays h j b at = h.steady j b at
 move_steady old _ (Tells i a r rs v at pend is) h j b at_b =
-    elim (set_cases old.edges i (record a { routes = quieter a.routes rs }) j b at_b) as (λ _. IsSteady b) [
+    elim (set_cases old.edges i (record a { routes = quieter a.routes rs }) j b at_b) [
       | inl p ↦ subst IsSteady (sym p.1) (record { ports = (h.steady i a at).ports; early = (h.steady i a at).early })
       | inr p ↦ h.steady j b p.1
     ]
 move_steady old _ (Takes i a u at in' ok) h j b at_b = elim (set_cases old.edges i
-    (record a { routes = heard a.routes u }) j b at_b) as (λ _. IsSteady b) [
+    (record a { routes = heard a.routes u }) j b at_b) [
       | inl p ↦ subst IsSteady (sym p.1) (heard_steady a u (h.steady i a at))
       | inr p ↦ h.steady j b p.1
     ]
@@ -452,13 +428,11 @@ move_kept old new move h = record {
   steady = move_steady old new move h;
   knows = λ j b at_b u in' mine.
       let x = was j b at_b in
-      elim (move_pool old new move h u in') as (λ _. (u.value.incarnation < b.routes.speaker.incarnation)
-      ⊎ (is_newest b.routes.speaker u ≡ false)) [
-        | inl earlier ↦ elim (h.knows j x.was x.at u earlier (mine ∙ x.later.address)) as (λ _.
-            (u.value.incarnation < b.routes.speaker.incarnation) ⊎ (is_newest b.routes.speaker u ≡ false)) [
-              | inl past ↦ inl (let life = x.later.incarnation in omega (arith, past, life))
-              | inr none ↦ inr (x.later.news u.register u.value none)
-            ]
+      elim (move_pool old new move h u in') [
+        | inl earlier ↦ elim (h.knows j x.was x.at u earlier (mine ∙ x.later.address)) [
+          | inl past ↦ inl (let life = x.later.incarnation in omega (arith, past, life))
+          | inr none ↦ inr (x.later.news u.register u.value none)
+        ]
         | inr s ↦
             let place : j ≡ s.0 = h.apart j s.0 x.was s.1 x.at s.2 (sym x.later.address ∙ sym mine ∙ s.3) in
             let same : Some x.was ≡ Some s.1 = sym x.at
@@ -466,11 +440,10 @@ move_kept old new move h = record {
             let is : s.1 ≡ x.was = cc in
             inr (x.later.news u.register u.value (subst (λ (e : Edge). is_newest e.routes.speaker u ≡ false) is s.4))
       ];
-  sources = λ u in'. elim (move_pool old new move h u in') as (λ _. (i : ℕ) × (a : Edge) × IsEdge new i a
-      × (address_of a ≡ u.register.originator)) [
-        | inl earlier ↦ let s = h.sources u earlier in source s.0 s.1 s.2 u s.3
-        | inr s ↦ source s.0 s.1 s.2 u (sym s.3)
-      ];
+  sources = λ u in'. elim (move_pool old new move h u in') [
+    | inl earlier ↦ let s = h.sources u earlier in source s.0 s.1 s.2 u s.3
+    | inr s ↦ source s.0 s.1 s.2 u (sym s.3)
+  ];
   listed = λ i j a b at_a at_b.
       let x = was i a at_a in
       let y = was j b at_b in

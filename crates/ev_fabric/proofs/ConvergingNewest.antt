@@ -23,7 +23,7 @@ any_none p (x ∷ xs) h = both (p x) (list_any p xs) (h x (0, omega arith, refl)
     both : (a b : Bool) → a ≡ false → b ≡ false → (a || b) ≡ false
     both false false p q = refl
     both false true p q = q
-    both true b p q = absurd cc
+    both true b p q = cc
 
 -- a longer list that has none has none at its front
 pub any_front : {X : Type 0} (p : X → Bool) (xs ys : List X) → list_any p (xs ++ ys) ≡ false → list_any p xs ≡ false
@@ -32,7 +32,7 @@ any_front p (x ∷ xs) ys h = go (p x) (list_any p (xs ++ ys)) h (any_front p xs
   where
     go : (a b : Bool) → (a || b) ≡ false → (b ≡ false → list_any p xs ≡ false) → (a || list_any p xs) ≡ false
     go false b e rest = rest e
-    go true b e rest = absurd cc
+    go true b e rest = cc
 
 newer_not_back : (a b : Value) → is_newer a b ≡ true → is_newer b a ≡ false
 newer_not_back a b p = go (is_newer b a) refl
@@ -51,9 +51,9 @@ pub record Newest (us : List Fields) (u : Fields) : Type 0 where
 
 three : (a b c : Bool) → (a && (b && c)) ≡ true → (a ≡ true) × (b ≡ true) × (c ≡ true)
 three true true true e = (refl, refl, refl)
-three true true false e = absurd cc
-three true false c e = absurd cc
-three false b c e = absurd cc
+three true true false e = cc
+three true false c e = cc
+three false b c e = cc
 
 not_over : (w x : Fields) → (eq_by_cmp register_cmp x.register w.register ≡ true
     → is_some (advert_in x.value.content) ≡ true → is_newer x.value w.value ≡ false) → is_over w x ≡ false
@@ -92,19 +92,19 @@ newest (x ∷ us) u some = go (is_over u x) refl (λ w is. newest us w is)
         let n = rest x t.1 in
         record {
           update = n.update;
-          from = elim n.from as (λ _. Contains (x ∷ us) n.update ⊎ (n.update ≡ u)) [
+          from = elim n.from [
             | inl in' ↦ inl (later n.update in')
             | inr same ↦ inl (0, omega arith, sym same)
           ];
           register = n.register ∙ same_register x.register u.register t.0;
           advert = n.advert;
-          order = inr (elim n.order as (λ _. is_newer n.update.value u.value ≡ true) [
+          order = inr (elim n.order [
             | inl same ↦
                 ap (λ (w : Fields). is_newer w.value u.value) same ∙ t.2
             | inr more ↦ newer_trans u.value x.value n.update.value t.2 more
           ]);
           above = λ y in'. either y n.update in' (not_over n.update x
-              (λ r a. elim n.order as (λ _. is_newer x.value n.update.value ≡ false) [
+              (λ r a. elim n.order [
                 | inl same ↦ ap (λ (w : Fields). is_newer x.value w.value) same ∙ not_newer_itself x.value
                 | inr more ↦ newer_not_back n.update.value x.value more
               ])) n.above;
@@ -113,7 +113,7 @@ newest (x ∷ us) u some = go (is_over u x) refl (λ w is. newest us w is)
         let n = rest u some in
         record {
           update = n.update;
-          from = elim n.from as (λ _. Contains (x ∷ us) n.update ⊎ (n.update ≡ u)) [
+          from = elim n.from [
             | inl in' ↦ inl (later n.update in')
             | inr same ↦ inr same
           ];
@@ -121,7 +121,7 @@ newest (x ∷ us) u some = go (is_over u x) refl (λ w is. newest us w is)
           advert = n.advert;
           order = n.order;
           above = λ y in'. either y n.update in' (not_over n.update x
-              (λ r a. elim n.order as (λ _. is_newer x.value n.update.value ≡ false) [
+              (λ r a. elim n.order [
                 | inl same ↦ ap (λ (w : Fields). is_newer x.value w.value) same
                     ∙ low (subst (λ (q : Register). eq_by_cmp register_cmp x.register q ≡ true) n.register r) a
                     (is_newer x.value u.value) refl
@@ -142,7 +142,7 @@ newest_is us u n = ap not (any_none (is_over n.update) us n.above)
 pub news_up : (o : Option Value) (u w : Fields) → is_news o u.value ≡ true → (w ≡ u) ⊎ (is_newer w.value u.value ≡ true)
     → is_news o w.value ≡ true
 news_up None u w h order = refl
-news_up (Some v) u w h order = elim order as (λ _. is_newer w.value v ≡ true) [
+news_up (Some v) u w h order = elim order [
   | inl same ↦
       ap (λ (x : Fields). is_newer x.value v) same ∙ h
   | inr more ↦ newer_trans v u.value w.value h more

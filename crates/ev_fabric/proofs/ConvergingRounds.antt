@@ -35,12 +35,14 @@ use Rattle.ev_fabric.specs.ConvergenceEdge.{comes_back, unannounced}
 use Rattle.ev_fabric.specs.Convergence.{IsQuiet, IsGranted, Rests, AllQuiet, full_pool, HasNumbers, announcing, taking}
 use Rattle.ev_fabric.specs.Convergence.{each}
 use Rattle.ev_fabric.specs.Convergence.{round, two_rounds, WasGiven, AllGiven, AllSilent}
-use Rattle.ev_fabric.proofs.Places.{set_cases, set_same, contains_at, below_length}
+use Rattle.ev_fabric.proofs.Agreements.{none_pending}
+use Rattle.ev_fabric.proofs.Places.{minus, set_cases, set_same, contains_at, below_length}
+use Rattle.ev_fabric.proofs.Cases.{at_edge, at_delivery, at_given}
 use Rattle.ev_fabric.proofs.ConvergingSums.{sum_has, count_some, place_of, later_one}
 use Rattle.ev_fabric.proofs.ConvergingEdge.{Accepts, heard, heard_has, may_return, counted}
 use Rattle.ev_fabric.proofs.ConvergingIdle.{idle_hearing, Mourns, heard_mourns}
 use Rattle.ev_fabric.proofs.ConvergingGood.{quieter}
-use Rattle.ev_fabric.proofs.ConvergingMoves.{Kept, Move, Stays, Tells, Takes, minus, moved, before, move_kept}
+use Rattle.ev_fabric.proofs.ConvergingMoves.{Kept, Move, Stays, Tells, Takes, moved, before, move_kept}
 use Rattle.ev_fabric.proofs.ConvergingMoves.{rests_kept}
 use Rattle.ev_fabric.proofs.ConvergingMoves.{rests_full, rests_before}
 
@@ -73,7 +75,7 @@ ready_accepted f h i a u at in' = record {
     behind : u.register.originator ≡ address_of a → (b : Bool) → is_newest a.routes.speaker u ≡ b
         → is_ahead a.routes.speaker u ≡ false
     behind mine false none = ap (λ b. b && nat_le a.routes.speaker.incarnation u.value.incarnation) none
-    behind mine true newest = elim (h.kept.knows i a at u in' mine) as (λ _. is_ahead a.routes.speaker u ≡ false) [
+    behind mine true newest = elim (h.kept.knows i a at u in' mine) [
       | inl earlier ↦ let late : nat_le a.routes.speaker.incarnation u.value.incarnation ≡ false =
           grind (arith, nat_tests) in rw (newest, late) refl
       | inr none ↦ absurd (let bad : false ≡ true = sym none ∙ newest in cc)
@@ -143,14 +145,14 @@ not_refused a b u why ok h = choose (u.register.originator == address_of a) refl
         → why ≡ OfEdge EdgeNoMemory
     choose true t h =
         let mine : u.register.originator ≡ address_of a = grind (arith, nat_tests) in
-        elim h.0 as (λ _. why ≡ OfEdge EdgeNoMemory) [
+        elim h.0 [
           | inl ahead ↦ absurd (let bad : false ≡ true = sym (ok.ahead mine) ∙ ahead.1 in cc)
-          | inr rest ↦ elim rest as (λ _. why ≡ OfEdge EdgeNoMemory) [
+          | inr rest ↦ elim rest [
             | inl spent ↦ absurd (let bad : false ≡ true = sym (ok.spent mine) ∙ spent.1 in cc)
             | inr memory ↦ memory.0
           ]
         ]
-    choose false t h = elim h.0 as (λ _. why ≡ OfEdge EdgeNoMemory) [
+    choose false t h = elim h.0 [
       | inl unknown ↦ absurd (let bad : true ≡ false = sym ok.listed ∙ unknown.1 in cc)
       | inr memory ↦ memory.0
     ]
@@ -158,22 +160,14 @@ not_refused a b u why ok h = choose (u.register.originator == address_of a) refl
 -- an edge's answer of the fabric's form
 ok_answer : (answer : Result Reply edge.Refusal) (reply : Reply) → Ok reply ≡ of_edge answer → answer ≡ Ok reply
 ok_answer (Ok r) reply e = let same : reply ≡ r = cc in ap Ok (sym same)
-ok_answer (Err r) reply e = absurd cc
+ok_answer (Err r) reply e = cc
 
-given_ok : (old new : Fabric) (i k : ℕ) (reply : Reply) (u : Fields) → Kept old
+pub given_ok : (old new : Fabric) (i k : ℕ) (reply : Reply) (u : Fields) → Kept old
     → FabricSteps old (Deliver (suc i) (suc k)) (Ok reply) new → slice_get old.pool k ≡ Some u → Has new i u
-given_ok old new i k reply u kept h at_u = go (slice_get old.edges i) refl h
-  where
-    go : (o : Option Edge) → slice_get old.edges i ≡ o → MatchOption o (IsRefused NoSuchEdge old (Ok reply) new)
-        (λ a. MatchOption (slice_get old.pool k) (IsRefused NoSuchUpdate old (Ok reply) new)
-        (λ u. StepsAt old (suc i) a (events.Take u) (Ok reply) new)) → Has new i u
-    go None is h = absurd (let never = h.0 in cc)
-    go (Some a) is h =
-        let s : StepsAt old (suc i) a (events.Take u) (Ok reply) new =
-        subst (λ o. MatchOption o (IsRefused NoSuchUpdate old (Ok reply) new)
-        (λ u. StepsAt old (suc i) a (events.Take u) (Ok reply) new)) at_u h in
-        took old new i a s.after u kept is (answered a s.after u reply
-        (subst (λ x. Steps a (events.Take u) x s.after) (ok_answer s.answer reply s.result_is) s.steps)) s.new_is
+given_ok old new i k reply u kept h at_u =
+    at_given (Has new i u) old new (Ok reply) i k u h at_u (λ none is. absurd (let never = is.0 in cc))
+    (λ a at s. took old new i a s.after u kept at (answered a s.after u reply
+    (subst (λ x. Steps a (events.Take u) x s.after) (ok_answer s.answer reply s.result_is) s.steps)) s.new_is)
 
 granted_take : (old new : Fabric) (i : ℕ) (a b : Edge) (u : Fields) (result : Result Reply FabricRefusal)
     (answer : Result Reply edge.Refusal) → Kept old → Accepts a.routes.speaker u → IsEdge old i a
@@ -187,19 +181,12 @@ granted_take old new i a b u result (Err why) kept ok at granted is h new_is =
 pub given : (old new : Fabric) (i k : ℕ) (result : Result Reply FabricRefusal) (u : Fields) → IsReady old
     → IsGranted result
     → FabricSteps old (Deliver (suc i) (suc k)) result new → slice_get old.pool k ≡ Some u → Has new i u
-given old new i k result u ready granted h at_u = go (slice_get old.edges i) refl h
-  where
-    go : (o : Option Edge) → slice_get old.edges i ≡ o → MatchOption o (IsRefused NoSuchEdge old result new)
-        (λ a. MatchOption (slice_get old.pool k) (IsRefused NoSuchUpdate old result new)
-        (λ u. StepsAt old (suc i) a (events.Take u) result new)) → Has new i u
-    go None is h = λ a at. absurd (let at' : slice_get old.edges i ≡ Some a =
-        subst (λ (f : Fabric). slice_get f.edges i ≡ Some a) h.1 at in let bad : None ≡ Some a = sym is ∙ at' in cc)
-    go (Some a) is h =
-        let s : StepsAt old (suc i) a (events.Take u) result new =
-        subst (λ o. MatchOption o (IsRefused NoSuchUpdate old result new)
-        (λ u. StepsAt old (suc i) a (events.Take u) result new)) at_u h in
-        granted_take old new i a s.after u result s.answer ready.kept
-        (ready_accepted old ready i a u is (contains_at old.pool k u at_u)) is granted s.result_is s.steps s.new_is
+given old new i k result u ready granted h at_u =
+    at_given (Has new i u) old new result i k u h at_u
+    (λ none is a at. absurd (let at' : slice_get old.edges i ≡ Some a =
+    subst (λ (f : Fabric). slice_get f.edges i ≡ Some a) is.1 at in let bad : None ≡ Some a = sym none ∙ at' in cc))
+    (λ a at s. granted_take old new i a s.after u result s.answer ready.kept
+    (ready_accepted old ready i a u at (contains_at old.pool k u at_u)) at granted s.result_is s.steps s.new_is)
 
 -- ---- deliveries leave the pool
 abbrev OnlyTakes : List Step → Type 0
@@ -211,18 +198,9 @@ OnlyTakes (Restart e n ∷ steps) = ⊥
 
 pub deliver_pool : (old new : Fabric) (e k : ℕ) (result : Result Reply FabricRefusal)
     → FabricSteps old (Deliver e k) result new → new.pool ≡ old.pool
-deliver_pool old new e k result h = go (nth old.edges e) h
-  where
-    at : (a : Edge) (o : Option Fields) → MatchOption o (IsRefused NoSuchUpdate old result new)
-        (λ u. StepsAt old e a (events.Take u) result new) → new.pool ≡ old.pool
-    at a None h = ap (λ (f : Fabric). f.pool) h.1
-    at a (Some u) h = ap (λ (f : Fabric). f.pool) h.new_is
-
-    go : (o : Option Edge) → MatchOption o (IsRefused NoSuchEdge old result new)
-        (λ a. MatchOption (nth old.pool k) (IsRefused NoSuchUpdate old result new)
-        (λ u. StepsAt old e a (events.Take u) result new)) → new.pool ≡ old.pool
-    go None h = ap (λ (f : Fabric). f.pool) h.1
-    go (Some a) h = at a (nth old.pool k) h
+deliver_pool old new e k result h =
+    at_delivery (new.pool ≡ old.pool) old new result e k h (λ why is. ap (λ (f : Fabric). f.pool) is.1)
+    (λ x a n u _ _ at there s. ap (λ (f : Fabric). f.pool) s.new_is)
 
 takes_pool : (steps : List Step) (old new : Fabric) → OnlyTakes steps → Rests old steps new → new.pool ≡ old.pool
 takes_pool [] old new only h = ap (λ (f : Fabric). f.pool) h
@@ -250,7 +228,7 @@ takes_each (suc m) n = takes_append (taking (suc m) n) (each (λ e. taking e n) 
 taking_has : (n i : ℕ) (old new : Fabric) → IsReady old → Rests old (taking (suc i) n) new → (k : ℕ) (u : Fields)
     → k < n → slice_get old.pool k ≡ Some u → Has new i u
 taking_has zero i old new ready h k u lt at = absurd (omega (arith, lt))
-taking_has (suc n) i old new ready h k u lt at = elim (cases_eq k n) as (λ _. Has new i u) [
+taking_has (suc n) i old new ready h k u lt at = elim (cases_eq k n) [
   | inl same ↦ rests_has (taking (suc i) n) h.0 new mid.kept h.5 i u
       (given old h.0 i n h.1 u ready h.3 h.4 (subst (λ x. slice_get old.pool x ≡ Some u) same at))
   | inr ne ↦ taking_has n i h.0 new mid h.5 k u (omega (arith, lt, ne))
@@ -263,7 +241,7 @@ taking_has (suc n) i old new ready h k u lt at = elim (cases_eq k n) as (λ _. H
 each_has : (m n : ℕ) (old new : Fabric) → IsReady old → Rests old (each (λ e. taking e n) m) new → (i : ℕ) → i < m
     → (k : ℕ) (u : Fields) → k < n → slice_get old.pool k ≡ Some u → Has new i u
 each_has zero n old new ready h i i_lt k u lt at = absurd (omega (arith, i_lt))
-each_has (suc m) n old new ready h i i_lt k u lt at = elim (cases_eq i m) as (λ _. Has new i u) [
+each_has (suc m) n old new ready h i i_lt k u lt at = elim (cases_eq i m) [
   | inl same ↦ subst (λ x. Has new x u) (sym same) (rests_has (each (λ e. taking e n) m) s.0 new mid.kept s.2 m u
       (taking_has n m old s.0 ready s.1 k u lt at))
   | inr ne ↦ each_has m n s.0 new mid s.2 i (omega (arith, i_lt, ne)) k u lt
@@ -314,7 +292,9 @@ announce_one old new i n result granted h few c at_c = go (slice_get old.edges i
 announce_few : (old new : Fabric) (e : ℕ) (result : Result Reply FabricRefusal)
     → FabricSteps old (Announce e) result new
     → (i n : ℕ) → Few old i n → Few new i n
-announce_few old new e result h i n few c at_c = go e (nth old.edges e) refl h
+announce_few old new e result h i n few c at_c =
+    at_edge (length c.routes.speaker.pending ≤ n) old new result (λ e a. AnnouncesAt old e a result new) e h
+    (λ is. few c (subst (λ f. IsEdge f i c) is.1 at_c)) (λ j a _ is. at j a is result)
   where
     at : (j : ℕ) (a : Edge) → IsEdge old j a → (result : Result Reply FabricRefusal)
         → AnnouncesAt old (suc j) a result new
@@ -322,8 +302,7 @@ announce_few old new e result h i n few c at_c = go e (nth old.edges e) refl h
     at j a is (Ok reply) h =
         let edges : new.edges ≡ slice_set old.edges j h.0 = ap (λ (f : Fabric). f.edges) h.2
         ∙ ap (λ x. slice_set old.edges x h.0) (minus j) in
-        elim (set_cases old.edges j h.0 i c (subst (λ l. slice_get l i ≡ Some c) edges at_c)) as (λ _. length
-        c.routes.speaker.pending ≤ n) [
+        elim (set_cases old.edges j h.0 i c (subst (λ l. slice_get l i ≡ Some c) edges at_c)) [
           | inl p ↦
               let pend : c.routes.speaker.pending ≡ drop 1 a.routes.speaker.pending =
               ap (λ (e : Edge). e.routes.speaker.pending) (p.1 ∙ h.1.1) in
@@ -334,13 +313,6 @@ announce_few old new e result h i n few c at_c = go e (nth old.edges e) refl h
           | inr p ↦ few c p.1
         ]
     at j a is (Err why) h = few c (subst (λ f. IsEdge f i c) h.1 at_c)
-
-    go : (e : ℕ) (o : Option Edge) → nth old.edges e ≡ o
-        → MatchOption o (IsRefused NoSuchEdge old result new) (λ a. AnnouncesAt old e a result new)
-        → length c.routes.speaker.pending ≤ n
-    go e None is h = few c (subst (λ f. IsEdge f i c) h.1 at_c)
-    go zero (Some a) is h = cc
-    go (suc j) (Some a) is h = at j a is result h
 
 pub announcing_few : (n e : ℕ) (old new : Fabric) → Rests old (announcing e n) new → (i m : ℕ) → Few old i m
     → Few new i m
@@ -360,7 +332,7 @@ each_few (suc m) n old new h i x few = let s = split (announcing (suc m) n) (eac
 each_none : (m n : ℕ) (old new : Fabric) → Rests old (each (λ e. announcing e n) m) new → (i : ℕ) → i < m → Few old i n
     → Few new i 0
 each_none zero n old new h i lt few = absurd (omega (arith, lt))
-each_none (suc m) n old new h i lt few = elim (cases_eq i m) as (λ _. Few new i 0) [
+each_none (suc m) n old new h i lt few = elim (cases_eq i m) [
   | inl same ↦ each_few m n s.0 new s.2 i 0 (subst (λ x. Few s.0 x 0) (sym same)
       (announcing_none n m old s.0 s.1 (subst (λ x. Few old x n) same few)))
   | inr ne ↦ each_none m n s.0 new s.2 i (omega (arith, lt, ne)) (announcing_few n (suc m) old s.0 s.1 i n few)
@@ -384,13 +356,12 @@ pub move_mourns : (old new : Fabric) → Move old new → Kept old
     → Mourns a.routes.speaker
 move_mourns old _ Stays kept h j b at_b = h j b at_b
 move_mourns old _ (Tells i a r rs v at pend is) kept h j b at_b =
-    elim (set_cases old.edges i (record a { routes = quieter a.routes rs }) j b at_b) as
-    (λ _. Mourns b.routes.speaker) [
+    elim (set_cases old.edges i (record a { routes = quieter a.routes rs }) j b at_b) [
       | inl p ↦ subst (λ (e : Edge). Mourns e.routes.speaker) (sym p.1) (shorter_mourns a.routes r rs pend (h i a at))
       | inr p ↦ h j b p.1
     ]
 move_mourns old _ (Takes i a u at in' ok) kept h j b at_b =
-    elim (set_cases old.edges i (record a { routes = heard a.routes u }) j b at_b) as (λ _. Mourns b.routes.speaker) [
+    elim (set_cases old.edges i (record a { routes = heard a.routes u }) j b at_b) [
       | inl p ↦ subst (λ (e : Edge). Mourns e.routes.speaker) (sym p.1)
           (heard_mourns a.routes u (kept.keeps i a at).numbers ok (h i a at))
       | inr p ↦ h j b p.1
@@ -410,13 +381,11 @@ move_calm old _ (Tells i a r rs v at pend is) kept h = record {
   mourns = move_mourns old next move kept h.mourns;
   known = λ j b w at_b in'.
       let x = before old next move kept j b at_b in
-      elim (Contains-push_cases old.pool u w in') as (λ _. (is_newest b.routes.speaker w ≡ false)
-      ⊎ (advert_in w.value.content ≡ None)) [
-        | inl earlier ↦ elim (h.known j x.was w x.at earlier) as (λ _. (is_newest b.routes.speaker w ≡ false)
-            ⊎ (advert_in w.value.content ≡ None)) [
-              | inl old ↦ inl (x.later.news w.register w.value old)
-              | inr none ↦ inr none
-            ]
+      elim (Contains-push_cases old.pool u w in') [
+        | inl earlier ↦ elim (h.known j x.was w x.at earlier) [
+          | inl old ↦ inl (x.later.news w.register w.value old)
+          | inr none ↦ inr none
+        ]
         | inr now ↦ inr (ap (λ (y : Fields). advert_in y.value.content) (sym now) ∙ withdrawn)
       ];
 }
@@ -439,8 +408,7 @@ move_calm old _ (Takes i a u at in' ok) kept h = record {
   mourns = move_mourns old next move kept h.mourns;
   known = λ j b w at_b in''.
       let x = before old next move kept j b at_b in
-      elim (h.known j x.was w x.at in'') as (λ _. (is_newest b.routes.speaker w ≡ false)
-      ⊎ (advert_in w.value.content ≡ None)) [
+      elim (h.known j x.was w x.at in'') [
         | inl old ↦ inl (x.later.news w.register w.value old)
         | inr none ↦ inr none
       ];
@@ -456,8 +424,7 @@ move_calm old _ (Takes i a u at in' ok) kept h = record {
 move_few : (old new : Fabric) → Move old new → Kept old → IsCalm old → (j n : ℕ) → Few old j n → Few new j n
 move_few old _ Stays kept calm j n few = few
 move_few old _ (Tells i a r rs v at pend is) kept calm j n few =
-    λ b at_b. elim (set_cases old.edges i (record a { routes = quieter a.routes rs }) j b at_b) as (λ _. length
-    b.routes.speaker.pending ≤ n) [
+    λ b at_b. elim (set_cases old.edges i (record a { routes = quieter a.routes rs }) j b at_b) [
       | inl p ↦
           let bound = few a (subst (λ x. IsEdge old x a) (sym p.0) at) in
           let more : length a.routes.speaker.pending ≡ suc (length rs) = ap length pend in
@@ -467,8 +434,7 @@ move_few old _ (Tells i a r rs v at pend is) kept calm j n few =
       | inr p ↦ few b p.1
     ]
 move_few old _ (Takes i a u at in' ok) kept calm j n few =
-    λ b at_b. elim (set_cases old.edges i (record a { routes = heard a.routes u }) j b at_b) as (λ _. length
-    b.routes.speaker.pending ≤ n) [
+    λ b at_b. elim (set_cases old.edges i (record a { routes = heard a.routes u }) j b at_b) [
       | inl p ↦
           let bound = few a (subst (λ x. IsEdge old x a) (sym p.0) at) in
           let idle = idle_hearing a.routes u (kept.keeps i a at).holds.owns (calm.known i a u at in') in
@@ -552,15 +518,12 @@ rounds m n old new ready enough h = record {
     between : IsEnough m n s.0
     between = rests_enough m n (each (λ e. announcing e n) m) old s.0 s.1 ready.kept enough
 
-no_register : {r : Register} → Contains [] r → ⊥
-no_register (x, lt, is) = omega (arith, lt)
-
 -- the first round leads to calm
 first_round : (m n : ℕ) (old new : Fabric) → IsReady old → IsEnough m n old → Rests old (round m n) new → IsCalm new
 first_round m n old new ready enough h = record {
   mourns = rests_mourns (each (λ e. taking e n) m) r.mid new r.delivered
       (rests_ready (each (λ e. announcing e n) m) old r.mid r.announced ready).kept
-      (λ i a at q in'. absurd (no_register (subst (λ l. Contains l q) (r.silent i a at) in')));
+      (λ i a at q in'. absurd (none_pending (subst (λ l. Contains l q) (r.silent i a at) in')));
   known = λ i a u at in'. inl (r.arrived i a u at in');
 }
   where
@@ -620,19 +583,10 @@ rests_pool (step ∷ steps) old new kept h k u at =
 -- the update of an answered delivery was in the pool
 was_there : (old new : Fabric) (i k : ℕ) (reply : Reply) → FabricSteps old (Deliver (suc i) (suc k)) (Ok reply) new
     → (u : Fields) × (slice_get old.pool k ≡ Some u)
-was_there old new i k reply h = go (slice_get old.edges i) h
-  where
-    at : (a : Edge) (o : Option Fields) → slice_get old.pool k ≡ o
-        → MatchOption o (IsRefused NoSuchUpdate old (Ok reply) new)
-        (λ u. StepsAt old (suc i) a (events.Take u) (Ok reply) new) → (u : Fields) × (slice_get old.pool k ≡ Some u)
-    at a None is h = absurd (let never = h.0 in cc)
-    at a (Some u) is h = (u, is)
-
-    go : (o : Option Edge) → MatchOption o (IsRefused NoSuchEdge old (Ok reply) new)
-        (λ a. MatchOption (slice_get old.pool k) (IsRefused NoSuchUpdate old (Ok reply) new)
-        (λ u. StepsAt old (suc i) a (events.Take u) (Ok reply) new)) → (u : Fields) × (slice_get old.pool k ≡ Some u)
-    go None h = absurd (let never = h.0 in cc)
-    go (Some a) h = at a (slice_get old.pool k) refl h
+was_there old new i k reply h =
+    at_delivery ((u : Fields) × (slice_get old.pool k ≡ Some u)) old new (Ok reply) (suc i) (suc k) h
+    (λ why is. absurd (let never = is.0 in cc))
+    (λ x a n u _ update at there s. (u, ap (slice_get old.pool) (omega (arith, update)) ∙ there))
 
 was_given : (old : Fabric) (steps : List Step) (new : Fabric) → Kept old → (i k : ℕ) (u : Fields)
     → slice_get new.pool k ≡ Some u → WasGiven old steps new (suc i) (suc k) → Has new i u
@@ -741,7 +695,7 @@ may_rest (step ∷ steps) f ready quiet =
     (rest.0, (s.0, s.1, is_quiet, s.2, s.3, rest.1))
 
 quiet_append : (xs ys : List Step) → AllQuiet xs → AllQuiet ys → AllQuiet (xs ++ ys)
-quiet_append xs ys p q step in' = elim (Contains-append_cases xs ys step in') as (λ _. IsQuiet step) [
+quiet_append xs ys p q step in' = elim (Contains-append_cases xs ys step in') [
   | inl h ↦ p step h
   | inr h ↦ q step h
 ]

@@ -34,6 +34,10 @@ sum_set f g d (x ∷ xs) (suc i) a b at less le =
     let of_g = sum_by-cons g x (slice_set xs i b) in
     omega (arith, head, tail, of_f, of_g)
 
+-- ---- elements of a list
+pub later_one : {X : Type 0} (x : X) (xs : List X) (y : X) → Contains xs y → Contains (x ∷ xs) y
+later_one x xs y (i, lt, is) = (suc i, omega (arith, lt), is)
+
 -- ---- counts
 abbrev one : Bool → ℕ
 one b = cond b 1 0
@@ -74,9 +78,18 @@ count_push p xs u not =
     let none : one (p u) ≡ 0 = ap one not in
     omega (arith, more, none)
 
+pub count_none : {X : Type 0} (p : X → Bool) (xs : List X) → ((x : X) → Contains xs x → p x ≡ false)
+    → count_by p xs ≡ 0
+count_none p [] none = refl
+count_none p (x ∷ xs) none =
+    let here : one (p x) ≡ 0 = ap one (none x (0, omega arith, refl)) in
+    let rest = count_none p xs (λ y in'. none y (later_one x xs y in')) in
+    let sum : count_by p (x ∷ xs) ≡ one (p x) + count_by p xs = sum_by-cons (λ y. one (p y)) x xs in
+    omega (arith, here, rest, sum)
+
 -- one that passes is counted
 pub count_some : {X : Type 0} (p : X → Bool) (xs : List X) (u : X) → Contains xs u → p u ≡ true → 1 ≤ count_by p xs
-count_some p xs u in' is_so = let less = count_less p (λ x. false) xs u (λ x never. absurd cc) in' is_so refl in
+count_some p xs u in' is_so = let less = count_less p (λ x. false) xs u (λ x never. cc) in' is_so refl in
     omega (arith, less)
 
 pub sum_has : {X : Type 0} (f : X → ℕ) (xs : List X) (i : ℕ) (a : X) → slice_get xs i ≡ Some a → f a ≤ sum_by f xs
@@ -93,10 +106,6 @@ pub place_of : {X : Type 0} (xs : List X) (a : X) → Contains xs a → (k : ℕ
 place_of [] a (i, lt, is) = absurd (omega (arith, lt))
 place_of (x ∷ xs) a (zero, lt, is) = (0, ap Some is)
 place_of (x ∷ xs) a (suc i, lt, is) = let h = place_of xs a (i, omega (arith, lt), is) in (suc h.0, h.1)
-
--- ---- elements of a list
-pub later_one : {X : Type 0} (x : X) (xs : List X) (y : X) → Contains xs y → Contains (x ∷ xs) y
-later_one x xs y (i, lt, is) = (suc i, omega (arith, lt), is)
 
 pub set_itself : {X : Type 0} (xs : List X) (i : ℕ) (a : X) → slice_get xs i ≡ Some a → slice_set xs i a ≡ xs
 set_itself [] i a at = refl

@@ -125,7 +125,7 @@ works_bound [] old new kept h = let same = ap work h in omega (arith, same)
 works_bound (step ∷ steps) old new kept h =
     let move = moved old h.0 step h.1 kept h.2 h.4 in
     let rest = works_bound steps h.0 new (move_kept old h.0 move kept) h.6 in
-    elim (move_works old h.0 move kept) as (λ _. suc (length steps) + work new ≤ work old) [
+    elim (move_works old h.0 move kept) [
       | inl same ↦ absurd (h.5 same)
       | inr less ↦ omega (arith, less, rest)
     ]
@@ -148,16 +148,14 @@ agreed_rests (step ∷ steps) old new kept agree h =
 -- ---- if not all agree, some step changes something
 find : {X : Type 0} (P Q : X → Type 0) (xs : List X) → ((x : X) → P x ⊎ Q x)
     → ((i : ℕ) (x : X) → slice_get xs i ≡ Some x → P x) ⊎ ((i : ℕ) × (x : X) × (slice_get xs i ≡ Some x) × Q x)
-find P Q [] test = inl (λ i x at. absurd cc)
-find P Q (x ∷ xs) test = elim (test x) as (λ _. ((i : ℕ) (y : _) → slice_get (x ∷ xs) i ≡ Some y → P y)
-    ⊎ ((i : ℕ) × (y : _) × (slice_get (x ∷ xs) i ≡ Some y) × Q y)) [
-      | inl here ↦ elim (find P Q xs test) as (λ _. ((i : ℕ) (y : _) → slice_get (x ∷ xs) i ≡ Some y → P y)
-          ⊎ ((i : ℕ) × (y : _) × (slice_get (x ∷ xs) i ≡ Some y) × Q y)) [
-            | inl rest ↦ inl (all here rest)
-            | inr found ↦ inr (suc found.0, found.1, found.2, found.3)
-          ]
-      | inr found ↦ inr (0, x, refl, found)
-    ]
+find P Q [] test = inl (λ i x at. cc)
+find P Q (x ∷ xs) test = elim (test x) [
+  | inl here ↦ elim (find P Q xs test) [
+    | inl rest ↦ inl (all here rest)
+    | inr found ↦ inr (suc found.0, found.1, found.2, found.3)
+  ]
+  | inr found ↦ inr (0, x, refl, found)
+]
   where
     all : P x → ((i : ℕ) (y : _) → slice_get xs i ≡ Some y → P y) → (i : ℕ) (y : _) → slice_get (x ∷ xs) i ≡ Some y
         → P y
@@ -186,25 +184,24 @@ idle_or_busy pool a = go a.routes.speaker.pending refl
 
     go : (rs : List Register) → a.routes.speaker.pending ≡ rs → IsIdle pool a ⊎ IsBusy pool a
     go [] e = elim (find (λ u. is_newest a.routes.speaker u ≡ false) (λ u. is_newest a.routes.speaker u ≡ true) pool
-        either) as (λ _. IsIdle pool a ⊎ IsBusy pool a) [
+        either) [
           | inl none ↦ inl (e, none)
           | inr found ↦ inr (inr found)
         ]
     go (r ∷ rs) e = inr (inl (r, rs, e))
 
 pub goes_on : (f : Fabric) → IsReady f → AllAgree f ⊎ ((step : Step) × (new : Fabric) × Works f (step ∷ []) new)
-goes_on f ready = elim (find (IsIdle f.pool) (IsBusy f.pool) f.edges (idle_or_busy f.pool)) as (λ _. AllAgree f
-    ⊎ ((step : Step) × (new : Fabric) × Works f (step ∷ []) new)) [
-      | inl idle ↦ inl (record {
-        quiet = λ i a at. (idle i a at).0;
-        arrived = λ i a at u in'. let place = place_of f.pool u in' in
-            arrived_value (value_at (table_of a) u.register) u.value ((idle i a at).1 place.0 u place.1);
-      })
-      | inr found ↦ inr (elim found.3 as (λ _. (step : Step) × (new : Fabric) × Works f (step ∷ []) new) [
-        | inl pending ↦ says found.0 found.1 found.2 pending.0 pending.1 pending.2
-        | inr missing ↦ takes found.0 found.1 found.2 missing.0 missing.1 missing.2 missing.3
-      ])
-    ]
+goes_on f ready = elim (find (IsIdle f.pool) (IsBusy f.pool) f.edges (idle_or_busy f.pool)) [
+  | inl idle ↦ inl (record {
+    quiet = λ i a at. (idle i a at).0;
+    arrived = λ i a at u in'. let place = place_of f.pool u in' in
+        arrived_value (value_at (table_of a) u.register) u.value ((idle i a at).1 place.0 u place.1);
+  })
+  | inr found ↦ inr (elim found.3 [
+    | inl pending ↦ says found.0 found.1 found.2 pending.0 pending.1 pending.2
+    | inr missing ↦ takes found.0 found.1 found.2 missing.0 missing.1 missing.2 missing.3
+  ])
+]
   where
     says : (i : ℕ) (a : Edge) → IsEdge f i a → (r : Register) (rs : List Register) → a.routes.speaker.pending ≡ r ∷ rs
         → (step : Step) × (new : Fabric) × Works f (step ∷ []) new

@@ -49,13 +49,16 @@ port_of = record {
   };
 }
 
--- The edge of this address has two ports of VNI 5001, room for one station, and accepts updates from 10.0.0.1 and
--- 10.0.0.2.
+abbrev pub listeners : List ℕ
+listeners = 0x0a000001 ∷ 0x0a000002 ∷ 0x0a000003 ∷ []
+
+-- The edge of this address has two ports of VNI 5001, room for one station, and accepts updates from 10.0.0.1, 10.0.0.2
+-- and 10.0.0.3.
 abbrev pub config_of : Settings → ℕ → EdgeConfig
 config_of tree address = record {
   address = address;
   incarnation = 0;
-  originators = record { items = 0x0a000001 ∷ 0x0a000002 ∷ [] };
+  originators = record { items = listeners };
   vnis = record { items = 5001 ∷ [] };
   tree = tree;
   ageing = 300;
@@ -65,12 +68,21 @@ config_of tree address = record {
   ports = record { items = port_of ∷ port_of ∷ [] };
 }
 
+pub all_differ : IsDistinct eqb listeners
+unfolding IsDistinct
+all_differ = ((refl, (refl, tt)), ((refl, tt), (tt, tt)))
+
 abbrev addresses : List ℕ
 addresses = 0x0a000001 ∷ 0x0a000002 ∷ []
 
 differ : IsDistinct eqb addresses
 unfolding IsDistinct
 differ = ((refl, tt), (tt, tt))
+
+two_listen : (o : ℕ) → Contains addresses o → Contains listeners o
+two_listen o (zero, l, e) = (zero, lit< tt, e)
+two_listen o (suc zero, l, e) = (suc zero, lit< tt, e)
+two_listen o (suc (suc n), l, e) = absurd (omega (arith, l))
 
 one_network : IsDistinct eqb (5001 ∷ [])
 unfolding IsDistinct
@@ -81,9 +93,10 @@ served v (zero, l, e) = (zero, lit< tt, e)
 served v (suc zero, l, e) = (zero, lit< tt, e)
 served v (suc (suc n), l, e) = absurd (omega (arith, l))
 
-fits : (tree : Settings) (address : ℕ) → 1 ≤ tree.hello → Contains addresses address → IsConfig (config_of tree address)
+pub fits : (tree : Settings) (address : ℕ) → 1 ≤ tree.hello → Contains listeners address → IsConfig
+    (config_of tree address)
 fits tree address hello listed = record {
-  originators = record { some = lit< tt; few = lit≤ tt; distinct = differ };
+  originators = record { some = lit< tt; few = lit≤ tt; distinct = all_differ };
   listed = listed;
   distinct = one_network;
   some_port = lit≤ tt;
@@ -99,7 +112,7 @@ abbrev pub configs_of : Settings → List EdgeConfig
 configs_of tree = config_of tree 0x0a000001 ∷ config_of tree 0x0a000002 ∷ []
 
 -- a property of two elements holds for each element of their list
-each : (P : EdgeConfig → Type 0) (x y : EdgeConfig) → P x → P y → (c : EdgeConfig) → Contains (x ∷ y ∷ []) c → P c
+pub each : (P : EdgeConfig → Type 0) (x y : EdgeConfig) → P x → P y → (c : EdgeConfig) → Contains (x ∷ y ∷ []) c → P c
 each P x y h k c (zero, l, e) = subst P e h
 each P x y h k c (suc zero, l, e) = subst P e k
 each P x y h k c (suc (suc n), l, e) = absurd (omega (arith, l))
@@ -111,7 +124,7 @@ are_configs tree hello = record {
   apart = differ;
   configs = each IsConfig (config_of tree 0x0a000001) (config_of tree 0x0a000002)
       (fits tree 0x0a000001 hello (zero, lit< tt, refl)) (fits tree 0x0a000002 hello (suc zero, lit< tt, refl));
-  listed = each (ListsAll addresses) (config_of tree 0x0a000001) (config_of tree 0x0a000002) (λ o h. h) (λ o h. h);
+  listed = each (ListsAll addresses) (config_of tree 0x0a000001) (config_of tree 0x0a000002) two_listen two_listen;
 }
 
 -- ---- the edges
@@ -120,7 +133,7 @@ abbrev pub nobody_learnt : Learning
 nobody_learnt = nothing_learnt 1 2 1 0
 
 abbrev pub opened_speaker : ℕ → Speaker
-opened_speaker address = after_originating (silent address 0 addresses) (Flood 5001) (Advertised flood_advert)
+opened_speaker address = after_originating (silent address 0 listeners) (Flood 5001) (Advertised flood_advert)
 
 abbrev pub opened_routes_of : ℕ → LocalRoutes
 opened_routes_of address = record {
@@ -156,7 +169,7 @@ opens_routes tree address = record {
   ports = refl;
 }
 
-opens : (tree : Settings) (address : ℕ) → IsOpening (config_of tree address) (edge_of tree address)
+pub opens : (tree : Settings) (address : ℕ) → IsOpening (config_of tree address) (edge_of tree address)
 opens tree address = record {
   routes = opens_routes tree address;
   clock = refl;
@@ -211,12 +224,12 @@ lists_name = record {
   free_once = (refl, tt);
 }
 
-good : (tree : Settings) (address : ℕ) → Contains addresses address → IsGoodEdge (edge_of tree address)
+pub good : (tree : Settings) (address : ℕ) → Contains listeners address → IsGoodEdge (edge_of tree address)
 good tree address listed = record {
   routes = record {
-    routes = opened_routes address 0 addresses (5001 ∷ []) (5001 ∷ 5001 ∷ []) 1 1 0 (lit≤ tt) (lit≤ tt) (lit≤ tt);
-    numbers = said_numbers (silent address 0 addresses) (Flood 5001) (Advertised flood_advert)
-        (silent_speaker address 0 addresses listed).numbers;
+    routes = opened_routes address 0 listeners (5001 ∷ []) (5001 ∷ 5001 ∷ []) 1 1 0 (lit≤ tt) (lit≤ tt) (lit≤ tt);
+    numbers = said_numbers (silent address 0 listeners) (Flood 5001) (Advertised flood_advert)
+        (silent_speaker address 0 listeners listed).numbers;
     lists = lists_name;
   };
   keeps = (edge.opened (start_of (config_of tree address)) (opened_routes_of address) tree

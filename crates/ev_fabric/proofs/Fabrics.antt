@@ -1,10 +1,10 @@
 -- Every step keeps a fabric sound.
-use Rattle.std.proofs.Common.{◌≡◌, ◌≢◌, ◌⊎◌, inl, inr, ℕ, zero, suc, ◌-◌, ◌<◌, true, Option, Some, None, Result, Ok}
+use Rattle.std.proofs.Common.{◌≡◌, ◌≢◌, ◌⊎◌, inl, inr, ℕ, suc, ◌<◌, true, Option, Some, None, Result, Ok}
 use Rattle.std.proofs.Common.{Err, List, [], ◌∷◌, ◌++◌, length, refl, sym, ap, subst, ◌∙◌, arith}
 use Rattle.std.proofs.lemmas.Bool.{cases_eq}
 use Rattle.std.proofs.lemmas.List.Elements.{Contains-push_cases}
 use Rattle.std.specs.Prelude.{Contains, slice_get, slice_set, drop}
-use Rattle.std.specs.Option.{MatchOption, option_map}
+use Rattle.std.specs.Option.{option_map}
 use Rattle.std.specs.List.{list_any}
 use Rattle.std.specs.Prelude.{eqb}
 use Rattle.route_wire.specs.declared.update.Register.{Register}
@@ -23,19 +23,19 @@ use Rattle.ev_edge.specs.Edge.{Edge, IsGoodEdge, table_of, address_of}
 use Rattle.ev_edge.specs.Steps.{Steps, nothing}
 use Rattle.ev_edge.proofs.Remaining.{steps_good}
 use Rattle.ev_fabric.specs.declared.refusal.FabricRefusal.{FabricRefusal}
-use Rattle.ev_fabric.specs.declared.refusal.FabricRefusal.TheVariants.{NoSuchEdge, NoSuchUpdate}
 use Rattle.ev_fabric.specs.declared.step.LocalEvent.{LocalEvent}
 use Rattle.ev_fabric.specs.declared.step.Step.{Step}
 use Rattle.ev_fabric.specs.declared.step.Step.TheVariants.{Local, Announce, Deliver, Restart}
-use Rattle.ev_fabric.specs.Fabric.{Fabric, IsEdge, nth, incarnation_of}
+use Rattle.ev_fabric.specs.Fabric.{Fabric, IsEdge, incarnation_of}
 use Rattle.ev_fabric.specs.Local.{event_of}
 use Rattle.ev_fabric.specs.Sound.{update_of, IsTold, SaidOnce, IsOf, IsSound}
-use Rattle.ev_fabric.specs.Steps.{with_announced, IsRefused, StepsAt, AnnouncesAt, in_incarnation, OpensAnew}
+use Rattle.ev_fabric.specs.Steps.{with_announced, StepsAt, AnnouncesAt, in_incarnation, OpensAnew}
 use Rattle.ev_fabric.specs.Steps.{RestartsAt}
 use Rattle.ev_fabric.specs.Steps.{FabricSteps}
 use Rattle.ev_fabric.specs.Runs.{Runs}
 use Rattle.ev_fabric.specs.Convergence.{Rests}
-use Rattle.ev_fabric.proofs.Places.{set_cases, set_same, set_other, set_length, contains_at}
+use Rattle.ev_fabric.proofs.Places.{minus, set_cases, set_same, set_other, set_length, contains_at}
+use Rattle.ev_fabric.proofs.Cases.{at_edge, at_delivery}
 use Rattle.ev_fabric.proofs.Voices.{AreOne, talks_told, talks_one, grown_told, announced_told, one_itself}
 use Rattle.ev_fabric.proofs.Events.{Leaves, local_talks, takes_told}
 use Rattle.ev_fabric.proofs.Opened.{opened_told, opened_of, fit_in_life}
@@ -49,22 +49,9 @@ record Becomes (old new : Fabric) (i : ℕ) (before after : Edge) : Type 0 where
   address : address_of after ≡ address_of before
   originators : (table_of after).originators ≡ (table_of before).originators
 
-at_place : (old new : Fabric) (i : ℕ) (before after : Edge) → Becomes old new i before after → (j : ℕ) (a : Edge)
-    → IsEdge new j a → ((j ≡ i) × (a ≡ after)) ⊎ ((j ≢ i) × (IsEdge old j a))
-at_place old new i before after b j a is = set_cases old.edges i after j a
-    (subst (λ l. slice_get l j ≡ Some a) b.edges is)
-
 -- each edge is good
 abbrev AreGood : Fabric → Type 0
 AreGood f = (i : ℕ) (a : Edge) → IsEdge f i a → IsGoodEdge a
-
-goods : (old new : Fabric) (i : ℕ) (before after : Edge) → Becomes old new i before after → IsGoodEdge after
-    → IsSound old → AreGood new
-goods old new i before after step good h j a at = elim (at_place old new i before after step j a at) as (λ _. IsGoodEdge
-    a) [
-      | inl p ↦ subst IsGoodEdge (sym p.1) good
-      | inr p ↦ h.good j a p.1
-    ]
 
 -- each edge has the address of the edge that was there, and its originators
 record WasThere (old : Fabric) (j : ℕ) (a : Edge) : Type 0 where
@@ -72,61 +59,6 @@ record WasThere (old : Fabric) (j : ℕ) (a : Edge) : Type 0 where
   is : IsEdge old j was
   address : address_of a ≡ address_of was
   originators : (table_of a).originators ≡ (table_of was).originators
-
-was_there : (old new : Fabric) (i : ℕ) (before after : Edge) → Becomes old new i before after → (j : ℕ) (a : Edge)
-    → IsEdge new j a → WasThere old j a
-was_there old new i before after b j a is = elim (at_place old new i before after b j a is) as (λ _. WasThere old j a) [
-  | inl p ↦ record {
-    was = before;
-    is = subst (λ n. IsEdge old n before) (sym p.0) b.is;
-    address = ap address_of p.1 ∙ b.address;
-    originators = ap (λ (x : Edge). (table_of x).originators) p.1 ∙ b.originators;
-  }
-  | inr p ↦ record { was = a; is = p.1; address = refl; originators = refl }
-]
-
-apart_still : (old new : Fabric) (i : ℕ) (before after : Edge) → Becomes old new i before after → IsSound old
-    → (j k : ℕ) (a b : Edge) → IsEdge new j a → IsEdge new k b → address_of a ≡ address_of b → j ≡ k
-apart_still old new i before after step h j k a b at_a at_b same =
-    let x = was_there old new i before after step j a at_a in
-    let y = was_there old new i before after step k b at_b in
-    h.apart j k x.was y.was x.is y.is (sym x.address ∙ same ∙ y.address)
-
-listed_still : (old new : Fabric) (i : ℕ) (before after : Edge) → Becomes old new i before after → IsSound old
-    → (j k : ℕ) (a b : Edge) → IsEdge new j a → IsEdge new k b → is_listed (table_of a) (address_of b) ≡ true
-listed_still old new i before after step h j k a b at_a at_b =
-    let x = was_there old new i before after step j a at_a in
-    let y = was_there old new i before after step k b at_b in
-    ap (λ os. list_any (λ o. eqb o (address_of b)) os) x.originators ∙ ap (λ p. is_listed (table_of x.was) p) y.address
-    ∙ h.listed j k x.was y.was x.is y.is
-
--- every update of the old pool has its source still
-source_still : (old new : Fabric) (i : ℕ) (before after : Edge) → Becomes old new i before after → IsSound old
-    → (u : Fields) → Contains old.pool u → (j : ℕ) × (a : Edge) × IsEdge new j a
-    × (address_of a ≡ u.register.originator)
-source_still old new i before after step h u in' = go (h.sources u in')
-  where
-    go : ((j : ℕ) × (a : Edge) × IsEdge old j a × (address_of a ≡ u.register.originator))
-        → (j : ℕ) × (a : Edge) × IsEdge new j a × (address_of a ≡ u.register.originator)
-    go (j, a, is, names) = elim (cases_eq j i) as (λ _. (j : ℕ) × (a : Edge) × IsEdge new j a
-        × (address_of a ≡ u.register.originator)) [
-          | inl same ↦
-              let here : before ≡ a = (let p : IsEdge old i a = subst (λ n. IsEdge old n a) same is in
-              let q = step.is in
-              cc) in (
-                i,
-                after,
-                subst (λ l. slice_get l i ≡ Some after) (sym step.edges)
-                    (set_same old.edges i before after step.is),
-                step.address ∙ ap address_of here ∙ names,
-              )
-          | inr ne ↦ (
-            j,
-            a,
-            subst (λ l. slice_get l j ≡ Some a) (sym step.edges) (set_other old.edges i after j a ne is),
-            names,
-          )
-        ]
 
 -- the configuration with which an edge was opened, after a further step
 goes_on : (c : EdgeConfig) (a b : Edge) → AreOne a.routes.speaker b.routes.speaker → IsOf c a → IsOf c b
@@ -137,58 +69,112 @@ goes_on c a b one h = record {
   originators = one.originators ∙ h.originators;
 }
 
-configs_still : (old new : Fabric) (i : ℕ) (before after : Edge) → Becomes old new i before after
-    → new.configs ≡ old.configs → AreOne before.routes.speaker after.routes.speaker → IsSound old
-    → (j : ℕ) (c : EdgeConfig) (a : Edge) → slice_get new.configs j ≡ Some c → IsEdge new j a → IsOf c a
-configs_still old new i before after step same one h j c a at_c at_a =
-    elim (at_place old new i before after step j a at_a) as (λ _. IsOf c a) [
-      | inl p ↦ subst (IsOf c) (sym p.1) (goes_on c before after one
-          (h.configs i c before (subst (λ n. slice_get old.configs n ≡ Some c) p.0 was) step.is))
-      | inr p ↦ h.configs j c a was p.1
-    ]
-  where
-    was : slice_get old.configs j ≡ Some c
-    was = subst (λ l. slice_get l j ≡ Some c) same at_c
+module _ (old new : Fabric) (i : ℕ) (before after : Edge) (step : Becomes old new i before after)
+    (h : IsSound old) where
+  at_place : (j : ℕ) (a : Edge) → IsEdge new j a → ((j ≡ i) × (a ≡ after)) ⊎ ((j ≢ i) × (IsEdge old j a))
+  at_place j a is = set_cases old.edges i after j a (subst (λ l. slice_get l j ≡ Some a) step.edges is)
 
-count_still : (old new : Fabric) (i : ℕ) (after : Edge) → new.edges ≡ slice_set old.edges i after
-    → length new.configs ≡ length old.configs → IsSound old → length new.configs ≡ length new.edges
-count_still old new i after edges same h = same ∙ h.count ∙ sym (ap length edges ∙ set_length old.edges i after)
+  goods : IsGoodEdge after → AreGood new
+  goods good j a at = elim (at_place j a at) [
+    | inl p ↦ subst IsGoodEdge (sym p.1) good
+    | inr p ↦ h.good j a p.1
+  ]
 
--- ---- the pool stays
-pool_stays : (old new : Fabric) (i : ℕ) (before after : Edge) → Becomes old new i before after → new.pool ≡ old.pool
-    → new.configs ≡ old.configs → AreOne before.routes.speaker after.routes.speaker → IsGoodEdge after
-    → IsTold old.pool after.routes.speaker → IsSound old → IsSound new
-pool_stays old new i before after step pool configs one good told h = record {
-  apart = apart_still old new i before after step h;
-  good = goods old new i before after step good h;
-  told = λ j a at_a. subst (λ l. IsTold l a.routes.speaker) (sym pool)
-      (elim (at_place old new i before after step j a at_a) as (λ _. IsTold old.pool a.routes.speaker) [
-        | inl p ↦ subst (λ (x : Edge). IsTold old.pool x.routes.speaker) (sym p.1) told
-        | inr p ↦ h.told j a p.1
-      ]);
-  once = subst SaidOnce (sym pool) h.once;
-  sources = λ u in'. source_still old new i before after step h u (subst (λ l. Contains l u) pool in');
-  listed = listed_still old new i before after step h;
-  count = count_still old new i after step.edges (ap length configs) h;
-  configs = configs_still old new i before after step configs one h;
-}
+  was_there : (j : ℕ) (a : Edge) → IsEdge new j a → WasThere old j a
+  was_there j a is = elim (at_place j a is) [
+    | inl p ↦ record {
+      was = before;
+      is = subst (λ n. IsEdge old n before) (sym p.0) step.is;
+      address = ap address_of p.1 ∙ step.address;
+      originators = ap (λ (x : Edge). (table_of x).originators) p.1 ∙ step.originators;
+    }
+    | inr p ↦ record { was = a; is = p.1; address = refl; originators = refl }
+  ]
+
+  apart_still : (j k : ℕ) (a b : Edge) → IsEdge new j a → IsEdge new k b → address_of a ≡ address_of b → j ≡ k
+  apart_still j k a b at_a at_b same =
+      let x = was_there j a at_a in
+      let y = was_there k b at_b in
+      h.apart j k x.was y.was x.is y.is (sym x.address ∙ same ∙ y.address)
+
+  listed_still : (j k : ℕ) (a b : Edge) → IsEdge new j a → IsEdge new k b
+      → is_listed (table_of a) (address_of b) ≡ true
+  listed_still j k a b at_a at_b =
+      let x = was_there j a at_a in
+      let y = was_there k b at_b in
+      ap (λ os. list_any (λ o. eqb o (address_of b)) os) x.originators
+      ∙ ap (λ p. is_listed (table_of x.was) p) y.address
+      ∙ h.listed j k x.was y.was x.is y.is
+
+  -- every update of the old pool has its source still
+  source_still : (u : Fields) → Contains old.pool u → (j : ℕ) × (a : Edge) × IsEdge new j a
+      × (address_of a ≡ u.register.originator)
+  source_still u in' = go (h.sources u in')
+    where
+      go : ((j : ℕ) × (a : Edge) × IsEdge old j a × (address_of a ≡ u.register.originator))
+          → (j : ℕ) × (a : Edge) × IsEdge new j a × (address_of a ≡ u.register.originator)
+      go (j, a, is, names) = elim (cases_eq j i) [
+        | inl same ↦
+            let here : before ≡ a = (let p : IsEdge old i a = subst (λ n. IsEdge old n a) same is in
+            let q = step.is in
+            cc) in (
+              i,
+              after,
+              subst (λ l. slice_get l i ≡ Some after) (sym step.edges) (set_same old.edges i before after step.is),
+              step.address ∙ ap address_of here ∙ names,
+            )
+        | inr ne ↦ (
+          j,
+          a,
+          subst (λ l. slice_get l j ≡ Some a) (sym step.edges) (set_other old.edges i after j a ne is),
+          names,
+        )
+      ]
+
+  configs_still : new.configs ≡ old.configs → AreOne before.routes.speaker after.routes.speaker
+      → (j : ℕ) (c : EdgeConfig) (a : Edge) → slice_get new.configs j ≡ Some c → IsEdge new j a → IsOf c a
+  configs_still same one j c a at_c at_a = elim (at_place j a at_a) [
+    | inl p ↦ subst (IsOf c) (sym p.1) (goes_on c before after one
+        (h.configs i c before (subst (λ n. slice_get old.configs n ≡ Some c) p.0 was) step.is))
+    | inr p ↦ h.configs j c a was p.1
+  ]
+    where
+      was : slice_get old.configs j ≡ Some c
+      was = subst (λ l. slice_get l j ≡ Some c) same at_c
+
+  count_still : length new.configs ≡ length old.configs → length new.configs ≡ length new.edges
+  count_still same = same ∙ h.count ∙ sym (ap length step.edges ∙ set_length old.edges i after)
+
+  -- ---- the pool stays
+  pool_stays : new.pool ≡ old.pool → new.configs ≡ old.configs → AreOne before.routes.speaker after.routes.speaker
+      → IsGoodEdge after → IsTold old.pool after.routes.speaker → IsSound new
+  pool_stays pool configs one good told = record {
+    apart = apart_still;
+    good = goods good;
+    told = λ j a at_a. subst (λ l. IsTold l a.routes.speaker) (sym pool) (elim (at_place j a at_a) [
+      | inl p ↦ subst (λ (x : Edge). IsTold old.pool x.routes.speaker) (sym p.1) told
+      | inr p ↦ h.told j a p.1
+    ]);
+    once = subst SaidOnce (sym pool) h.once;
+    sources = λ u in'. source_still u (subst (λ l. Contains l u) pool in');
+    listed = listed_still;
+    count = count_still (ap length configs);
+    configs = configs_still configs one;
+  }
 
 -- the edge steps
 steps_at : (old new : Fabric) (i : ℕ) (a : Edge) (event : Event) (result : Result Reply FabricRefusal) → IsEdge old i a
     → (s : StepsAt old (suc i) a event result new) → Leaves old.pool a.routes.speaker s.after.routes.speaker
     → IsSound old
     → IsSound new
-steps_at old new i a event result at s leaves h = pool_stays old new i a s.after step
+steps_at old new i a event result at s leaves h = pool_stays old new i a s.after step h
     (ap (λ (f : Fabric). f.pool) s.new_is) (ap (λ (f : Fabric). f.configs) s.new_is) leaves.one
-    (steps_good a event s.answer s.after (h.good i a at) s.steps) (leaves.told (h.told i a at)) h
+    (steps_good a event s.answer s.after (h.good i a at) s.steps) (leaves.told (h.told i a at))
   where
-    index : suc i - 1 ≡ i
-    index = omega arith
-
     step : Becomes old new i a s.after
     step = record {
       is = at;
-      edges = ap (λ (f : Fabric). f.edges) s.new_is ∙ ap (λ n. slice_set old.edges n s.after) index;
+      edges = ap (λ (f : Fabric). f.edges) s.new_is ∙ ap (λ n. slice_set old.edges n s.after) (minus i);
       address = leaves.one.address;
       originators = leaves.one.originators;
     }
@@ -205,6 +191,12 @@ local_leaves old i a b event answer h at steps =
       told = talks_told old.pool a.routes.speaker b.routes.speaker talks (numbers_of old i a h at);
       one = talks_one a.routes.speaker b.routes.speaker talks;
     }
+
+pub given_leaves : (f : Fabric) (i n : ℕ) (a b : Edge) (u : Fields) (answer : Result Reply edge.Refusal) → IsSound f
+    → IsEdge f i a → slice_get f.pool n ≡ Some u → Steps a (events.Take u) answer b
+    → Leaves f.pool a.routes.speaker b.routes.speaker
+given_leaves f i n a b u answer h at there steps =
+    takes_told f.pool a u answer b (contains_at f.pool n u there) (numbers_of f i a h at) steps
 
 -- ---- an announcement
 
@@ -240,12 +232,12 @@ present_once : (pool : List Fields) (e : Speaker) (r : Register) (v : Value) →
     → (w : Fields) → Contains pool w → w.register ≡ r → w.value.incarnation ≡ v.incarnation
     → w.value.counter ≡ v.counter → w ≡ update_of r v
 present_once pool e r v mine is alive told w in' same life number =
-    elim (told.behind w in' (ap (λ (q : Register). q.originator) same ∙ mine)) as (λ _. w ≡ update_of r v) [
+    elim (told.behind w in' (ap (λ (q : Register). q.originator) same ∙ mine)) [
       | inl earlier ↦ absurd (omega (arith, earlier, life, alive))
       | inr b ↦
           let here : value_at e.table w.register ≡ Some v = ap (value_at e.table) same ∙ is in
           let says : b.says ≡ v = (let there = b.there in cc) in
-          elim b.order as (λ _. w ≡ update_of r v) [
+          elim b.order [
             | inl equal ↦ λ j. update_of (same j) ((equal ∙ says) j)
             | inr less ↦ let counters = ap (λ (x : Value). x.counter) says in
                 absurd (omega (arith, less, counters, number))
@@ -255,14 +247,14 @@ present_once pool e r v mine is alive told w in' same life number =
 grown_once : (pool : List Fields) (u : Fields) → ((w : Fields) → Contains pool w → w.register ≡ u.register
     → w.value.incarnation ≡ u.value.incarnation → w.value.counter ≡ u.value.counter → w ≡ u) → SaidOnce pool
     → SaidOnce (pool ++ u ∷ [])
-grown_once pool u one once w x in_w in_x same life number = elim (Contains-push_cases pool u w in_w) as (λ _. w ≡ x) [
-  | inl w_old ↦ elim (Contains-push_cases pool u x in_x) as (λ _. w ≡ x) [
+grown_once pool u one once w x in_w in_x same life number = elim (Contains-push_cases pool u w in_w) [
+  | inl w_old ↦ elim (Contains-push_cases pool u x in_x) [
     | inl x_old ↦ once w x w_old x_old same life number
     | inr x_new ↦ one w w_old (same ∙ ap (λ (y : Fields). y.register) (sym x_new)) (life
         ∙ ap (λ (y : Fields). y.value.incarnation) (sym x_new)) (number
         ∙ ap (λ (y : Fields). y.value.counter) (sym x_new)) ∙ x_new
   ]
-  | inr w_new ↦ elim (Contains-push_cases pool u x in_x) as (λ _. w ≡ x) [
+  | inr w_new ↦ elim (Contains-push_cases pool u x in_x) [
     | inl x_old ↦ sym w_new ∙ sym (one x x_old (sym same ∙ ap (λ (y : Fields). y.register) (sym w_new)) (sym life
         ∙ ap (λ (y : Fields). y.value.incarnation) (sym w_new)) (sym number
         ∙ ap (λ (y : Fields). y.value.counter) (sym w_new)))
@@ -278,9 +270,9 @@ pool_grows : (old new : Fabric) (i : ℕ) (a b : Edge) (rs : List Register) (r :
     → r.originator ≡ address_of a → IsGoodEdge b → IsSound old → IsSound new
 pool_grows old new i a b rs r v step pool configs speaker at is alive mine good h = record {
   apart = apart_still old new i a b step h;
-  good = goods old new i a b step good h;
+  good = goods old new i a b step h good;
   told = λ j x at_x. subst (λ l. IsTold l x.routes.speaker) (sym pool)
-      (elim (at_place old new i a b step j x at_x) as (λ _. IsTold (old.pool ++ update_of r v ∷ []) x.routes.speaker) [
+      (elim (at_place old new i a b step h j x at_x) [
         | inl p ↦ subst (λ (y : Edge). IsTold (old.pool ++ update_of r v ∷ []) y.routes.speaker) (sym p.1)
             (subst (IsTold (old.pool ++ update_of r v ∷ [])) (sym speaker)
             (announced_told old.pool a.routes.speaker r rs v at is alive (h.told i a step.is)))
@@ -289,20 +281,19 @@ pool_grows old new i a b rs r v step pool configs speaker at is alive mine good 
       ]);
   once = subst SaidOnce (sym pool) (grown_once old.pool (update_of r v)
       (present_once old.pool a.routes.speaker r v mine is alive (h.told i a step.is)) h.once);
-  sources = λ u in'. elim (Contains-push_cases old.pool (update_of r v) u (subst (λ l. Contains l u) pool in')) as (λ _.
-      (j : ℕ) × (x : Edge) × IsEdge new j x × (address_of x ≡ u.register.originator)) [
-        | inl before ↦ source_still old new i a b step h u before
-        | inr same ↦ (
-          i,
-          b,
-          subst (λ l. slice_get l i ≡ Some b) (sym step.edges) (set_same old.edges i a b step.is),
-          step.address ∙ sym mine ∙ ap (λ (x : Fields). x.register.originator) same,
-        )
-      ];
+  sources = λ u in'. elim (Contains-push_cases old.pool (update_of r v) u (subst (λ l. Contains l u) pool in')) [
+    | inl before ↦ source_still old new i a b step h u before
+    | inr same ↦ (
+      i,
+      b,
+      subst (λ l. slice_get l i ≡ Some b) (sym step.edges) (set_same old.edges i a b step.is),
+      step.address ∙ sym mine ∙ ap (λ (x : Fields). x.register.originator) same,
+    )
+  ];
   listed = listed_still old new i a b step h;
-  count = count_still old new i b step.edges (ap length configs) h;
-  configs = configs_still old new i a b step configs (subst (AreOne a.routes.speaker) (sym speaker)
-      (record { address = refl; incarnation = refl; originators = refl })) h;
+  count = count_still old new i a b step h (ap length configs);
+  configs = configs_still old new i a b step h configs (subst (AreOne a.routes.speaker) (sym speaker)
+      (record { address = refl; incarnation = refl; originators = refl }));
 }
 
 announces_at : (old new : Fabric) (i : ℕ) (a : Edge) (result : Result Reply FabricRefusal) → IsEdge old i a
@@ -313,9 +304,6 @@ announces_at old new i a (Ok reply) at s h = go (announced_cases a a.routes.spea
   where
     b : Edge
     b = s.0
-
-    index : suc i - 1 ≡ i
-    index = omega arith
 
     good : IsGoodEdge b
     good = steps_good a events.Announce (Ok reply) b (h.good i a at) s.1
@@ -329,7 +317,7 @@ announces_at old new i a (Ok reply) at s h = go (announced_cases a a.routes.spea
     step : Becomes old new i a b
     step = record {
       is = at;
-      edges = ap (λ (f : Fabric). f.edges) s.2 ∙ ap (λ n. slice_set old.edges n b) index;
+      edges = ap (λ (f : Fabric). f.edges) s.2 ∙ ap (λ n. slice_set old.edges n b) (minus i);
       address = ap address_of after;
       originators = ap (λ (x : Edge). (table_of x).originators) after;
     }
@@ -348,9 +336,9 @@ announces_at old new i a (Ok reply) at s h = go (announced_cases a a.routes.spea
 
     go : ((a.routes.speaker.pending ≡ []) × (announced a.routes.speaker ≡ None))
         ⊎ IsAnnounced a (announced a.routes.speaker) (drop 1 a.routes.speaker.pending) → IsSound new
-    go (inl none) = pool_stays old new i a b step (pool ∙ ap (with_announced old.pool) none.1) configs
+    go (inl none) = pool_stays old new i a b step h (pool ∙ ap (with_announced old.pool) none.1) configs
         (subst (AreOne a.routes.speaker) (sym (quiet none.0)) (one_itself a.routes.speaker)) good
-        (subst (IsTold old.pool) (sym (quiet none.0)) (h.told i a at)) h
+        (subst (IsTold old.pool) (sym (quiet none.0)) (h.told i a at))
     go (inr first) =
         pool_grows old new i a b (drop 1 a.routes.speaker.pending) first.register first.value step (pool
         ∙ ap (with_announced old.pool) first.is) configs speaker
@@ -361,35 +349,31 @@ restart_sound : (old new : Fabric) (i : ℕ) (a : Edge) (n : ℕ) (reply : Reply
     → OpensAnew old (suc i) a n reply new → IsSound old → IsSound new
 restart_sound old new i a n reply at s h = record {
   apart = apart_still old new i a s.after step h;
-  good = goods old new i a s.after step s.good h;
+  good = goods old new i a s.after step h s.good;
   told = λ j x at_x. subst (λ l. IsTold l x.routes.speaker) (sym pool)
-      (elim (at_place old new i a s.after step j x at_x) as (λ _. IsTold old.pool x.routes.speaker) [
+      (elim (at_place old new i a s.after step h j x at_x) [
         | inl p ↦ subst (λ (y : Edge). IsTold old.pool y.routes.speaker) (sym p.1) told
         | inr p ↦ h.told j x p.1
       ]);
   once = subst SaidOnce (sym pool) h.once;
   sources = λ u in'. source_still old new i a s.after step h u (subst (λ l. Contains l u) pool in');
   listed = listed_still old new i a s.after step h;
-  count = count_still old new i s.after step.edges (ap length configs
-      ∙ set_length old.configs i (in_incarnation s.config n))
-      h;
-  configs = λ j c x at_c at_x. elim (at_place old new i a s.after step j x at_x) as (λ _. IsOf c x) [
+  count = count_still old new i a s.after step h (ap length configs
+      ∙ set_length old.configs i (in_incarnation s.config n));
+  configs = λ j c x at_c at_x. elim (at_place old new i a s.after step h j x at_x) [
     | inl p ↦ elim (set_cases old.configs i (in_incarnation s.config n) j c
-        (subst (λ l. slice_get l j ≡ Some c) configs at_c)) as (λ _. IsOf c x) [
+        (subst (λ l. slice_get l j ≡ Some c) configs at_c)) [
           | inl q ↦ subst (λ d. IsOf d x) (sym q.1) (subst (IsOf (in_incarnation s.config n)) (sym p.1) anew)
           | inr q ↦ absurd (q.0 p.0)
         ]
     | inr p ↦ elim (set_cases old.configs i (in_incarnation s.config n) j c
-        (subst (λ l. slice_get l j ≡ Some c) configs at_c)) as (λ _. IsOf c x) [
+        (subst (λ l. slice_get l j ≡ Some c) configs at_c)) [
           | inl q ↦ absurd (p.0 q.0)
           | inr q ↦ h.configs j c x q.1 p.1
         ]
   ];
 }
   where
-    index : suc i - 1 ≡ i
-    index = omega arith
-
     was : IsOf s.config a
     was = h.configs i s.config a s.config_is at
 
@@ -402,7 +386,7 @@ restart_sound old new i a n reply at s h = record {
     step : Becomes old new i a s.after
     step = record {
       is = at;
-      edges = ap (λ (f : Fabric). f.edges) s.new_is ∙ ap (λ m. slice_set old.edges m s.after) index;
+      edges = ap (λ (f : Fabric). f.edges) s.new_is ∙ ap (λ m. slice_set old.edges m s.after) (minus i);
       address = anew.address ∙ sym was.address;
       originators = anew.originators ∙ sym was.originators;
     }
@@ -412,15 +396,14 @@ restart_sound old new i a n reply at s h = record {
 
     configs : new.configs ≡ slice_set old.configs i (in_incarnation s.config n)
     configs = ap (λ (f : Fabric). f.configs) s.new_is ∙ ap (λ m. slice_set old.configs m (in_incarnation s.config n))
-        index
+        (minus i)
 
     -- each update announced under this address is of the old incarnation, or of an earlier one
     earlier : (u : Fields) → Contains old.pool u → u.register.originator ≡ s.config.address → u.value.incarnation < n
-    earlier u in' mine = elim ((h.told i a at).behind u in' (mine ∙ sym was.address)) as (λ _. u.value.incarnation <
-        n) [
-          | inl before ↦ let higher = s.higher in omega (arith, before, higher)
-          | inr b ↦ let higher = s.higher in let present = b.present in omega (arith, present, higher)
-        ]
+    earlier u in' mine = elim ((h.told i a at).behind u in' (mine ∙ sym was.address)) [
+      | inl before ↦ let higher = s.higher in omega (arith, before, higher)
+      | inr b ↦ let higher = s.higher in let present = b.present in omega (arith, present, higher)
+    ]
 
     told : IsTold old.pool s.after.routes.speaker
     told = opened_told old.pool (in_incarnation s.config n) s.after fit s.opened earlier
@@ -431,51 +414,24 @@ restarts_at old new i a n (Ok reply) at s h = restart_sound old new i a n reply 
 restarts_at old new i a n (Err why) at s h = subst IsSound (sym s.1) h
 
 -- ---- one step
-delivers_at : (old new : Fabric) (i : ℕ) (a : Edge) (result : Result Reply FabricRefusal) (k : ℕ) (o : Option Fields)
-    → nth old.pool k ≡ o → IsEdge old i a
-    → MatchOption o (IsRefused NoSuchUpdate old result new) (λ u. StepsAt old (suc i) a (events.Take u) result new)
-    → IsSound old → IsSound new
-delivers_at old new i a result k None is at s h = subst IsSound (sym s.1) h
-delivers_at old new i a result zero (Some u) is at s h = cc
-delivers_at old new i a result (suc k) (Some u) is at s h =
-    steps_at old new i a (events.Take u) result at s (takes_told old.pool a u s.answer s.after
-    (contains_at old.pool k u is) (numbers_of old i a h at) s.steps) h
-
 pub step_sound : (old new : Fabric) (step : Step) (result : Result Reply FabricRefusal)
     → FabricSteps old step result new
     → IsSound old → IsSound new
-step_sound old new (Local e event) result s h = go e (nth old.edges e) refl s
-  where
-    go : (e : ℕ) (o : Option Edge) → nth old.edges e ≡ o
-        → MatchOption o (IsRefused NoSuchEdge old result new) (λ a. StepsAt old e a (event_of event) result new)
-        → IsSound new
-    go e None is s = subst IsSound (sym s.1) h
-    go zero (Some a) is s = cc
-    go (suc i) (Some a) is s = steps_at old new i a (event_of event) result is s
-        (local_leaves old i a s.after event s.answer h is s.steps) h
-step_sound old new (Announce e) result s h = go e (nth old.edges e) refl s
-  where
-    go : (e : ℕ) (o : Option Edge) → nth old.edges e ≡ o
-        → MatchOption o (IsRefused NoSuchEdge old result new) (λ a. AnnouncesAt old e a result new) → IsSound new
-    go e None is s = subst IsSound (sym s.1) h
-    go zero (Some a) is s = cc
-    go (suc i) (Some a) is s = announces_at old new i a result is s h
-step_sound old new (Deliver e k) result s h = go e (nth old.edges e) refl s
-  where
-    go : (e : ℕ) (o : Option Edge) → nth old.edges e ≡ o
-        → MatchOption o (IsRefused NoSuchEdge old result new)
-        (λ a. MatchOption (nth old.pool k) (IsRefused NoSuchUpdate old result new)
-        (λ u. StepsAt old e a (events.Take u) result new)) → IsSound new
-    go e None is s = subst IsSound (sym s.1) h
-    go zero (Some a) is s = cc
-    go (suc i) (Some a) is s = delivers_at old new i a result k (nth old.pool k) refl is s h
-step_sound old new (Restart e n) result s h = go e (nth old.edges e) refl s
-  where
-    go : (e : ℕ) (o : Option Edge) → nth old.edges e ≡ o
-        → MatchOption o (IsRefused NoSuchEdge old result new) (λ a. RestartsAt old e a n result new) → IsSound new
-    go e None is s = subst IsSound (sym s.1) h
-    go zero (Some a) is s = cc
-    go (suc i) (Some a) is s = restarts_at old new i a n result is s h
+step_sound old new (Local e event) result s h =
+    at_edge (IsSound new) old new result (λ e a. StepsAt old e a (event_of event) result new) e s
+    (λ is. subst IsSound (sym is.1) h)
+    (λ i a _ at s. steps_at old new i a (event_of event) result at s
+    (local_leaves old i a s.after event s.answer h at s.steps) h)
+step_sound old new (Announce e) result s h =
+    at_edge (IsSound new) old new result (λ e a. AnnouncesAt old e a result new) e s
+    (λ is. subst IsSound (sym is.1) h) (λ i a _ at s. announces_at old new i a result at s h)
+step_sound old new (Deliver e k) result s h =
+    at_delivery (IsSound new) old new result e k s (λ why is. subst IsSound (sym is.1) h)
+    (λ i a n u _ _ at there s. steps_at old new i a (events.Take u) result at s
+    (given_leaves old i n a s.after u s.answer h at there s.steps) h)
+step_sound old new (Restart e n) result s h =
+    at_edge (IsSound new) old new result (λ e a. RestartsAt old e a n result new) e s
+    (λ is. subst IsSound (sym is.1) h) (λ i a _ at s. restarts_at old new i a n result at s h)
 
 -- ---- lists of steps
 pub runs_sound : (steps : List Step) (old new : Fabric) → Runs old steps new → IsSound old → IsSound new

@@ -1,33 +1,31 @@
 -- In every run edges stay, their incarnations rise, and the pool grows.
-use Rattle.std.proofs.Common.{◌≡◌, inl, inr, ℕ, zero, suc, ◌-◌, ◌≤◌, Option, Some, None, Result, Ok, Err, List, [], ◌∷◌}
+use Rattle.std.proofs.Common.{◌≡◌, inl, inr, ℕ, zero, suc, ◌≤◌, Option, Some, None, Result, Ok, Err, List, [], ◌∷◌}
 use Rattle.std.proofs.Common.{◌++◌, length, refl, sym, ap, subst, ◌∙◌, arith}
 use Rattle.std.proofs.lemmas.Bool.{cases_eq}
 use Rattle.std.proofs.lemmas.List.{append-nil, append_assoc}
-use Rattle.std.specs.Prelude.{Contains, slice_get, slice_set}
-use Rattle.std.specs.Option.{MatchOption}
+use Rattle.std.specs.Prelude.{slice_get, slice_set}
 use Rattle.route_wire.specs.Fields.{Fields}
 use Rattle.ev_edge.specs.declared.reply.Reply.{Reply}
-use Rattle.ev_edge.specs.declared.refusal.Refusal as edge
 use Rattle.ev_edge.specs.declared.event.Event.{Event}
 use Rattle.ev_edge.specs.declared.event.Event.TheVariants as events
 use Rattle.ev_edge.specs.Edge.{Edge, address_of}
-use Rattle.ev_edge.specs.Steps.{Steps}
 use Rattle.ev_fabric.specs.declared.refusal.FabricRefusal.{FabricRefusal}
-use Rattle.ev_fabric.specs.declared.refusal.FabricRefusal.TheVariants.{NoSuchEdge, NoSuchUpdate}
+use Rattle.ev_fabric.specs.declared.refusal.FabricRefusal.TheVariants.{NoSuchEdge}
 use Rattle.ev_fabric.specs.declared.step.Step.{Step}
 use Rattle.ev_fabric.specs.declared.step.Step.TheVariants.{Local, Announce, Deliver, Restart}
 use Rattle.ev_fabric.specs.Fabric.{Fabric, IsEdge, nth, incarnation_of}
 use Rattle.ev_fabric.specs.Local.{event_of}
 use Rattle.ev_fabric.specs.Sound.{IsSound, IsOf}
-use Rattle.ev_fabric.specs.Steps.{with_announced, IsRefused, StepsAt, AnnouncesAt, in_incarnation, OpensAnew}
+use Rattle.ev_fabric.specs.Steps.{with_announced, StepsAt, AnnouncesAt, in_incarnation, OpensAnew}
 use Rattle.ev_fabric.specs.Steps.{RestartsAt}
 use Rattle.ev_fabric.specs.Steps.{FabricSteps}
 use Rattle.ev_fabric.specs.Later.{IsLaterEdge, IsLaterFabric, RunsLead, RestsRun, AdvertsAreAnew}
-use Rattle.ev_fabric.proofs.Places.{set_same, set_other, set_length, contains_at}
+use Rattle.ev_fabric.proofs.Places.{minus, set_same, set_other, set_length}
 use Rattle.ev_fabric.proofs.Voices.{AreOne}
-use Rattle.ev_fabric.proofs.Events.{Leaves, takes_told}
+use Rattle.ev_fabric.proofs.Events.{Leaves}
 use Rattle.ev_fabric.proofs.Opened.{opened_of, fit_in_life}
-use Rattle.ev_fabric.proofs.Fabrics.{step_sound, runs_sound, numbers_of, local_leaves}
+use Rattle.ev_fabric.proofs.Cases.{at_edge, at_delivery}
+use Rattle.ev_fabric.proofs.Fabrics.{step_sound, runs_sound, local_leaves, given_leaves}
 use Rattle.ev_fabric.proofs.Agreements.{none_back}
 
 -- ---- one edge
@@ -66,7 +64,7 @@ one_later : (old new : Fabric) (i : ℕ) (a b : Edge) (more : List Fields) → I
     → new.edges ≡ slice_set old.edges i b → IsLaterEdge a b → new.pool ≡ old.pool ++ more → IsLaterFabric old new
 one_later old new i a b more at edges later pool = record {
   count = ap length edges ∙ set_length old.edges i b;
-  edges = λ j x at_x. elim (cases_eq j i) as (λ _. (y : Edge) × IsEdge new j y × IsLaterEdge x y) [
+  edges = λ j x at_x. elim (cases_eq j i) [
     | inl same ↦
         let here : IsEdge old i x = subst (λ n. IsEdge old n x) same at_x in
         let is : a ≡ x = one_there old i a x at here in (
@@ -81,16 +79,13 @@ one_later old new i a b more at edges later pool = record {
   pool = pool;
 }
 
-back : (i : ℕ) → suc i - 1 ≡ i
-back i = omega arith
-
 steps_later : (old new : Fabric) (i : ℕ) (a : Edge) (event : Event) (result : Result Reply FabricRefusal)
     → IsEdge old i a
     → (s : StepsAt old (suc i) a event result new) → Leaves old.pool a.routes.speaker s.after.routes.speaker
     → IsLaterFabric old new
 steps_later old new i a event result at s leaves =
     one_later old new i a s.after [] at (ap (λ (f : Fabric). f.edges) s.new_is
-    ∙ ap (λ n. slice_set old.edges n s.after) (back i)) (same_life a s.after leaves.one)
+    ∙ ap (λ n. slice_set old.edges n s.after) (minus i)) (same_life a s.after leaves.one)
     (ap (λ (f : Fabric). f.pool) s.new_is ∙ sym (append-nil old.pool))
 
 -- an announced update is put at the pool's end
@@ -105,7 +100,7 @@ announces_later old new i a (Ok reply) at s =
     let more = grown old.pool reply.announced in
     let speaker = s.1.1 in
     one_later old new i a s.0 more.0 at (ap (λ (f : Fabric). f.edges) s.2
-    ∙ ap (λ n. slice_set old.edges n s.0) (back i))
+    ∙ ap (λ n. slice_set old.edges n s.0) (minus i))
     (record { address = ap address_of speaker; life = let life = ap incarnation_of speaker in omega (arith, life) })
     (ap (λ (f : Fabric). f.pool) s.2 ∙ more.1)
 
@@ -119,7 +114,7 @@ restart_later : (old new : Fabric) (i : ℕ) (a : Edge) (n : ℕ) (reply : Reply
     → OpensAnew old (suc i) a n reply new → IsLaterFabric old new
 restart_later old new i a n reply h at s =
     one_later old new i a s.after [] at (ap (λ (f : Fabric). f.edges) s.new_is
-    ∙ ap (λ m. slice_set old.edges m s.after) (back i))
+    ∙ ap (λ m. slice_set old.edges m s.after) (minus i))
     (record {
       address = after.address ∙ sym was.address;
       life = let life = after.life in let higher = s.higher in
@@ -138,67 +133,26 @@ restarts_later : (old new : Fabric) (i : ℕ) (a : Edge) (n : ℕ) (result : Res
 restarts_later old new i a n (Ok reply) h at s = restart_later old new i a n reply h at s
 restarts_later old new i a n (Err why) h at s = unchanged old new s.1
 
-nth_there : (us : List Fields) (k : ℕ) (u : Fields) → nth us k ≡ Some u → Contains us u
-nth_there us zero u is = absurd (none is)
-  where
-    none : ◌≡◌ {A = Option Fields} None (Some u) → ⊥
-    none q = cc
-nth_there us (suc k) u is = contains_at us k u is
-
--- a delivery
-given_leaves : (f : Fabric) (i k : ℕ) (a b : Edge) (u : Fields) (answer : Result Reply edge.Refusal) → IsSound f
-    → IsEdge f i a → nth f.pool k ≡ Some u → Steps a (events.Take u) answer b
-    → Leaves f.pool a.routes.speaker b.routes.speaker
-given_leaves f i k a b u answer h at is steps = takes_told f.pool a u answer b (nth_there f.pool k u is)
-    (numbers_of f i a h at) steps
-
-delivers_later : (old new : Fabric) (i : ℕ) (a : Edge) (result : Result Reply FabricRefusal) (k : ℕ) (o : Option Fields)
-    → IsSound old → nth old.pool k ≡ o → IsEdge old i a
-    → MatchOption o (IsRefused NoSuchUpdate old result new) (λ u. StepsAt old (suc i) a (events.Take u) result new)
-    → IsLaterFabric old new
-delivers_later old new i a result k None h is at s = unchanged old new s.1
-delivers_later old new i a result k (Some u) h is at s =
-    steps_later old new i a (events.Take u) result at s (given_leaves old i k a s.after u s.answer h at is s.steps)
-
 no_edge : (a : Edge) → ◌≡◌ {A = Option Edge} None (Some a) → ⊥
 no_edge a q = cc
 
 pub step_later : (old new : Fabric) (step : Step) (result : Result Reply FabricRefusal) → IsSound old
     → FabricSteps old step result new → IsLaterFabric old new
-step_later old new (Local e event) result h s = go e (nth old.edges e) refl s
-  where
-    go : (e : ℕ) (o : Option Edge) → nth old.edges e ≡ o
-        → MatchOption o (IsRefused NoSuchEdge old result new) (λ a. StepsAt old e a (event_of event) result new)
-        → IsLaterFabric old new
-    go e None is s = unchanged old new s.1
-    go zero (Some a) is s = absurd (no_edge a is)
-    go (suc i) (Some a) is s = steps_later old new i a (event_of event) result is s
-        (local_leaves old i a s.after event s.answer h is s.steps)
-step_later old new (Announce e) result h s = go e (nth old.edges e) refl s
-  where
-    go : (e : ℕ) (o : Option Edge) → nth old.edges e ≡ o
-        → MatchOption o (IsRefused NoSuchEdge old result new) (λ a. AnnouncesAt old e a result new)
-        → IsLaterFabric old new
-    go e None is s = unchanged old new s.1
-    go zero (Some a) is s = absurd (no_edge a is)
-    go (suc i) (Some a) is s = announces_later old new i a result is s
-step_later old new (Deliver e k) result h s = go e (nth old.edges e) refl s
-  where
-    go : (e : ℕ) (o : Option Edge) → nth old.edges e ≡ o
-        → MatchOption o (IsRefused NoSuchEdge old result new)
-        (λ a. MatchOption (nth old.pool k) (IsRefused NoSuchUpdate old result new)
-        (λ u. StepsAt old e a (events.Take u) result new)) → IsLaterFabric old new
-    go e None is s = unchanged old new s.1
-    go zero (Some a) is s = absurd (no_edge a is)
-    go (suc i) (Some a) is s = delivers_later old new i a result k (nth old.pool k) h refl is s
-step_later old new (Restart e n) result h s = go e (nth old.edges e) refl s
-  where
-    go : (e : ℕ) (o : Option Edge) → nth old.edges e ≡ o
-        → MatchOption o (IsRefused NoSuchEdge old result new) (λ a. RestartsAt old e a n result new)
-        → IsLaterFabric old new
-    go e None is s = unchanged old new s.1
-    go zero (Some a) is s = absurd (no_edge a is)
-    go (suc i) (Some a) is s = restarts_later old new i a n result h is s
+step_later old new (Local e event) result h s =
+    at_edge (IsLaterFabric old new) old new result (λ e a. StepsAt old e a (event_of event) result new) e s
+    (λ is. unchanged old new is.1)
+    (λ i a _ at s. steps_later old new i a (event_of event) result at s
+    (local_leaves old i a s.after event s.answer h at s.steps))
+step_later old new (Announce e) result h s =
+    at_edge (IsLaterFabric old new) old new result (λ e a. AnnouncesAt old e a result new) e s
+    (λ is. unchanged old new is.1) (λ i a _ at s. announces_later old new i a result at s)
+step_later old new (Deliver e k) result h s =
+    at_delivery (IsLaterFabric old new) old new result e k s (λ why is. unchanged old new is.1)
+    (λ i a n u _ _ at there s. steps_later old new i a (events.Take u) result at s
+    (given_leaves old i n a s.after u s.answer h at there s.steps))
+step_later old new (Restart e n) result h s =
+    at_edge (IsLaterFabric old new) old new result (λ e a. RestartsAt old e a n result new) e s
+    (λ is. unchanged old new is.1) (λ i a _ at s. restarts_later old new i a n result h at s)
 
 -- ---- lists of steps
 
@@ -227,19 +181,14 @@ no_answer reply q = cc
 -- the edge that was opened again is there, in its new incarnation
 opened_there : (old mid : Fabric) (e n : ℕ) (reply : Reply) → IsSound old → FabricSteps old (Restart e n) (Ok reply) mid
     → (a : Edge) × (nth mid.edges e ≡ Some a) × (incarnation_of a ≡ n)
-opened_there old mid e n reply h s = go e (nth old.edges e) refl s
-  where
-    go : (e : ℕ) (o : Option Edge) → nth old.edges e ≡ o
-        → MatchOption o (IsRefused NoSuchEdge old (Ok reply) mid) (λ a. RestartsAt old e a n (Ok reply) mid)
-        → (a : Edge) × (nth mid.edges e ≡ Some a) × (incarnation_of a ≡ n)
-    go e None is s = absurd (no_answer reply s.0)
-    go zero (Some a) is s = absurd (no_edge a is)
-    go (suc i) (Some a) is s = (
+opened_there old mid e n reply h s =
+    at_edge ((a : Edge) × (nth mid.edges e ≡ Some a) × (incarnation_of a ≡ n)) old mid (Ok reply)
+    (λ e a. RestartsAt old e a n (Ok reply) mid) e s (λ is. absurd (no_answer reply is.0)) (λ i a e_is at s. (
       s.after,
-      subst (λ l. slice_get l i ≡ Some s.after) (sym (ap (λ (f : Fabric). f.edges) s.new_is
-          ∙ ap (λ m. slice_set old.edges m s.after) (back i))) (set_same old.edges i a s.after is),
-      (anew old mid i a n reply h is s).life,
-    )
+      ap (nth mid.edges) e_is ∙ ap (λ l. slice_get l i) (ap (λ (f : Fabric). f.edges) s.new_is
+          ∙ ap (λ m. slice_set old.edges m s.after) (minus i)) ∙ set_same old.edges i a s.after at,
+      (anew old mid i a n reply h at s).life,
+    ))
 
 pub adverts_are_anew : AdvertsAreAnew
 adverts_are_anew old mid new e n reply steps h restart runs agree i b c at_b at_c r v mine is some =

@@ -1,5 +1,6 @@
 -- From a port of one edge to the port of another: the datagram that the first one sends comes out at the second.
-use Rattle.std.proofs.Common.{◌≡◌, ◌≢◌, ℕ, zero, suc, ◌<◌, ◌==◌, ◌&&◌, ◌^◌, Bool, true, false, cond, not, drop, Option}
+use Rattle.std.proofs.lemmas.Bool.{and_from}
+use Rattle.std.proofs.Common.{◌≡◌, ◌≢◌, ℕ, zero, suc, ◌<◌, ◌==◌, ◌^◌, Bool, true, false, cond, not, drop, Option}
 use Rattle.std.proofs.Common.{Some, None, Result, Ok, Err, List, refl, sym, ap, subst, ◌∙◌, arith}
 use Rattle.std.proofs.lemmas.Bool.Decides.{nat_tests}
 use Rattle.ether_wire.specs.Frame.{frame_of, destination_of, payload_of}
@@ -76,9 +77,6 @@ serves_own o vni zero good is = cc
 serves_own o vni (suc l) good is = sym (any_is true o.routes.vnis vni
     ((λ t. good.keeps.served vni (contains_at o.routes.ports l vni is)), (λ c. refl)))
 
-both : (x y : Bool) → x ≡ true → y ≡ true → (x && y) ≡ true
-both x y p q = ap (λ b. b && y) p ∙ q
-
 -- the datagram of the frame is one of its VNI, at an edge that serves it and lists the sender
 arrives_there : (o : Edge) (from vni destination source : ℕ) (octets : List ℕ) → vni < 2 ^ 24
     → is_listed (table_of o) from ≡ true → from ≢ address_of o → serves o vni ≡ true
@@ -87,7 +85,7 @@ arrives_there : (o : Edge) (from vni destination source : ℕ) (octets : List �
 arrives_there o from vni destination source octets small listed other served inner =
     let apart : not (from == address_of o) ≡ true = grind (arith, nat_tests) in
     ap (λ b. cond b (datagram_arrival o (instance_of (datagram_of vni octets))) (Err (OfEdge UnknownOriginator)))
-    (both (is_listed (table_of o) from) (not (from == address_of o)) listed apart)
+    (and_from (is_listed (table_of o) from) (not (from == address_of o)) listed apart)
     ∙ ap (datagram_arrival o) (instance_of-header_of vni octets small)
     ∙ ap (λ b. cond b (inner_arrival vni (frame_of octets)) (Err (OfEdge NoSuchVni))) served
     ∙ inner

@@ -1,4 +1,5 @@
 pub mod Places
+pub mod Cases
 pub mod Voices
 pub mod Events
 pub mod Fabrics
@@ -16,7 +17,7 @@ pub mod ConvergingMoves
 pub mod ConvergingRounds
 pub mod ConvergingWork
 pub mod ConvergingNumbers
-pub mod ConvergingStages
+pub mod ConvergingHearing
 pub mod ConvergingLearning
 pub mod ConvergingMotion
 pub mod StationStages

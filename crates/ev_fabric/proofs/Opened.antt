@@ -163,7 +163,7 @@ pub opened_more : (cs : List EdgeConfig) (edges : List Edge) (i : ℕ) (c : Edge
     → AreOpened (take (i + 1) cs) (edges ++ b ∷ [])
 opened_more cs edges i c b less at h opened good = record {
   count = push_length edges b ∙ ap suc size ∙ sym (take_length cs (i + 1) (omega (arith, less)) ∙ (omega arith));
-  opened = λ j d a at_d at_a. elim (push_get edges b j a at_a) as (λ _. IsOpening d a) [
+  opened = λ j d a at_d at_a. elim (push_get edges b j a at_a) [
     | inl before ↦ h.opened j d a (get_take cs i j d (let l = below_length edges j a before in let s = size in
         omega (arith, l, s)) (take_get cs (i + 1) j d at_d).1) before
     | inr new ↦
@@ -172,7 +172,7 @@ opened_more cs edges i c b less at h opened good = record {
         subst (λ n. slice_get cs n ≡ Some d) place (take_get cs (i + 1) j d at_d).1 in cc) in
         subst (λ x. IsOpening d x) (sym new.1) (subst (λ x. IsOpening x b) (sym same) opened)
   ];
-  good = λ j a at_a. elim (push_get edges b j a at_a) as (λ _. IsGoodEdge a) [
+  good = λ j a at_a. elim (push_get edges b j a at_a) [
     | inl before ↦ h.good j a before
     | inr new ↦ subst IsGoodEdge (sym new.1) good
   ];

@@ -13,11 +13,10 @@ set_cases [] i b j c is = cc
 set_cases (x ∷ xs) zero b zero c is = inl (refl, cc)
 set_cases (x ∷ xs) zero b (suc j) c is = inr (omega arith, is)
 set_cases (x ∷ xs) (suc i) b zero c is = inr (omega arith, is)
-set_cases (x ∷ xs) (suc i) b (suc j) c is = elim (set_cases xs i b j c is) as (λ _. ((suc j ≡ suc i) × (c ≡ b))
-    ⊎ ((suc j ≢ suc i) × (slice_get xs j ≡ Some c))) [
-      | inl h ↦ inl (ap suc h.0, h.1)
-      | inr h ↦ inr (let ne = h.0 in omega (arith, ne), h.1)
-    ]
+set_cases (x ∷ xs) (suc i) b (suc j) c is = elim (set_cases xs i b j c is) [
+  | inl h ↦ inl (ap suc h.0, h.1)
+  | inr h ↦ inr (let ne = h.0 in omega (arith, ne), h.1)
+]
 
 pub set_same : {A : Type 0} (xs : List A) (i : ℕ) (a b : A) → slice_get xs i ≡ Some a
     → slice_get (slice_set xs i b) i ≡ Some b
@@ -55,6 +54,9 @@ below_length (x ∷ xs) zero a is = omega arith
 below_length (x ∷ xs) (suc i) a is = let h = below_length xs i a is in omega (arith, h)
 
 -- ---- places counted from 1
+pub minus : (i : ℕ) → suc i - 1 ≡ i
+minus i = omega arith
+
 pub at_index : {A : Type 0} (xs : List A) (e : ℕ) (a d : A) → (e ≡ 0 → ⊥) → e ≤ length xs → a ≡ get_or xs (e - 1) d
     → nth xs e ≡ Some a
 at_index xs zero a d pos in' at = absurd (pos refl)
@@ -104,11 +106,10 @@ pub push_get : {A : Type 0} (xs : List A) (b : A) (j : ℕ) (a : A) → slice_ge
 push_get [] b zero a is = inr (refl, cc)
 push_get [] b (suc j) a is = cc
 push_get (x ∷ xs) b zero a is = inl is
-push_get (x ∷ xs) b (suc j) a is = elim (push_get xs b j a is) as (λ _. (slice_get xs j ≡ Some a)
-    ⊎ ((suc j ≡ suc (length xs)) × (a ≡ b))) [
-      | inl h ↦ inl h
-      | inr h ↦ inr (ap suc h.0, h.1)
-    ]
+push_get (x ∷ xs) b (suc j) a is = elim (push_get xs b j a is) [
+  | inl h ↦ inl h
+  | inr h ↦ inr (ap suc h.0, h.1)
+]
 
 pub push_length : {A : Type 0} (xs : List A) (b : A) → length (xs ++ b ∷ []) ≡ suc (length xs)
 push_length [] b = refl

@@ -1,6 +1,7 @@
 -- The destinations of a frame for a station that some edge advertises.
 use Rattle.std.proofs.Common.{◌≡◌, ◌≢◌, ℕ, zero, suc, ◌≤◌, ◌==◌, ◌&&◌, Bool, true, false, cond, not, Option}
 use Rattle.std.proofs.Common.{Some, None, Result, Ok, List, [], ◌∷◌, length, refl, sym, ap, subst, ◌∙◌, arith}
+use Rattle.std.proofs.lemmas.Bool.{and_parts, and_from}
 use Rattle.std.specs.Prelude.{IsTrue, ◌↔◌, ◌||◌}
 use Rattle.std.specs.FinMap.{FinMap}
 use Rattle.std.specs.Option.{MatchOption, option_map}
@@ -106,16 +107,16 @@ frame_step a (events.Frame p bytes) result b port octets is h =
     let same : bytes.now ≡ octets = ap (λ o. octets_or o bytes.now) is in
     subst (λ q. FrameSteps (frame_arrival a q octets) a q result b) ports
     (subst (λ l. FrameSteps (frame_arrival a p l) a p result b) same h)
-frame_step a (events.TunnelFrame from bytes) result b port octets is h = absurd cc
-frame_step a (events.Take u) result b port octets is h = absurd cc
-frame_step a (events.Pin s p) result b port octets is h = absurd cc
-frame_step a (events.Unpin s) result b port octets is h = absurd cc
-frame_step a (events.Thaw s) result b port octets is h = absurd cc
-frame_step a events.Second result b port octets is h = absurd cc
-frame_step a (events.PortUp p) result b port octets is h = absurd cc
-frame_step a (events.PortDown p) result b port octets is h = absurd cc
-frame_step a (events.Mcheck p) result b port octets is h = absurd cc
-frame_step a events.Announce result b port octets is h = absurd cc
+frame_step a (events.TunnelFrame from bytes) result b port octets is h = cc
+frame_step a (events.Take u) result b port octets is h = cc
+frame_step a (events.Pin s p) result b port octets is h = cc
+frame_step a (events.Unpin s) result b port octets is h = cc
+frame_step a (events.Thaw s) result b port octets is h = cc
+frame_step a events.Second result b port octets is h = cc
+frame_step a (events.PortUp p) result b port octets is h = cc
+frame_step a (events.PortDown p) result b port octets is h = cc
+frame_step a (events.Mcheck p) result b port octets is h = cc
+frame_step a events.Announce result b port octets is h = cc
 
 pub tunnel_step : (a : Edge) (event : Event) (result : Result Reply Refusal) (b : Edge) (from : ℕ)
     (octets : List ℕ)
@@ -126,16 +127,16 @@ tunnel_step a (events.TunnelFrame o bytes) result b from octets is h =
     let same : bytes.now ≡ octets = ap (λ p. octets_or p bytes.now) is in
     subst (λ q. TunnelSteps (tunnel_arrival a q octets) a result b) edges
     (subst (λ l. TunnelSteps (tunnel_arrival a o l) a result b) same h)
-tunnel_step a (events.Frame p bytes) result b from octets is h = absurd cc
-tunnel_step a (events.Take u) result b from octets is h = absurd cc
-tunnel_step a (events.Pin s p) result b from octets is h = absurd cc
-tunnel_step a (events.Unpin s) result b from octets is h = absurd cc
-tunnel_step a (events.Thaw s) result b from octets is h = absurd cc
-tunnel_step a events.Second result b from octets is h = absurd cc
-tunnel_step a (events.PortUp p) result b from octets is h = absurd cc
-tunnel_step a (events.PortDown p) result b from octets is h = absurd cc
-tunnel_step a (events.Mcheck p) result b from octets is h = absurd cc
-tunnel_step a events.Announce result b from octets is h = absurd cc
+tunnel_step a (events.Frame p bytes) result b from octets is h = cc
+tunnel_step a (events.Take u) result b from octets is h = cc
+tunnel_step a (events.Pin s p) result b from octets is h = cc
+tunnel_step a (events.Unpin s) result b from octets is h = cc
+tunnel_step a (events.Thaw s) result b from octets is h = cc
+tunnel_step a events.Second result b from octets is h = cc
+tunnel_step a (events.PortUp p) result b from octets is h = cc
+tunnel_step a (events.PortDown p) result b from octets is h = cc
+tunnel_step a (events.Mcheck p) result b from octets is h = cc
+tunnel_step a events.Announce result b from octets is h = cc
 
 -- a frame for the station: its source is learnt, and it is sent
 pub record IsSent (a b : Edge) (s : Station) (from : Source) (reply : Reply) : Type 0 where
@@ -148,7 +149,7 @@ sent : (passes : Bool) (o : Option Decision) (b : Edge) (vni destination : ℕ) 
     → SendsIf passes b vni destination from o → (d : Decision) × (o ≡ Some d) × IsDecision b vni destination from d
 sent passes None b vni destination from told h = absurd h
 sent true (Some d) b vni destination from told h = (d, refl, h)
-sent false (Some d) b vni destination from told h = absurd cc
+sent false (Some d) b vni destination from told h = cc
 
 pub frame_sent : (a b : Edge) (event : Event) (port : ℕ) (s : Station) (reply : Reply) → IsFrameFor a event port s
     → Steps a event (Ok reply) b → IsSent a b s (Port port) reply
@@ -184,7 +185,7 @@ tunnel_sent a b event s reply frame steps =
 -- ---- to another edge
 
 -- the walk finds an owner if there is one
-owner_found : (t : Table) (vni mac o : ℕ) → IsOwner t vni mac o → owner t vni mac ≡ Some o
+pub owner_found : (t : Table) (vni mac o : ℕ) → IsOwner t vni mac o → owner t vni mac ≡ Some o
 owner_found t vni mac o h = go (owner t vni mac) (owner_is t vni mac)
   where
     go : (x : Option ℕ) → MatchOption x (IsUnowned t vni mac) (IsOwner t vni mac) → x ≡ Some o
@@ -281,20 +282,12 @@ record IsThere (o : Edge) (q : ℕ) : Type 0 where
   few : q ≤ 64
 
 there : (o : Edge) (vni q : ℕ) → IsGoodEdge o → vni_at o.routes.ports q ≡ Some vni → IsThere o q
-there o vni zero h is = absurd cc
+there o vni zero h is = cc
 there o vni (suc l) h is =
     let less = below_length o.routes.ports l vni is in
     let same = h.keeps.ports in
     let few = h.routes.routes.few in
     record { least = omega arith; most = omega (arith, less, same); few = omega (arith, less, few) }
-
-both : (x y : Bool) → (x && y) ≡ true → (x ≡ true) × (y ≡ true)
-both true true e = (refl, refl)
-both true false e = absurd cc
-both false y e = absurd cc
-
-both_back : (x y : Bool) → x ≡ true → y ≡ true → (x && y) ≡ true
-both_back x y p q = ap (λ b. b && y) p ∙ q
 
 pub frames_come_out : FramesComeOut
 frames_come_out o b s good says event port reply frame steps = (
@@ -334,7 +327,7 @@ frames_come_out o b s good says event port reply frame steps = (
         (record { least = t.least; most = t.few }) in (
           λ there.
               let h = a.0 (ap (λ set. has_port set p) (sym is) ∙ there) in
-              let two = both (has_port x.is.passing e.0.port) (not (port == e.0.port)) h.1 in (
+              let two = and_parts (has_port x.is.passing e.0.port) (not (port == e.0.port)) h.1 in (
                 h.0,
                 (
                   subst (λ r. Passes r e.0.port) x.leaves.tree (passes.0 two.0).1,
@@ -343,7 +336,7 @@ frames_come_out o b s good says event port reply frame steps = (
               ),
           λ h. ap (λ set. has_port set p) is ∙ a.1 (
             h.0,
-            both_back (has_port x.is.passing e.0.port) (not (port == e.0.port))
+            and_from (has_port x.is.passing e.0.port) (not (port == e.0.port))
                 (passes.1 (
                   (t.least, subst (λ r. e.0.port ≤ length r.ports) (sym x.leaves.tree) t.most),
                   subst (λ r. Passes r e.0.port) (sym x.leaves.tree) h.1.0,
@@ -377,11 +370,11 @@ tunnel_frames_come_out o b s good says event reply frame steps =
         (record { least = t.least; most = t.few }) in (
           λ there.
               let h = a.0 (ap (λ set. has_port set p) (sym is) ∙ there) in
-              let two = both (has_port x.is.passing e.0.port) true h.1 in
+              let two = and_parts (has_port x.is.passing e.0.port) true h.1 in
               (h.0, subst (λ r. Passes r e.0.port) x.leaves.tree (passes.0 two.0).1),
           λ h. ap (λ set. has_port set p) is ∙ a.1 (
             h.0,
-            both_back (has_port x.is.passing e.0.port) true
+            and_from (has_port x.is.passing e.0.port) true
                 (passes.1 (
                   (t.least, subst (λ r. e.0.port ≤ length r.ports) (sym x.leaves.tree) t.most),
                   subst (λ r. Passes r e.0.port) (sym x.leaves.tree) h.1,

@@ -23,7 +23,7 @@ use Rattle.mac_arena.specs.declared.station.Station.{Station}
 use Rattle.mac_arena.specs.declared.station.Entry.{Entry}
 use Rattle.ev_tunnel.specs.declared.decision.Source.TheVariants.{Port}
 use Rattle.ev_tunnel.specs.Decision.{open_ports, others_of, local_for, remote_for}
-use Rattle.ev_claims.specs.Speaker.{Speaker, own_advert, is_newest}
+use Rattle.ev_claims.specs.Speaker.{own_advert}
 use Rattle.ev_claims.specs.LocalRoutes.{key_of}
 use Rattle.ev_edge.specs.declared.event.Event.{Event}
 use Rattle.ev_edge.specs.declared.reply.Reply.{Reply}
@@ -31,43 +31,25 @@ use Rattle.ev_edge.specs.Edge.{Edge, table_of, address_of}
 use Rattle.ev_edge.specs.Sending.{port_of}
 use Rattle.ev_edge.specs.Steps.{Steps}
 use Rattle.ev_fabric.specs.declared.step.Step.{Step}
-use Rattle.ev_fabric.specs.declared.step.Step.TheVariants.{Local, Announce, Deliver, Restart}
+use Rattle.ev_fabric.specs.declared.step.Step.TheVariants.{Local}
 use Rattle.ev_fabric.specs.Fabric.{Fabric, IsEdge}
 use Rattle.ev_fabric.specs.Sound.{update_of, IsSound}
 use Rattle.ev_fabric.specs.Agreed.{Advertises}
 use Rattle.ev_fabric.specs.Laws.{IsFrameFor, GoesTo}
-use Rattle.ev_fabric.specs.Station.{is_of, StationComes, RunsBeside, LeavesStation, IsLeftAlone, NoneRestarts}
-use Rattle.ev_fabric.specs.Station.{updates_on, RunsAlone}
+use Rattle.ev_fabric.specs.Station.{is_of, StationComes, RunsBeside, NoneRestarts, updates_on}
 use Rattle.ev_fabric.specs.Meanwhile.{IsFlooded, GoesHome, FramesMeanwhile}
 use Rattle.ev_fabric.proofs.Agreements.{individual, advert_bare}
 use Rattle.ev_fabric.proofs.Stations.{about_station, station_one, station_from}
-use Rattle.ev_fabric.proofs.Places.{set_cases}
 use Rattle.ev_fabric.proofs.Fabrics.{step_sound}
 use Rattle.ev_fabric.proofs.Sends.{IsSent, frame_sent, no_entry, elsewhere_local, elsewhere_remote, frames_come_out}
-use Rattle.ev_fabric.proofs.StationStages.{filter_has, said_news, IsAside}
+use Rattle.ev_fabric.proofs.ConvergingRounds.{Has}
+use Rattle.ev_fabric.proofs.StationStages.{filter_has, filter_from, IsAside, aside_quiet}
+use Rattle.ev_fabric.proofs.StationTaken.{runs_has}
+use Rattle.ev_fabric.proofs.StationAlone.{agreed_known}
 use Rattle.ev_fabric.proofs.StationMotion.{StageOf, Phase, AtFirst, AtTold, AtLost, AtOver, AtAged, AtLeft, AtBack}
 use Rattle.ev_fabric.proofs.StationMotion.{Stage, runs_stage}
-use Rattle.ev_fabric.proofs.StationMotion.{agreed_known}
-use Rattle.ev_fabric.proofs.StationMotion.{begins, u, base, first_stage, Begins}
-use Rattle.ev_fabric.proofs.StationArrival.{filter_from}
-use Rattle.ev_fabric.proofs.StationAlone.{AllKnow, know_alone}
-
--- ---- edges still know the updates that they knew
-left_alone : (i j : ℕ) (s : Station) (old new : Fabric) (step : Step) → LeavesStation i j s old step new
-    → IsLeftAlone s old step new
-left_alone i j s old new (Local e event) h = h
-left_alone i j s old new (Announce e) h = h
-left_alone i j s old new (Deliver e k) h = h
-left_alone i j s old new (Restart e n) h = elim h as (λ _. IsLeftAlone s old (Restart e n) new) [
-  | inl same ↦ inl same
-  | inr elsewhere ↦ inr (λ x a is at. (elsewhere x is).never a at)
-]
-
-beside_alone : (i j : ℕ) (s : Station) (steps : List Step) (old new : Fabric) → RunsBeside i j s old steps new
-    → RunsAlone s old steps new
-beside_alone i j s [] old new h = h
-beside_alone i j s (step ∷ steps) old new h =
-    (h.0, h.1, h.2, left_alone i j s old h.0 step h.3, beside_alone i j s steps h.0 new h.4)
+use Rattle.ev_fabric.proofs.StationMotion.{begins, u, base, first_stage, known_still, Begins}
+use Rattle.ev_fabric.proofs.StationRounds.{beside_runs}
 
 module _ (old : Fabric) (i j : ℕ) (s : Station) (mid : Fabric) (sound : IsSound old)
     (m : StationComes old i j s mid) where
@@ -80,18 +62,15 @@ module _ (old : Fabric) (i j : ℕ) (s : Station) (mid : Fabric) (sound : IsSoun
   abbrev advert : Fields
   advert = u old i j s mid sound m
 
-  know_mid : AllKnow s old.pool mid
-  know_mid y c w at in' of = elim (set_cases old.edges j begun.after y c (subst (λ f. IsEdge f y c) begun.is
-      at)) as (λ _. is_newest c.routes.speaker w ≡ false) [
-        | inl p ↦ ap (λ (e : Edge). is_newest e.routes.speaker w) p.1
-            ∙ ap (λ (e : Speaker). is_newest e w) begun.learns.speaker
-            ∙ said_news m.to.routes.speaker (key_of s) begun.learns.content
-            (sound.good j m.to m.at_to).routes.numbers w (agreed_known old s m.agree j m.to w m.at_to in' of)
-        | inr p ↦ agreed_known old s m.agree y c w p.1 in' of
-      ]
+  -- each edge knows the updates of the station that the pool had before the move
+  abbrev AllKnow : Fabric → Type 0
+  AllKnow f = (y : ℕ) (w : Fields) → Contains old.pool w → is_of s w.register ≡ true → Has f y w
+
+  know_mid : AllKnow mid
+  know_mid y w in' of = known_still old i j s mid sound m w (λ z. agreed_known old s m.agree z w in' of) y
 
   -- ---- whose adverts an edge has
-  module _ (new : Fabric) (still_sound : IsSound new) (know : AllKnow s old.pool new)
+  module _ (new : Fabric) (still_sound : IsSound new) (know : AllKnow new)
       (stage : Stage false before i j s (address_of m.from) advert new.pool new.edges) where
     -- an advert that was in the pool before and is there still is the old place's
     old_advert : (x : ℕ) (a : Edge) → IsEdge new x a → (o : ℕ) (ip : Option Ip) (v : Value)
@@ -113,7 +92,7 @@ module _ (old : Fabric) (i j : ℕ) (s : Station) (mid : Fabric) (sound : IsSoun
                 → o ≡ address_of m.from
             from_is (w, has, low) =
                 let known : is_news (value_at (table_of a) r) w ≡ false =
-                know x a (update_of r w) at (station_from old s sound m.agree l p r w at_p of has) of in
+                know x (update_of r w) (station_from old s sound m.agree l p r w at_p of has) of a at in
                 let back : is_newer w v ≡ false = ap (λ z. is_news z w) (sym there) ∙ known in
                 let same : v ≡ w = neither_newer v w low back in
                 let own_is : value_at (table_of p) (register_of (address_of p) (Mac s.vni s.mac ip)) ≡ Some w =
@@ -157,37 +136,32 @@ module _ (old : Fabric) (i j : ℕ) (s : Station) (mid : Fabric) (sound : IsSoun
             → StageOf before extra i j s (address_of m.from) advert here there says new.pool new.edges
             → (o ≡ address_of m.from) ⊎ (o ≡ address_of m.to)
         among v there says in' AtFirst g = elim (Contains-append_cases before [] (update_of r v)
-            (subst (λ l. Contains l (update_of r v)) g.grown in')) as (λ _. (o ≡ address_of m.from)
-            ⊎ (o ≡ address_of m.to)) [
+            (subst (λ l. Contains l (update_of r v)) g.grown in')) [
               | inl earlier ↦ old_one v there says earlier
               | inr never ↦ absurd (let lt = never.1 in omega (arith, lt))
             ]
         among v there says in' AtTold g = elim (Contains-append_cases before (advert ∷ []) (update_of r v)
-            (subst (λ l. Contains l (update_of r v)) g.grown in')) as (λ _. (o ≡ address_of m.from)
-            ⊎ (o ≡ address_of m.to)) [
+            (subst (λ l. Contains l (update_of r v)) g.grown in')) [
               | inl earlier ↦ old_one v there says earlier
               | inr now ↦ new_one v (one (update_of r v) advert now)
             ]
         among v there says in' AtLost g = elim (Contains-append_cases before (advert ∷ []) (update_of r v)
-            (subst (λ l. Contains l (update_of r v)) g.grown in')) as (λ _. (o ≡ address_of m.from)
-            ⊎ (o ≡ address_of m.to)) [
+            (subst (λ l. Contains l (update_of r v)) g.grown in')) [
               | inl earlier ↦ old_one v there says earlier
               | inr now ↦ new_one v (one (update_of r v) advert now)
             ]
         among v there says in' (AtOver w named none) g = elim (Contains-append_cases before (advert ∷ w ∷ [])
-            (update_of r v) (subst (λ l. Contains l (update_of r v)) g.grown in')) as (λ _. (o ≡ address_of m.from)
-            ⊎ (o ≡ address_of m.to)) [
+            (update_of r v) (subst (λ l. Contains l (update_of r v)) g.grown in')) [
               | inl earlier ↦ old_one v there says earlier
-              | inr now ↦ elim (two (update_of r v) advert w now) as (λ _. (o ≡ address_of m.from)
-                  ⊎ (o ≡ address_of m.to)) [
-                    | inl same ↦ new_one v same
-                    | inr same ↦ inl (ap (λ (z : Fields). z.register.originator) same
-                        ∙ ap (λ (q : Register). q.originator) named)
-                  ]
+              | inr now ↦ elim (two (update_of r v) advert w now) [
+                | inl same ↦ new_one v same
+                | inr same ↦ inl (ap (λ (z : Fields). z.register.originator) same
+                    ∙ ap (λ (q : Register). q.originator) named)
+              ]
             ]
-        among v there says in' (AtAged yes') g = absurd (let bad : false ≡ true = yes' in cc)
-        among v there says in' (AtLeft yes' w named none) g = absurd (let bad : false ≡ true = yes' in cc)
-        among v there says in' (AtBack yes' w named none) g = absurd (let bad : false ≡ true = yes' in cc)
+        among v there says in' (AtAged yes') g = cc
+        among v there says in' (AtLeft yes' w named none) g = cc
+        among v there says in' (AtBack yes' w named none) g = cc
 
         go : (v : Option Value) → value_at (table_of a) r ≡ v → advert_of v ≡ Some y
             → (o ≡ address_of m.from) ⊎ (o ≡ address_of m.to)
@@ -198,9 +172,9 @@ module _ (old : Fabric) (i j : ℕ) (s : Station) (mid : Fabric) (sound : IsSoun
 
     -- an edge that advertises the station is one of the two
     at_two : (x : ℕ) (a : Edge) → IsEdge new x a → Advertises a s → (x ≡ i) ⊎ (x ≡ j)
-    at_two x a at says = elim (cases_eq x i) as (λ _. (x ≡ i) ⊎ (x ≡ j)) [
+    at_two x a at says = elim (cases_eq x i) [
       | inl p ↦ inl p
-      | inr ne_i ↦ elim (cases_eq x j) as (λ _. (x ≡ i) ⊎ (x ≡ j)) [
+      | inr ne_i ↦ elim (cases_eq x j) [
         | inl p ↦ inr p
         | inr ne_j ↦ absurd (none (stage.of.asides x a ne_i ne_j at))
       ]
@@ -209,7 +183,7 @@ module _ (old : Fabric) (i j : ℕ) (s : Station) (mid : Fabric) (sound : IsSoun
         none : IsAside new.pool s a.routes.speaker → ⊥
         none h =
             let z = advert_bare a s (still_sound.good x a at) says in
-            let bad : None ≡ Some z.0 = sym h.quiet ∙ z.1 in
+            let bad : None ≡ Some z.0 = sym (aside_quiet new.pool s a.routes.speaker h) ∙ z.1 in
             cc
 
 -- ---- frames
@@ -250,9 +224,9 @@ module _ (i j : ℕ) (s : Station) (old mid new : Fabric) (steps : List Step) (s
   end = runs_stage false (updates_on s old.pool) i j s (address_of m.from) (u old i j s mid sound m) begun'.apart
       begun'.learns.advert steps mid new sound_mid runs (first_stage old i j s mid sound m false)
 
-  know : AllKnow s old.pool new
-  know = know_alone s old.pool steps mid new sound_mid (beside_alone i j s steps mid new runs) none
-      (know_mid old i j s mid sound m)
+  know : AllKnow old i j s mid sound m new
+  know y w in' of = runs_has steps mid new y w sound_mid (beside_runs i j s steps mid new runs) none
+      (know_mid old i j s mid sound m y w in' of)
 
   single : is_group s.mac ≡ false
   single = individual m.from s (sound.good i m.from m.at_from) m.had
@@ -295,7 +269,7 @@ module _ (i j : ℕ) (s : Station) (old mid new : Fabric) (steps : List Step) (s
       owned : (o : Option ℕ) → owner (table_of b) s.vni s.mac ≡ o
           → MatchOption (owner (table_of b) s.vni s.mac) (IsUnowned (table_of b) s.vni s.mac)
           (IsOwner (table_of b) s.vni s.mac) → Goes
-      owned None is h = flooded None is (λ p never. absurd cc)
+      owned None is h = flooded None is (λ p never. cc)
       owned (Some o) is h = pick (o == address_of b) refl
           (subst (λ z. MatchOption z (IsUnowned (table_of b) s.vni s.mac) (IsOwner (table_of b) s.vni s.mac)) is h)
         where
@@ -306,7 +280,7 @@ module _ (i j : ℕ) (s : Station) (old mid new : Fabric) (steps : List Step) (s
               let other : o ≢ address_of a = (λ same. let mine : o ≡ address_of b = same ∙ sym sent.leaves.address in
               grind (arith, nat_tests)) in
               elim (of_two old i j s mid sound m new end.1 know end.0 x a at o other h.ip h.advert
-              (sym (sent.leaves.adverts o h.ip) ∙ h.own)) as (λ _. Goes) [
+              (sym (sent.leaves.adverts o h.ip) ∙ h.own)) [
                 | inl from ↦ inr (inl (subst (λ n. GoesTo n reply) from (to_one o is far)))
                 | inr to ↦ inr (inr (inl (subst (λ n. GoesTo n reply) to (to_one o is far))))
               ]

@@ -1,11 +1,14 @@
 -- A station moves while all else goes on: two updates of its registers, and the new edge owns it everywhere.
 use Rattle.std.proofs.Common.{◌≡◌, ◌≢◌, ◌⊎◌, inl, inr, ℕ, zero, suc, Bool, true, false, cond, Option, Some, None}
-use Rattle.std.proofs.Common.{Result, Ok, Err, List, [], ◌∷◌, ◌++◌, refl, sym, ap, subst, ◌∙◌, arith}
+use Rattle.std.proofs.Common.{Result, List, [], ◌∷◌, ◌++◌, refl, sym, ap, subst, ◌∙◌, arith}
 use Rattle.std.proofs.lemmas.Bool.{cases_eq}
 use Rattle.std.proofs.lemmas.List.Elements.{Contains-append_left, Contains-push}
+use Rattle.std.proofs.lemmas.List.{append-nil, append_assoc}
 use Rattle.std.specs.Prelude.{Contains, IsSome, is_some, slice_get, slice_set}
 use Rattle.std.specs.Option.{MatchOption}
 use Rattle.std.specs.List.{filter}
+use Rattle.route_wire.specs.declared.update.Ip.{Ip}
+use Rattle.route_wire.specs.declared.update.Key.TheVariants.{Mac}
 use Rattle.route_wire.specs.declared.update.Register.{Register}
 use Rattle.route_wire.specs.declared.update.Advert.{Advert}
 use Rattle.route_wire.specs.declared.update.Value.{Value}
@@ -16,40 +19,38 @@ use Rattle.route_join.proofs.Tables.{not_newer_itself}
 use Rattle.mac_arena.specs.declared.station.Station.{Station}
 use Rattle.mac_arena.specs.Learning.{entry_at}
 use Rattle.ev_claims.specs.Speaker.{Speaker, own_register, own, own_advert, next_value, is_newest}
-use Rattle.ev_claims.specs.Speaker.{silent}
 use Rattle.ev_claims.specs.LocalRoutes.{key_of}
 use Rattle.ev_claims.proofs.Numbers.{own_same}
-use Rattle.ev_edge.specs.declared.config.EdgeConfig.{EdgeConfig}
 use Rattle.ev_edge.specs.declared.reply.Reply.{Reply}
 use Rattle.ev_edge.specs.Edge.{Edge, IsGoodEdge, table_of, address_of}
-use Rattle.ev_edge.specs.Steps.{Steps}
 use Rattle.ev_fabric.specs.declared.refusal.FabricRefusal.{FabricRefusal}
 use Rattle.ev_fabric.specs.declared.refusal.FabricRefusal.TheVariants.{NoSuchEdge}
-use Rattle.ev_fabric.specs.declared.step.LocalEvent.{LocalEvent}
 use Rattle.ev_fabric.specs.declared.step.Step.{Step}
 use Rattle.ev_fabric.specs.declared.step.Step.TheVariants.{Local, Announce, Deliver, Restart}
-use Rattle.ev_fabric.specs.Fabric.{Fabric, IsEdge, nth}
+use Rattle.ev_fabric.specs.Fabric.{Fabric, IsEdge}
 use Rattle.ev_fabric.specs.Local.{event_of}
-use Rattle.ev_fabric.specs.Steps.{IsRefused, StepsAt, in_incarnation, OpensAnew, RestartsAt, FabricSteps}
+use Rattle.ev_fabric.specs.Steps.{IsRefused, StepsAt, FabricSteps}
 use Rattle.ev_fabric.specs.Sound.{update_of, IsSound}
 use Rattle.ev_fabric.specs.Agreed.{Advertises}
-use Rattle.ev_fabric.specs.Station.{is_of, AgreesOn, StationComes, RestartsElsewhere, LeavesStation, RunsBeside}
-use Rattle.ev_fabric.specs.Station.{SaysTheSame, updates_on, StationMoves, LosesItself, RunsLosing, StationMovesAnyhow}
+use Rattle.ev_fabric.specs.Convergence.{Rests}
+use Rattle.ev_fabric.specs.Station.{is_of, AgreesOn, StationComes, LeavesStation, LeavesOrLoses, RunsBeside}
+use Rattle.ev_fabric.specs.Station.{updates_on, StationMoves, LosesItself, RunsLosing, StationMovesAnyhow}
 use Rattle.ev_fabric.proofs.Agreements.{advert_bare, learnt}
-use Rattle.ev_fabric.proofs.Stations.{about_station, station_one, station_owner}
-use Rattle.ev_fabric.proofs.Places.{set_cases, set_same, set_other}
+use Rattle.ev_fabric.proofs.Stations.{about_station, station_key, station_one, station_owner}
+use Rattle.ev_fabric.proofs.Places.{minus, set_cases, set_same, set_other}
 use Rattle.ev_fabric.proofs.Voices.{Talks}
-use Rattle.ev_fabric.proofs.Events.{local_talks}
 use Rattle.ev_fabric.proofs.Fabrics.{step_sound}
 use Rattle.ev_fabric.proofs.ConvergingEdge.{heard}
 use Rattle.ev_fabric.proofs.ConvergingGood.{quieter}
-use Rattle.ev_fabric.proofs.ConvergingMoves.{Kept, Move, Stays, Tells, Takes, minus, moved, own_pending, sound_kept}
+use Rattle.ev_fabric.proofs.ConvergingMoves.{Kept, Move, Stays, Tells, Takes, own_pending, sound_kept}
 use Rattle.ev_fabric.proofs.ConvergingLearning.{LearnsIt, learns_anew}
-use Rattle.ev_fabric.proofs.StationStages.{filter_none, filter_push, filter_past, no_push, waiting, marked_first}
-use Rattle.ev_fabric.proofs.StationStages.{SameOf, same_own, left_same, floods_same, silent_quiet, heard_other, IsTo}
+use Rattle.ev_fabric.proofs.ConvergingRounds.{Has}
+use Rattle.ev_fabric.proofs.StationStages.{filter_none, filter_push, filter_past, waiting, marked_first}
+use Rattle.ev_fabric.proofs.StationStages.{SameOf, same_own, heard_other, whole_station, not_both, IsTo}
 use Rattle.ev_fabric.proofs.StationStages.{IsFrom, IsAside, to_same, from_same, aside_same, to_push, from_push}
 use Rattle.ev_fabric.proofs.StationStages.{said_news, talks_news, speaks, aside_push, Hears}
 use Rattle.ev_fabric.proofs.StationStages.{idle_grows, to_grows, from_grows, aside_hears, from_hears}
+use Rattle.ev_fabric.proofs.StationAlone.{Leaves, Change, Moves, Same, Opens, Loses, change, agreed_known}
 
 -- an edge at a place of a list
 abbrev pub At : List Edge → ℕ → Edge → Type 0
@@ -58,13 +59,6 @@ At edges i a = slice_get edges i ≡ Some a
 pub one_edge : (edges : List Edge) (i j : ℕ) (a b : Edge) → i ≡ j → At edges i a → At edges j b → b ≡ a
 one_edge edges i j a b place at_a at_b = let both : Some b ≡ Some a = sym at_b
     ∙ subst (λ n. slice_get edges n ≡ Some a) place at_a in cc
-
-pub push_after : (pool extra : List Fields) (w : Fields) → (pool ++ extra) ++ w ∷ [] ≡ pool ++ (extra ++ w ∷ [])
-push_after [] extra w = refl
-push_after (x ∷ pool) extra w = ap (λ l. x ∷ l) (push_after pool extra w)
-
-pub not_both : {b : Bool} → b ≡ true → b ≡ false → ⊥
-not_both yes' no' = let bad : true ≡ false = sym yes' ∙ no' in cc
 
 -- ---- a stage
 
@@ -107,12 +101,15 @@ pub record Stage (may : Bool) (base : List Fields) (i j : ℕ) (s : Station) (o 
 
 module _ (may : Bool) (base : List Fields) (i j : ℕ) (s : Station) (o : ℕ) (u : Fields) (apart : i ≢ j)
     (some : IsSome (advert_in u.value.content)) where
+  abbrev Of : List Fields → List Register → List Register → Bool → List Fields → List Edge → Type 0
+  Of extra here there says pool edges = StageOf base extra i j s o u here there says pool edges
+
   abbrev Staged : List Fields → List Edge → Type 0
   Staged pool edges = Stage may base i j s o u pool edges
 
   -- at a phase
   at_phase : {extra : List Fields} {here there : List Register} {says : Bool} {pool : List Fields} {edges : List Edge}
-      → Phase may s o u extra here there says → StageOf base extra i j s o u here there says pool edges
+      → Phase may s o u extra here there says → Of extra here there says pool edges
       → Staged pool edges
   at_phase {extra} {here} {there} {says} phase g =
       record { extra = extra; here = here; there = there; says = says; phase = phase; of = g }
@@ -120,7 +117,7 @@ module _ (may : Bool) (base : List Fields) (i j : ℕ) (s : Station) (o : ℕ) (
   -- one edge becomes another
   stage_set : {extra extra' : List Fields} {here here' there there' : List Register} {says says' : Bool}
       {pool pool' : List Fields} {edges : List Edge} (x : ℕ) (a b : Edge)
-      → StageOf base extra i j s o u here there says pool edges → At edges x a
+      → Of extra here there says pool edges → At edges x a
       → updates_on s pool' ≡ base ++ extra'
       → (x ≡ j → IsTo pool extra s u there a.routes.speaker → IsTo pool' extra' s u there' b.routes.speaker)
       → (x ≢ j → (c : Edge) → At edges j c → IsTo pool extra s u there c.routes.speaker
@@ -141,7 +138,7 @@ module _ (may : Bool) (base : List Fields) (i j : ℕ) (s : Station) (o : ℕ) (
         from = from.0;
         at_from = from.1;
         is_from = from.2;
-        asides = λ y c ne_i ne_j at_c. elim (set_cases edges x b y c at_c) as (λ _. IsAside pool' s c.routes.speaker) [
+        asides = λ y c ne_i ne_j at_c. elim (set_cases edges x b y c at_c) [
           | inl p ↦ subst (λ (e : Edge). IsAside pool' s e.routes.speaker) (sym p.1)
               (aside_b (λ q. ne_i (p.0 ∙ q)) (λ q. ne_j (p.0 ∙ q))
               (g.asides x a (λ q. ne_i (p.0 ∙ q)) (λ q. ne_j (p.0 ∙ q)) at))
@@ -150,43 +147,41 @@ module _ (may : Bool) (base : List Fields) (i j : ℕ) (s : Station) (o : ℕ) (
       }
     where
       to : (c : Edge) × At (slice_set edges x b) j c × IsTo pool' extra' s u there' c.routes.speaker
-      to = elim (cases_eq x j) as (λ _. (c : Edge) × At (slice_set edges x b) j c
-          × IsTo pool' extra' s u there' c.routes.speaker) [
-            | inl p ↦ (
-              b,
-              subst (λ n. At (slice_set edges x b) n b) p (set_same edges x a b at),
-              to_b p (subst (λ (e : Edge). IsTo pool extra s u there e.routes.speaker)
-                  (one_edge edges x j a g.to p at g.at_to) g.is_to),
-            )
-            | inr ne ↦ (g.to, set_other edges x b j g.to (λ q. ne (sym q)) g.at_to, to_c ne g.to g.at_to g.is_to)
-          ]
+      to = elim (cases_eq x j) [
+        | inl p ↦ (
+          b,
+          subst (λ n. At (slice_set edges x b) n b) p (set_same edges x a b at),
+          to_b p (subst (λ (e : Edge). IsTo pool extra s u there e.routes.speaker)
+              (one_edge edges x j a g.to p at g.at_to) g.is_to),
+        )
+        | inr ne ↦ (g.to, set_other edges x b j g.to (λ q. ne (sym q)) g.at_to, to_c ne g.to g.at_to g.is_to)
+      ]
 
       from : (c : Edge) × At (slice_set edges x b) i c × IsFrom pool' extra' s o here' says' c.routes.speaker
-      from = elim (cases_eq x i) as (λ _. (c : Edge) × At (slice_set edges x b) i c
-          × IsFrom pool' extra' s o here' says' c.routes.speaker) [
-            | inl p ↦ (
-              b,
-              subst (λ n. At (slice_set edges x b) n b) p (set_same edges x a b at),
-              from_b p (subst (λ (e : Edge). IsFrom pool extra s o here says e.routes.speaker)
-                  (one_edge edges x i a g.from p at g.at_from) g.is_from),
-            )
-            | inr ne ↦ (
-              g.from,
-              set_other edges x b i g.from (λ q. ne (sym q)) g.at_from,
-              from_c ne g.from g.at_from g.is_from,
-            )
-          ]
+      from = elim (cases_eq x i) [
+        | inl p ↦ (
+          b,
+          subst (λ n. At (slice_set edges x b) n b) p (set_same edges x a b at),
+          from_b p (subst (λ (e : Edge). IsFrom pool extra s o here says e.routes.speaker)
+              (one_edge edges x i a g.from p at g.at_from) g.is_from),
+        )
+        | inr ne ↦ (
+          g.from,
+          set_other edges x b i g.from (λ q. ne (sym q)) g.at_from,
+          from_c ne g.from g.at_from g.is_from,
+        )
+      ]
 
   -- ---- a step that keeps all that an edge has of the station
   stage_same : {extra : List Fields} {here there : List Register} {says : Bool} {pool : List Fields} {edges : List Edge}
-      (x : ℕ) (a b : Edge) → StageOf base extra i j s o u here there says pool edges → At edges x a
+      (x : ℕ) (a b : Edge) → Of extra here there says pool edges → At edges x a
       → SameOf s a.routes.speaker b.routes.speaker
-      → StageOf base extra i j s o u here there says pool (slice_set edges x b)
+      → Of extra here there says pool (slice_set edges x b)
   stage_same {extra} {here} {there} {says} {pool} {edges} x a b g at same =
       stage_set x a b g at g.grown
       (λ p t. to_same pool extra s u there a.routes.speaker b.routes.speaker same t) (λ ne c at_c t. t)
       (λ p t. from_same pool extra s o here says a.routes.speaker b.routes.speaker same t) (λ ne c at_c t. t)
-      (λ ne_i ne_j t. aside_same pool s a.routes.speaker b.routes.speaker same t) (λ y c ne at_c t. t)
+      (λ ne_i ne_j t. aside_same pool (is_of s) a.routes.speaker b.routes.speaker same t) (λ y c ne at_c t. t)
 
   stays_same : {pool : List Fields} {edges : List Edge} (x : ℕ) (a b : Edge) → At edges x a
       → SameOf s a.routes.speaker b.routes.speaker → Staged pool edges → Staged pool (slice_set edges x b)
@@ -194,9 +189,9 @@ module _ (may : Bool) (base : List Fields) (i j : ℕ) (s : Station) (o : ℕ) (
 
   -- ---- an edge that is neither of the two changes, and advertises nothing of the station
   stage_aside : {extra : List Fields} {here there : List Register} {says : Bool} {pool : List Fields}
-      {edges : List Edge} (x : ℕ) (a b : Edge) → x ≢ i → x ≢ j → StageOf base extra i j s o u here there says pool edges
+      {edges : List Edge} (x : ℕ) (a b : Edge) → x ≢ i → x ≢ j → Of extra here there says pool edges
       → At edges x a → IsAside pool s b.routes.speaker
-      → StageOf base extra i j s o u here there says pool (slice_set edges x b)
+      → Of extra here there says pool (slice_set edges x b)
   stage_aside x a b ne_i ne_j g at quiet =
       stage_set x a b g at g.grown (λ p t. absurd (ne_j p)) (λ ne c at_c t. t) (λ p t. absurd (ne_i p))
       (λ ne c at_c t. t) (λ p q t. quiet) (λ y c ne at_c t. t)
@@ -217,25 +212,24 @@ module _ (may : Bool) (base : List Fields) (i j : ℕ) (s : Station) (o : ℕ) (
   -- the stage afterwards: the same, or the first edge withdraws the station
   abbrev Taken : List Fields → List Register → List Register → Bool → List Fields → List Edge → Type 0
   Taken extra here there says pool edges =
-      StageOf base extra i j s o u here there says pool edges
+      Of extra here there says pool edges
       ⊎ (Contains extra u × (says ≡ true) × (here ≡ []
-      → StageOf base extra i j s o u (register_of o (key_of s) ∷ []) there false pool edges))
+      → Of extra (register_of o (key_of s) ∷ []) there false pool edges))
 
   stage_takes : {extra : List Fields} {here there : List Register} {says : Bool} {pool : List Fields}
       {edges : List Edge} (x : ℕ) (a : Edge) (w : Fields)
-      → StageOf base extra i j s o u here there says pool edges → News extra → At edges x a → Contains pool w
+      → Of extra here there says pool edges → News extra → At edges x a → Contains pool w
       → is_of s w.register ≡ true → Hears a.routes w
       → ((c d : Edge) → At edges j c → At edges i d → address_of c ≢ address_of d)
       → Taken extra here there says pool (slice_set edges x (took a w))
   stage_takes {extra} {here} {there} {says} {pool} {edges} x a w g news at in' of h differ =
-      elim (cases_eq x i) as (λ _. Taken extra here there says pool after) [
-        | inl p ↦ elim ((is_from p).known w in' of) as (λ _. Taken extra here there says pool after) [
+      elim (cases_eq x i) [
+        | inl p ↦ elim ((is_from p).known w in' of) [
           | inl old ↦ inl (first p (from_grows pool extra s o here says a.routes w h (idle_grows a.routes w h (inl old))
               (is_from p)))
-          | inr new ↦ elim (news w new) as (λ _. Taken extra here there says pool after) [
+          | inr new ↦ elim (news w new) [
             | inl same ↦ elim (from_hears pool extra s o here says a.routes w of (foreign p same) h
-                (is_from p)) as (λ _.
-                Taken extra here there says pool after) [
+                (is_from p)) [
                   | inl t ↦ inl (first p t)
                   | inr t ↦ inr (subst (Contains extra) same new, t.0, λ none. first p (t.1 none))
                 ]
@@ -244,12 +238,12 @@ module _ (may : Bool) (base : List Fields) (i j : ℕ) (s : Station) (o : ℕ) (
                 (is_from p)))
           ]
         ]
-        | inr ne_i ↦ elim (cases_eq x j) as (λ _. Taken extra here there says pool after) [
-          | inl p ↦ elim ((is_to p).known w in' of) as (λ _. Taken extra here there says pool after) [
+        | inr ne_i ↦ elim (cases_eq x j) [
+          | inl p ↦ elim ((is_to p).known w in' of) [
             | inl old ↦ inl (second p (to_grows pool extra s u there a.routes w some h
                 (idle_grows a.routes w h (inl old))
                 (is_to p)))
-            | inr new ↦ elim (news w new) as (λ _. Taken extra here there says pool after) [
+            | inr new ↦ elim (news w new) [
               | inl same ↦ inl (second p (to_grows pool extra s u there a.routes w some h
                   (idle_grows a.routes w h (inl (said p same))) (is_to p)))
               | inr none ↦ inl (second p (to_grows pool extra s u there a.routes w some h
@@ -257,7 +251,7 @@ module _ (may : Bool) (base : List Fields) (i j : ℕ) (s : Station) (o : ℕ) (
             ]
           ]
           | inr ne_j ↦ inl (stage_aside x a (took a w) ne_i ne_j g at
-              (aside_hears pool s a.routes w in' of h (g.asides x a ne_i ne_j at)))
+              (aside_hears pool (is_of s) (whole_station s) a.routes w in' of h (g.asides x a ne_i ne_j at)))
         ]
       ]
     where
@@ -275,12 +269,12 @@ module _ (may : Bool) (base : List Fields) (i j : ℕ) (s : Station) (o : ℕ) (
 
       first : {here' : List Register} {says' : Bool} → x ≡ i → IsFrom pool extra s o here' says'
           (took a w).routes.speaker
-          → StageOf base extra i j s o u here' there says' pool after
+          → Of extra here' there says' pool after
       first p t = stage_set x a (took a w) g at g.grown (λ q _. absurd (apart (sym p ∙ q))) (λ ne c at_c k. k)
           (λ q _. t) (λ ne. absurd (ne p)) (λ ne. absurd (ne p)) (λ y c ne at_c k. k)
 
       second : x ≡ j → IsTo pool extra s u there (took a w).routes.speaker
-          → StageOf base extra i j s o u here there says pool after
+          → Of extra here there says pool after
       second p t = stage_set x a (took a w) g at g.grown (λ q _. t) (λ ne. absurd (ne p))
           (λ q _. absurd (apart (sym q ∙ p))) (λ ne c at_c k. k) (λ ne_i ne_j. absurd (ne_j p)) (λ y c ne at_c k. k)
 
@@ -328,8 +322,7 @@ module _ (may : Bool) (base : List Fields) (i j : ℕ) (s : Station) (o : ℕ) (
       → ((c d : Edge) → At edges j c → At edges i d → address_of c ≢ address_of d) → Staged pool edges
       → Staged pool (slice_set edges x (took a w))
   takes_stage {pool} {edges} x a w at in' of h differ k =
-      elim (stage_takes x a w k.of (phase_news k.phase) at in' of h differ) as (λ _. Staged pool
-      (slice_set edges x (took a w))) [
+      elim (stage_takes x a w k.of (phase_news k.phase) at in' of h differ) [
         | inl g ↦ at_phase k.phase g
         | inr g ↦ loses k.phase g.0 g.1 g.2
       ]
@@ -339,7 +332,7 @@ module _ (may : Bool) (base : List Fields) (i j : ℕ) (s : Station) (o : ℕ) (
 
       loses : {extra : List Fields} {here there : List Register} {says : Bool} → Phase may s o u extra here there says
           → Contains extra u → says ≡ true → (here ≡ []
-          → StageOf base extra i j s o u (register_of o (key_of s) ∷ []) there false pool
+          → Of extra (register_of o (key_of s) ∷ []) there false pool
           (slice_set edges x (took a w))) → Staged pool (slice_set edges x (took a w))
       loses AtFirst in' e g = absurd (no_update in')
       loses AtTold in' e g = at_phase AtLost (g refl)
@@ -373,8 +366,8 @@ module _ (may : Bool) (base : List Fields) (i j : ℕ) (s : Station) (o : ℕ) (
 
     -- a register of something else
     tells_other : {extra : List Fields} {here there : List Register} {says : Bool} → is_of s r ≡ false
-        → StageOf base extra i j s o u here there says pool edges
-        → StageOf base extra i j s o u here there says grew after
+        → Of extra here there says pool edges
+        → Of extra here there says grew after
     tells_other {extra} {here} {there} {says} other g =
         stage_set x a hushed g at (filter_past (λ (y : Fields). is_of s y.register) pool (update_of r v) other
         ∙ g.grown)
@@ -384,9 +377,11 @@ module _ (may : Bool) (base : List Fields) (i j : ℕ) (s : Station) (o : ℕ) (
         (λ p t. from_push pool extra extra s o here says hushed.routes.speaker (update_of r v) never same
         (from_same pool extra s o here says a.routes.speaker hushed.routes.speaker kept t))
         (λ ne c at_c t. from_push pool extra extra s o here says c.routes.speaker (update_of r v) never same t)
-        (λ ne_i ne_j t. aside_push pool s hushed.routes.speaker (update_of r v) (λ of. absurd (not_both of other))
-        (aside_same pool s a.routes.speaker hushed.routes.speaker kept t))
-        (λ y c ne at_c t. aside_push pool s c.routes.speaker (update_of r v) (λ of. absurd (not_both of other)) t)
+        (λ ne_i ne_j t. aside_push pool (is_of s) hushed.routes.speaker (update_of r v)
+        (λ of. absurd (not_both of other))
+        (aside_same pool (is_of s) a.routes.speaker hushed.routes.speaker kept t))
+        (λ y c ne at_c t. aside_push pool (is_of s) c.routes.speaker (update_of r v)
+        (λ of. absurd (not_both of other)) t)
       where
         never : is_of s r ≡ true → Contains extra (update_of r v)
         never of = absurd (not_both of other)
@@ -413,16 +408,16 @@ module _ (may : Bool) (base : List Fields) (i j : ℕ) (s : Station) (o : ℕ) (
       grown_by : (extra : List Fields) → updates_on s pool ≡ base ++ extra
           → updates_on s grew ≡ base ++ (extra ++ update_of r v ∷ [])
       grown_by extra grown = filter_push (λ (y : Fields). is_of s y.register) pool (update_of r v) of
-          ∙ ap (λ l. l ++ update_of r v ∷ []) grown ∙ push_after base extra (update_of r v)
+          ∙ ap (λ l. l ++ update_of r v ∷ []) grown ∙ append_assoc base extra (update_of r v ∷ [])
 
       aside_still : (y : ℕ) (c : Edge) → y ≢ x → At edges y c → IsAside pool s c.routes.speaker
           → IsAside grew s c.routes.speaker
-      aside_still y c ne at_c t = aside_push pool s c.routes.speaker (update_of r v)
+      aside_still y c ne at_c t = aside_push pool (is_of s) c.routes.speaker (update_of r v)
           (λ _ names. others y c ne at_c (sym mine ∙ names)) t
 
       tells_to : {extra : List Fields} {here there : List Register} {says : Bool} → x ≡ j
-          → StageOf base extra i j s o u here there says pool edges
-          → StageOf base (extra ++ update_of r v ∷ []) i j s o u here left says grew after
+          → Of extra here there says pool edges
+          → Of (extra ++ update_of r v ∷ []) here left says grew after
       tells_to {extra} {here} {there} {says} p g =
           stage_set x a hushed g at (grown_by extra g.grown)
           (λ q t. to_push pool extra (extra ++ update_of r v ∷ []) s u left hushed.routes.speaker (update_of r v)
@@ -436,8 +431,8 @@ module _ (may : Bool) (base : List Fields) (i j : ℕ) (s : Station) (o : ℕ) (
           (λ ne_i ne_j. absurd (ne_j p)) aside_still
 
       tells_from : {extra : List Fields} {here there : List Register} {says : Bool} → x ≡ i
-          → StageOf base extra i j s o u here there says pool edges
-          → StageOf base (extra ++ update_of r v ∷ []) i j s o u left there says grew after
+          → Of extra here there says pool edges
+          → Of (extra ++ update_of r v ∷ []) left there says grew after
       tells_from {extra} {here} {there} {says} p g =
           stage_set x a hushed g at (grown_by extra g.grown)
           (λ q. absurd (apart (sym p ∙ q)))
@@ -452,23 +447,23 @@ module _ (may : Bool) (base : List Fields) (i j : ℕ) (s : Station) (o : ℕ) (
 
       -- the edge that announces it
       place : {extra : List Fields} {here there : List Register} {says : Bool}
-          → StageOf base extra i j s o u here there says pool edges → (x ≡ i) ⊎ (x ≡ j)
-      place g = elim (cases_eq x i) as (λ _. (x ≡ i) ⊎ (x ≡ j)) [
+          → Of extra here there says pool edges → (x ≡ i) ⊎ (x ≡ j)
+      place g = elim (cases_eq x i) [
         | inl p ↦ inl p
-        | inr ne_i ↦ elim (cases_eq x j) as (λ _. (x ≡ i) ⊎ (x ≡ j)) [
+        | inr ne_i ↦ elim (cases_eq x j) [
           | inl p ↦ inr p
           | inr ne_j ↦ absurd (waits_not (g.asides x a ne_i ne_j at).waits)
         ]
       ]
 
       to_waits : {extra : List Fields} {here there : List Register} {says : Bool} → x ≡ j
-          → StageOf base extra i j s o u here there says pool edges → r ∷ left ≡ there
+          → Of extra here there says pool edges → r ∷ left ≡ there
       to_waits {extra} {here} {there} {says} p g = sym waits_mine
           ∙ subst (λ (e : Edge). waiting s e.routes.speaker ≡ there) (one_edge edges x j a g.to p at g.at_to)
           g.is_to.waits
 
       from_waits : {extra : List Fields} {here there : List Register} {says : Bool} → x ≡ i
-          → StageOf base extra i j s o u here there says pool edges → r ∷ left ≡ here
+          → Of extra here there says pool edges → r ∷ left ≡ here
       from_waits {extra} {here} {there} {says} p g = sym waits_mine
           ∙ subst (λ (e : Edge). waiting s e.routes.speaker ≡ here) (one_edge edges x i a g.from p at g.at_from)
           g.is_from.waits
@@ -478,11 +473,11 @@ module _ (may : Bool) (base : List Fields) (i j : ℕ) (s : Station) (o : ℕ) (
 
       -- the new place announces the advert
       tells_advert : {extra : List Fields} {here : List Register} {says : Bool} → x ≡ j
-          → StageOf base extra i j s o u here (u.register ∷ []) says pool edges
-          → StageOf base (extra ++ u ∷ []) i j s o u here [] says grew after
+          → Of extra here (u.register ∷ []) says pool edges
+          → Of (extra ++ u ∷ []) here [] says grew after
       tells_advert {extra} {here} {says} p g =
-          subst (λ l. StageOf base (extra ++ u ∷ []) i j s o u here l says grew after) ends
-          (subst (λ (y : Fields). StageOf base (extra ++ y ∷ []) i j s o u here left says grew after) w_is
+          subst (λ l. Of (extra ++ u ∷ []) here l says grew after) ends
+          (subst (λ (y : Fields). Of (extra ++ y ∷ []) here left says grew after) w_is
           (tells_to p g))
         where
           ends : left ≡ []
@@ -507,16 +502,16 @@ module _ (may : Bool) (base : List Fields) (i j : ℕ) (s : Station) (o : ℕ) (
       record Withdraws (extra : List Fields) (there : List Register) : Type 0 where
         named : r ≡ register_of o (key_of s)
         none : advert_in v.content ≡ None
-        stage : StageOf base (extra ++ update_of r v ∷ []) i j s o u [] there false grew after
+        stage : Of (extra ++ update_of r v ∷ []) [] there false grew after
 
       withdraws : {extra : List Fields} {there : List Register} → x ≡ i
-          → StageOf base extra i j s o u (register_of o (key_of s) ∷ []) there false pool edges
+          → Of extra (register_of o (key_of s) ∷ []) there false pool edges
           → Withdraws extra there
       withdraws {extra} {there} p g = record {
         named = named;
         none = none_in (advert_in v.content) (ap (λ q. is_some (advert_of q)) (sym is
             ∙ ap (value_at (table_of a)) (named ∙ sym own_is)) ∙ t.said);
-        stage = subst (λ l. StageOf base (extra ++ update_of r v ∷ []) i j s o u l there false grew after) ends
+        stage = subst (λ l. Of (extra ++ update_of r v ∷ []) l there false grew after) ends
             (tells_from p g);
       }
         where
@@ -538,33 +533,33 @@ module _ (may : Bool) (base : List Fields) (i j : ℕ) (s : Station) (o : ℕ) (
           own_is = ap (λ q. register_of q (key_of s)) t.name
 
       tells_mine : {extra : List Fields} {here there : List Register} {says : Bool}
-          → Phase may s o u extra here there says → StageOf base extra i j s o u here there says pool edges
+          → Phase may s o u extra here there says → Of extra here there says pool edges
           → Staged grew after
-      tells_mine AtFirst g = elim (place g) as (λ _. Staged grew after) [
+      tells_mine AtFirst g = elim (place g) [
         | inl p ↦ absurd (no_first (from_waits p g))
         | inr p ↦ at_phase AtTold (tells_advert p g)
       ]
-      tells_mine AtTold g = absurd (elim (place g) as (λ _. ⊥) [
+      tells_mine AtTold g = absurd (elim (place g) [
         | inl p ↦ no_first (from_waits p g)
         | inr p ↦ no_first (to_waits p g)
       ])
-      tells_mine AtLost g = elim (place g) as (λ _. Staged grew after) [
+      tells_mine AtLost g = elim (place g) [
         | inl p ↦ let k = withdraws p g in at_phase (AtOver (update_of r v) k.named k.none) k.stage
         | inr p ↦ absurd (no_first (to_waits p g))
       ]
-      tells_mine (AtOver w named none) g = absurd (elim (place g) as (λ _. ⊥) [
+      tells_mine (AtOver w named none) g = absurd (elim (place g) [
         | inl p ↦ no_first (from_waits p g)
         | inr p ↦ no_first (to_waits p g)
       ])
-      tells_mine (AtAged yes') g = elim (place g) as (λ _. Staged grew after) [
+      tells_mine (AtAged yes') g = elim (place g) [
         | inl p ↦ let k = withdraws p g in at_phase (AtLeft yes' (update_of r v) k.named k.none) k.stage
         | inr p ↦ at_phase AtLost (tells_advert p g)
       ]
-      tells_mine (AtLeft yes' w named none) g = elim (place g) as (λ _. Staged grew after) [
+      tells_mine (AtLeft yes' w named none) g = elim (place g) [
         | inl p ↦ absurd (no_first (from_waits p g))
         | inr p ↦ at_phase (AtBack yes' w named none) (tells_advert p g)
       ]
-      tells_mine (AtBack yes' w named none) g = absurd (elim (place g) as (λ _. ⊥) [
+      tells_mine (AtBack yes' w named none) g = absurd (elim (place g) [
         | inl p ↦ no_first (from_waits p g)
         | inr p ↦ no_first (to_waits p g)
       ])
@@ -595,7 +590,7 @@ module _ (may : Bool) (base : List Fields) (i j : ℕ) (s : Station) (o : ℕ) (
         owns = (kept.keeps x a at).holds.owns;
         accepts = ok;
       }) differ stage
-      go false other = stays_same x a (took a w) at (heard_other s a.routes w other) stage
+      go false other = stays_same x a (took a w) at (heard_other (is_of s) (whole_station s) a.routes w other) stage
 
   -- the old place loses the station by itself
   module _ (x : ℕ) (a b : Edge) (talks : Talks a.routes.speaker b.routes.speaker) (good : IsGoodEdge a)
@@ -613,21 +608,19 @@ module _ (may : Bool) (base : List Fields) (i j : ℕ) (s : Station) (o : ℕ) (
 
     from_loses : (pool extra : List Fields) → IsFrom pool extra s o [] true a.routes.speaker
         → IsFrom pool extra s o (register_of o (key_of s) ∷ []) false b.routes.speaker
-    from_loses pool extra t = elim (speaks s a.routes.speaker b.routes.speaker talks t.waits) as (λ _. IsFrom pool extra
-        s o (register_of o (key_of s) ∷ []) false b.routes.speaker) [
-          | inl same ↦ absurd (not_both own_had (ap (λ y. is_some (advert_of y))
-              (sym (same_own s a.routes.speaker b.routes.speaker same)) ∙ ap is_some own_gone))
-          | inr spoke ↦ record {
-            name = spoke.address ∙ t.name;
-            said = ap is_some own_gone;
-            waits = spoke.waits ∙ ap (λ q. register_of q (key_of s) ∷ []) t.name;
-            known = λ w in' of. elim (t.known w in' of) as (λ _. (is_newest b.routes.speaker w ≡ false)
-                ⊎ Contains extra w) [
-                  | inl old ↦ inl (talks_news a.routes.speaker b.routes.speaker talks good.routes.numbers w old)
-                  | inr new ↦ inr new
-                ];
-          }
-        ]
+    from_loses pool extra t = elim (speaks s a.routes.speaker b.routes.speaker talks t.waits) [
+      | inl same ↦ absurd (not_both own_had (ap (λ y. is_some (advert_of y))
+          (sym (same_own s a.routes.speaker b.routes.speaker same)) ∙ ap is_some own_gone))
+      | inr spoke ↦ record {
+        name = spoke.address ∙ t.name;
+        said = ap is_some own_gone;
+        waits = spoke.waits ∙ ap (λ q. register_of q (key_of s) ∷ []) t.name;
+        known = λ w in' of. elim (t.known w in' of) [
+          | inl old ↦ inl (talks_news a.routes.speaker b.routes.speaker talks good.routes.numbers w old)
+          | inr new ↦ inr new
+        ];
+      }
+    ]
 
     loses_stage : {pool : List Fields} {edges : List Edge} → may ≡ true → At edges x a → Staged pool edges
         → Staged pool (slice_set edges x b)
@@ -640,13 +633,13 @@ module _ (may : Bool) (base : List Fields) (i j : ℕ) (s : Station) (o : ℕ) (
         never : false ≡ true → ⊥
         never e = cc
 
-        set : {extra : List Fields} {there : List Register} → StageOf base extra i j s o u [] there true pool edges
-            → StageOf base extra i j s o u (register_of o (key_of s) ∷ []) there false pool (slice_set edges x b)
+        set : {extra : List Fields} {there : List Register} → Of extra [] there true pool edges
+            → Of extra (register_of o (key_of s) ∷ []) there false pool (slice_set edges x b)
         set {extra} g = stage_set x a b g at g.grown (λ q _. absurd (apart (sym p ∙ q))) (λ ne c at_c t. t)
             (λ q t. from_loses pool extra t) (λ ne. absurd (ne p)) (λ ne. absurd (ne p)) (λ y c ne at_c t. t)
 
         go : {extra : List Fields} {here there : List Register} {says : Bool} → Phase may s o u extra here there says
-            → StageOf base extra i j s o u here there says pool edges → says ≡ true → Staged pool (slice_set edges x b)
+            → Of extra here there says pool edges → says ≡ true → Staged pool (slice_set edges x b)
         go AtFirst g e = at_phase (AtAged yes') (set g)
         go AtTold g e = at_phase AtLost (set g)
         go AtLost g e = absurd (never e)
@@ -655,112 +648,26 @@ module _ (may : Bool) (base : List Fields) (i j : ℕ) (s : Station) (o : ℕ) (
         go (AtLeft y w named none) g e = absurd (never e)
         go (AtBack y w named none) g e = absurd (never e)
 
-  -- a step that keeps each edge's own registers of the station, or by which the old place loses the station
-  abbrev Leaves : Fabric → Step → Fabric → Type 0
-  Leaves old (Local e event) new = (x : ℕ) (a b : Edge) → e ≡ suc x → IsEdge old x a → IsEdge new x b
-      → SaysTheSame s a b ⊎ ((may ≡ true) × LosesItself i s x a b)
-  Leaves old (Announce e) new = Unit {0}
-  Leaves old (Deliver e k) new = Unit {0}
-  Leaves old (Restart e n) new = LeavesStation i j s old (Restart e n) new
+  -- every other edge may restart, and the old place may lose the station by itself
+  abbrev pub MayOpen : ℕ → Type 0
+  MayOpen x = (x ≢ i) × (x ≢ j)
 
-  -- an event from outside
-  local_stage : (old new : Fabric) (x : ℕ) (a : Edge) (event : LocalEvent) (result : Result Reply FabricRefusal)
-      → IsSound old
-      → IsEdge old x a → (h : StepsAt old (suc x) a (event_of event) result new)
-      → ((b : Edge) → IsEdge new x b → SaysTheSame s a b ⊎ ((may ≡ true) × LosesItself i s x a b))
-      → Staged old.pool old.edges → Staged new.pool new.edges
-  local_stage old new x a event result sound at h same stage =
-      let whole : new ≡ record old { edges = slice_set old.edges x h.after } = h.new_is
-      ∙ (λ n. record old { edges = slice_set old.edges (minus x n) h.after }) in
-      let here : IsEdge new x h.after = subst (λ f. IsEdge f x h.after) (sym whole)
-      (set_same old.edges x a h.after at) in
-      let talks = local_talks a event h.answer h.after h.steps in
-      let good = sound.good x a at in
-      subst (λ (f : Fabric). Staged f.pool f.edges) (sym whole) (elim (same h.after here) as (λ _. Staged old.pool
-      (slice_set old.edges x h.after)) [
-        | inl same ↦ stays_same x a h.after at (left_same s a.routes.speaker h.after.routes.speaker talks
-            good.routes.numbers same) stage
-        | inr l ↦ loses_stage x a h.after talks good l.1.0 l.1.1 l.1.2 l.0 at stage
-      ])
+  abbrev pub MayLose : ℕ → Edge → Edge → Type 0
+  MayLose x a b = (may ≡ true) × LosesItself i s x a b
 
-  -- another edge restarts
-  opened_stage : (old new : Fabric) (x : ℕ) (a : Edge) (n : ℕ) (reply : Reply) → IsSound old → IsEdge old x a
-      → OpensAnew old (suc x) a n reply new → RestartsElsewhere i j s old x → Staged old.pool old.edges
+  change_stage : (old new : Fabric) → IsSound old → Change s MayOpen MayLose old new → Staged old.pool old.edges
       → Staged new.pool new.edges
-  opened_stage old new x a n reply sound at h elsewhere stage =
-      let whole : new ≡ record old {
-        edges = slice_set old.edges x h.after;
-        configs = slice_set old.configs x (in_incarnation h.config n);
-      } =
-      h.new_is ∙ (λ m. record old {
-        edges = slice_set old.edges (minus x m) h.after;
-        configs = slice_set old.configs (minus x m) (in_incarnation h.config n);
-      }) in
-      subst (λ (f : Fabric). Staged f.pool f.edges) (sym whole)
-      (stays_aside x a h.after elsewhere.not_from elsewhere.not_to at quiet stage)
-    where
-      config : EdgeConfig
-      config = in_incarnation h.config n
-
-      start : Speaker
-      start = silent config.address config.incarnation config.originators.items
-
-      same : SameOf s start h.after.routes.speaker
-      same = subst (SameOf s start) (sym h.opened.routes.speaker) (floods_same s start h.after.routes.vnis)
-
-      address : address_of h.after ≡ address_of a
-      address = same.address ∙ sym (sound.configs x h.config a h.config_is at).address
-
-      quiet : IsAside old.pool s h.after.routes.speaker
-      quiet = record {
-        quiet = ap advert_of (same_own s start h.after.routes.speaker same)
-            ∙ silent_quiet s config.address config.incarnation config.originators.items;
-        waits = same.waits;
-        away = λ w in' of mine. inr (elsewhere.never a at w in' (mine ∙ address) of);
-      }
-
-  restart_stage : (old new : Fabric) (x : ℕ) (a : Edge) (n : ℕ) (result : Result Reply FabricRefusal) → IsSound old
-      → IsEdge old x a → RestartsAt old (suc x) a n result new → RestartsElsewhere i j s old x
-      → Staged old.pool old.edges → Staged new.pool new.edges
-  restart_stage old new x a n (Ok reply) sound at h elsewhere stage =
-      opened_stage old new x a n reply sound at h elsewhere stage
-  restart_stage old new x a n (Err why) sound at h elsewhere stage =
-      subst (λ (f : Fabric). Staged f.pool f.edges) (sym h.1) stage
-
-  step_stage : (old new : Fabric) (step : Step) (result : Result Reply FabricRefusal) → IsSound old
-      → FabricSteps old step result new → Leaves old step new → Staged old.pool old.edges
-      → Staged new.pool new.edges
-  step_stage old new (Local e event) result sound h leaves stage = go e (nth old.edges e) refl h leaves
-    where
-      go : (e : ℕ) (c : Option Edge) → nth old.edges e ≡ c
-          → MatchOption c (IsRefused NoSuchEdge old result new) (λ a. StepsAt old e a (event_of event) result new)
-          → Leaves old (Local e event) new → Staged new.pool new.edges
-      go e None is h leaves = subst (λ (f : Fabric). Staged f.pool f.edges) (sym h.1) stage
-      go zero (Some a) is h leaves = cc
-      go (suc x) (Some a) is h leaves = local_stage old new x a event result sound is h (λ b. leaves x a b refl is)
-          stage
-  step_stage old new (Announce e) result sound h leaves stage = let kept = sound_kept old sound in
-      stage_moves old new kept (moved old new (Announce e) result kept tt h) stage
-  step_stage old new (Deliver e k) result sound h leaves stage = let kept = sound_kept old sound in
-      stage_moves old new kept (moved old new (Deliver e k) result kept tt h) stage
-  step_stage old new (Restart e n) result sound h leaves stage =
-      elim leaves as (λ _. Staged new.pool new.edges) [
-        | inl same ↦ subst (λ (f : Fabric). Staged f.pool f.edges) (sym same) stage
-        | inr elsewhere ↦ go e (nth old.edges e) refl h elsewhere
-      ]
-    where
-      go : (e : ℕ) (c : Option Edge) → nth old.edges e ≡ c
-          → MatchOption c (IsRefused NoSuchEdge old result new) (λ a. RestartsAt old e a n result new)
-          → ((x : ℕ) → e ≡ suc x → RestartsElsewhere i j s old x) → Staged new.pool new.edges
-      go e None is h elsewhere = subst (λ (f : Fabric). Staged f.pool f.edges) (sym h.1) stage
-      go zero (Some a) is h elsewhere = cc
-      go (suc x) (Some a) is h elsewhere = restart_stage old new x a n result sound is h (elsewhere x refl) stage
+  change_stage old new sound (Moves _ m) stage = stage_moves old new (sound_kept old sound) m stage
+  change_stage old _ sound (Same x a b at same) stage = stays_same x a b at same stage
+  change_stage old _ sound (Opens x a b cs at ne quiet) stage = stays_aside x a b ne.0 ne.1 at quiet stage
+  change_stage old _ sound (Loses x a b at talks l) stage =
+      loses_stage x a b talks (sound.good x a at) l.1.0 l.1.1 l.1.2 l.0 at stage
 
   -- a list of steps
   abbrev pub RunsLeaving : Fabric → List Step → Fabric → Type 0
   RunsLeaving old [] new = new ≡ old
   RunsLeaving old (step ∷ steps) new = (mid : Fabric) × (result : Result Reply FabricRefusal)
-      × FabricSteps old step result mid × Leaves old step mid × RunsLeaving mid steps new
+      × FabricSteps old step result mid × Leaves s MayOpen MayLose old step mid × RunsLeaving mid steps new
 
   pub leaving_stage : (steps : List Step) (old new : Fabric) → IsSound old → RunsLeaving old steps new
       → Staged old.pool old.edges → Staged new.pool new.edges × IsSound new
@@ -768,42 +675,54 @@ module _ (may : Bool) (base : List Fields) (i j : ℕ) (s : Station) (o : ℕ) (
       (stage, sound)
   leaving_stage (step ∷ steps) old new sound h stage =
       leaving_stage steps h.0 new (step_sound old h.0 step h.1 h.2 sound) h.4
-      (step_stage old h.0 step h.1 sound h.2 h.3 stage)
+      (change_stage old h.0 sound (change s MayOpen MayLose old h.0 step h.1 sound h.2 h.3) stage)
+
+  beside_step : (old new : Fabric) (step : Step) → LeavesStation i j s old step new
+      → Leaves s MayOpen MayLose old step new
+  beside_step old new (Local e event) h = λ x a b is at at'. inl (h x a b is at at')
+  beside_step old new (Announce e) h = tt
+  beside_step old new (Deliver e k) h = tt
+  beside_step old new (Restart e n) h = elim h [
+    | inl same ↦ inl same
+    | inr elsewhere ↦ inr (λ x a is at. let r = elsewhere x is in ((r.not_from, r.not_to), r.never a at))
+  ]
 
   pub beside_leaves : (steps : List Step) (old new : Fabric) → RunsBeside i j s old steps new
       → RunsLeaving old steps new
   beside_leaves [] old new h = h
-  beside_leaves (Local e event ∷ steps) old new h =
-      (h.0, h.1, h.2, (λ x a b is at at'. inl (h.3 x a b is at at')), beside_leaves steps h.0 new h.4)
-  beside_leaves (Announce e ∷ steps) old new h = (h.0, h.1, h.2, tt, beside_leaves steps h.0 new h.4)
-  beside_leaves (Deliver e k ∷ steps) old new h = (h.0, h.1, h.2, tt, beside_leaves steps h.0 new h.4)
-  beside_leaves (Restart e n ∷ steps) old new h = (h.0, h.1, h.2, h.3, beside_leaves steps h.0 new h.4)
+  beside_leaves (step ∷ steps) old new h =
+      (h.0, h.1, h.2, beside_step old h.0 step h.3, beside_leaves steps h.0 new h.4)
+
+  losing_step : may ≡ true → (old new : Fabric) (step : Step) → LeavesOrLoses i j s old step new
+      → Leaves s MayOpen MayLose old step new
+  losing_step yes' old new (Local e event) h = λ x a b is at at'. elim (h x a b is at at') [
+    | inl same ↦ inl same
+    | inr l ↦ inr (yes', l)
+  ]
+  losing_step yes' old new (Announce e) h = tt
+  losing_step yes' old new (Deliver e k) h = tt
+  losing_step yes' old new (Restart e n) h = beside_step old new (Restart e n) h
 
   pub losing_leaves : may ≡ true → (steps : List Step) (old new : Fabric) → RunsLosing i j s old steps new
       → RunsLeaving old steps new
   losing_leaves yes' [] old new h = h
-  losing_leaves yes' (Local e event ∷ steps) old new h = (
-    h.0,
-    h.1,
-    h.2,
-    λ x a b is at at'. elim (h.3 x a b is at at') as (λ _. SaysTheSame s a b
-        ⊎ ((may ≡ true) × LosesItself i s x a b)) [ inl same ↦ inl same | inr l ↦ inr (yes', l) ],
-    losing_leaves yes' steps h.0 new h.4,
-  )
-  losing_leaves yes' (Announce e ∷ steps) old new h = (h.0, h.1, h.2, tt, losing_leaves yes' steps h.0 new h.4)
-  losing_leaves yes' (Deliver e k ∷ steps) old new h = (h.0, h.1, h.2, tt, losing_leaves yes' steps h.0 new h.4)
-  losing_leaves yes' (Restart e n ∷ steps) old new h = (h.0, h.1, h.2, h.3, losing_leaves yes' steps h.0 new h.4)
+  losing_leaves yes' (step ∷ steps) old new h =
+      (h.0, h.1, h.2, losing_step yes' old h.0 step h.3, losing_leaves yes' steps h.0 new h.4)
 
   pub runs_stage : (steps : List Step) (old new : Fabric) → IsSound old → RunsBeside i j s old steps new
       → Staged old.pool old.edges → Staged new.pool new.edges × IsSound new
   runs_stage steps old new sound h = leaving_stage steps old new sound (beside_leaves steps old new h)
 
--- ---- the beginning of a move
+-- announcements and deliveries
+pub rests_beside : (i j : ℕ) (s : Station) (steps : List Step) (old new : Fabric) → Rests old steps new
+    → RunsBeside i j s old steps new
+rests_beside i j s [] old new h = h
+rests_beside i j s (Local e event ∷ steps) old new h = absurd h.2
+rests_beside i j s (Announce e ∷ steps) old new h = (h.0, h.1, h.4, tt, rests_beside i j s steps h.0 new h.5)
+rests_beside i j s (Deliver e k ∷ steps) old new h = (h.0, h.1, h.4, tt, rests_beside i j s steps h.0 new h.5)
+rests_beside i j s (Restart e n ∷ steps) old new h = absurd h.2
 
--- an edge that agrees has each update of the station
-pub agreed_known : (f : Fabric) (s : Station) → AgreesOn f s → (i : ℕ) (a : Edge) (u : Fields) → IsEdge f i a
-    → Contains f.pool u → is_of s u.register ≡ true → is_newest a.routes.speaker u ≡ false
-agreed_known f s agree i a u at in' of = let v = agree.arrived i a u at of in' in ap (λ o. is_news o u.value) v.1 ∙ v.2
+-- ---- the beginning of a move
 
 pub agreed_waits : (f : Fabric) (s : Station) → AgreesOn f s → (i : ℕ) (a : Edge) → IsEdge f i a
     → waiting s a.routes.speaker ≡ []
@@ -818,7 +737,8 @@ pub record Begins (old : Fabric) (i j : ℕ) (s : Station) (from to : Edge) (new
 
 pub begins : (old : Fabric) (i j : ℕ) (s : Station) (new : Fabric) → IsSound old → (m : StationComes old i j s new)
     → Begins old i j s m.from m.to new
-begins old i j s new sound m = go (slice_get old.edges j) refl m.step
+begins old i j s new sound m = starts (subst (λ o. MatchOption o (IsRefused NoSuchEdge old m.result new)
+    (λ a. StepsAt old (suc j) a (event_of m.event) m.result new)) m.at_to m.step)
   where
     apart : i ≢ j
     apart same =
@@ -829,11 +749,8 @@ begins old i j s new sound m = go (slice_get old.edges j) refl m.step
         let bad : None ≡ Some entry.0 = sym m.unknown ∙ some in
         cc
 
-    go : (o : Option Edge) → slice_get old.edges j ≡ o → MatchOption o (IsRefused NoSuchEdge old m.result new)
-        (λ a. StepsAt old (suc j) a (event_of m.event) m.result new) → Begins old i j s m.from m.to new
-    go None is h = absurd (let bad : None ≡ Some m.to = sym is ∙ m.at_to in cc)
-    go (Some b) is h =
-        let b_is : m.to ≡ b = one_edge old.edges j j b m.to refl is m.at_to in
+    starts : StepsAt old (suc j) m.to (event_of m.event) m.result new → Begins old i j s m.from m.to new
+    starts h =
         let whole : new ≡ record old { edges = slice_set old.edges j h.after } = h.new_is
         ∙ (λ n. record old { edges = slice_set old.edges (minus j n) h.after }) in
         let here : IsEdge new j h.after = subst (λ f. IsEdge f j h.after) (sym whole)
@@ -842,8 +759,7 @@ begins old i j s new sound m = go (slice_get old.edges j) refl m.step
         record {
           after = h.after;
           learns = learns_anew m.to s h.after m.unknown
-              (subst (λ (e : Edge). IsSome (entry_at e.routes.learned s)) after_is m.learnt) m.event h.answer
-              (subst (λ (e : Edge). Steps e (event_of m.event) h.answer h.after) (sym b_is) h.steps);
+              (subst (λ (e : Edge). IsSome (entry_at e.routes.learned s)) after_is m.learnt) m.event h.answer h.steps;
           is = whole;
           apart = apart;
         }
@@ -863,22 +779,36 @@ module _ (old : Fabric) (i j : ℕ) (s : Station) (new : Fabric) (sound : IsSoun
   abbrev pub base : List Fields
   base = updates_on s old.pool
 
+  -- an update that each edge knew is still known to each
+  pub known_still : (w : Fields) → ((y : ℕ) → Has old y w) → (y : ℕ) → Has new y w
+  known_still w has y c at = elim (set_cases old.edges j b.after y c (subst (λ f. IsEdge f y c) b.is at)) [
+    | inl p ↦ ap (λ (e : Edge). is_newest e.routes.speaker w) p.1
+        ∙ ap (λ (e : Speaker). is_newest e w) b.learns.speaker
+        ∙ said_news m.to.routes.speaker (key_of s) b.learns.content (sound.good j m.to m.at_to).routes.numbers w
+        (has j m.to m.at_to)
+    | inr p ↦ has y c p.1
+  ]
+
   quiet_aside : (x : ℕ) (c : Edge) → x ≢ i → IsEdge old x c → IsAside old.pool s c.routes.speaker
   quiet_aside x c ne at = record {
-    quiet = go (own_advert c.routes.speaker (key_of s)) refl;
+    quiet = λ r of mine. silent r (station_key s r.key of) mine (advert_of (value_at (table_of c) r)) refl;
     waits = agreed_waits old s m.agree x c at;
-    away = λ w in' of mine. inl (agreed_known old s m.agree x c w at in' of);
+    away = λ w in' of mine. inl (agreed_known old s m.agree x w in' of c at);
   }
     where
-      go : (y : Option Advert) → own_advert c.routes.speaker (key_of s) ≡ y → own_advert c.routes.speaker (key_of s)
-          ≡ None
-      go None e = e
-      go (Some y) e = absurd (ne (station_one old s sound m.agree x i c m.from at m.at_from (None, y, e) m.had))
+      silent : (r : Register) → (ip : Option Ip) × (r.key ≡ Mac s.vni s.mac ip) → r.originator ≡ address_of c
+          → (y : Option Advert) → advert_of (value_at (table_of c) r) ≡ y → advert_of (value_at (table_of c) r) ≡ None
+      silent r k mine None e = e
+      silent r k mine (Some y) e = absurd (ne (station_one old s sound m.agree x i c m.from at m.at_from (
+        k.0,
+        y,
+        ap (λ q. advert_of (value_at (table_of c) q)) (λ n. register_of (sym mine n) (sym k.1 n)) ∙ e,
+      ) m.had))
 
   pub first_stage : (may : Bool) → Stage may base i j s (address_of m.from) u new.pool new.edges
   first_stage may = subst (λ (f : Fabric). Stage may base i j s (address_of m.from) u f.pool f.edges) (sym b.is)
       (at_phase may base i j s (address_of m.from) u b.apart b.learns.advert AtFirst (record {
-        grown = sym (no_push base);
+        grown = sym (append-nil base);
         to = b.after;
         at_to = set_same old.edges j m.to b.after m.at_to;
         is_to = record {
@@ -890,7 +820,7 @@ module _ (old : Fabric) (i j : ℕ) (s : Station) (new : Fabric) (sound : IsSoun
               (about_station s None);
           known = λ w in' of. inl (ap (λ (e : Speaker). is_newest e w) b.learns.speaker
               ∙ said_news m.to.routes.speaker (key_of s) b.learns.content (sound.good j m.to m.at_to).routes.numbers w
-              (agreed_known old s m.agree j m.to w m.at_to in' of));
+              (agreed_known old s m.agree j w in' of m.to m.at_to));
         };
         from = m.from;
         at_from = set_other old.edges j b.after i m.from b.apart m.at_from;
@@ -898,13 +828,12 @@ module _ (old : Fabric) (i j : ℕ) (s : Station) (new : Fabric) (sound : IsSoun
           name = refl;
           said = ap is_some (advert_bare m.from s (sound.good i m.from m.at_from) m.had).1;
           waits = agreed_waits old s m.agree i m.from m.at_from;
-          known = λ w in' of. inl (agreed_known old s m.agree i m.from w m.at_from in' of);
+          known = λ w in' of. inl (agreed_known old s m.agree i w in' of m.from m.at_from);
         };
-        asides = λ x c ne_i ne_j at. elim (set_cases old.edges j b.after x c at) as (λ _. IsAside old.pool s
-            c.routes.speaker) [
-              | inl p ↦ absurd (ne_j p.0)
-              | inr p ↦ quiet_aside x c ne_i p.1
-            ];
+        asides = λ x c ne_i ne_j at. elim (set_cases old.edges j b.after x c at) [
+          | inl p ↦ absurd (ne_j p.0)
+          | inr p ↦ quiet_aside x c ne_i p.1
+        ];
       }))
 
 -- ---- the end of a move
@@ -1022,12 +951,10 @@ station_moves i j s old mid new steps sound m runs agree = record {
     withdrawal = e.pool.withdrawal;
     is_advert = e.pool.is_advert;
     is_withdrawal = e.pool.is_withdrawal;
-    is = elim e.pool.is as (λ _. updates_on s new.pool ≡ updates_on s old.pool
-        ++ update_of (register_of (address_of m.to) (key_of s)) e.pool.advert
-        ∷ update_of (register_of (address_of m.from) (key_of s)) e.pool.withdrawal ∷ []) [
-          | inl is ↦ is
-          | inr never ↦ absurd (let bad : false ≡ true = never.0 in cc)
-        ];
+    is = elim e.pool.is [
+      | inl is ↦ is
+      | inr never ↦ absurd (let bad : false ≡ true = never.0 in cc)
+    ];
   };
   owner = e.owner;
   gone = e.gone;
@@ -1045,15 +972,10 @@ station_moves_anyhow i j s old mid new steps sound m runs agree = record {
     withdrawal = e.pool.withdrawal;
     is_advert = e.pool.is_advert;
     is_withdrawal = e.pool.is_withdrawal;
-    is = elim e.pool.is as (λ _. (updates_on s new.pool ≡ updates_on s old.pool
-        ++ update_of (register_of (address_of m.to) (key_of s)) e.pool.advert
-        ∷ update_of (register_of (address_of m.from) (key_of s)) e.pool.withdrawal ∷ [])
-        ⊎ (updates_on s new.pool ≡ updates_on s old.pool
-        ++ update_of (register_of (address_of m.from) (key_of s)) e.pool.withdrawal
-        ∷ update_of (register_of (address_of m.to) (key_of s)) e.pool.advert ∷ [])) [
-          | inl is ↦ inl is
-          | inr is ↦ inr is.1
-        ];
+    is = elim e.pool.is [
+      | inl is ↦ inl is
+      | inr is ↦ inr is.1
+    ];
   };
   owner = e.owner;
   gone = e.gone;

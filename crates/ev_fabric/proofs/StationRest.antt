@@ -1,10 +1,9 @@
 -- An undisturbed station: edges that agree on it go on agreeing, and the number of updates of it that may still be
 -- announced never grows.
-use Rattle.std.proofs.lemmas.Bool.{cases_eq}
+use Rattle.std.proofs.lemmas.Bool.{cases_eq, and_parts, and_right}
 use Rattle.std.proofs.Common.{◌≡◌, ◌≢◌, ◌⊎◌, inl, inr, ℕ, ◌+◌, ◌≤◌, ◌&&◌, Bool, true, false, cond, nat_lt, Option}
 use Rattle.std.proofs.Common.{List, [], ◌∷◌, ◌++◌, length, refl, sym, ap, ◌∙◌}
 use Rattle.std.proofs.Common.{arith}
-use Rattle.std.proofs.lemmas.List.Sums.{sum_by-cons}
 use Rattle.std.specs.Prelude.{Contains, is_some, slice_set}
 use Rattle.std.specs.List.{filter, count_by, list_any}
 use Rattle.std.specs.Ordering.{eq_by_cmp}
@@ -31,7 +30,7 @@ use Rattle.ev_fabric.proofs.Stations.{agree_on_each}
 use Rattle.ev_fabric.proofs.Places.{push_length}
 use Rattle.ev_fabric.proofs.Fabrics.{step_sound, rests_sound}
 use Rattle.ev_fabric.proofs.Opened.{start_sound}
-use Rattle.ev_fabric.proofs.ConvergingSums.{sum_set, count_le, count_less, count_push, later_one}
+use Rattle.ev_fabric.proofs.ConvergingSums.{sum_set, count_le, count_less, count_push, count_none}
 use Rattle.ev_fabric.proofs.ConvergingEdge.{comes, comes_when, Heard, Back, Lost, Kept as HeardKept, heard, hears}
 use Rattle.ev_fabric.proofs.ConvergingEdge.{heard_later, heard_has, comes_before, others_stay_away, known_stays_away}
 use Rattle.ev_fabric.proofs.ConvergingGood.{quieter}
@@ -39,14 +38,12 @@ use Rattle.ev_fabric.proofs.ConvergingMoves.{Kept, Move, Stays, Tells, Takes, ow
 use Rattle.ev_fabric.proofs.ConvergingMoves.{sound_kept}
 use Rattle.ev_fabric.proofs.ConvergingRounds.{IsReady, two_rounds_agree, enough_itself, may_rest, quiet_rounds}
 use Rattle.ev_fabric.proofs.ConvergingNumbers.{start_numbers}
-use Rattle.ev_fabric.proofs.ConvergingStages.{hear_cases}
+use Rattle.ev_fabric.proofs.ConvergingHearing.{hear_cases}
 use Rattle.ev_fabric.proofs.StationStages.{filter_push, filter_past, waiting, SameOf, same_own, same_newest}
-use Rattle.ev_fabric.proofs.StationStages.{heard_other, Hears}
+use Rattle.ev_fabric.proofs.StationStages.{heard_other, whole_station, not_both, aside_quiet, Hears}
 use Rattle.ev_fabric.proofs.StationStages.{loses_it, idle_away, IsAside}
-use Rattle.ev_fabric.proofs.StationAlone.{Moves, Same, Stills, Opens, Change, change, station_lasts}
-
-not_both : {b : Bool} → b ≡ true → b ≡ false → ⊥
-not_both yes' no' = let bad : true ≡ false = sym yes' ∙ no' in cc
+use Rattle.ev_fabric.proofs.StationAlone.{Moves, Same, Opens, Loses, Change, AnyOpens, NoneLoses, alone_change}
+use Rattle.ev_fabric.proofs.StationAlone.{station_lasts}
 
 pub station_reached : StationReached
 station_reached configs f are start = (
@@ -76,11 +73,6 @@ station_reached configs f are start = (
 abbrev one : Bool → ℕ
 one b = cond b 1 0
 
-both_true : (x y : Bool) → (x && y) ≡ true → (x ≡ true) × (y ≡ true)
-both_true true true e = (refl, refl)
-both_true true false e = absurd cc
-both_true false y e = absurd cc
-
 abbrev back_on : Station → Speaker → Fields → Bool
 back_on s e u = is_of s u.register && comes_back e u
 
@@ -99,15 +91,14 @@ marked_more s rs r = go (list_any (eq_by_cmp register_cmp r) rs)
 
 advert_less : (s : Station) (e v : Speaker) → IsLater e v
     → one (is_some (own_advert v (key_of s))) ≤ one (is_some (own_advert e (key_of s)))
-advert_less s e v h = elim (h.fades (key_of s)) as (λ _. one (is_some (own_advert v (key_of s))) ≤ one
-    (is_some (own_advert e (key_of s)))) [
-      | inl same ↦ let equal = ap (λ o. one (is_some (advert_of o))) same in omega (arith, equal)
-      | inr none ↦ let zero' : one (is_some (own_advert v (key_of s))) ≡ 0 =
-          ap (λ (o : Option Advert). one (is_some o)) none in omega (arith, zero')
-    ]
+advert_less s e v h = elim (h.fades (key_of s)) [
+  | inl same ↦ let equal = ap (λ o. one (is_some (advert_of o))) same in omega (arith, equal)
+  | inr none ↦ let zero' : one (is_some (own_advert v (key_of s))) ≡ 0 =
+      ap (λ (o : Option Advert). one (is_some o)) none in omega (arith, zero')
+]
 
 back_before : (s : Station) (e v : Speaker) → IsLater e v → (u : Fields) → back_on s v u ≡ true → back_on s e u ≡ true
-back_before s e v h u is = let t = both_true (is_of s u.register) (comes_back v u) is in let of = t.0 in
+back_before s e v h u is = let t = and_parts (is_of s u.register) (comes_back v u) is in let of = t.0 in
     let back = comes_before e v h u t.1 in rw (of, back) refl
 
 -- an update of the station is taken
@@ -128,43 +119,38 @@ heard_pays_on s pool c w h in' of = go (comes_back c.speaker w) refl
     marks _ (Lost st foreign lost) is = absurd (not_both is (others_stay_away c.speaker w foreign))
     marks _ (HeardKept never) is = absurd (not_both is never)
 
-    and_false : (x : Bool) → (x && false) ≡ false
-    and_false true = refl
-    and_false false = refl
-
     go : (b : Bool) → comes_back c.speaker w ≡ b → unannounced_on s pool (heard c w).speaker
         ≤ unannounced_on s pool c.speaker
     go true back =
         let gone : back_on s (heard c w).speaker w ≡ false =
         ap (λ b. is_of s w.register && b) (known_stays_away (heard c w).speaker w (heard_has c w h.numbers))
-        ∙ and_false (is_of s w.register) in
+        ∙ and_right (is_of s w.register) false refl in
         let counts : back_on s c.speaker w ≡ true = rw (of, back) refl in
         let less = count_less (back_on s c.speaker) (back_on s (heard c w).speaker) pool w
         (back_before s c.speaker (heard c w).speaker later) in' counts gone in
         let more = marks (heard c w) (hears c w) back in
         let adverts = advert_less s c.speaker (heard c w).speaker later in
         omega (arith, less, more, adverts)
-    go false never = elim (hear_cases c w never) as (λ _. unannounced_on s pool (heard c w).speaker ≤ unannounced_on s
-        pool c.speaker) [
-          | inl is ↦
-              let waits : length (waiting s (heard c w).speaker) ≡ length (waiting s c.speaker) =
-              ap (λ (d : LocalRoutes). length (waiting s d.speaker)) is in
-              let adverts = advert_less s c.speaker (heard c w).speaker later in
-              let less = fewer in
-              omega (arith, waits, adverts, less)
-          | inr l ↦
-              let it = loses_it s c w h of never l in
-              let said : one (is_some (own_advert c.speaker (key_of s))) ≡ 1 = ap (λ b. one b) it.said in
-              let none : one (is_some (own_advert (heard c w).speaker (key_of s))) ≡ 0 =
-              ap (λ (d : LocalRoutes). one (is_some (own_advert d.speaker (key_of s)))) it.is
-              ∙ ap (λ o. one (is_some (advert_of o))) (own_same (after_importing c.speaker w) (key_of s) Withdrawn) in
-              let waits : length (waiting s (heard c w).speaker)
-              ≡ length (filter (is_of s) (marked c.speaker.pending (own_register c.speaker (key_of s)))) =
-              ap (λ (d : LocalRoutes). length (waiting s d.speaker)) it.is in
-              let more = marked_more s c.speaker.pending (own_register c.speaker (key_of s)) in
-              let less = fewer in
-              omega (arith, said, none, waits, more, less)
-        ]
+    go false never = elim (hear_cases c w never) [
+      | inl is ↦
+          let waits : length (waiting s (heard c w).speaker) ≡ length (waiting s c.speaker) =
+          ap (λ (d : LocalRoutes). length (waiting s d.speaker)) is in
+          let adverts = advert_less s c.speaker (heard c w).speaker later in
+          let less = fewer in
+          omega (arith, waits, adverts, less)
+      | inr l ↦
+          let it = loses_it s c w h of never l in
+          let said : one (is_some (own_advert c.speaker (key_of s))) ≡ 1 = ap (λ b. one b) it.said in
+          let none : one (is_some (own_advert (heard c w).speaker (key_of s))) ≡ 0 =
+          ap (λ (d : LocalRoutes). one (is_some (own_advert d.speaker (key_of s)))) it.is
+          ∙ ap (λ o. one (is_some (advert_of o))) (own_same (after_importing c.speaker w) (key_of s) Withdrawn) in
+          let waits : length (waiting s (heard c w).speaker)
+          ≡ length (filter (is_of s) (marked c.speaker.pending (own_register c.speaker (key_of s)))) =
+          ap (λ (d : LocalRoutes). length (waiting s d.speaker)) it.is in
+          let more = marked_more s c.speaker.pending (own_register c.speaker (key_of s)) in
+          let less = fewer in
+          omega (arith, said, none, waits, more, less)
+    ]
 
 -- unchanged parts
 same_pays : (s : Station) (pool : List Fields) (e v : Speaker) → SameOf s e v
@@ -178,12 +164,12 @@ same_pays s pool e v h =
   where
     back : (u : Fields) → back_on s v u ≡ true → back_on s e u ≡ true
     back u is =
-        let t = both_true (is_of s u.register) (comes_back v u) is in
+        let t = and_parts (is_of s u.register) (comes_back v u) is in
         let of = t.0 in
         let c = comes v u t.1 in
         let so = comes_when e u (record {
           mine = c.mine ∙ h.address;
-          newest = sym (same_newest s e v u h of) ∙ c.newest;
+          newest = sym (same_newest (is_of s) e v u h of) ∙ c.newest;
           earlier = ap (λ n. nat_lt u.value.incarnation n) (sym h.incarnation) ∙ c.earlier;
           advert = c.advert;
         }) in
@@ -193,11 +179,7 @@ same_pays s pool e v h =
 push_pays : (s : Station) (pool : List Fields) (e : Speaker) (u : Fields) → comes_back e u ≡ false
     → unannounced_on s (pool ++ u ∷ []) e ≤ unannounced_on s pool e
 push_pays s pool e u none = let same = count_push (back_on s e) pool u (ap (λ b. is_of s u.register && b) none
-    ∙ and_false (is_of s u.register)) in omega (arith, same)
-  where
-    and_false : (x : Bool) → (x && false) ≡ false
-    and_false true = refl
-    and_false false = refl
+    ∙ and_right (is_of s u.register) false refl) in omega (arith, same)
 
 -- ---- the sum
 abbrev total : Station → Fabric → ℕ
@@ -225,7 +207,8 @@ move_total s old _ kept (Takes x a w at in' ok) = becomes_total s old x a (recor
       owns = (kept.keeps x a at).holds.owns;
       accepts = ok;
     }) in' of
-    go false other = same_pays s old.pool a.routes.speaker (heard a.routes w).speaker (heard_other s a.routes w other)
+    go false other = same_pays s old.pool a.routes.speaker (heard a.routes w).speaker
+        (heard_other (is_of s) (whole_station s) a.routes w other)
 move_total s old _ kept (Tells x a r rs v at pend is) = go (is_of s r) refl
   where
     u : Fields
@@ -271,19 +254,12 @@ move_total s old _ kept (Tells x a r rs v at pend is) = go (is_of s r) refl
         let same = ap length (filter_past (λ (y : Fields). is_of s y.register) old.pool u other) in
         omega (arith, less, same)
 
-count_none : {X : Type 0} (p : X → Bool) (xs : List X) → ((x : X) → Contains xs x → p x ≡ false) → count_by p xs ≡ 0
-count_none p [] none = refl
-count_none p (x ∷ xs) none =
-    let here : one (p x) ≡ 0 = ap (λ b. one b) (none x (0, omega arith, refl)) in
-    let rest = count_none p xs (λ y in'. none y (later_one x xs y in')) in
-    let sum : count_by p (x ∷ xs) ≡ one (p x) + count_by p xs = sum_by-cons (λ y. one (p y)) x xs in
-    omega (arith, here, rest, sum)
-
 -- an edge that advertises nothing of the station announces nothing of it
 aside_pays : (s : Station) (pool : List Fields) (e : Speaker) → IsAside pool s e → unannounced_on s pool e ≡ 0
 aside_pays s pool e h =
     let waits : length (waiting s e) ≡ 0 = ap length h.waits in
-    let advert : one (is_some (own_advert e (key_of s))) ≡ 0 = ap (λ (o : Option Advert). one (is_some o)) h.quiet in
+    let advert : one (is_some (own_advert e (key_of s))) ≡ 0 = ap (λ (o : Option Advert). one (is_some o))
+    (aside_quiet pool s e h) in
     let backs = count_none (back_on s e) pool away in
     omega (arith, waits, advert, backs)
   where
@@ -296,16 +272,18 @@ aside_pays s pool e h =
         go true of (inl mine) = ap (λ b. b && comes_back e u) of ∙ idle_away e u (h.away u in' of mine)
         go true of (inr ne) = ap (λ b. b && comes_back e u) of ∙ others_stay_away e u ne
 
-change_total : (s : Station) (old new : Fabric) → Kept old → Change s old new → total s new ≤ total s old
-change_total s old new kept (Stills _ (Moves _ m)) = move_total s old new kept m
-change_total s old _ kept (Stills _ (Same x a b at same)) = becomes_total s old x a b at
+change_total : (s : Station) (old new : Fabric) → Kept old → Change s AnyOpens NoneLoses old new
+    → total s new ≤ total s old
+change_total s old new kept (Moves _ m) = move_total s old new kept m
+change_total s old _ kept (Same x a b at same) = becomes_total s old x a b at
     (same_pays s old.pool a.routes.speaker b.routes.speaker same)
-change_total s old _ kept (Opens x a b cs at quiet) = becomes_total s old x a b at
+change_total s old _ kept (Opens x a b cs at may quiet) = becomes_total s old x a b at
     (let none = aside_pays s old.pool b.routes.speaker quiet in omega (arith, none))
+change_total s old _ kept (Loses x a b at talks never) = absurd never
 
 pub station_settles : StationSettles
 station_settles s [] old new sound h = let same = ap (total s) h in omega (arith, same)
 station_settles s (step ∷ steps) old new sound h =
-    let one' = change_total s old h.0 (sound_kept old sound) (change s old h.0 step h.1 sound h.2 h.3) in
+    let one' = change_total s old h.0 (sound_kept old sound) (alone_change s old h.0 step h.1 sound h.2 h.3) in
     let rest = station_settles s steps h.0 new (step_sound old h.0 step h.1 h.2 sound) h.4 in
     omega (arith, one', rest)

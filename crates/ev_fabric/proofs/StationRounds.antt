@@ -1,7 +1,8 @@
 -- Rounds of a station end in agreement on it.
-use Rattle.std.proofs.Common.{◌≡◌, ◌⊎◌, inl, inr, ℕ, zero, suc, ◌+◌, ◌<◌, ◌≤◌, Bool, true, false}
+use Rattle.std.proofs.Common.{◌≡◌, ◌⊎◌, inl, inr, ℕ, zero, suc, ◌+◌, ◌≤◌, Bool, true, false}
 use Rattle.std.proofs.Common.{None, List, [], ◌∷◌, ◌++◌, length, refl, sym, ap, subst, ◌∙◌, arith}
-use Rattle.std.proofs.lemmas.List.{length-append}
+use Rattle.std.proofs.lemmas.Bool.{cases_eq, cases_lt}
+use Rattle.std.proofs.lemmas.List.{append-nil, length-append}
 use Rattle.std.proofs.lemmas.List.Elements.{filter-append, Contains-append_cases}
 use Rattle.std.specs.Prelude.{Contains}
 use Rattle.route_wire.specs.declared.update.Register.{Register}
@@ -26,20 +27,16 @@ use Rattle.ev_fabric.proofs.Stations.{about_station, station_one}
 use Rattle.ev_fabric.proofs.Fabrics.{step_sound, runs_sound}
 use Rattle.ev_fabric.proofs.Goings.{runs_lead}
 use Rattle.ev_fabric.proofs.ConvergingSums.{sum_has}
-use Rattle.ev_fabric.proofs.StationStages.{filter_none, filter_has, no_push, waiting}
-use Rattle.ev_fabric.proofs.StationMotion.{StageOf, Phase, AtFirst, AtTold, AtLost, AtOver, AtAged, AtLeft}
+use Rattle.ev_fabric.proofs.StationStages.{filter_none, filter_has, filter_from, waiting, whole_station}
+use Rattle.ev_fabric.proofs.StationMotion.{At, one_edge, StageOf, Phase, AtFirst, AtTold, AtLost, AtOver, AtAged}
+use Rattle.ev_fabric.proofs.StationMotion.{AtLeft}
 use Rattle.ev_fabric.proofs.StationMotion.{AtBack, Stage, runs_stage}
 use Rattle.ev_fabric.proofs.StationMotion.{begins, u, base, first_stage, some_is, to_advertises, Begins}
 use Rattle.ev_fabric.proofs.StationRest.{station_settles}
-use Rattle.ev_fabric.proofs.StationArrival.{filter_from, stage_waits}
-use Rattle.ev_fabric.proofs.StationAlone.{AllCalm, IsOld, same_old, calm_waits, agreed_calm, calm_runs}
+use Rattle.ev_fabric.proofs.StationAlone.{CalmOn, IsOld, same_old, calm_waits, agreed_calm, calm_runs, alone_runs}
 
 -- ---- runs
-alone_runs : (s : Station) (steps : List Step) (old new : Fabric) → RunsAlone s old steps new → Runs old steps new
-alone_runs s [] old new h = h
-alone_runs s (step ∷ steps) old new h = (h.0, h.1, h.2, alone_runs s steps h.0 new h.4)
-
-beside_runs : (i j : ℕ) (s : Station) (steps : List Step) (old new : Fabric) → RunsBeside i j s old steps new
+pub beside_runs : (i j : ℕ) (s : Station) (steps : List Step) (old new : Fabric) → RunsBeside i j s old steps new
     → Runs old steps new
 beside_runs i j s [] old new h = h
 beside_runs i j s (step ∷ steps) old new h = (h.0, h.1, h.2, beside_runs i j s steps h.0 new h.4)
@@ -53,7 +50,7 @@ no_length : {X : Type 0} (xs : List X) → length xs ≤ 0 → xs ≡ []
 no_length [] le = refl
 no_length (x ∷ xs) le = absurd (omega (arith, le))
 
-abbrev count : Station → Fabric → ℕ
+abbrev pub count : Station → Fabric → ℕ
 count s f = length (updates_on s f.pool)
 
 counted : (s : Station) (old new : Fabric) (more : List Fields) → new.pool ≡ old.pool ++ more
@@ -62,7 +59,7 @@ counted s old new more pool = ap (λ l. length (updates_on s l)) pool
     ∙ ap length (filter-append (λ (y : Fields). is_of s y.register) old.pool more)
     ∙ length-append (updates_on s old.pool) (updates_on s more)
 
-grows : (s : Station) (old new : Fabric) → IsLaterFabric old new → count s old ≤ count s new
+pub grows : (s : Station) (old new : Fabric) → IsLaterFabric old new → count s old ≤ count s new
 grows s old new h = let sum = counted s old new h.more h.pool in omega (arith, sum)
 
 announced_grows : (s : Station) (old new : Fabric) (r : Register) → is_of s r ≡ true → WasAnnounced old new r
@@ -75,8 +72,7 @@ announced_grows s old new r of h =
 
 no_more : (s : Station) (old new : Fabric) → IsLaterFabric old new → count s new ≤ count s old → IsOld s old new
 no_more s old new h few w of in' =
-    elim (Contains-append_cases old.pool h.more w (subst (λ l. Contains l w) h.pool in')) as (λ _. Contains
-    old.pool w) [
+    elim (Contains-append_cases old.pool h.more w (subst (λ l. Contains l w) h.pool in')) [
       | inl there ↦ there
       | inr later ↦
           let sum = counted s old new h.more h.pool in
@@ -109,33 +105,26 @@ module _ (s : Station) (steps : List Step) (old new : Fabric) (sound : IsSound o
   alone_less : count s new + to_come_on s new ≤ count s old + to_come_on s old
   alone_less = station_settles s steps old new sound runs
 
-calm_rounds : (s : Station) (n : ℕ) (old new : Fabric) → IsSound old → AllCalm s old
+calm_rounds : (s : Station) (n : ℕ) (old new : Fabric) → IsSound old → CalmOn s old
     → Rounds (RunsAlone s) s (suc n) old new → AgreesOn new s
 calm_rounds s zero old new sound calm h =
     let after = calm_runs s h.1 old h.0 sound h.2 calm in
     subst (λ f. AgreesOn f s) (sym h.4) (taken_agrees s old h.0 h.3.taken (same_old s old h.0 after.1)
-    (λ y c at. calm_waits h.0.pool s c.routes.speaker (after.0 y c at)))
+    (λ y c at. calm_waits h.0.pool (is_of s) c.routes.speaker (after.0 y c at)))
 calm_rounds s (suc n) old new sound calm h =
     let after = calm_runs s h.1 old h.0 sound h.2 calm in
     calm_rounds s n h.0 new (alone_sound s h.1 old h.0 sound h.2) after.0 h.4
 
 pub station_agrees_still : StationAgreesStill
 station_agrees_still s zero old new sound agree h = subst (λ f. AgreesOn f s) (sym h) agree
-station_agrees_still s (suc n) old new sound agree h = calm_rounds s n old new sound (agreed_calm old s agree) h
+station_agrees_still s (suc n) old new sound agree h = calm_rounds s n old new sound
+    (agreed_calm (is_of s) (whole_station s) old agree) h
 
 -- if an edge has something pending, something may come
 waits_come : (s : Station) (f : Fabric) (y : ℕ) (c : Edge) → IsEdge f y c
     → length (waiting s c.routes.speaker) ≤ to_come_on s f
 waits_come s f y c at = let has = sum_has (λ (a : Edge). unannounced_on s f.pool a.routes.speaker) f.edges y c at in
     omega (arith, has)
-
-less_or_not : (m n : ℕ) → (m < n) ⊎ (n ≤ m)
-less_or_not m zero = inr (omega arith)
-less_or_not zero (suc n) = inl (omega arith)
-less_or_not (suc m) (suc n) = elim (less_or_not m n) as (λ _. (suc m < suc n) ⊎ (suc n ≤ suc m)) [
-  | inl less ↦ inl (omega (arith, less))
-  | inr not ↦ inr (omega (arith, not))
-]
 
 pub station_agrees : StationAgrees
 station_agrees s zero old new sound h enough = absurd (omega (arith, enough))
@@ -150,10 +139,10 @@ station_agrees s (suc zero) old new sound h enough = subst (λ f. AgreesOn f s) 
     few : count s h.0 ≤ count s old
     few = let less = alone_less s h.1 old h.0 sound h.2 in omega (arith, less, enough)
 station_agrees s (suc (suc n)) old new sound h enough =
-    elim (less_or_not (to_come_on s next) (to_come_on s old)) as (λ _. AgreesOn new s) [
+    elim (cases_lt (to_come_on s next) (to_come_on s old)) [
       | inl drop ↦ station_agrees s n next new (alone_sound s h.4.1 h.0 next sound_mid h.4.2) h.4.4
           (omega (arith, drop, enough))
-      | inr keeps ↦ calm_rounds s n h.0 new sound_mid (agreed_calm h.0 s (agree keeps)) h.4
+      | inr keeps ↦ calm_rounds s n h.0 new sound_mid (agreed_calm (is_of s) (whole_station s) h.0 (agree keeps)) h.4
     ]
   where
     next : Fabric
@@ -189,37 +178,53 @@ station_agrees s (suc (suc n)) old new sound h enough =
 
 -- ---- after a move
 
+-- at a stage at which nothing is pending
+stage_waits : {base extra : List Fields} {i j : ℕ} {s : Station} {o : ℕ} {w : Fields} {says : Bool}
+    {pool : List Fields} {edges : List Edge} → StageOf base extra i j s o w [] [] says pool edges → (y : ℕ) (c : Edge)
+    → At edges y c
+    → waiting s c.routes.speaker ≡ []
+stage_waits {base} {extra} {i} {j} {s} {o} {w} {says} {pool} {edges} g y c at =
+    elim (cases_eq y i) [
+      | inl p ↦ subst (λ (e : Edge). waiting s e.routes.speaker ≡ []) (one_edge edges y i c g.from p at g.at_from)
+          g.is_from.waits
+      | inr ne_i ↦ elim (cases_eq y j) [
+        | inl p ↦ subst (λ (e : Edge). waiting s e.routes.speaker ≡ []) (one_edge edges y j c g.to p at g.at_to)
+            g.is_to.waits
+        | inr ne_j ↦ (g.asides y c ne_i ne_j at).waits
+      ]
+    ]
+
 module _ (old : Fabric) (i j : ℕ) (s : Station) (mid : Fabric) (sound : IsSound old)
     (m : StationComes old i j s mid) where
-  abbrev before : List Fields
+  abbrev pub before : List Fields
   before = base old i j s mid sound m
 
-  abbrev advert : Fields
+  abbrev pub advert : Fields
   advert = u old i j s mid sound m
 
-  abbrev begun : Begins old i j s m.from m.to mid
+  abbrev pub begun : Begins old i j s m.from m.to mid
   begun = begins old i j s mid sound m
 
-  abbrev Staged : Fabric → Type 0
+  abbrev pub Staged : Fabric → Type 0
   Staged f = Stage false before i j s (address_of m.from) advert f.pool f.edges
 
   -- a fabric on the way
-  record Point (f : Fabric) : Type 0 where
-    stage : Staged f
-    sound_still : IsSound f
+  pub record Point (f : Fabric) : Type 0 where
+    pub stage : Staged f
+    pub sound_still : IsSound f
 
-  point_mid : Point mid
+  pub point_mid : Point mid
   point_mid = record {
     stage = first_stage old i j s mid sound m false;
     sound_still = step_sound old mid (Local (suc j) m.event) m.result m.step sound;
   }
 
   module _ (steps : List Step) (f g : Fabric) (runs : RunsBeside i j s f steps g) (p : Point f) where
-    point_runs : Point g
+    pub point_runs : Point g
     point_runs = let after = runs_stage false before i j s (address_of m.from) advert begun.apart begun.learns.advert
         steps f g p.sound_still runs p.stage in record { stage = after.0; sound_still = after.1 }
 
-    point_later : IsLaterFabric f g
+    pub point_later : IsLaterFabric f g
     point_later = runs_lead steps f g p.sound_still (beside_runs i j s steps f g runs)
 
   one_more : (w : Fields) → length (before ++ w ∷ []) ≡ length before + 1
@@ -234,7 +239,7 @@ module _ (old : Fabric) (i j : ℕ) (s : Station) (mid : Fabric) (sound : IsSoun
       → StageOf before extra i j s (address_of m.from) advert here there says f.pool f.edges → AllAnnounced s f g
       → length before + 1 ≤ count s g
   advert_out f g later AtFirst k all =
-      let same = ap length (k.grown ∙ no_push before) in
+      let same = ap length (k.grown ∙ append-nil before) in
       let more = announced_grows s f g advert.register (about_station s None)
       (all j k.to advert.register k.at_to (about_station s None) (filter_from (is_of s) k.to.routes.speaker.pending
       advert.register (subst (λ l. Contains l advert.register) (sym k.is_to.waits) (0, omega arith, refl))).0) in
@@ -245,38 +250,45 @@ module _ (old : Fabric) (i j : ℕ) (s : Station) (mid : Fabric) (sound : IsSoun
       let same = ap length k.grown ∙ one_more advert in let more = grows s f g later in omega (arith, same, more)
   advert_out f g later (AtOver w named none) k all =
       let same = ap length k.grown ∙ two_more advert w in let more = grows s f g later in omega (arith, same, more)
-  advert_out f g later (AtAged yes') k all = absurd (let bad : false ≡ true = yes' in cc)
-  advert_out f g later (AtLeft yes' v named' none') k all = absurd (let bad : false ≡ true = yes' in cc)
-  advert_out f g later (AtBack yes' v named' none') k all = absurd (let bad : false ≡ true = yes' in cc)
+  advert_out f g later (AtAged yes') k all = cc
+  advert_out f g later (AtLeft yes' v named' none') k all = cc
+  advert_out f g later (AtBack yes' v named' none') k all = cc
 
   -- the old place has lost the station, or has withdrawn it
   abbrev Lost : Fabric → Type 0
   Lost f = StageOf before (advert ∷ []) i j s (address_of m.from) advert
       (register_of (address_of m.from) (key_of s) ∷ []) [] false f.pool f.edges ⊎ (length before + 2 ≤ count s f)
 
-  -- once all updates of the pool are taken, it has: otherwise both places would agree and advertise it
+  -- an old place that still advertises it hasn't taken the advert: both places would agree and advertise it
+  pub never_told : (g : Fabric) → Point g → AllTaken s g g
+      → StageOf before (advert ∷ []) i j s (address_of m.from) advert [] [] true g.pool g.edges → ⊥
+  never_told g p taken k =
+      let agree = taken_agrees s g g taken (λ w of in'. in') (stage_waits k) in
+      let y = some_is (own_advert k.from.routes.speaker (key_of s)) k.is_from.said in
+      begun.apart (station_one g s p.sound_still agree i j k.from k.to k.at_from k.at_to (
+        None,
+        y.0,
+        y.1,
+      ) (to_advertises g.pool (advert ∷ []) s advert [] k.to begun.learns.advert k.is_to))
+
+  -- once all updates of the pool are taken, it has lost it
   station_lost : (f g : Fabric) → IsLaterFabric f g → length before + 1 ≤ count s f → Point g → AllTaken s f g → Lost g
   station_lost f g later out p taken = go p.stage.phase p.stage.of
     where
       go : {extra : List Fields} {here there : List Register} {says : Bool}
           → Phase false s (address_of m.from) advert extra here there says
           → StageOf before extra i j s (address_of m.from) advert here there says g.pool g.edges → Lost g
-      go AtFirst k = let same = ap length (k.grown ∙ no_push before) in let more = grows s f g later in
+      go AtFirst k = let same = ap length (k.grown ∙ append-nil before) in let more = grows s f g later in
           absurd (omega (arith, same, more, out))
       go AtTold k =
           let same = ap length k.grown ∙ one_more advert in
-          let agree = taken_agrees s f g taken (no_more s f g later (omega (arith, same, out))) (stage_waits k) in
-          let y = some_is (own_advert k.from.routes.speaker (key_of s)) k.is_from.said in
-          absurd (begun.apart (station_one g s p.sound_still agree i j k.from k.to k.at_from k.at_to (
-            None,
-            y.0,
-            y.1,
-          ) (to_advertises g.pool (advert ∷ []) s advert [] k.to begun.learns.advert k.is_to)))
+          absurd (never_told g p (λ y c w at of in'. taken y c w at of
+          (no_more s f g later (omega (arith, same, out)) w of in')) k)
       go AtLost k = inl k
       go (AtOver w named none) k = let same = ap length k.grown ∙ two_more advert w in inr (omega (arith, same))
-      go (AtAged yes') k = absurd (let bad : false ≡ true = yes' in cc)
-      go (AtLeft yes' v named' none') k = absurd (let bad : false ≡ true = yes' in cc)
-      go (AtBack yes' v named' none') k = absurd (let bad : false ≡ true = yes' in cc)
+      go (AtAged yes') k = cc
+      go (AtLeft yes' v named' none') k = cc
+      go (AtBack yes' v named' none') k = cc
 
   -- once all pending updates are announced, the pool has the withdrawal
   withdrawal_out : (f g : Fabric) → IsLaterFabric f g → Lost f → AllAnnounced s f g → length before + 2 ≤ count s g
@@ -290,14 +302,14 @@ module _ (old : Fabric) (i j : ℕ) (s : Station) (mid : Fabric) (sound : IsSoun
       omega (arith, same, more)
 
   -- and once that is taken the edges agree
-  over_agrees : (f g : Fabric) → IsLaterFabric f g → length before + 2 ≤ count s f → Point g → AllTaken s f g
+  pub over_agrees : (f g : Fabric) → IsLaterFabric f g → length before + 2 ≤ count s f → Point g → AllTaken s f g
       → AgreesOn g s
   over_agrees f g later out p taken = go p.stage.phase p.stage.of
     where
       go : {extra : List Fields} {here there : List Register} {says : Bool}
           → Phase false s (address_of m.from) advert extra here there says
           → StageOf before extra i j s (address_of m.from) advert here there says g.pool g.edges → AgreesOn g s
-      go AtFirst k = let same = ap length (k.grown ∙ no_push before) in let more = grows s f g later in
+      go AtFirst k = let same = ap length (k.grown ∙ append-nil before) in let more = grows s f g later in
           absurd (omega (arith, same, more, out))
       go AtTold k = let same = ap length k.grown ∙ one_more advert in let more = grows s f g later in
           absurd (omega (arith, same, more, out))
@@ -305,9 +317,9 @@ module _ (old : Fabric) (i j : ℕ) (s : Station) (mid : Fabric) (sound : IsSoun
           absurd (omega (arith, same, more, out))
       go (AtOver w named none) k = let same = ap length k.grown ∙ two_more advert w in
           taken_agrees s f g taken (no_more s f g later (omega (arith, same, out))) (stage_waits k)
-      go (AtAged yes') k = absurd (let bad : false ≡ true = yes' in cc)
-      go (AtLeft yes' v named' none') k = absurd (let bad : false ≡ true = yes' in cc)
-      go (AtBack yes' v named' none') k = absurd (let bad : false ≡ true = yes' in cc)
+      go (AtAged yes') k = cc
+      go (AtLeft yes' v named' none') k = cc
+      go (AtBack yes' v named' none') k = cc
 
   two_orderly : (next new : Fabric) → IsOrderly i j s mid next → IsOrderly i j s next new → AgreesOn new s
   two_orderly next new x y = over_agrees y.told new (point_later y.after y.told new y.goes_on left)

@@ -1,10 +1,10 @@
--- The effect of each step on one station at an edge, and the stages of its move among all other steps.
+-- The effect of each step on a set of registers at an edge: the registers of a station, or all others.
 use Rattle.std.proofs.Common.{◌≡◌, ◌≢◌, ◌⊎◌, inl, inr, ℕ, zero, suc, ◌<◌, ◌≤◌, Bool, true, false, cond, Option, Some}
 use Rattle.std.proofs.Common.{None, List, [], ◌∷◌, ◌++◌, refl, sym, ap, subst, ◌∙◌, arith}
-use Rattle.std.proofs.lemmas.Bool.{cases_eq}
+use Rattle.std.proofs.lemmas.Bool.{cases_eq, and_parts}
+use Rattle.std.proofs.lemmas.List.{append-nil}
 use Rattle.std.proofs.lemmas.List.Elements.{filter-append, Contains-push_cases}
-use Rattle.std.specs.Prelude.{Contains, IsSome, is_some, not, ◌&&◌, ◌||◌}
-use Rattle.std.specs.FinMap.{get-empty}
+use Rattle.std.specs.Prelude.{Contains, IsSome, is_some, not, ◌||◌}
 use Rattle.std.specs.List.{filter, list_any}
 use Rattle.std.specs.Ordering.{eq_by_cmp}
 use Rattle.route_wire.specs.declared.update.Ip.{Ip}
@@ -24,7 +24,7 @@ use Rattle.route_join.proofs.Joins.{update_other}
 use Rattle.mac_arena.specs.declared.station.Station.{Station}
 use Rattle.ev_claims.specs.Pending.{marked}
 use Rattle.ev_claims.specs.Speaker.{Speaker, KeepsNumbers, own_register, own, own_advert, is_at, is_newest, next_value}
-use Rattle.ev_claims.specs.Speaker.{after_originating, after_importing, silent}
+use Rattle.ev_claims.specs.Speaker.{after_originating, after_importing}
 use Rattle.ev_claims.specs.LocalRoutes.{LocalRoutes, key_of, after_update, after_removal}
 use Rattle.ev_claims.specs.Opening.{after_floods}
 use Rattle.ev_claims.proofs.Numbers.{own_same, own_other, said_joins}
@@ -35,9 +35,10 @@ use Rattle.ev_fabric.proofs.Voices.{Talks, Quiet, Says, talks_numbers, talks_one
 use Rattle.ev_fabric.proofs.Stations.{about_station, station_key}
 use Rattle.ev_fabric.proofs.Agreements.{none_pending}
 use Rattle.ev_fabric.proofs.ConvergingEdge.{Accepts, Heard, Back, Lost, Kept, heard, hears, heard_later, stays_away}
-use Rattle.ev_fabric.proofs.ConvergingEdge.{others_stay_away, known_stays_away, news_stay}
+use Rattle.ev_fabric.proofs.ConvergingEdge.{others_stay_away, known_stays_away, news_stay, comes}
+use Rattle.ev_fabric.proofs.ConvergingSums.{later_one}
 use Rattle.ev_fabric.proofs.ConvergingIdle.{idle_hearing}
-use Rattle.ev_fabric.proofs.ConvergingStages.{Loses, hear_cases, advert_kept, advert_stays}
+use Rattle.ev_fabric.proofs.ConvergingHearing.{Loses, hear_cases, advert_kept, advert_stays}
 
 -- ---- the elements of a list that pass a test
 
@@ -62,21 +63,17 @@ filter_has p (y ∷ ys) x yes' (suc k, lt, is) = go (p y) (filter_has p ys x yes
     go true rest = (suc rest.0, (let more = rest.1 in omega (arith, more)), rest.2)
     go false rest = rest
 
--- which is one of the list
-pub filter_in : {X : Type 0} (p : X → Bool) (xs : List X) (x : X) → Contains (filter p xs) x → Contains xs x
-filter_in p [] x in' = in'
-filter_in p (y ∷ ys) x in' = go (p y) in' (filter_in p ys x)
+-- which is one of the list, and passes
+pub filter_from : {X : Type 0} (p : X → Bool) (xs : List X) (x : X) → Contains (filter p xs) x
+    → Contains xs x × (p x ≡ true)
+filter_from p [] x (k, lt, is) = absurd (omega (arith, lt))
+filter_from p (y ∷ ys) x in' = go (p y) refl in' (filter_from p ys x)
   where
-    go : (b : Bool) → Contains (cond b (y ∷ filter p ys) (filter p ys)) x → (Contains (filter p ys) x → Contains ys x)
-        → Contains (y ∷ ys) x
-    go true (zero, lt, is) rest = (0, omega arith, is)
-    go true (suc k, lt, is) rest = let r = rest (k, omega (arith, lt), is) in
-        (suc r.0, (let more = r.1 in omega (arith, more)), r.2)
-    go false in' rest = let r = rest in' in (suc r.0, (let more = r.1 in omega (arith, more)), r.2)
-
-pub no_push : {X : Type 0} (xs : List X) → xs ++ [] ≡ xs
-no_push [] = refl
-no_push (x ∷ xs) = ap (λ l. x ∷ l) (no_push xs)
+    go : (b : Bool) → p y ≡ b → Contains (cond b (y ∷ filter p ys) (filter p ys)) x
+        → (Contains (filter p ys) x → Contains ys x × (p x ≡ true)) → Contains (y ∷ ys) x × (p x ≡ true)
+    go true e (zero, lt, is) rest = ((0, omega arith, is), ap p (sym is) ∙ e)
+    go true e (suc k, lt, is) rest = let r = rest (k, omega (arith, lt), is) in (later_one y ys x r.0, r.1)
+    go false e in' rest = let r = rest in' in (later_one y ys x r.0, r.1)
 
 pub filter_push : {X : Type 0} (p : X → Bool) (xs : List X) (x : X) → p x ≡ true
     → filter p (xs ++ x ∷ []) ≡ filter p xs ++ x ∷ []
@@ -85,20 +82,23 @@ filter_push p xs x e = filter-append p xs (x ∷ []) ∙ ap (λ b. filter p xs +
 pub filter_past : {X : Type 0} (p : X → Bool) (xs : List X) (x : X) → p x ≡ false
     → filter p (xs ++ x ∷ []) ≡ filter p xs
 filter_past p xs x e = filter-append p xs (x ∷ []) ∙ ap (λ b. filter p xs ++ cond b (x ∷ []) []) e
-    ∙ no_push (filter p xs)
+    ∙ append-nil (filter p xs)
 
--- ---- pending registers of a station
+-- ---- pending registers of a set
+
+abbrev pub waits_of : (Register → Bool) → Speaker → List Register
+waits_of these e = filter these e.pending
 
 abbrev pub waiting : Station → Speaker → List Register
-waiting s e = filter (is_of s) e.pending
+waiting s e = waits_of (is_of s) e
 
-marked_other : (s : Station) (rs : List Register) (r : Register) → is_of s r ≡ false
-    → filter (is_of s) (marked rs r) ≡ filter (is_of s) rs
-marked_other s rs r other = go (list_any (eq_by_cmp register_cmp r) rs)
+marked_other : (these : Register → Bool) (rs : List Register) (r : Register) → these r ≡ false
+    → filter these (marked rs r) ≡ filter these rs
+marked_other these rs r other = go (list_any (eq_by_cmp register_cmp r) rs)
   where
-    go : (b : Bool) → filter (is_of s) (cond b rs (rs ++ r ∷ [])) ≡ filter (is_of s) rs
+    go : (b : Bool) → filter these (cond b rs (rs ++ r ∷ [])) ≡ filter these rs
     go true = refl
-    go false = filter_past (is_of s) rs r other
+    go false = filter_past these rs r other
 
 -- a register of the list is found
 has_any : (rs : List Register) (r : Register) → Contains rs r → list_any (eq_by_cmp register_cmp r) rs ≡ true
@@ -120,53 +120,56 @@ marked_first s rs r none mine = go (list_any (eq_by_cmp register_cmp r) rs) refl
     go true e = absurd (none_pending (subst (λ l. Contains l r) none (filter_has (is_of s) rs r mine (found rs r e))))
     go false e = filter_push (is_of s) rs r mine ∙ ap (λ l. l ++ r ∷ []) none
 
--- ---- unchanged: all that an edge has of a station, and has to announce of it
+-- ---- unchanged: all that an edge has of a set, and has to announce of it
 
-pub record SameOf (s : Station) (e v : Speaker) : Type 0 where
+pub record SameOn (these : Register → Bool) (e v : Speaker) : Type 0 where
   pub address : v.address ≡ e.address
   pub incarnation : v.incarnation ≡ e.incarnation
-  pub values : (r : Register) → is_of s r ≡ true → value_at v.table r ≡ value_at e.table r
-  pub waits : waiting s v ≡ waiting s e
+  pub values : (r : Register) → these r ≡ true → value_at v.table r ≡ value_at e.table r
+  pub waits : waits_of these v ≡ waits_of these e
 
-pub same_itself : (s : Station) (e : Speaker) → SameOf s e e
-same_itself s e = record { address = refl; incarnation = refl; values = λ r of. refl; waits = refl }
+abbrev pub SameOf : Station → Speaker → Speaker → Type 0
+SameOf s e v = SameOn (is_of s) e v
 
-pub same_trans : (s : Station) (e v w : Speaker) → SameOf s e v → SameOf s v w → SameOf s e w
-same_trans s e v w h g = record {
+pub same_itself : (these : Register → Bool) (e : Speaker) → SameOn these e e
+same_itself these e = record { address = refl; incarnation = refl; values = λ r of. refl; waits = refl }
+
+pub same_trans : (these : Register → Bool) (e v w : Speaker) → SameOn these e v → SameOn these v w → SameOn these e w
+same_trans these e v w h g = record {
   address = g.address ∙ h.address;
   incarnation = g.incarnation ∙ h.incarnation;
   values = λ r of. g.values r of ∙ h.values r of;
   waits = g.waits ∙ h.waits;
 }
 
-not_both : {b : Bool} → b ≡ true → b ≡ false → ⊥
+pub not_both : {b : Bool} → b ≡ true → b ≡ false → ⊥
 not_both yes' no' = let bad : true ≡ false = sym yes' ∙ no' in cc
 
 pub same_own : (s : Station) (e v : Speaker) → SameOf s e v → own v (key_of s) ≡ own e (key_of s)
 same_own s e v h = (λ n. value_at v.table (register_of (h.address n) (key_of s)))
     ∙ h.values (own_register e (key_of s)) (about_station s None)
 
-pub same_newest : (s : Station) (e v : Speaker) (w : Fields) → SameOf s e v → is_of s w.register ≡ true
+pub same_newest : (these : Register → Bool) (e v : Speaker) (w : Fields) → SameOn these e v → these w.register ≡ true
     → is_newest v w ≡ is_newest e w
-same_newest s e v w h of = ap (λ o. is_news o w.value) (h.values w.register of)
+same_newest these e v w h of = ap (λ o. is_news o w.value) (h.values w.register of)
 
 -- an own update of something else
-pub says_other : (s : Station) (e : Speaker) (k : Key) (c : Content) → is_about s.vni s.mac k ≡ false
-    → SameOf s e (after_originating e k c)
-says_other s e k c other = record {
+pub says_other : (these : Register → Bool) (e : Speaker) (k : Key) (c : Content) → these (own_register e k) ≡ false
+    → SameOn these e (after_originating e k c)
+says_other these e k c other = record {
   address = refl;
   incarnation = refl;
   values = λ r of. at_other e.table (own_register e k) (next_value e c) r
-      (λ same. not_both (ap (is_of s) (sym same) ∙ of) other);
-  waits = marked_other s e.pending (own_register e k) other;
+      (λ same. not_both (ap these (sym same) ∙ of) other);
+  waits = marked_other these e.pending (own_register e k) other;
 }
 
 pub floods_same : (s : Station) (e : Speaker) (vs : List ℕ) → SameOf s e (after_floods e vs)
-floods_same s e [] = same_itself s e
+floods_same s e [] = same_itself (is_of s) e
 floods_same s e (v ∷ vs) =
-    same_trans s e (after_originating e (Flood v) (Advertised flood_advert))
+    same_trans (is_of s) e (after_originating e (Flood v) (Advertised flood_advert))
     (after_floods (after_originating e (Flood v) (Advertised flood_advert)) vs)
-    (says_other s e (Flood v) (Advertised flood_advert) refl)
+    (says_other (is_of s) e (Flood v) (Advertised flood_advert) refl)
     (floods_same s (after_originating e (Flood v) (Advertised flood_advert)) vs)
 
 -- ---- own updates of an edge
@@ -184,7 +187,7 @@ talk_counter e _ Quiet = omega arith
 talk_counter e _ (Says v k c bare t) = let h = talk_counter e v t in omega (arith, h)
 
 talks_of : (s : Station) (e v : Speaker) → Talks e v → SameOf s e v ⊎ Changed s e v
-talks_of s e _ Quiet = inl (same_itself s e)
+talks_of s e _ Quiet = inl (same_itself (is_of s) e)
 talks_of s e _ (Says v k c bare t) = go (is_about s.vni s.mac k) refl (talks_of s e v t)
   where
     go : (b : Bool) → is_about s.vni s.mac k ≡ b → SameOf s e v ⊎ Changed s e v
@@ -199,7 +202,8 @@ talks_of s e _ (Says v k c bare t) = go (is_about s.vni s.mac k) refl (talks_of 
           present = (talks_one e v t).incarnation;
           more = omega (arith, low);
         })
-    go false other (inl h) = inl (same_trans s e v (after_originating v k c) h (says_other s v k c other))
+    go false other (inl h) = inl (same_trans (is_of s) e v (after_originating v k c) h
+        (says_other (is_of s) v k c other))
     go false other (inr h) = inr (record {
       ip = h.ip;
       value = h.value;
@@ -212,7 +216,7 @@ talks_of s e _ (Says v k c bare t) = go (is_about s.vni s.mac k) refl (talks_of 
 -- own updates that keep the edge's own registers of the station keep all it has of the station
 pub left_same : (s : Station) (e v : Speaker) → Talks e v → KeepsNumbers e
     → ((ip : Option Ip) → own v (Mac s.vni s.mac ip) ≡ own e (Mac s.vni s.mac ip)) → SameOf s e v
-left_same s e v t n same = elim (talks_of s e v t) as (λ _. SameOf s e v) [
+left_same s e v t n same = elim (talks_of s e v t) [
   | inl h ↦ h
   | inr h ↦ let most = n.counted (Mac s.vni s.mac h.ip) h.value (sym (same h.ip) ∙ h.there) h.present in
       let more = h.more in absurd (omega (arith, most, more))
@@ -245,10 +249,10 @@ bare_key s k bare mine = let ip = station_key s k mine in go ip.0 ip.1
 marked_again : (s : Station) (rs : List Register) (r : Register) → filter (is_of s) rs ≡ r ∷ []
     → filter (is_of s) (marked rs r) ≡ r ∷ []
 marked_again s rs r waits = ap (λ b. filter (is_of s) (cond b rs (rs ++ r ∷ [])))
-    (has_any rs r (filter_in (is_of s) rs r (subst (λ l. Contains l r) (sym waits) (0, omega arith, refl)))) ∙ waits
+    (has_any rs r (filter_from (is_of s) rs r (subst (λ l. Contains l r) (sym waits) (0, omega arith, refl))).0) ∙ waits
 
 pub speaks : (s : Station) (e v : Speaker) → Talks e v → waiting s e ≡ [] → SameOf s e v ⊎ Spoke s e v
-speaks s e _ Quiet none = inl (same_itself s e)
+speaks s e _ Quiet none = inl (same_itself (is_of s) e)
 speaks s e _ (Says v k c bare t) none = go (is_about s.vni s.mac k) refl (speaks s e v t none)
   where
     own_is : v.address ≡ e.address → is_about s.vni s.mac k ≡ true → own_register v k ≡ own_register e (key_of s)
@@ -266,45 +270,61 @@ speaks s e _ (Says v k c bare t) none = go (is_about s.vni s.mac k) refl (speaks
       waits = ap (λ r. filter (is_of s) (marked v.pending r)) (own_is h.address mine)
           ∙ marked_again s v.pending (own_register e (key_of s)) h.waits;
     })
-    go false other (inl h) = inl (same_trans s e v (after_originating v k c) h (says_other s v k c other))
+    go false other (inl h) = inl (same_trans (is_of s) e v (after_originating v k c) h
+        (says_other (is_of s) v k c other))
     go false other (inr h) = inr (record {
       address = h.address;
-      waits = marked_other s v.pending (own_register v k) other ∙ h.waits;
+      waits = marked_other (is_of s) v.pending (own_register v k) other ∙ h.waits;
     })
 
 -- ---- an update of something else
 
-pub heard_other : (s : Station) (c : LocalRoutes) (w : Fields) → is_of s w.register ≡ false
-    → SameOf s c.speaker (heard c w).speaker
-heard_other s c w other = go (comes_back c.speaker w) refl
+-- a register of a station is of the set, or not, with each other register of the station
+abbrev pub AreWhole : (Register → Bool) → Type 0
+AreWhole these = (r : Register) (o v m : ℕ) (ip : Option Ip) → r.key ≡ Mac v m ip
+    → these r ≡ these (register_of o (Mac v m None))
+
+pub whole_station : (s : Station) → AreWhole (is_of s)
+whole_station s r o v m ip key = ap (is_about s.vni s.mac) key
+
+pub heard_other : (these : Register → Bool) → AreWhole these → (c : LocalRoutes) (w : Fields)
+    → these w.register ≡ false → SameOn these c.speaker (heard c w).speaker
+heard_other these whole c w other = go (comes_back c.speaker w) refl
   where
-    hearing : SameOf s c.speaker (after_importing c.speaker w)
+    hearing : SameOn these c.speaker (after_importing c.speaker w)
     hearing = record {
       address = refl;
       incarnation = refl;
       values = λ r of. update_other c.speaker.table w.register w.value r
-          (λ same. not_both (ap (is_of s) (sym same) ∙ of) other);
+          (λ same. not_both (ap these (sym same) ∙ of) other);
       waits = refl;
     }
 
-    back : (d : LocalRoutes) → Heard c w d → comes_back c.speaker w ≡ true → SameOf s c.speaker d.speaker
-    back _ (Back b) is = says_other s c.speaker w.register.key Withdrawn other
+    back : (d : LocalRoutes) → Heard c w d → comes_back c.speaker w ≡ true → SameOn these c.speaker d.speaker
+    back _ (Back b) is =
+        let mine = (comes c.speaker w is).mine in
+        says_other these c.speaker w.register.key Withdrawn
+        (ap these (λ n. register_of (sym mine n) w.register.key) ∙ other)
     back _ (Lost st foreign lost) is = absurd (not_both is (others_stay_away c.speaker w foreign))
     back _ (Kept never) is = absurd (not_both is never)
 
-    go : (b : Bool) → comes_back c.speaker w ≡ b → SameOf s c.speaker (heard c w).speaker
+    go : (b : Bool) → comes_back c.speaker w ≡ b → SameOn these c.speaker (heard c w).speaker
     go true is = back (heard c w) (hears c w) is
-    go false is = elim (hear_cases c w is) as (λ _. SameOf s c.speaker (heard c w).speaker) [
-      | inl h ↦ subst (λ (d : LocalRoutes). SameOf s c.speaker d.speaker) (sym h) hearing
-      | inr h ↦ subst (λ (d : LocalRoutes). SameOf s c.speaker d.speaker) (sym h.is)
-          (same_trans s c.speaker (after_importing c.speaker w)
+    go false is = elim (hear_cases c w is) [
+      | inl h ↦ subst (λ (d : LocalRoutes). SameOn these c.speaker d.speaker) (sym h) hearing
+      | inr h ↦ subst (λ (d : LocalRoutes). SameOn these c.speaker d.speaker) (sym h.is)
+          (same_trans these c.speaker (after_importing c.speaker w)
           (after_originating (after_importing c.speaker w) (key_of h.station) Withdrawn) hearing
-          (says_other s (after_importing c.speaker w) (key_of h.station) Withdrawn
-          (ap (is_about s.vni s.mac) (sym h.key)
-          ∙ other)))
+          (says_other these (after_importing c.speaker w) (key_of h.station) Withdrawn
+          (sym (whole w.register c.speaker.address h.station.vni h.station.mac h.ip h.key) ∙ other)))
     ]
 
 -- ---- the edges of a move
+
+-- each update of the station in the pool is known, or new
+abbrev Known : List Fields → List Fields → Station → Speaker → Type 0
+Known pool extra s e = (w : Fields) → Contains pool w → is_of s w.register ≡ true
+    → (is_newest e w ≡ false) ⊎ Contains extra w
 
 -- the edge to which the station came has the own value u of it
 pub record IsTo (pool extra : List Fields) (s : Station) (u : Fields) (there : List Register) (e : Speaker) : Type 0
@@ -312,7 +332,7 @@ pub record IsTo (pool extra : List Fields) (s : Station) (u : Fields) (there : L
     pub register : own_register e (key_of s) ≡ u.register
     pub says : own e (key_of s) ≡ Some u.value
     pub waits : waiting s e ≡ there
-    pub known : (w : Fields) → Contains pool w → is_of s w.register ≡ true → (is_newest e w ≡ false) ⊎ Contains extra w
+    pub known : Known pool extra s e
 
 -- the edge of the address o, from which it came
 pub record IsFrom (pool extra : List Fields) (s : Station) (o : ℕ) (here : List Register) (says : Bool) (e : Speaker) :
@@ -320,16 +340,29 @@ pub record IsFrom (pool extra : List Fields) (s : Station) (o : ℕ) (here : Lis
   pub name : e.address ≡ o
   pub said : is_some (own_advert e (key_of s)) ≡ says
   pub waits : waiting s e ≡ here
-  pub known : (w : Fields) → Contains pool w → is_of s w.register ≡ true → (is_newest e w ≡ false) ⊎ Contains extra w
+  pub known : Known pool extra s e
 
--- any other edge: it advertises nothing of the station, and no own advert of the station comes back
-pub record IsAside (pool : List Fields) (s : Station) (e : Speaker) : Type 0 where
-  pub quiet : own_advert e (key_of s) ≡ None
-  pub waits : waiting s e ≡ []
-  pub away : (w : Fields) → Contains pool w → is_of s w.register ≡ true → w.register.originator ≡ e.address
+-- any other edge: it advertises none of these registers, and no own advert of them comes back
+pub record HasNone (pool : List Fields) (these : Register → Bool) (e : Speaker) : Type 0 where
+  pub quiet : (r : Register) → these r ≡ true → r.originator ≡ e.address → advert_of (value_at e.table r) ≡ None
+  pub waits : waits_of these e ≡ []
+  pub away : (w : Fields) → Contains pool w → these w.register ≡ true → w.register.originator ≡ e.address
       → (is_newest e w ≡ false) ⊎ (advert_in w.value.content ≡ None)
 
+abbrev pub IsAside : List Fields → Station → Speaker → Type 0
+IsAside pool s e = HasNone pool (is_of s) e
+
+pub aside_quiet : (pool : List Fields) (s : Station) (e : Speaker) → IsAside pool s e → own_advert e (key_of s) ≡ None
+aside_quiet pool s e h = h.quiet (own_register e (key_of s)) (about_station s None) refl
+
 -- unchanged parts
+known_same : (pool extra : List Fields) (s : Station) (e v : Speaker) → SameOf s e v → Known pool extra s e
+    → Known pool extra s v
+known_same pool extra s e v h known w in' of = elim (known w in' of) [
+  | inl old ↦ inl (same_newest (is_of s) e v w h of ∙ old)
+  | inr new ↦ inr new
+]
+
 pub to_same : (pool extra : List Fields) (s : Station) (u : Fields) (there : List Register) (e v : Speaker)
     → SameOf s e v
     → IsTo pool extra s u there e → IsTo pool extra s u there v
@@ -337,8 +370,7 @@ to_same pool extra s u there e v h t = record {
   register = (λ n. register_of (h.address n) (key_of s)) ∙ t.register;
   says = same_own s e v h ∙ t.says;
   waits = h.waits ∙ t.waits;
-  known = λ w in' of. elim (t.known w in' of) as (λ _. (is_newest v w ≡ false)
-      ⊎ Contains extra w) [ inl old ↦ inl (same_newest s e v w h of ∙ old) | inr new ↦ inr new ];
+  known = known_same pool extra s e v h t.known;
 }
 
 pub from_same : (pool extra : List Fields) (s : Station) (o : ℕ) (here : List Register) (says : Bool) (e v : Speaker)
@@ -347,19 +379,29 @@ from_same pool extra s o here says e v h t = record {
   name = h.address ∙ t.name;
   said = ap (λ x. is_some (advert_of x)) (same_own s e v h) ∙ t.said;
   waits = h.waits ∙ t.waits;
-  known = λ w in' of. elim (t.known w in' of) as (λ _. (is_newest v w ≡ false)
-      ⊎ Contains extra w) [ inl old ↦ inl (same_newest s e v w h of ∙ old) | inr new ↦ inr new ];
+  known = known_same pool extra s e v h t.known;
 }
 
-pub aside_same : (pool : List Fields) (s : Station) (e v : Speaker) → SameOf s e v → IsAside pool s e → IsAside pool s v
-aside_same pool s e v h t = record {
-  quiet = ap advert_of (same_own s e v h) ∙ t.quiet;
+pub aside_same : (pool : List Fields) (these : Register → Bool) (e v : Speaker) → SameOn these e v
+    → HasNone pool these e → HasNone pool these v
+aside_same pool these e v h t = record {
+  quiet = λ r of mine. ap advert_of (h.values r of) ∙ t.quiet r of (mine ∙ h.address);
   waits = h.waits ∙ t.waits;
-  away = λ w in' of mine. elim (t.away w in' of (mine ∙ h.address)) as (λ _. (is_newest v w ≡ false)
-      ⊎ (advert_in w.value.content ≡ None)) [ inl old ↦ inl (same_newest s e v w h of ∙ old) | inr none ↦ inr none ];
+  away = λ w in' of mine. elim (t.away w in' of (mine ∙ h.address)) [
+    | inl old ↦ inl (same_newest these e v w h of ∙ old)
+    | inr none ↦ inr none
+  ];
 }
 
 -- the pool gets an update, which is new if it is of the station
+known_push : (pool extra extra' : List Fields) (s : Station) (e : Speaker) (w : Fields)
+    → (is_of s w.register ≡ true → Contains extra' w) → ((z : Fields) → Contains extra z → Contains extra' z)
+    → Known pool extra s e → Known (pool ++ w ∷ []) extra' s e
+known_push pool extra extra' s e w new more known z in' of = elim (Contains-push_cases pool w z in') [
+  | inl earlier ↦ elim (known z earlier of) [ inl old ↦ inl old | inr here ↦ inr (more z here) ]
+  | inr now ↦ inr (subst (Contains extra') now (new (ap (λ (y : Fields). is_of s y.register) now ∙ of)))
+]
+
 pub to_push : (pool extra extra' : List Fields) (s : Station) (u : Fields) (there : List Register) (e : Speaker)
     (w : Fields) → (is_of s w.register ≡ true → Contains extra' w)
     → ((z : Fields) → Contains extra z → Contains extra' z) → IsTo pool extra s u there e
@@ -368,11 +410,7 @@ to_push pool extra extra' s u there e w new more t = record {
   register = t.register;
   says = t.says;
   waits = t.waits;
-  known = λ z in' of. elim (Contains-push_cases pool w z in') as (λ _. (is_newest e z ≡ false) ⊎ Contains extra' z) [
-    | inl earlier ↦ elim (t.known z earlier of) as (λ _. (is_newest e z ≡ false)
-        ⊎ Contains extra' z) [ inl old ↦ inl old | inr here ↦ inr (more z here) ]
-    | inr now ↦ inr (subst (Contains extra') now (new (ap (λ (y : Fields). is_of s y.register) now ∙ of)))
-  ];
+  known = known_push pool extra extra' s e w new more t.known;
 }
 
 pub from_push : (pool extra extra' : List Fields) (s : Station) (o : ℕ) (here : List Register) (says : Bool)
@@ -384,34 +422,29 @@ from_push pool extra extra' s o here says e w new more t = record {
   name = t.name;
   said = t.said;
   waits = t.waits;
-  known = λ z in' of. elim (Contains-push_cases pool w z in') as (λ _. (is_newest e z ≡ false) ⊎ Contains extra' z) [
-    | inl earlier ↦ elim (t.known z earlier of) as (λ _. (is_newest e z ≡ false)
-        ⊎ Contains extra' z) [ inl old ↦ inl old | inr there ↦ inr (more z there) ]
-    | inr now ↦ inr (subst (Contains extra') now (new (ap (λ (y : Fields). is_of s y.register) now ∙ of)))
+  known = known_push pool extra extra' s e w new more t.known;
+}
+
+pub aside_push : (pool : List Fields) (these : Register → Bool) (e : Speaker) (w : Fields)
+    → (these w.register ≡ true → w.register.originator ≢ e.address) → HasNone pool these e
+    → HasNone (pool ++ w ∷ []) these e
+aside_push pool these e w other t = record {
+  quiet = t.quiet;
+  waits = t.waits;
+  away = λ z in' of mine. elim (Contains-push_cases pool w z in') [
+    | inl earlier ↦ t.away z earlier of mine
+    | inr now ↦ absurd (other (ap (λ (y : Fields). these y.register) now ∙ of)
+        (ap (λ (y : Fields). y.register.originator) now ∙ mine))
   ];
 }
 
-pub aside_push : (pool : List Fields) (s : Station) (e : Speaker) (w : Fields)
-    → (is_of s w.register ≡ true → w.register.originator ≢ e.address) → IsAside pool s e → IsAside (pool ++ w ∷ []) s e
-aside_push pool s e w other t = record {
-  quiet = t.quiet;
-  waits = t.waits;
-  away = λ z in' of mine. elim (Contains-push_cases pool w z in') as (λ _. (is_newest e z ≡ false)
-      ⊎ (advert_in z.value.content ≡ None)) [
-        | inl earlier ↦ t.away z earlier of mine
-        | inr now ↦ absurd (other (ap (λ (y : Fields). is_of s y.register) now ∙ of)
-            (ap (λ (y : Fields). y.register.originator) now ∙ mine))
-      ];
-}
-
--- ---- an update of the station is taken
+-- ---- an update of the set is taken
 
 pub idle_away : (e : Speaker) (w : Fields) → (is_newest e w ≡ false) ⊎ (advert_in w.value.content ≡ None)
     → comes_back e w ≡ false
-idle_away e w h = elim h as (λ _. comes_back e w ≡ false) [
+idle_away e w h = elim h [
   | inl old ↦ known_stays_away e w old
-  | inr none ↦ stays_away e w (λ b. let bad : false ≡ true = sym (ap (λ (c : Option Advert). is_some c) none)
-      ∙ b.advert in cc)
+  | inr none ↦ stays_away e w (λ b. not_both b.advert (ap (λ (c : Option Advert). is_some c) none))
 ]
 
 -- the known state of an edge that takes an update
@@ -432,6 +465,13 @@ still_known : (c : LocalRoutes) (w z : Fields) → Hears c w → is_newest c.spe
     → is_newest (heard c w).speaker z ≡ false
 still_known c w z h old = (heard_later c w h.numbers h.accepts).news z.register z.value old
 
+known_hears : (pool extra : List Fields) (s : Station) (c : LocalRoutes) (w : Fields) → Hears c w
+    → Known pool extra s c.speaker → Known pool extra s (heard c w).speaker
+known_hears pool extra s c w h known z in' of = elim (known z in' of) [
+  | inl old ↦ inl (still_known c w z h old)
+  | inr new ↦ inr new
+]
+
 pub to_grows : (pool extra : List Fields) (s : Station) (u : Fields) (there : List Register) (c : LocalRoutes)
     (w : Fields)
     → IsSome (advert_in u.value.content) → Hears c w → Grows c w → IsTo pool extra s u there c.speaker
@@ -440,8 +480,7 @@ to_grows pool extra s u there c w some h g t = record {
   register = ap (λ (d : LocalRoutes). own_register d.speaker (key_of s)) g.1 ∙ t.register;
   says = ap (λ (d : LocalRoutes). own d.speaker (key_of s)) g.1 ∙ stays (advert_in u.value.content) refl some;
   waits = ap (λ (d : LocalRoutes). waiting s d.speaker) g.1 ∙ t.waits;
-  known = λ z in' of. elim (t.known z in' of) as (λ _. (is_newest (heard c w).speaker z ≡ false)
-      ⊎ Contains extra z) [ inl old ↦ inl (still_known c w z h old) | inr new ↦ inr new ];
+  known = known_hears pool extra s c w h t.known;
 }
   where
     stays : (x : Option Advert) → advert_in u.value.content ≡ x → IsSome x
@@ -457,25 +496,37 @@ from_grows pool extra s o here says c w h g t = record {
   said = ap (λ (d : LocalRoutes). is_some (own_advert d.speaker (key_of s))) g.1
       ∙ ap is_some (advert_kept c.speaker w (key_of s) h.numbers h.accepts g.0) ∙ t.said;
   waits = ap (λ (d : LocalRoutes). waiting s d.speaker) g.1 ∙ t.waits;
-  known = λ z in' of. elim (t.known z in' of) as (λ _. (is_newest (heard c w).speaker z ≡ false)
-      ⊎ Contains extra z) [ inl old ↦ inl (still_known c w z h old) | inr new ↦ inr new ];
+  known = known_hears pool extra s c w h t.known;
 }
 
-pub aside_grows : (pool : List Fields) (s : Station) (c : LocalRoutes) (w : Fields) → Hears c w → Grows c w
-    → IsAside pool s c.speaker → IsAside pool s (heard c w).speaker
-aside_grows pool s c w h g t = record {
-  quiet = ap (λ (d : LocalRoutes). own_advert d.speaker (key_of s)) g.1
-      ∙ advert_kept c.speaker w (key_of s) h.numbers h.accepts g.0 ∙ t.quiet;
-  waits = ap (λ (d : LocalRoutes). waiting s d.speaker) g.1 ∙ t.waits;
-  away = λ z in' of mine. elim (t.away z in' of (mine ∙ ap (λ (d : LocalRoutes). d.speaker.address) g.1)) as (λ _.
-      (is_newest (heard c w).speaker z ≡ false) ⊎ (advert_in z.value.content ≡ None)) [
-        | inl old ↦
-            inl (still_known c w z h old)
-        | inr none ↦ inr none
-      ];
+aside_grows : (pool : List Fields) (these : Register → Bool) (c : LocalRoutes) (w : Fields) → Hears c w → Grows c w
+    → HasNone pool these c.speaker → HasNone pool these (heard c w).speaker
+aside_grows pool these c w h g t = record {
+  quiet = λ r of mine.
+      let named : r ≡ own_register c.speaker r.key = (λ n. register_of ((mine ∙ name) n) r.key) in
+      ap (λ (d : LocalRoutes). advert_of (value_at d.speaker.table r)) g.1
+      ∙ ap (λ q. advert_of (value_at (after_importing c.speaker w).table q)) named
+      ∙ advert_kept c.speaker w r.key h.numbers h.accepts g.0
+      ∙ t.quiet (own_register c.speaker r.key) (ap these (sym named) ∙ of) refl;
+  waits = ap (λ (d : LocalRoutes). waits_of these d.speaker) g.1 ∙ t.waits;
+  away = λ z in' of mine. elim (t.away z in' of (mine ∙ name)) [
+    | inl old ↦ inl (still_known c w z h old)
+    | inr none ↦ inr none
+  ];
 }
+  where
+    name : (heard c w).speaker.address ≡ c.speaker.address
+    name = ap (λ (d : LocalRoutes). d.speaker.address) g.1
 
--- an edge that loses a station to another originator's update loses the station of that update, and has advertised it
+-- an edge that loses a station to another originator's update has advertised it
+loses_said : (c : LocalRoutes) (w : Fields) → Hears c w → comes_back c.speaker w ≡ false → (l : Loses c w)
+    → is_some (own_advert c.speaker (key_of l.station)) ≡ true
+loses_said c w h never l =
+    ap is_some (sym (advert_kept c.speaker w (key_of l.station) h.numbers h.accepts never))
+    ∙ (and_parts (is_some (own_advert (after_importing c.speaker w) (key_of l.station)))
+    (not (is_at (owner (after_importing c.speaker w).table l.station.vni l.station.mac) c.speaker.address)) l.lost).0
+
+-- and it is the station of that update
 pub record LosesIt (s : Station) (c : LocalRoutes) (w : Fields) : Type 0 where
   pub said : is_some (own_advert c.speaker (key_of s)) ≡ true
   pub is : heard c w ≡ after_removal (after_update c w) s
@@ -483,19 +534,10 @@ pub record LosesIt (s : Station) (c : LocalRoutes) (w : Fields) : Type 0 where
 pub loses_it : (s : Station) (c : LocalRoutes) (w : Fields) → Hears c w → is_of s w.register ≡ true
     → comes_back c.speaker w ≡ false → Loses c w → LosesIt s c w
 loses_it s c w h of never l = record {
-  said = ap is_some (sym (advert_kept c.speaker w (key_of s) h.numbers h.accepts never))
-      ∙ subst (λ r. is_some (own_advert (after_importing c.speaker w) (key_of r)) ≡ true) station some;
+  said = subst (λ r. is_some (own_advert c.speaker (key_of r)) ≡ true) station (loses_said c w h never l);
   is = l.is ∙ ap (after_removal (after_update c w)) station;
 }
   where
-    first : (x y : Bool) → (x && not y) ≡ true → x ≡ true
-    first true y e = refl
-    first false y e = cc
-
-    some : is_some (own_advert (after_importing c.speaker w) (key_of l.station)) ≡ true
-    some = first (is_some (own_advert (after_importing c.speaker w) (key_of l.station)))
-        (is_at (owner (after_importing c.speaker w).table l.station.vni l.station.mac) c.speaker.address) l.lost
-
     ip : (j : Option Ip) × (w.register.key ≡ Mac s.vni s.mac j)
     ip = station_key s w.register.key of
 
@@ -506,21 +548,24 @@ loses_it s c w h of never l = record {
         let macs : l.station.mac ≡ s.mac = cc in
         λ n. record { vni = vnis n; mac = macs n }
 
--- another edge that takes an update of the station advertises nothing of it
-pub aside_hears : (pool : List Fields) (s : Station) (c : LocalRoutes) (w : Fields) → Contains pool w
-    → is_of s w.register ≡ true → Hears c w → IsAside pool s c.speaker → IsAside pool s (heard c w).speaker
-aside_hears pool s c w in' of h t = aside_grows pool s c w h grows t
+-- an edge that advertises nothing of the set and takes an update of it still advertises nothing of it
+pub aside_hears : (pool : List Fields) (these : Register → Bool) → AreWhole these → (c : LocalRoutes) (w : Fields)
+    → Contains pool w → these w.register ≡ true → Hears c w → HasNone pool these c.speaker
+    → HasNone pool these (heard c w).speaker
+aside_hears pool these whole c w in' of h t = aside_grows pool these c w h grows t
   where
     grows : Grows c w
-    grows = elim (cases_eq w.register.originator c.speaker.address) as (λ _. Grows c w) [
+    grows = elim (cases_eq w.register.originator c.speaker.address) [
       | inl mine ↦ idle_grows c w h (t.away w in' of mine)
       | inr other ↦ foreign (others_stay_away c.speaker w other)
     ]
       where
         foreign : comes_back c.speaker w ≡ false → Grows c w
-        foreign never = elim (hear_cases c w never) as (λ _. Grows c w) [
+        foreign never = elim (hear_cases c w never) [
           | inl is ↦ (never, is)
-          | inr l ↦ absurd (not_both (loses_it s c w h of never l).said (ap is_some t.quiet))
+          | inr l ↦ absurd (not_both (loses_said c w h never l) (ap is_some
+              (t.quiet (own_register c.speaker (key_of l.station))
+              (sym (whole w.register c.speaker.address l.station.vni l.station.mac l.ip l.key) ∙ of) refl)))
         ]
 
 -- the effect of the new advert on the edge from which the station came: it stays, or withdraws the station
@@ -530,9 +575,7 @@ pub from_hears : (pool extra : List Fields) (s : Station) (o : ℕ) (here : List
     → IsFrom pool extra s o here says (heard c w).speaker
     ⊎ ((says ≡ true) × (here ≡ [] → IsFrom pool extra s o (register_of o (key_of s) ∷ []) false (heard c w).speaker))
 from_hears pool extra s o here says c w of other h t =
-    elim (hear_cases c w never) as (λ _. IsFrom pool extra s o here says (heard c w).speaker
-    ⊎ ((says ≡ true) × (here ≡ [] → IsFrom pool extra s o (register_of o (key_of s) ∷ []) false
-    (heard c w).speaker))) [
+    elim (hear_cases c w never) [
       | inl is ↦ inl (from_grows pool extra s o here says c w h (never, is) t)
       | inr l ↦ let it = loses_it s c w h of never l in inr (sym t.said ∙ it.said, lost it.is)
     ]
@@ -549,12 +592,5 @@ from_hears pool extra s o here says c w of other h t =
       waits = ap (λ (d : LocalRoutes). waiting s d.speaker) is
           ∙ marked_first s c.speaker.pending (own_register c.speaker (key_of s)) (t.waits ∙ none) (about_station s None)
           ∙ ap (λ p. register_of p (key_of s) ∷ []) t.name;
-      known = λ z in' of'. elim (t.known z in' of') as (λ _. (is_newest (heard c w).speaker z ≡ false)
-          ⊎ Contains extra z) [ inl old ↦ inl (still_known c w z h old) | inr new ↦ inr new ];
+      known = known_hears pool extra s c w h t.known;
     }
-
--- ---- an edge with no own values advertises no station
-pub silent_quiet : (s : Station) (address incarnation : ℕ) (originators : List ℕ)
-    → own_advert (silent address incarnation originators) (key_of s) ≡ None
-silent_quiet s address incarnation originators = ap advert_of
-    (get-empty {X = Value} register_cmp (register_of address (key_of s)))

@@ -1,4 +1,5 @@
 -- Consequences for one station of a sound fabric on which the edges agree.
+use Rattle.std.proofs.lemmas.Bool.{and_parts}
 use Rattle.std.proofs.Common.{◌≡◌, ℕ, ◌==◌, ◌&&◌, Bool, true, false, Option, Some, None, List, [], ◌∷◌, refl, sym, ap}
 use Rattle.std.proofs.Common.{subst, ◌∙◌, arith}
 use Rattle.std.proofs.lemmas.Bool.Decides.{nat_tests}
@@ -39,28 +40,26 @@ of_station s r ip key = ap (is_about s.vni s.mac) key ∙ about_station s ip
 pub station_key : (s : Station) (k : Key) → is_about s.vni s.mac k ≡ true → (ip : Option Ip) × (k ≡ Mac s.vni s.mac ip)
 station_key s (Flood v) e = cc
 station_key s (Mac v m ip) e =
-    let t = both (v == s.vni) (m == s.mac) e in
+    let t = and_parts (v == s.vni) (m == s.mac) e in
     let a = t.0 in
     let b = t.1 in
     let vs : v ≡ s.vni = grind (arith, nat_tests) in
     let ms : m ≡ s.mac = grind (arith, nat_tests) in
     (ip, λ i. Mac (vs i) (ms i) ip)
-  where
-    both : (x y : Bool) → (x && y) ≡ true → (x ≡ true) × (y ≡ true)
-    both true true e = (refl, refl)
-    both true false e = absurd cc
-    both false y e = absurd cc
 
 -- ---- agreement on everything, and on each
 
+pub agree_about : (f : Fabric) → AllAgree f → (these : Register → Bool) → AgreesAbout f these
+agree_about f h these = record {
+  quiet = λ i a r at is in'. none_pending (subst (λ l. Contains l r) (h.quiet i a at) in');
+  arrived = λ i a u at is in'. h.arrived i a at u in';
+}
+
 pub agree_on_each : (f : Fabric) → AllAgree f → AgreesOnEach f
-agree_on_each f h = record { stations = λ s. about (is_of s); floods = λ vni. about (is_flood vni) }
-  where
-    about : (these : Register → Bool) → AgreesAbout f these
-    about these = record {
-      quiet = λ i a r at is in'. none_pending (subst (λ l. Contains l r) (h.quiet i a at) in');
-      arrived = λ i a u at is in'. h.arrived i a at u in';
-    }
+agree_on_each f h = record {
+  stations = λ s. agree_about f h (is_of s);
+  floods = λ vni. agree_about f h (is_flood vni);
+}
 
 pub each_agree : (f : Fabric) → AgreesOnEach f → AllAgree f
 each_agree f h = record {

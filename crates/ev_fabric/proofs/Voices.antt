@@ -51,24 +51,23 @@ marked_has rs r = go (list_any (eq_by_cmp register_cmp r) rs) refl
 -- ---- an own register changes
 said_behind : (e : Speaker) (k : Key) (c : Content) → KeepsNumbers e → (u : Fields) → u.register.originator ≡ e.address
     → IsBehind e.incarnation e.table u → IsBehind e.incarnation (after_originating e k c).table u
-said_behind e k c h u mine b = elim (same_or_other u.register (own_register e k)) as (λ _. IsBehind e.incarnation
-    (after_originating e k c).table u) [
-      | inl same ↦ record {
-        present = b.present;
-        says = next_value e c;
-        there = ap (value_at (after_originating e k c).table) same
-            ∙ at_same e.table (own_register e k) (next_value e c);
-        alive = refl;
-        order = inr (lower b.order);
-      }
-      | inr ne ↦ record {
-        present = b.present;
-        says = b.says;
-        there = at_other e.table (own_register e k) (next_value e c) u.register ne ∙ b.there;
-        alive = b.alive;
-        order = b.order;
-      }
-    ]
+said_behind e k c h u mine b = elim (same_or_other u.register (own_register e k)) [
+  | inl same ↦ record {
+    present = b.present;
+    says = next_value e c;
+    there = ap (value_at (after_originating e k c).table) same
+        ∙ at_same e.table (own_register e k) (next_value e c);
+    alive = refl;
+    order = inr (lower b.order);
+  }
+  | inr ne ↦ record {
+    present = b.present;
+    says = b.says;
+    there = at_other e.table (own_register e k) (next_value e c) u.register ne ∙ b.there;
+    alive = b.alive;
+    order = b.order;
+  }
+]
   where
     named : u.register ≡ own_register e u.register.key
     named = λ i. let q : Register = record { originator = mine i; key = u.register.key } in q
@@ -87,27 +86,25 @@ said_told pool e k c h told = record {
   foreign = λ r v other is. told.foreign r v other (sym
       (at_other e.table (own_register e k) (next_value e c) r
       (λ same. other (ap (λ (q : Register). q.originator) same))) ∙ is);
-  own = λ r v mine is quiet. elim (same_or_other r (own_register e k)) as (λ _. Contains pool (update_of r v)) [
+  own = λ r v mine is quiet. elim (same_or_other r (own_register e k)) [
     | inl same ↦ absurd (quiet (subst (Contains (marked e.pending (own_register e k))) (sym same)
         (marked_has e.pending (own_register e k))))
     | inr ne ↦ told.own r v mine (sym (at_other e.table (own_register e k) (next_value e c) r ne) ∙ is)
         (λ in'. quiet (marked_keeps e.pending (own_register e k) r in'))
   ];
-  behind = λ u in' mine. elim (told.behind u in' mine) as (λ _. (u.value.incarnation < e.incarnation)
-      ⊎ IsBehind e.incarnation (after_originating e k c).table u) [
-        | inl earlier ↦ inl earlier
-        | inr b ↦ inr (said_behind e k c h u mine b)
-      ];
+  behind = λ u in' mine. elim (told.behind u in' mine) [
+    | inl earlier ↦ inl earlier
+    | inr b ↦ inr (said_behind e k c h u mine b)
+  ];
 }
 
 -- ---- an update of the pool is taken
 heard_cases : (t : Table) (u : Fields) (r : Register) (v : Value) → value_at (with_update t u) r ≡ Some v
     → (value_at t r ≡ Some v) ⊎ ((r ≡ u.register) × (v ≡ u.value))
-heard_cases t u r v is = elim (same_or_other r u.register) as (λ _. (value_at t r ≡ Some v)
-    ⊎ ((r ≡ u.register) × (v ≡ u.value))) [
-      | inl same ↦ here same (is_news (value_at t u.register) u.value) is
-      | inr ne ↦ inl (sym (update_other t u.register u.value r ne) ∙ is)
-    ]
+heard_cases t u r v is = elim (same_or_other r u.register) [
+  | inl same ↦ here same (is_news (value_at t u.register) u.value) is
+  | inr ne ↦ inl (sym (update_other t u.register u.value r ne) ∙ is)
+]
   where
     here : r ≡ u.register → (b : Bool) → value_at (cond b (with_value t u.register u.value) t) r ≡ Some v
         → (value_at t r ≡ Some v) ⊎ ((r ≡ u.register) × (v ≡ u.value))
@@ -125,53 +122,51 @@ was_announced pool u r v in' same equal = subst (Contains pool) (λ i. update_of
 pub heard_told : (pool : List Fields) (e : Speaker) (u : Fields) → Contains pool u → u.register.originator ≢ e.address
     → IsTold pool e → IsTold pool (after_importing e u)
 heard_told pool e u in' other told = record {
-  foreign = λ r v ne is. elim (heard_cases e.table u r v is) as (λ _. Contains pool (update_of r v)) [
+  foreign = λ r v ne is. elim (heard_cases e.table u r v is) [
     | inl before ↦ told.foreign r v ne before
     | inr new ↦ was_announced pool u r v in' new.0 new.1
   ];
-  own = λ r v mine is quiet. elim (heard_cases e.table u r v is) as (λ _. Contains pool (update_of r v)) [
+  own = λ r v mine is quiet. elim (heard_cases e.table u r v is) [
     | inl before ↦ told.own r v mine before quiet
     | inr new ↦ was_announced pool u r v in' new.0 new.1
   ];
-  behind = λ w there mine. elim (told.behind w there mine) as (λ _. (w.value.incarnation < e.incarnation)
-      ⊎ IsBehind e.incarnation (after_importing e u).table w) [
-        | inl earlier ↦ inl earlier
-        | inr b ↦ inr (record {
-          present = b.present;
-          says = b.says;
-          there = update_other e.table u.register u.value w.register
-              (λ same. other (ap (λ (r : Register). r.originator) (sym same) ∙ mine)) ∙ b.there;
-          alive = b.alive;
-          order = b.order;
-        })
-      ];
+  behind = λ w there mine. elim (told.behind w there mine) [
+    | inl earlier ↦ inl earlier
+    | inr b ↦ inr (record {
+      present = b.present;
+      says = b.says;
+      there = update_other e.table u.register u.value w.register
+          (λ same. other (ap (λ (r : Register). r.originator) (sym same) ∙ mine)) ∙ b.there;
+      alive = b.alive;
+      order = b.order;
+    })
+  ];
 }
 
 -- one under the edge's own address, of an earlier incarnation
 pub earlier_told : (pool : List Fields) (e : Speaker) (u : Fields) → Contains pool u → is_newest e u ≡ true
     → u.value.incarnation < e.incarnation → IsTold pool e → IsTold pool (after_importing e u)
 earlier_told pool e u in' newest past told = record {
-  foreign = λ r v ne is. elim (heard_cases e.table u r v is) as (λ _. Contains pool (update_of r v)) [
+  foreign = λ r v ne is. elim (heard_cases e.table u r v is) [
     | inl before ↦ told.foreign r v ne before
     | inr new ↦ was_announced pool u r v in' new.0 new.1
   ];
-  own = λ r v mine is quiet. elim (heard_cases e.table u r v is) as (λ _. Contains pool (update_of r v)) [
+  own = λ r v mine is quiet. elim (heard_cases e.table u r v is) [
     | inl before ↦ told.own r v mine before quiet
     | inr new ↦ was_announced pool u r v in' new.0 new.1
   ];
-  behind = λ w there mine. elim (told.behind w there mine) as (λ _. (w.value.incarnation < e.incarnation)
-      ⊎ IsBehind e.incarnation (after_importing e u).table w) [
-        | inl earlier ↦ inl earlier
-        | inr b ↦ inr (record {
-          present = b.present;
-          says = b.says;
-          there = update_other e.table u.register u.value w.register
-              (λ same. not_present e u b.says newest past (ap (value_at e.table) (sym same) ∙ b.there) b.alive)
-              ∙ b.there;
-          alive = b.alive;
-          order = b.order;
-        })
-      ];
+  behind = λ w there mine. elim (told.behind w there mine) [
+    | inl earlier ↦ inl earlier
+    | inr b ↦ inr (record {
+      present = b.present;
+      says = b.says;
+      there = update_other e.table u.register u.value w.register
+          (λ same. not_present e u b.says newest past (ap (value_at e.table) (sym same) ∙ b.there) b.alive)
+          ∙ b.there;
+      alive = b.alive;
+      order = b.order;
+    })
+  ];
 }
 
 -- if the update isn't news, nothing changes
@@ -202,11 +197,10 @@ pub grown_told : (pool : List Fields) (u : Fields) (e : Speaker) → u.register.
 grown_told pool u e other told = record {
   foreign = λ r v ne is. Contains-append_left pool (u ∷ []) _ (told.foreign r v ne is);
   own = λ r v mine is quiet. Contains-append_left pool (u ∷ []) _ (told.own r v mine is quiet);
-  behind = λ w in' mine. elim (Contains-push_cases pool u w in') as (λ _. (w.value.incarnation < e.incarnation)
-      ⊎ IsBehind e.incarnation e.table w) [
-        | inl before ↦ told.behind w before mine
-        | inr same ↦ absurd (other (ap (λ (x : Fields). x.register.originator) same ∙ mine))
-      ];
+  behind = λ w in' mine. elim (Contains-push_cases pool u w in') [
+    | inl before ↦ told.behind w before mine
+    | inr same ↦ absurd (other (ap (λ (x : Fields). x.register.originator) same ∙ mine))
+  ];
 }
 
 -- the edge itself announces: its first pending register, with its own value
@@ -215,27 +209,25 @@ pub announced_told : (pool : List Fields) (e : Speaker) (r : Register) (rs : Lis
     → IsTold (pool ++ update_of r v ∷ []) (record e { pending = rs })
 announced_told pool e r rs v at is present told = record {
   foreign = λ q w ne here. Contains-append_left pool _ _ (told.foreign q w ne here);
-  own = λ q w mine here quiet. elim (same_or_other q r) as (λ _. Contains (pool ++ update_of r v ∷ [])
-      (update_of q w)) [
-        | inl same ↦
-            let at_r : value_at e.table r ≡ Some w = subst (λ x. value_at e.table x ≡ Some w) same here in
-            let equal : v ≡ w = cc in
-            subst (Contains (pool ++ update_of r v ∷ [])) (λ i. update_of (sym same i) (equal i))
-            (Contains-push pool (update_of r v))
-        | inr ne ↦ Contains-append_left pool _ _ (told.own q w mine here
-            (λ in'. quiet (first_gone q ne (subst (λ l. Contains l q) at in'))))
-      ];
-  behind = λ w in' mine. elim (Contains-push_cases pool (update_of r v) w in') as (λ _.
-      (w.value.incarnation < e.incarnation) ⊎ IsBehind e.incarnation e.table w) [
-        | inl before ↦ told.behind w before mine
-        | inr same ↦ inr (record {
-          present = ap (λ (x : Fields). x.value.incarnation) (sym same) ∙ present;
-          says = v;
-          there = ap (λ (x : Fields). value_at e.table x.register) (sym same) ∙ is;
-          alive = present;
-          order = inl (ap (λ (x : Fields). x.value) (sym same));
-        })
-      ];
+  own = λ q w mine here quiet. elim (same_or_other q r) [
+    | inl same ↦
+        let at_r : value_at e.table r ≡ Some w = subst (λ x. value_at e.table x ≡ Some w) same here in
+        let equal : v ≡ w = cc in
+        subst (Contains (pool ++ update_of r v ∷ [])) (λ i. update_of (sym same i) (equal i))
+        (Contains-push pool (update_of r v))
+    | inr ne ↦ Contains-append_left pool _ _ (told.own q w mine here
+        (λ in'. quiet (first_gone q ne (subst (λ l. Contains l q) at in'))))
+  ];
+  behind = λ w in' mine. elim (Contains-push_cases pool (update_of r v) w in') [
+    | inl before ↦ told.behind w before mine
+    | inr same ↦ inr (record {
+      present = ap (λ (x : Fields). x.value.incarnation) (sym same) ∙ present;
+      says = v;
+      there = ap (λ (x : Fields). value_at e.table x.register) (sym same) ∙ is;
+      alive = present;
+      order = inl (ap (λ (x : Fields). x.value) (sym same));
+    })
+  ];
 }
   where
     first_gone : (q : Register) → q ≢ r → Contains (r ∷ rs) q → Contains rs q

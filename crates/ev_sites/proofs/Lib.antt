@@ -9,3 +9,5 @@ pub mod Telling
 pub mod Example
 pub mod Agreed
 pub mod Moved
+pub mod Trio
+pub mod Traffic

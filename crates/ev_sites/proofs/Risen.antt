@@ -28,11 +28,12 @@ use Rattle.ev_mobility.specs.declared.window.Window.{Window}
 use Rattle.ev_claims.specs.Speaker.{Speaker}
 use Rattle.ev_claims.specs.LocalRoutes.{LocalRoutes, after_removals, is_member}
 use Rattle.ev_claims.specs.Leaving.{after_flush, flushed_at}
+use Rattle.ev_edge.specs.declared.event.Event.TheVariants as edge_events
 use Rattle.ev_edge.specs.declared.reply.Reply.{Reply}
 use Rattle.ev_edge.specs.Bridging.{BridgeGoes}
 use Rattle.ev_edge.specs.Edge.{Edge, table_of, address_of, ArePassing}
 use Rattle.ev_edge.specs.Sending.{port_of, IsDecision}
-use Rattle.ev_edge.specs.Steps.{BridgeSteps, LearnsIf, DataSteps, nothing}
+use Rattle.ev_edge.specs.Steps.{Steps, BridgeSteps, LearnsIf, DataSteps, nothing}
 use Rattle.ev_fabric.specs.declared.step.Step.{Step}
 use Rattle.ev_fabric.specs.declared.step.Step.TheVariants.{Local}
 use Rattle.ev_fabric.specs.declared.step.LocalEvent.TheVariants.{PortUp}
@@ -259,6 +260,18 @@ module _ (lists : SettledByLists) (happens : RunsHappen) where
             result_is = refl;
             new_is = refl;
           }
+
+  -- the two ports of any such edge come up
+  pub rises : (v : Speaker) (l : Learning) (w : Windows) → (mid : Edge) × (one : Reply) × (two : Reply)
+      × Steps (edge_with (routes_with v l) (start root_settings two_ports) w) (edge_events.PortUp 1) (Ok one) mid
+      × Steps mid (edge_events.PortUp 2) (Ok two) (risen_edge v l w)
+  rises v l w = (
+    edge_with (routes_with v l) half w,
+    told half,
+    told root_bridge,
+    goes_up (edge_with (routes_with v l) down w) (tree_events.PortUp 1) half half_goes,
+    goes_up (edge_with (routes_with v l) half w) (tree_events.PortUp 2) root_bridge root_goes,
+  )
 
   -- ---- its ports
 

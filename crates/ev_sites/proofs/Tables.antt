@@ -15,6 +15,7 @@ use Rattle.route_join.specs.Flood.{flood_of, flooding}
 use Rattle.route_join.specs.Updates.{update_from, about}
 use Rattle.ev_mobility.specs.declared.seq.Seq.{Seq}
 use Rattle.ev_mobility.specs.Seq.{seq_for, seq_of, heard_all, nothing_heard}
+use Rattle.ev_fabric.proofs.Example.{listeners}
 
 -- a register with its value
 abbrev pub Said : Type 0
@@ -24,9 +25,9 @@ abbrev pub registers_of : List Said → Registers
 registers_of [] = empty
 registers_of (e ∷ es) = insert (registers_of es) e.0 e.1
 
--- of the two edges of the example
+-- of an edge of the examples
 abbrev pub table_with : List Said → Table
-table_with es = record { originators = 0x0a000001 ∷ 0x0a000002 ∷ []; registers = registers_of es }
+table_with es = record { originators = listeners; registers = registers_of es }
 
 -- ---- one register
 

@@ -1,23 +1,34 @@
 -- Fabrics that meet the laws' premises, each after some run from its opening.
-use Rattle.std.specs.Prelude.{◌≡◌, ◌≢◌, ℕ, ◌<◌, ◌^◌, Some, Ok, List}
+use Rattle.std.specs.Prelude.{◌≡◌, ◌≢◌, ◌⊎◌, ℕ, suc, ◌+◌, ◌*◌, ◌<◌, ◌≤◌, ◌^◌, true, false, Some, Ok, List, [], ◌∷◌}
+use Rattle.std.specs.Prelude.{◌++◌, length, Contains, slice_get}
+use Rattle.route_wire.specs.declared.update.Register.{Register}
+use Rattle.route_wire.specs.declared.update.Value.{Value}
+use Rattle.route_wire.specs.Fields.{Fields}
+use Rattle.route_wire.specs.Order.{is_newer}
+use Rattle.route_join.specs.Table.{value_at}
 use Rattle.mac_arena.specs.declared.station.Station.{Station}
 use Rattle.mac_arena.specs.declared.station.Entry.{Entry}
 use Rattle.rstp_run.specs.Events.{Passes}
 use Rattle.ev_tunnel.specs.Datagram.{datagram_of}
+use Rattle.ev_claims.specs.Speaker.{is_newest}
 use Rattle.ev_edge.specs.declared.config.EdgeConfig.{EdgeConfig}
 use Rattle.ev_edge.specs.declared.event.Event.{Event}
 use Rattle.ev_edge.specs.declared.reply.Reply.{Reply}
-use Rattle.ev_edge.specs.Edge.{Edge, address_of}
+use Rattle.ev_edge.specs.Edge.{Edge, table_of, address_of}
 use Rattle.ev_edge.specs.Steps.{Steps}
 use Rattle.ev_fabric.specs.declared.step.Step.{Step}
+use Rattle.ev_fabric.specs.declared.step.Step.TheVariants.{Deliver}
 use Rattle.ev_fabric.specs.Fabric.{Fabric, IsEdge}
 use Rattle.ev_fabric.specs.Opening.{AreConfigs, IsStart}
 use Rattle.ev_fabric.specs.Agreed.{AllAgree, Advertises}
 use Rattle.ev_fabric.specs.Runs.{Runs}
 use Rattle.ev_fabric.specs.Laws.{tunnel_frame_in, IsFrameFor, IsBehindPort, GoesTo, GoesOut}
 use Rattle.ev_fabric.specs.Convergence.{Rests}
-use Rattle.ev_fabric.specs.Station.{StationComes, RunsBeside}
-use Rattle.ev_fabric.specs.Rounds.{IsOrderly}
+use Rattle.ev_fabric.specs.Steps.{FabricSteps}
+use Rattle.ev_fabric.specs.Station.{is_of, AgreesOn, StationComes, RunsBeside, RunsAlone, NoneRestarts, to_come_on}
+use Rattle.ev_fabric.specs.Station.{StationMovedAnyhow}
+use Rattle.ev_fabric.specs.Rounds.{IsOrderly, Rounds}
+use Rattle.ev_fabric.specs.Meanwhile.{IsFlooded}
 use Rattle.ev_sites.specs.Sites.{Site, Point, ByEdge, ByTunnel}
 use Rattle.ev_sites.specs.Fabrics.{AreSitesOf, SitesRest}
 
@@ -101,3 +112,93 @@ pub record MoveOfAFabric : Type 0 where
   pub edge : Edge
   pub at : IsEdge new j edge
   pub advertises : Advertises edge station
+
+-- ---- a move in traffic
+
+-- an update of the station is pending at some edge
+abbrev pub IsPendingOf : Station → Fabric → Type 0
+IsPendingOf s f = (i : ℕ) × (a : Edge) × (r : Register) × IsEdge f i a × Contains a.routes.speaker.pending r
+    × (is_of s r ≡ true)
+
+-- one of the steps delivers an update of the station to an edge that has neither it nor a newer one of its register
+pub record Delivers (s : Station) (old : Fabric) (steps : List Step) (new : Fabric) : Type 0 where
+  pub place : ℕ
+  pub edge : Edge
+  pub number : ℕ
+  pub update : Fields
+  pub at : IsEdge old place edge
+  pub news : is_newest edge.routes.speaker update ≡ true
+  pub there : slice_get new.pool number ≡ Some update
+  pub of : is_of s update.register ≡ true
+  pub among : Contains steps (Deliver (suc place) (suc number))
+
+-- before each of these steps there are others: an update of the station is pending, and one is delivered
+abbrev pub InTraffic : Station → Fabric → List (List Step × Step) → Fabric → Type 0
+InTraffic s old [] new = new ≡ old
+InTraffic s old (part ∷ parts) new = (mid : Fabric) × (next : Fabric) × Runs old part.0 mid × IsPendingOf s old
+    × Delivers s old part.0 mid × Runs mid (part.1 ∷ []) next × InTraffic s next parts new
+
+abbrev pub all_steps : List (List Step × Step) → List Step
+all_steps [] = []
+all_steps (part ∷ parts) = part.0 ++ part.1 ∷ all_steps parts
+
+-- A station moves in a fabric of three edges, and between every two steps of the move updates of another station are
+-- pending and delivered. The steps after the station has come are four rounds of it, and two rounds in which the
+-- announcements come first. Then the laws on a move hold of this run.
+pub record MoveInTraffic : Type 0 where
+  pub old : Fabric
+  pub has_run : HasRun old
+  pub three : length old.edges ≡ 3
+  pub station : Station
+  pub other : Station
+  pub apart : other ≢ station
+  pub mid : Fabric
+  pub comes : StationComes old 0 1 station mid
+  pub parts : List (List Step × Step)
+  pub new : Fabric
+  pub traffic : InTraffic other mid parts new
+  pub beside : RunsBeside 0 1 station mid (all_steps parts) new
+  pub none : NoneRestarts (all_steps parts)
+  -- rounds
+  pub four : Rounds (RunsBeside 0 1 station) station 4 mid new
+  pub half : Fabric
+  pub first : IsOrderly 0 1 station mid half
+  pub second : IsOrderly 0 1 station half new
+  pub rounds : ℕ
+  pub enough : 2 * to_come_on station mid + 1 ≤ rounds
+  pub many : Rounds (RunsAlone station) station rounds mid new
+  -- by `station_agrees_after_a_move` and `station_agrees`
+  pub agrees_in_four : AgreesOn new station
+  pub agrees_in_two : AgreesOn new station
+  pub agrees_soon : AgreesOn new station
+  -- by `station_moves_anyhow`
+  pub moved : StationMovedAnyhow old 0 station (address_of comes.from) (address_of comes.to) new
+  -- a delivery of the new advert, and what `taken_stays` says of it
+  pub given : Fabric
+  pub number : ℕ
+  pub update : Fields
+  pub there : slice_get given.pool number ≡ Some update
+  pub of : is_of station update.register ≡ true
+  pub got : Fabric
+  pub reply : Reply
+  pub gives : FabricSteps given (Deliver 1 (suc number)) (Ok reply) got
+  pub later : List Step
+  pub goes_on : Runs got later new
+  pub none_later : NoneRestarts later
+  pub stays : (b : Edge) → IsEdge new 0 b
+      → (v : Value) × (value_at (table_of b) update.register ≡ Some v) × (is_newer update.value v ≡ false)
+  -- a frame for the station at the third edge, on the way, and what `frames_meanwhile` says of it
+  pub way : List Step
+  pub between : Fabric
+  pub on_way : RunsBeside 0 1 station mid way between
+  pub none_before : NoneRestarts way
+  pub edge : Edge
+  pub at : IsEdge between 2 edge
+  pub after : Edge
+  pub event : Event
+  pub port : ℕ
+  pub frame : IsFrameFor edge event port station
+  pub answer : Reply
+  pub sends : Steps edge event (Ok answer) after
+  pub goes : GoesTo (address_of comes.from) answer ⊎ GoesTo (address_of comes.to) answer
+      ⊎ IsFlooded after station port answer

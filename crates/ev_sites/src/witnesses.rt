@@ -1,9 +1,13 @@
 //! Fabrics that meet the premises of laws, here and in `ev_fabric`, as functions that do nothing:
 //! the contract states that there is one.
 
-ghost use Rattle.ev_sites.specs.Witnesses.{FrameOfAFabric, MoveOfAFabric, SitesOfAFabric};
+ghost use Rattle.ev_sites.specs.Witnesses.{FrameOfAFabric, MoveInTraffic, MoveOfAFabric};
+ghost use Rattle.ev_sites.specs.Witnesses.{SitesOfAFabric};
 
-use ev_fabric::{agrees_on, every_run, from_port_to_port, starts};
+use ev_fabric::{
+    agrees_on, every_run, frames_meanwhile, from_port_to_port, starts, station_agrees,
+    station_agrees_after_a_move, station_moves_anyhow, taken_stays,
+};
 use rstp_run::laws::{runs_happen, settled_by_lists};
 
 /// A witness of `no_circle_in_a_fabric`, and so of `no_circle_through_tunnels` and
@@ -39,4 +43,22 @@ pub fn fabric_moves_a_station()
     settled_by_lists();
     runs_happen();
     agrees_on();
+}
+
+/// A witness of `station_agrees`, `station_agrees_after_a_move`, `taken_stays`,
+/// `station_moves_anyhow` and `frames_meanwhile` of `ev_fabric`: three edges, after a run from
+/// their opening. A station comes to the second edge. Between every two steps of its move, updates
+/// of another station are pending and delivered.
+pub fn fabric_moves_in_traffic()
+    ensures { MoveInTraffic }
+{
+    settled_by_lists();
+    runs_happen();
+    starts();
+    every_run();
+    station_agrees();
+    station_agrees_after_a_move();
+    station_moves_anyhow();
+    taken_stays();
+    frames_meanwhile();
 }

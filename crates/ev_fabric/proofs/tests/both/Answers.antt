@@ -5,6 +5,7 @@ use Rattle.ev_edge.specs.declared.config.EdgeConfig.{EdgeConfig}
 use Rattle.ev_edge.specs.Config.{IsConfig}
 use Rattle.ev_fabric.specs.Fabric.{addresses_of}
 use Rattle.ev_fabric.specs.Opening.{AreConfigs}
+use Rattle.ev_fabric.proofs.Example.{each}
 use Rattle.ev_fabric.proofs.tests.both.Goals as goal
 
 abbrev addresses : List ℕ
@@ -22,12 +23,6 @@ both_listen : (o : ℕ) → Contains addresses o → Contains listeners o
 both_listen o (zero, l, e) = (zero, lit< tt, e)
 both_listen o (suc zero, l, e) = (suc zero, lit< tt, e)
 both_listen o (suc (suc n), l, e) = absurd (omega (arith, l))
-
--- a property of two elements holds for each element of their list
-each : (P : EdgeConfig → Type 0) (x y : EdgeConfig) → P x → P y → (c : EdgeConfig) → Contains (x ∷ y ∷ []) c → P c
-each P x y h k c (zero, l, e) = subst P e h
-each P x y h k c (suc zero, l, e) = subst P e k
-each P x y h k c (suc (suc n), l, e) = absurd (omega (arith, l))
 
 -- two edges of these addresses that accept updates from both
 are_configs : (x y : EdgeConfig) → x.address ≡ 0x0a00_0001 → y.address ≡ 0x0a00_0002 → x.originators.items ≡ listeners
