@@ -7,6 +7,7 @@ ghost use Rattle.ev_console.specs.Inner.Conversation.{TakesOctets, TakesEnd};
 use crate::answering::reply;
 use crate::edges::Edges;
 use crate::operated::Operated;
+use crate::reached::Host;
 use arrayvec::ArrayVec;
 use ether_wire::{Device, In, Out};
 use ev_mailboxes::Running;
@@ -149,6 +150,11 @@ pub fn converse<R: Wait, I: In, W: Out>(
     requires out { IsOpen (W.end out.old) }
     ensures { Talks (I.end reader.old) (I.end reader.new) (W.end out.old) (W.end out.new) result }
 {
-    let mut edges = Edges::new(rt, *running);
+    let mut edges = Edges {
+        many: Host {
+            rt,
+            running: *running,
+        },
+    };
     converse_with(alloc, &mut edges, reader, out)
 }

@@ -7,6 +7,7 @@ mod conversation;
 mod edges;
 mod operated;
 mod printing;
+mod reached;
 mod table;
 
 pub use conversation::{converse, converse_with};
