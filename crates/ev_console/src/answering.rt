@@ -1,11 +1,12 @@
 //! The answer to one line: its requests are made once, and answered in the words of a simulation.
-ghost use Rattle.std.specs.Prelude.{◌≡◌, true, OnOk};
+ghost use Rattle.std.specs.Prelude.{◌≡◌, [], true, OnOk};
 ghost use Rattle.ether_wire.specs.Ends.{IsOpen};
 ghost use Rattle.ev_report.specs.Ends.{Tells};
 ghost use Rattle.ev_script.specs.Script.{command_of, line_of};
 ghost use Rattle.ev_console.specs.Answers.{Steps, ShowsTable, ShowsPort, ShowsView, ShowsEdges, Says, simulated_text, served_seen_text, AnswersCommand, AnswersWords, AnswersQuestion, AnswersLine};
 ghost use Rattle.ev_console.specs.Inner.Answers.{Does, Replies};
 
+use crate::flushing::Flushing;
 use crate::operated::{Operated, Unreached};
 use crate::printing::{
     put_bad, put_entered, put_help, put_port_seen, put_served, put_simulated, put_view_seen,
@@ -224,7 +225,7 @@ fn answer<O: Operated, W: Out>(
 }
 
 /// Answers a line, writes an empty line after the answer, and flushes the writer.
-pub(crate) fn reply<O: Operated, W: Out>(
+pub(crate) fn reply<O: Operated, W: Flushing>(
     alloc: Global,
     operated: &mut O,
     line: &[u8],
@@ -234,9 +235,10 @@ pub(crate) fn reply<O: Operated, W: Out>(
     ensures does { Replies (O.count operated.old) line.now (O.asked operated.old)
         (O.asked operated.new) (W.end out.old) (W.end out.new) result }
     ensures failures { OnOk result ((W.end out.new).failures ≡ (W.end out.old).failures) }
+    ensures flushed { OnOk result (W.held out.new ≡ []) }
     ensures count { O.count operated.new ≡ O.count operated.old }
 {
     answer(alloc, operated, line, out)?;
     out.put(b"\n")?;
-    out.flush()
+    out.flush_held()
 }

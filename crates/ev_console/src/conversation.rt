@@ -6,9 +6,11 @@ ghost use Rattle.ev_console.specs.Inner.Conversation.{TakesOctets, TakesEnd};
 
 use crate::answering::reply;
 use crate::edges::Edges;
+use crate::flushing::Flushing;
 use crate::operated::Operated;
+use crate::reached::Host;
 use arrayvec::ArrayVec;
-use ether_wire::{Device, In, Out};
+use ether_wire::{Device, In};
 use ev_mailboxes::Running;
 use ev_report::MOST_READS;
 use std::alloc::Global;
@@ -32,7 +34,7 @@ fn keep(line: &mut ArrayVec<u8, KEPT>, octet: u8)
 
 /// Processes an octet. A line feed ends the line that has begun, which is then answered. Any other
 /// octet is kept with that line if there is room.
-fn take_octet<O: Operated, W: Out>(
+fn take_octet<O: Operated, W: Flushing>(
     alloc: Global,
     operated: &mut O,
     line: &mut ArrayVec<u8, KEPT>,
@@ -43,6 +45,7 @@ fn take_octet<O: Operated, W: Out>(
     ensures takes { TakesOctets (O.count operated.old) (octet ∷ []) line.old.items line.new.items
         (O.asked operated.old) (O.asked operated.new) (W.end out.old) (W.end out.new) result }
     ensures failures { OnOk result ((W.end out.new).failures ≡ (W.end out.old).failures) }
+    ensures flushed { W.held out.old ≡ [] → OnOk result (W.held out.new ≡ []) }
     ensures count { O.count operated.new ≡ O.count operated.old }
 {
     if octet != b'\n' {
@@ -55,7 +58,7 @@ fn take_octet<O: Operated, W: Out>(
 }
 
 /// Processes the octets of a piece that was read.
-fn take_piece<O: Operated, W: Out>(
+fn take_piece<O: Operated, W: Flushing>(
     alloc: Global,
     operated: &mut O,
     line: &mut ArrayVec<u8, KEPT>,
@@ -66,6 +69,7 @@ fn take_piece<O: Operated, W: Out>(
     ensures takes { TakesOctets (O.count operated.old) piece.now line.old.items line.new.items
         (O.asked operated.old) (O.asked operated.new) (W.end out.old) (W.end out.new) result }
     ensures failures { OnOk result ((W.end out.new).failures ≡ (W.end out.old).failures) }
+    ensures flushed { W.held out.old ≡ [] → OnOk result (W.held out.new ≡ []) }
     ensures count { O.count operated.new ≡ O.count operated.old }
 {
     for octet in piece {
@@ -78,7 +82,7 @@ fn take_piece<O: Operated, W: Out>(
 }
 
 /// Answers the last line, if it lacks its line feed.
-fn take_end<O: Operated, W: Out>(
+fn take_end<O: Operated, W: Flushing>(
     alloc: Global,
     operated: &mut O,
     line: &[u8],
@@ -101,7 +105,7 @@ fn take_end<O: Operated, W: Out>(
 ///
 /// `Device` if a read or a write failed, or 2^40 reads didn't reach the end; then no further line
 /// is processed.
-pub fn converse_with<O: Operated, I: In, W: Out>(
+pub fn converse_with<O: Operated, I: In, W: Flushing>(
     alloc: Global,
     operated: &mut O,
     reader: &mut I,
@@ -138,7 +142,7 @@ pub fn converse_with<O: Operated, I: In, W: Out>(
 ///
 /// `Device` if a read or a write failed, or 2^40 reads didn't reach the end; then no further line
 /// is processed.
-pub fn converse<R: Wait, I: In, W: Out>(
+pub fn converse<R: Wait, I: In, W: Flushing>(
     rt: &R,
     alloc: Global,
     running: &Running<'_>,
@@ -149,6 +153,11 @@ pub fn converse<R: Wait, I: In, W: Out>(
     requires out { IsOpen (W.end out.old) }
     ensures { Talks (I.end reader.old) (I.end reader.new) (W.end out.old) (W.end out.new) result }
 {
-    let mut edges = Edges::new(rt, *running);
+    let mut edges = Edges {
+        many: Host {
+            rt,
+            running: *running,
+        },
+    };
     converse_with(alloc, &mut edges, reader, out)
 }

@@ -1,51 +1,38 @@
-//! The edges of this process, as a console queries them.
-ghost use Rattle.std.specs.Prelude.{◌≡◌, IfOk};
+//! Running edges, as a console queries them by their numbers.
+ghost use Rattle.std.specs.Prelude.{◌≡◌};
 
 use crate::operated::{Operated, Unreached};
+use crate::reached::{ManyEdges, OneEdge};
 use ev_book::BookRefusal;
 use ev_edge::Reply;
-use ev_mailboxes::{Command, Control, PortView, Running, Served};
+use ev_mailboxes::{Command, PortView, Served};
 use ev_view::EdgeQuestion;
 use route_wire::Update;
 use std::alloc::{AllocError, Global};
-use std::sync::Wait;
 
-/// Edges that run on this system's threads. The history of requests is `None`, since no clause
-/// describes state under a lock.
+/// Running edges that a console queries. The history of requests is `None`, since no clause
+/// describes state under a lock. But each request goes to the edge that it names, and the answer
+/// is that edge's (`gave`), as any edges show.
 #[derive(Drop)]
-pub(crate) struct Edges<'x, R> {
-    rt: &'x R,
-    running: Running<'x>,
-    count: u64,
+pub(crate) struct Edges<M> {
+    /// The edges.
+    pub(crate) many: M,
 }
 
-impl<'x, R: Wait> Edges<'x, R> {
-    /// Returns these edges.
-    pub(crate) fn new(rt: &'x R, running: Running<'x>) -> Self {
-        let count = running.edges() as u64;
-        Edges { rt, running, count }
-    }
+impl<M: ManyEdges> Operated for Edges<M> {
+    ghost use Rattle.std.specs.Prelude.{◌⊎◌, None};
+    ghost use Rattle.ev_console.specs.Inner.Asking.{edge_of, IsUnknown};
 
-    /// Returns the edge with this number.
-    fn reach(&self, edge: u64) -> Result<Control<'x>, Unreached>
-        ensures { IfOk result (λ control. control.mailbox.now.number ≡ edge) }
-    {
-        match self.running.edge(edge as usize) {
-            Some(control) => Ok(control),
-            None => Err(Unreached::NoEdge),
-        }
-    }
-}
-
-impl<R: Wait> Operated for Edges<'_, R> {
-    ghost use Rattle.std.specs.Prelude.{None};
-
-    ghost count = { λ edges. edges.count };
+    ghost count = { λ edges. M.count edges.many };
 
     ghost asked = { λ edges. None };
 
+    ghost gave = { λ edges asked.
+        (IsUnknown asked × M.lacks edges.many (edge_of asked))
+        ⊎ ((edge : M.Edge) × M.Edge.gave edge asked) };
+
     fn edges(&self) -> u64 {
-        self.count
+        self.many.edges()
     }
 
     fn enter(
@@ -53,9 +40,9 @@ impl<R: Wait> Operated for Edges<'_, R> {
         edge: u64,
         command: &Command,
     ) -> Result<Result<Reply, BookRefusal>, Unreached> {
-        match self.reach(edge)?.enter(self.rt, *command) {
-            Some(answer) => Ok(answer),
-            None => Err(Unreached::Ended),
+        match self.many.reach(edge) {
+            Some(one) => one.enter(command),
+            None => Err(Unreached::NoEdge),
         }
     }
 
@@ -64,16 +51,16 @@ impl<R: Wait> Operated for Edges<'_, R> {
         alloc: Global,
         edge: u64,
     ) -> Result<Result<Vec<Update>, AllocError>, Unreached> {
-        match self.reach(edge)?.table(self.rt, alloc) {
-            Some(updates) => Ok(updates),
-            None => Err(Unreached::Ended),
+        match self.many.reach(edge) {
+            Some(one) => one.table(alloc),
+            None => Err(Unreached::NoEdge),
         }
     }
 
     fn port(&mut self, edge: u64, port: u8) -> Result<Option<PortView>, Unreached> {
-        match self.reach(edge)?.port(self.rt, port) {
-            Some(view) => Ok(view),
-            None => Err(Unreached::Ended),
+        match self.many.reach(edge) {
+            Some(one) => one.port(port),
+            None => Err(Unreached::NoEdge),
         }
     }
 
@@ -83,9 +70,9 @@ impl<R: Wait> Operated for Edges<'_, R> {
         edge: u64,
         question: &EdgeQuestion,
     ) -> Result<Result<Vec<u8>, AllocError>, Unreached> {
-        match self.reach(edge)?.view(self.rt, alloc, *question) {
-            Some(text) => Ok(text),
-            None => Err(Unreached::Ended),
+        match self.many.reach(edge) {
+            Some(one) => one.view(alloc, question),
+            None => Err(Unreached::NoEdge),
         }
     }
 
@@ -94,9 +81,9 @@ impl<R: Wait> Operated for Edges<'_, R> {
         alloc: Global,
         edge: u64,
     ) -> Result<Result<Served, AllocError>, Unreached> {
-        match self.reach(edge)?.served(self.rt, alloc) {
-            Some(served) => Ok(served),
-            None => Err(Unreached::Ended),
+        match self.many.reach(edge) {
+            Some(one) => one.served(alloc),
+            None => Err(Unreached::NoEdge),
         }
     }
 }

@@ -31,6 +31,10 @@ pub trait Operated {
     /// The requests to the edges and their answers, in order, if that history is known.
     ghost asked: { Self → Option (List Asked) };
 
+    /// The edge that a request names received the request and gave this answer, or no edge has
+    /// that number.
+    ghost gave: { Self → Asked → Type 0 };
+
     /// Returns the number of edges.
     fn edges(&self) -> u64
         ensures { result ≡ count self.now };
@@ -43,6 +47,7 @@ pub trait Operated {
     ) -> Result<Result<Reply, BookRefusal>, Unreached>
         ensures asked { asked self.new
             ≡ behind (asked self.old) (entered edge command.now result ∷ []) }
+        ensures gave { gave self.old (entered edge command.now result) }
         ensures count { count self.new ≡ count self.old };
 
     /// Returns the contents of the edge's table, in the order of a report.
@@ -53,6 +58,7 @@ pub trait Operated {
     ) -> Result<Result<Vec<Update>, AllocError>, Unreached>
         ensures asked { asked self.new
             ≡ behind (asked self.old) (table_seen edge result ∷ []) }
+        ensures gave { gave self.old (table_seen edge result) }
         ensures count { count self.new ≡ count self.old };
 
     /// Returns the state of a port in the edge's spanning tree, or `None` if the edge has no port
@@ -60,6 +66,7 @@ pub trait Operated {
     fn port(&mut self, edge: u64, port: u8) -> Result<Option<PortView>, Unreached>
         ensures asked { asked self.new
             ≡ behind (asked self.old) (port_seen edge port result ∷ []) }
+        ensures gave { gave self.old (port_seen edge port result) }
         ensures count { count self.new ≡ count self.old };
 
     /// Returns the text that answers a question to the edge, with its number before each line.
@@ -71,11 +78,13 @@ pub trait Operated {
     ) -> Result<Result<Vec<u8>, AllocError>, Unreached>
         ensures asked { asked self.new
             ≡ behind (asked self.old) (view_seen edge question.now result ∷ []) }
+        ensures gave { gave self.old (view_seen edge question.now result) }
         ensures count { count self.new ≡ count self.old };
 
     /// Returns the address, ports and VNIs that the edge serves.
     fn served(&mut self, alloc: Global, edge: u64) -> Result<Result<Served, AllocError>, Unreached>
         ensures asked { asked self.new
             ≡ behind (asked self.old) (served_seen edge result ∷ []) }
+        ensures gave { gave self.old (served_seen edge result) }
         ensures count { count self.new ≡ count self.old };
 }

@@ -27,6 +27,7 @@ loop-octet-preserved g c =
           (subst (λ (n : ℕ). TakesOctets n (one ∷ []) h1 h2 k1 k2 e1 e2 (Ok tt)) c.loop-octet.invariant.count
           c.in-Ok.ensures.takes));
       count = c.in-Ok.ensures.count ∙ c.loop-octet.invariant.count;
+      flushed = λ none. c.in-Ok.ensures.flushed (c.loop-octet.invariant.flushed none);
       failures = c.in-Ok.ensures.failures ∙ c.loop-octet.invariant.failures;
     }
 

@@ -1,4 +1,4 @@
-use Rattle.std.proofs.Common.{◌≡◌, take, Ok}
+use Rattle.std.proofs.Common.{◌≡◌, [], take, Ok}
 use Rattle.ev_console.specs.Inner.Conversation.{TakesOctets}
 use Rattle.ev_console.proofs.conversation.take_piece.Given as goal
 
@@ -8,5 +8,6 @@ invariant-loop-octet g l = record {
       l.line.items (g.O.Operated.asked l.initial.operated) (g.O.Operated.asked l.operated)
       (g.W.Out.end l.initial.out) (g.W.Out.end l.out) (Ok tt);
   count : g.O.Operated.count l.operated ≡ g.O.Operated.count l.initial.operated;
+  flushed : g.W.Flushing.held l.initial.out ≡ [] → g.W.Flushing.held l.out ≡ [];
   failures : (g.W.Out.end l.out).failures ≡ (g.W.Out.end l.initial.out).failures;
 }

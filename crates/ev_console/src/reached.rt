@@ -1,0 +1,157 @@
+//! Running edges by their numbers. A console that is proved for any of them asks exactly the edge
+//! that it names, and returns that edge's answer.
+ghost use Rattle.std.specs.Prelude.{◌≡◌, ℕ, MatchOption};
+ghost use Rattle.ev_console.specs.Asking.{Asked, entered, table_seen, port_seen, view_seen, served_seen};
+
+use crate::operated::Unreached;
+use ev_book::BookRefusal;
+use ev_edge::Reply;
+use ev_mailboxes::{Command, Control, PortView, Running, Served};
+use ev_view::EdgeQuestion;
+use route_wire::Update;
+use std::alloc::{AllocError, Global};
+use std::sync::Wait;
+
+/// A running edge, as a console queries it.
+///
+/// # Errors
+///
+/// Each call returns `Unreached::Ended` if the edge has ended.
+pub(crate) trait OneEdge {
+    /// The edge's number, from 1.
+    ghost number: { Self → ℕ };
+
+    /// The edge received this request and gave this answer.
+    ghost gave: { Self → Asked → Type 0 };
+
+    /// Enters a step, and returns the answer of the edge's book.
+    fn enter(&self, command: &Command) -> Result<Result<Reply, BookRefusal>, Unreached>
+        ensures { gave self.now (entered (number self.now) command.now result) };
+
+    /// Returns the contents of the edge's table, in the order of a report.
+    fn table(&self, alloc: Global) -> Result<Result<Vec<Update>, AllocError>, Unreached>
+        ensures { gave self.now (table_seen (number self.now) result) };
+
+    /// Returns the state of a port in the edge's spanning tree, or `None` if the edge has no port
+    /// with this number.
+    fn port(&self, port: u8) -> Result<Option<PortView>, Unreached>
+        ensures { gave self.now (port_seen (number self.now) port result) };
+
+    /// Returns the text that answers a question to the edge, with its number before each line.
+    fn view(
+        &self,
+        alloc: Global,
+        question: &EdgeQuestion,
+    ) -> Result<Result<Vec<u8>, AllocError>, Unreached>
+        ensures { gave self.now (view_seen (number self.now) question.now result) };
+
+    /// Returns the address, ports and VNIs that the edge serves.
+    fn served(&self, alloc: Global) -> Result<Result<Served, AllocError>, Unreached>
+        ensures { gave self.now (served_seen (number self.now) result) };
+}
+
+/// Running edges, numbered from 1.
+pub(crate) trait ManyEdges {
+    /// An edge of these.
+    type Edge: OneEdge + Drop;
+
+    /// The number of edges.
+    ghost count: { Self → ℕ };
+
+    /// No edge was found that has this number.
+    ghost lacks: { Self → ℕ → Type 0 };
+
+    /// Returns the number of edges.
+    fn edges(&self) -> u64
+        ensures { result ≡ count self.now };
+
+    /// Returns the edge with this number, if there is one.
+    fn reach(&self, number: u64) -> Option<Self::Edge>
+        ensures { MatchOption result (lacks self.now number)
+            (λ edge. Self.Edge.number edge ≡ number) };
+}
+
+/// The edges of this process, and the runtime on which a caller waits for their answers.
+#[derive(Drop)]
+pub(crate) struct Host<'x, R> {
+    /// The runtime.
+    pub(crate) rt: &'x R,
+    /// The edges.
+    pub(crate) running: Running<'x>,
+}
+
+/// An edge of this process. Its answers come from a book under a lock, of which no clause knows.
+#[derive(Drop)]
+pub(crate) struct HostedEdge<'x, R> {
+    rt: &'x R,
+    control: Control<'x>,
+}
+
+impl<'x, R: Wait> ManyEdges for Host<'x, R> {
+    ghost use Rattle.std.specs.Prelude.{⊤, vec_len};
+
+    type Edge = HostedEdge<'x, R>;
+
+    ghost count = { λ host. vec_len host.running.mailboxes.now.all };
+
+    ghost lacks = { λ host number. ⊤ };
+
+    fn edges(&self) -> u64 {
+        self.running.edges() as u64
+    }
+
+    fn reach(&self, number: u64) -> Option<HostedEdge<'x, R>> {
+        let control = self.running.edge(number as usize)?;
+        Some(HostedEdge {
+            rt: self.rt,
+            control,
+        })
+    }
+}
+
+impl<R: Wait> OneEdge for HostedEdge<'_, R> {
+    ghost use Rattle.std.specs.Prelude.{⊤};
+
+    ghost number = { λ edge. edge.control.mailbox.now.number };
+
+    ghost gave = { λ edge asked. ⊤ };
+
+    fn enter(&self, command: &Command) -> Result<Result<Reply, BookRefusal>, Unreached> {
+        match self.control.enter(self.rt, *command) {
+            Some(answer) => Ok(answer),
+            None => Err(Unreached::Ended),
+        }
+    }
+
+    fn table(&self, alloc: Global) -> Result<Result<Vec<Update>, AllocError>, Unreached> {
+        match self.control.table(self.rt, alloc) {
+            Some(updates) => Ok(updates),
+            None => Err(Unreached::Ended),
+        }
+    }
+
+    fn port(&self, port: u8) -> Result<Option<PortView>, Unreached> {
+        match self.control.port(self.rt, port) {
+            Some(view) => Ok(view),
+            None => Err(Unreached::Ended),
+        }
+    }
+
+    fn view(
+        &self,
+        alloc: Global,
+        question: &EdgeQuestion,
+    ) -> Result<Result<Vec<u8>, AllocError>, Unreached> {
+        match self.control.view(self.rt, alloc, *question) {
+            Some(text) => Ok(text),
+            None => Err(Unreached::Ended),
+        }
+    }
+
+    fn served(&self, alloc: Global) -> Result<Result<Served, AllocError>, Unreached> {
+        match self.control.served(self.rt, alloc) {
+            Some(served) => Ok(served),
+            None => Err(Unreached::Ended),
+        }
+    }
+}
