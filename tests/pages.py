@@ -57,6 +57,10 @@ IN_SENTENCES = {
     "evpnd-audit fabric LIST --run 'ssh {leaf}'": ("tests/tools/test_audit_routed.py", r'"fabric", "a,b", "--run", f"\{path\} \{\{leaf'),
     "evpnd-audit plot DIRECTORY 5001 MAC > owner.svg": ("tests/tools/test_audit_views.py", r'"plot", place, "5001", SHARED'),
     "evpnd-audit record DIRECTORY": ("tests/tools/test_audit_views.py", r'run\("record", place'),
+    "evpnd-bgp --own 192.0.2.2 --socket /run/evpnd/control --gobgp 127.0.0.1:50052 --announce": (
+        "tests/outside/served_failures.py",
+        '"--announce"',
+    ),
     "evpnd-bgp --own LIST --withdraw": ("tests/outside/bgp_fabric.py", r'gateway\("--withdraw"\)'),
     "evpnd_records.py frr --vni 5001 --before old.json new.json": ("tests/tools/test_records.py", r'"frr", "--vni", "5001", "--before"'),
     "evpndctl --json 1 counts": ("tests/program/test_serve.py", r'\["1", "counts", "--json"\]'),
@@ -65,6 +69,7 @@ IN_SENTENCES = {
     "rt run -- version": ("tools/gate/proofs.py", r'calls\.check\(folder, "run"'),
     'socat EXEC:"evpndctl records" EXEC:"ssh other evpndctl records"': ("tests/outside/served_fabric.py", "EXEC:.* records"),
     "tests/outside/fabric.sh EVPND failures": ("tests/outside/fabric.sh", "failures"),
+    "tests/outside/fabric.sh EVPND failures gobgpds=2": ("tests/outside/served_failures.py", "gobgpds"),
     "tests/outside/package.sh --monitoring": ("tests/outside/package.sh", "monitoring"),
     "tests/outside/package.sh ROOT": ("tests/outside/package.sh", "chroot"),
     "tests/outside/tap_relay.py NETNS DEVICE HERE THERE": ("tests/outside/lab.sh", r"tap_relay\.py"),

@@ -6,7 +6,7 @@ daemon takes it.
 """
 
 import re
-from typing import Dict, Hashable, Iterable, List, NamedTuple, Optional, Set, Tuple
+from typing import Container, Dict, Hashable, Iterable, List, NamedTuple, Optional, Set, Tuple
 
 from frr_routes import AUTO_RT, NO_KIND, Routes, Seen
 from update_records import FLOOD_ROUTE, MAC_ROUTE, Advert, Register, Unreadable, Update
@@ -15,7 +15,11 @@ from update_records import read_address, read_ip, read_mac, read_number
 
 VXLAN = 8  # the tunnel type of the encapsulation community (RFC 8365, 5.1.3)
 INGRESS_REPLICATION = 6  # the tunnel type of the PMSI attribute (RFC 6514, 5; RFC 7432, 11.2)
+REMEMBERED = 1 << 16  # answers that are kept of each kind, for routes that are alike
 GREATEST_NUMBER = (1 << 16) - 1  # an RD of type 1 and a route target of an AS have two octets of it (RFC 4364, 4.2)
+
+
+Place = Tuple[bytes, int]  # a route's originator and VNI
 
 
 class Pmsi(NamedTuple):
@@ -130,6 +134,13 @@ def route_of(update: Update, names: Names) -> Route:
     return route._replace(labels=labels, mobility=(advert.static, advert.sequence))
 
 
+def remember(cache: dict, key: Hashable, value: object) -> None:
+    """Puts a value into a cache, which is emptied first if it is full."""
+    if len(cache) >= REMEMBERED:
+        cache.clear()
+    cache[key] = value
+
+
 # ---- routes to registers -----------------------------------------------------------------------------------
 
 
@@ -138,22 +149,38 @@ def said_by(route: Route, routes: Routes) -> Optional[Tuple[Register, Advert]]:
     routes.routes += 1
     if route.kind not in (MAC_ROUTE, FLOOD_ROUTE):
         return routes.leave(NO_KIND)
-    if route.kind == FLOOD_ROUTE and route.pmsi is not None and route.pmsi.tunnel != INGRESS_REPLICATION:
-        return routes.leave("a multicast tunnel that isn't ingress replication")
     try:
         mac = read_mac(route.mac) if route.kind == MAC_ROUTE else None
         ip = b"" if mac is None or route.ip == "" else read_ip(route.ip)
-        label = label_of(route)
-        seen = Seen(target_of(route, label, routes), label, mac, str(route.tag), route.esi.hex(), True)
-        vni = routes.network_of(seen)
-        originator = None if vni is None else routes.next_hop(route.rd, route.hop, vni, mac)
+        place = place_of(route, mac, routes)
     except Unreadable:
         return routes.leave("an address that a record can't say")
+    return None if place is None else ((*place, mac, ip), advert_of(route))
+
+
+def place_of(route: Route, mac: Optional[bytes], routes: Routes) -> Optional[Place]:
+    """The originator and the VNI of a route. Most of a leaf's routes differ by MAC only, and have the same answer."""
+    alike = route.kind, route.rd, route.tag, route.esi, route.labels, route.hop, route.targets, route.pmsi
+    place = routes.places.get(alike)
+    if place is None:
+        counted = sum(routes.told.values())
+        place = judged(route, mac, routes)
+        if place is not None and counted == sum(routes.told.values()):
+            remember(routes.places, alike, place)
+    return place
+
+
+def judged(route: Route, mac: Optional[bytes], routes: Routes) -> Optional[Place]:
+    """The originator and the VNI of a route, by its attributes; nothing, with its cause counted, if a record can't say it."""
+    if route.kind == FLOOD_ROUTE and route.pmsi is not None and route.pmsi.tunnel != INGRESS_REPLICATION:
+        return routes.leave("a multicast tunnel that isn't ingress replication")
+    label = label_of(route)
+    seen = Seen(target_of(route, label, routes), label, mac, str(route.tag), route.esi.hex(), True)
+    vni = routes.network_of(seen)
+    originator = None if vni is None else routes.next_hop(route.rd, route.hop, vni, mac)
     if originator is None:
         return None
-    if originator == bytes(4):
-        return routes.leave("no next hop")
-    return (originator, vni, mac, ip), advert_of(route)
+    return routes.leave("no next hop") if originator == bytes(4) else (originator, vni)
 
 
 def label_of(route: Route) -> Optional[int]:
@@ -186,7 +213,8 @@ class Heard:
     A route is known by its session's neighbour and what BGP knows it by. Two routes of one register, by two reflectors
     or with two RDs, are the better of them. Each change takes the next number of its originator.
 
-    A route is in doubt from the end of a daemon that said it until it is said again, or the doubt expires.
+    When a daemon ends, each route that it said is in doubt: until a daemon says it again, until it is known what the next
+    daemon holds of this neighbour, or until the doubt expires.
     """
 
     def __init__(self, incarnation: int) -> None:
@@ -199,22 +227,25 @@ class Heard:
 
     def take(self, neighbour: str, key: Hashable, said: Optional[Tuple[Register, Advert]]) -> List[Register]:
         """Takes what a route says now, nothing where it is withdrawn or left out; gives the registers that changed."""
-        session = self.sessions.setdefault(neighbour, {})
-        self.doubted.discard((neighbour, key))
+        session, route = self.sessions.setdefault(neighbour, {}), (neighbour, key)
+        self.doubted.discard(route)
         old = session.pop(key, None)
         touched = []
         if old is not None:
-            self.drop(old[0], (neighbour, key))
+            self.drop(old[0], route)
             touched.append(old[0])
         if said is not None:
+            register = said[0]
             session[key] = said
-            self.routes[said[0]] = self.routes.get(said[0], ()) + ((neighbour, key),)
-            touched = [register for register in touched if register != said[0]] + [said[0]]
+            self.routes[register] = (*self.routes.get(register, ()), route)
+            if touched != [register]:
+                touched.append(register)
         return [register for register in touched if self.settle(register)]
 
     def is_folded(self, neighbour: str, register: Register) -> bool:
         """Whether a register is the better of several routes of one neighbour."""
-        return sum(each == neighbour for each, _ in self.routes.get(register, ())) > 1
+        routes = self.routes.get(register, ())
+        return len(routes) > 1 and sum(each == neighbour for each, _ in routes) > 1
 
     def drop(self, register: Register, route: Tuple[str, Hashable]) -> None:
         """Takes a route off its register."""
@@ -233,44 +264,24 @@ class Heard:
         """Puts each route in doubt."""
         self.doubted = {(neighbour, key) for neighbour, session in self.sessions.items() for key in session}
 
-    def expire(self) -> List[Register]:
-        """Withdraws each route that is still in doubt; gives the registers that changed."""
-        return [register for each in list(self.doubted) for register in self.take(*each, None)]
+    def doubted_of(self, neighbour: str) -> int:
+        """The number of a neighbour's routes that are in doubt."""
+        return sum(each == neighbour for each, _ in self.doubted)
 
-    def drop(self, register: Register, route: Tuple[str, Hashable]) -> None:
-        """Takes a route off its register."""
-        left = tuple(each for each in self.routes[register] if each != route)
-        if left:
-            self.routes[register] = left
-        else:
-            del self.routes[register]
-
-    def lose(self, neighbour: str) -> List[Register]:
-        """Withdraws what a neighbour's session brought, but for what is in doubt; gives the registers that changed."""
-        keys = [key for key in self.sessions.get(neighbour, ()) if (neighbour, key) not in self.doubted]
-        return [register for key in keys for register in self.take(neighbour, key, None)]
-
-    def doubt_all(self) -> None:
-        """Puts each route in doubt."""
-        self.doubted = {(neighbour, key) for neighbour, session in self.sessions.items() for key in session}
+    def confirm(self, neighbour: str, held: Container[Hashable]) -> List[Register]:
+        """Ends the doubt about a neighbour's routes: withdraws those that aren't held; gives the registers that changed."""
+        keys = [key for each, key in self.doubted if each == neighbour]
+        self.doubted.difference_update((neighbour, key) for key in keys)
+        return [register for key in keys if key not in held for register in self.take(neighbour, key, None)]
 
     def expire(self) -> List[Register]:
         """Withdraws each route that is still in doubt; gives the registers that changed."""
         return [register for each in list(self.doubted) for register in self.take(*each, None)]
-
-    def lacking(self, found: Dict[Register, Update]) -> List[Register]:
-        """The registers that an edge lacks, or of which it has an older update, by what it reports."""
-        return [
-            register
-            for register, update in self.updates.items()
-            if (update.advert is not None and register not in found)
-            or (register in found and newness_of(found[register]) < newness_of(update))
-        ]
 
     def settle(self, register: Register) -> bool:
         """Numbers a change of a register, if what its routes say is another thing than before."""
         adverts = [self.sessions[neighbour][key][1] for neighbour, key in self.routes.get(register, ())]
-        advert = max(adverts, key=content_of, default=None)
+        advert = adverts[0] if len(adverts) == 1 else max(adverts, key=content_of, default=None)
         old = self.updates.get(register)
         if advert == (None if old is None else old.advert):
             return False

@@ -4,6 +4,7 @@
     evpnd_bgp.py --watch [SECONDS]            the fabric's routes and their changes, as records on standard output
     evpnd_bgp.py --own LIST --stdio           the same; records on standard input are announced, until it ends
     evpnd_bgp.py --own LIST --socket PATH     the same at the control socket of edges that run (`evpnd serve`)
+    evpnd_bgp.py --own LIST --socket PATH --announce    announces only, by a second GoBGP beside the first one
     evpnd_bgp.py --own LIST --withdraw        withdraws the routes of an earlier gateway, and ends
 
 LIST has the addresses of our edges, with commas: all that speak records there, also those of other hosts. A record of
@@ -21,6 +22,7 @@ gateway runs there. Nothing here is proved.
 """
 
 import argparse
+import gc
 import itertools
 import os
 import signal
@@ -28,18 +30,19 @@ import socket
 import sys
 import threading
 import time
-from typing import BinaryIO, Callable, Dict, Iterable, List, Optional
+from typing import BinaryIO, Callable, Dict, Iterable, List, Optional, Tuple
 
 from bgp_routes import Heard, Names, Own, announced_by, is_target, lacking_in, route_of, said_by
 from bgp_service import AT_ONCE, LOG, Family, Kinds, Lock, Pending, log_to_standard_error, prometheus_text, write_whole
 from evpnd_records import add_route_words, vnis_of
 from frr_routes import FOLDED, Routes
-from gobgp import PROTOS, Daemon, Declined, Event, NoDaemon
+from gobgp import PROTOS, Daemon, Declined, Event, NoDaemon, Session
 from update_records import VERSION, Fault, Refused, Register, Unreadable, Update, address_text
 from update_records import read_address, read_records, record_of, register_of, update_of_report
 
 HOLD = 10  # seconds in which routes of an earlier life may be announced again, before they are withdrawn
-KEEP = 60  # seconds for which the fabric's routes are kept after gobgpd has ended, until it says them again
+KEEP = 60  # seconds for which the fabric's routes are kept at most after gobgpd has ended, until it says them again
+QUIET = 3  # seconds without a new route after which a neighbour that sends no End-of-RIB has sent all
 LOOK = 30  # seconds between two looks at what gobgpd and the edges have
 SHARE = 20  # a look that took one second is followed by no other for this many seconds
 TICK = 1  # seconds between two checks for due work
@@ -49,6 +52,7 @@ LONGEST = 30  # seconds between two tries, at most, while the edges answer that 
 PATIENCE = 60  # seconds that a gateway takes at most to withdraw its routes, or to wait for an answer
 BUSY = b"busy\n"
 EVENTS = 500  # events that are taken in one piece
+NEW_OBJECTS = 100000  # new objects between two searches for garbage in cycles: routes are none, and a search looks at them
 EVERY_VNI = range(1 << 24)
 
 
@@ -81,11 +85,14 @@ class Gateway:
         self.declined: Dict[Optional[bytes], set] = {}
         self.neighbours: Dict[str, bool] = {}
         self.is_known = self.is_alone = self.is_up = self.is_joined = False
+        self.announces_only = False
         self.was_up, self.stopping = threading.Event(), threading.Event()
         self.control: Optional[str] = None
         self.metrics: Optional[str] = None
         self.settles_at: Optional[float] = None
         self.doubt_ends_at: Optional[float] = None
+        self.lives = 0
+        self.progress: Dict[str, Tuple[tuple, float]] = {}
         self.looked_at: Dict[str, float] = {}
         self.next_look: Dict[str, float] = {}
 
@@ -95,7 +102,7 @@ class Gateway:
         """Follows what the daemon reports, and begins again when it ends; what it said is in doubt meanwhile."""
         while not self.stopping.is_set():
             try:
-                for events in self.daemon.watch():
+                for events in self.daemon.watch(not self.announces_only):
                     self.begin()
                     for place in range(0, len(events), EVENTS):
                         self.hear(events[place : place + EVENTS])
@@ -119,6 +126,7 @@ class Gateway:
             return
         self.is_up = False
         with self.lock:
+            self.lives += 1
             self.neighbours = dict.fromkeys(self.neighbours, False)
             self.heard.doubt_all()
             if self.doubt_ends_at is None:
@@ -177,9 +185,49 @@ class Gateway:
         with self.lock:
             self.doubt_ends_at = None
             changed = self.heard.expire()
+        self.withdraw_unsaid(changed)
+
+    def withdraw_unsaid(self, changed: List[Register]) -> None:
+        """Logs and queues what is withdrawn because no daemon has said it again."""
         if changed:
             LOG.warning("%d registers of the fabric are withdrawn: gobgpd has not said them again", len(changed))
         self.push(changed)
+
+    def resolve(self) -> None:
+        """Ends the doubt about each neighbour that has sent all of its routes to the daemon that runs now."""
+        while not self.stopping.wait(TICK):
+            if self.doubt_ends_at is None or not self.is_up:
+                continue
+            try:
+                for session in self.daemon.sessions():
+                    if self.has_sent_all(session):
+                        self.confirm(session.neighbour)
+            except (NoDaemon, Declined):
+                pass  # the watch logs it, and tries again
+            with self.lock:
+                if not self.heard.doubted:
+                    self.doubt_ends_at = None
+
+    def has_sent_all(self, session: Session) -> bool:
+        """Whether a neighbour with routes in doubt has sent all: by its End-of-RIB; if it sends none, after a silence."""
+        now = time.monotonic()
+        with self.lock:
+            doubted = self.heard.doubted_of(session.neighbour)
+        progress = session.is_up, doubted, None if session.has_all else session.received
+        before, since = self.progress.get(session.neighbour, (None, now))
+        if progress != before:
+            self.progress[session.neighbour] = progress, now
+            return False
+        is_silent = not session.marks_end and now >= since + QUIET
+        return session.is_up and doubted > 0 and (session.has_all or is_silent)
+
+    def confirm(self, neighbour: str) -> None:
+        """Withdraws what is in doubt of a neighbour and the daemon doesn't hold; what it holds is no longer in doubt."""
+        life = self.lives
+        held = set(self.daemon.held_of(neighbour))
+        with self.lock:
+            changed = self.heard.confirm(neighbour, held) if life == self.lives else []
+        self.withdraw_unsaid(changed)
 
     def is_settled(self) -> bool:
         """Whether what an earlier life left has had its time to be said anew; longer while no neighbour is up."""
@@ -264,6 +312,8 @@ class Gateway:
                 is_new = self.own.take(update)
             if is_new:
                 self.announcing.add([register_of(update)])
+            return
+        if self.announces_only:
             return
         with self.lock:
             if self.strangers is not None:
@@ -412,7 +462,7 @@ class Gateway:
     def session(self, connection: socket.socket) -> None:
         """One session, until either side ends it; raises Busy if the edges have no seat."""
         pending = self.begin_session()
-        writer = started(self.write_socket, connection, pending)
+        writer = None if self.announces_only else started(self.write_socket, connection, pending)
         try:
             with connection.makefile("rb") as stream:
                 if stream.peek(len(BUSY))[: len(BUSY)] == BUSY:
@@ -424,7 +474,8 @@ class Gateway:
         finally:
             pending.close()
             with_no_fault(lambda: connection.shutdown(socket.SHUT_RDWR))
-            writer.join()
+            if writer is not None:
+                writer.join()
 
     def write_socket(self, connection: socket.socket, pending: Pending) -> None:
         """Writes to a session; if that fails, its reading ends too."""
@@ -586,6 +637,8 @@ def parser() -> argparse.ArgumentParser:
     way.add_argument("--stdio", action="store_true", help="records at standard input and output")
     way.add_argument("--socket", metavar="PATH", help="records at a Unix socket, as its client")
     way.add_argument("--withdraw", action="store_true", help="withdraw the routes of an earlier gateway, and end")
+    only = "with --socket: announce records by a second GoBGP; another gateway tells the edges what the fabric says"
+    words.add_argument("--announce", action="store_true", help=only)
     words.add_argument("--own", type=own_of, default=[], metavar="LIST", help="our edges: their records are announced")
     words.add_argument("--gobgp", default="127.0.0.1:50051", metavar="HOST:PORT", help="the daemon's API")
     words.add_argument("--protos", default=PROTOS, metavar="FOLDER", help="GoBGP's protos, if they aren't Debian's")
@@ -599,19 +652,22 @@ def parser() -> argparse.ArgumentParser:
 def lock_names(arguments: argparse.Namespace) -> List[str]:
     """What no two gateways may share: an edge at a GoBGP, and a control socket."""
     names = [f"edge {address_text(each)} at GoBGP {arguments.gobgp}" for each in arguments.own]
-    return names + ([os.path.realpath(arguments.socket)] if arguments.socket is not None else [])
+    tells = arguments.socket is not None and not arguments.announce
+    return names + ([os.path.realpath(arguments.socket)] if tells else [])
 
 
 def run(gateway: Gateway, arguments: argparse.Namespace) -> int:
     """Runs a gateway until its input or a signal ends it; gives the status."""
     threading.excepthook = end_all
+    gc.set_threshold(NEW_OBJECTS)
     for number in (signal.SIGINT, signal.SIGTERM, signal.SIGHUP):
         signal.signal(number, stop)
     try:
         if arguments.withdraw:
             return gateway.withdraw()
         announcer = started(gateway.announce)
-        for body in (gateway.watch, gateway.tend, gateway.look_often):
+        told = () if arguments.announce else (gateway.resolve, gateway.look_often)
+        for body in (gateway.watch, gateway.tend, *told):
             started(body)
         if arguments.socket is not None:
             gateway.by_socket(arguments.socket)
@@ -631,6 +687,8 @@ def main() -> int:
     arguments = words.parse_args()
     if bool(arguments.own) == (arguments.watch is not False):
         words.error("--stdio, --socket and --withdraw need --own, and --watch announces nothing")
+    if arguments.announce and arguments.socket is None:
+        words.error("--announce needs --socket")
     for target, _ in arguments.rt:
         if not is_target(target):
             words.error(f"{target!r} is no route target: AS:NUMBER or ADDRESS:NUMBER")
@@ -643,7 +701,7 @@ def main() -> int:
         return 2
     routes = Routes(arguments.vni, arguments.any_rd, arguments.rt)
     gateway = Gateway(daemon, routes, arguments.own, Names(0, arguments.rt, arguments.auto_rt))
-    gateway.metrics = arguments.metrics
+    gateway.metrics, gateway.announces_only = arguments.metrics, arguments.announce
     try:
         return run(gateway, arguments)
     finally:

@@ -212,6 +212,7 @@ class Routes:
         self.adverts: Dict[Tuple[bool, int, Optional[int]], Advert] = {}
         self.addresses: Dict[str, bytes] = {}
         self.rds: Dict[str, Optional[str]] = {}
+        self.places: Dict[tuple, Tuple[bytes, int]] = {}
 
     def read(self, stream: TextIO, name: str) -> Iterator[Path]:
         """The paths that a stream's text shows: by RD as the whole table has them, or without, as a VNI's."""

@@ -11,9 +11,9 @@ import os
 import subprocess
 import sys
 import tempfile
-from typing import Dict, Iterable, Iterator, List, NamedTuple, Optional, Tuple
+from typing import Dict, Hashable, Iterable, Iterator, List, NamedTuple, Optional, Tuple
 
-from bgp_routes import VXLAN, Pmsi, Route
+from bgp_routes import VXLAN, Pmsi, Route, remember
 from update_records import FLOOD_ROUTE, MAC_ROUTE, Unreadable
 
 PROTOS = "/usr/share/gocode/src/github.com/osrg/gobgp/api"
@@ -23,7 +23,6 @@ NO_NEIGHBOUR = ("", "<nil>")
 ROUTE_TARGET = 2  # the subtype of an extended community (RFC 4360, 4)
 SECONDS = 30
 SINGLE_THREADED = "SingleThreadedUnaryStream"  # grpc reads a stream in the thread that requests it, at half the cost
-REMEMBERED = 1 << 16  # RDs and sets of communities that are kept parsed
 
 
 class NoDaemon(Exception):
@@ -45,6 +44,19 @@ class Event(NamedTuple):
     is_withdrawn: bool = False
     identifier: int = 0
     is_up: bool = False
+
+
+class Session(NamedTuple):
+    """A neighbour's session of the family EVPN: the routes that have come, and whether the neighbour has sent all.
+
+    `has_all` is true after End-of-RIB (RFC 4724, 2). `marks_end` is false if the neighbour hasn't announced that it sends one.
+    """
+
+    neighbour: str
+    is_up: bool
+    received: int = 0
+    marks_end: bool = False
+    has_all: bool = False
 
 
 class Messages:
@@ -121,46 +133,60 @@ class Messages:
 
     def route(self, path: object) -> Route:
         """Returns the route of a Path."""
-        name, nlri = self.unpacked(path.nlri)
+        head = self.head(path.nlri)
+        return self.with_attributes(head, path.pattrs) if head[0] else Route(*head)
+
+    def key(self, path: object) -> Hashable:
+        """Returns the key of a Path's route."""
+        return Route(*self.head(path.nlri)).key()
+
+    def head(self, box: object) -> tuple:
+        """Returns a route's first fields, of its NLRI; of another type than MAC and multicast routes, kind 0 and the NLRI's text."""
+        name, nlri = self.unpacked(box)
         if name == "EVPNMACIPAdvertisementRoute":
-            esi = bytes([nlri.esi.type & 255]) + nlri.esi.value
-            address = "" if nlri.ip_address in NO_NEIGHBOUR else nlri.ip_address
-            head = MAC_ROUTE, self.rd(nlri.rd), nlri.mac_address, address, nlri.ethernet_tag, esi, tuple(nlri.labels)
-        elif name == "EVPNInclusiveMulticastEthernetTagRoute":
-            head = FLOOD_ROUTE, self.rd(nlri.rd), "", nlri.ip_address, nlri.ethernet_tag, bytes(10), ()
-        else:
-            return Route(0, str(nlri))
-        return self.with_attributes(head, path.pattrs)
+            segment, address = nlri.esi, nlri.ip_address
+            esi = bytes([segment.type & 255]) + segment.value
+            address = "" if address in NO_NEIGHBOUR else address
+            return MAC_ROUTE, self.rd(nlri.rd), nlri.mac_address, address, nlri.ethernet_tag, esi, tuple(nlri.labels)
+        if name == "EVPNInclusiveMulticastEthernetTagRoute":
+            return FLOOD_ROUTE, self.rd(nlri.rd), "", nlri.ip_address, nlri.ethernet_tag, bytes(10), ()
+        return 0, str(nlri)
 
     def rd(self, box: object) -> str:
         """Returns an RD's spelling; networks have few of them, and each has many routes."""
         key = box.type_url, box.value
-        if key not in self.rds:
+        text = self.rds.get(key)
+        if text is None:
             _, rd = self.unpacked(box)
-            remember(self.rds, key, "" if rd is None else f"{rd.admin}:{rd.assigned}")
-        return self.rds[key]
+            text = "" if rd is None else f"{rd.admin}:{rd.assigned}"
+            remember(self.rds, key, text)
+        return text
 
     def with_attributes(self, head: tuple, boxes: Iterable[object]) -> Route:
         """Returns the route with these first fields and with what its path attributes say."""
-        hop, said, pmsi = "", Communities(), None
+        hop, said, pmsi = "", NO_COMMUNITIES, None
         for box in boxes:
-            name, kind = self.named(box.type_url)
+            address = box.type_url
+            name, kind = self.known.get(address) or self.named(address)
             if name == "MpReachNLRIAttribute":
                 hop = next(iter(kind.FromString(box.value).next_hops), hop)
+            elif name == "ExtendedCommunitiesAttribute":
+                said = self.communities(box)
             elif name == "NextHopAttribute":
                 hop = kind.FromString(box.value).next_hop
             elif name == "PmsiTunnelAttribute":
                 message = kind.FromString(box.value)
                 pmsi = Pmsi(message.type, message.label, message.id)
-            elif name == "ExtendedCommunitiesAttribute":
-                said = self.communities(box)
-        return Route(*head, hop, said.targets, said.mobility, pmsi)
+        return Route(*head, hop, *said, pmsi)
 
     def communities(self, box: object) -> "Communities":
         """Returns what extended communities say; many routes have the same ones."""
-        if box.value not in self.sets:
-            remember(self.sets, box.value, self.communities_of(self.unpacked(box)[1].communities))
-        return self.sets[box.value]
+        value = box.value
+        said = self.sets.get(value)
+        if said is None:
+            said = self.communities_of(self.unpacked(box)[1].communities)
+            remember(self.sets, value, said)
+        return said
 
     def communities_of(self, boxes: Iterable[object]) -> "Communities":
         """Returns what these extended communities say."""
@@ -185,6 +211,16 @@ class Messages:
             if path.family == self.family:
                 yield Event(path.neighbor_ip, self.route(path), path.is_withdraw, path.identifier)
 
+    def session(self, peer: object) -> Session:
+        """Returns what a Peer says of its session; without the family, no route has come and none will."""
+        is_up = peer.state.session_state == self.gobgp.PeerState.ESTABLISHED
+        for part in peer.afi_safis:
+            if part.state.family == self.family:
+                restart = part.mp_graceful_restart.state
+                ends = restart.received, restart.end_of_rib_received
+                return Session(peer.state.neighbor_address, is_up, part.state.received, *ends)
+        return Session(peer.state.neighbor_address, is_up)
+
 
 class Communities(NamedTuple):
     """What the extended communities of a route say: its route targets, static flag and sequence number."""
@@ -193,11 +229,7 @@ class Communities(NamedTuple):
     mobility: Optional[Tuple[bool, int]] = None
 
 
-def remember(cache: dict, key: object, value: object) -> None:
-    """Puts a value into a cache, which is emptied first if it is full."""
-    if len(cache) >= REMEMBERED:
-        cache.clear()
-    cache[key] = value
+NO_COMMUNITIES = Communities()
 
 
 class Daemon:
@@ -227,13 +259,13 @@ class Daemon:
             raise self.trouble(fault) from None
         return getattr(answer, "global").asn
 
-    def watch(self) -> Iterator[List[Event]]:
-        """Yields what the neighbours have said, then each change, and each session that comes up or goes down.
+    def watch(self, with_routes: bool = True) -> Iterator[List[Event]]:
+        """Yields each session that comes up or goes down and, with routes, what the neighbours have said and each change.
 
         Each list is one answer of the daemon's, as it came.
         """
         table = self.gobgp.WatchEventRequest.Table
-        wanted = [table.Filter(type=table.Filter.ADJIN, init=True)]
+        wanted = [table.Filter(type=table.Filter.ADJIN, init=True)] if with_routes else []
         request = self.gobgp.WatchEventRequest(peer=self.gobgp.WatchEventRequest.Peer(), table=table(filters=wanted))
         try:
             for response in self.call("WatchEvent", "unary_stream", "WatchEventResponse", request):
@@ -244,12 +276,30 @@ class Daemon:
 
     def own(self) -> Iterator[Route]:
         """Yields the routes that this interface has put into the daemon's table."""
-        request = self.gobgp.ListPathRequest(table_type=self.gobgp.GLOBAL, family=self.messages.family)
+        for path in self.paths(table_type=self.gobgp.GLOBAL):
+            if path.neighbor_ip in NO_NEIGHBOUR:
+                yield self.messages.route(path)
+
+    def held_of(self, neighbour: str) -> Iterator[Hashable]:
+        """Yields the key and the identifier of each route that the daemon holds of a neighbour."""
+        for path in self.paths(table_type=self.gobgp.ADJ_IN, name=neighbour):
+            yield self.messages.key(path), path.identifier
+
+    def paths(self, **which: object) -> Iterator[object]:
+        """Yields the Paths of a table of the daemon."""
+        request = self.gobgp.ListPathRequest(family=self.messages.family, **which)
         try:
             for response in self.call("ListPath", "unary_stream", "ListPathResponse", request, timeout=SECONDS):
-                for path in response.destination.paths:
-                    if path.neighbor_ip in NO_NEIGHBOUR:
-                        yield self.messages.route(path)
+                yield from response.destination.paths
+        except self.grpc.RpcError as fault:
+            raise self.trouble(fault) from None
+
+    def sessions(self) -> Iterator[Session]:
+        """Yields the session of each neighbour."""
+        request = self.gobgp.ListPeerRequest()
+        try:
+            for response in self.call("ListPeer", "unary_stream", "ListPeerResponse", request, timeout=SECONDS):
+                yield self.messages.session(response.peer)
         except self.grpc.RpcError as fault:
             raise self.trouble(fault) from None
 

@@ -4,6 +4,7 @@ What evpnd proves of its own reading and writing isn't proved here: this is plai
 tests/tools/, one of which compares its answers with those of the program.
 """
 
+import functools
 import re
 import socket
 import sys
@@ -97,6 +98,7 @@ def read_number(text: str, limit: int, what: str) -> int:
     return int(text)
 
 
+@functools.lru_cache(maxsize=1024)
 def read_address(text: str) -> bytes:
     """An IPv4 address, dotted, without leading zeros."""
     parts = text.split(".")
@@ -360,6 +362,10 @@ def update_of_report(line: str) -> Optional[Update]:
     if found is None:
         return None
     vni, mac, originator, incarnation, counter, state, sequence, rest = found.groups(default="")
+    if rest == "":
+        advert = None if state == "withdrawn" else Advert(state == "static", int(sequence or "0"))
+        station = read_mac(mac) if mac else None
+        return Update(read_address(originator), int(vni), station, b"", advert, int(counter), int(incarnation or "0"))
     words = ["withdraw" if state == "withdrawn" else "advert", originator, vni, mac or "flood"]
     words += (["static"] if state == "static" else []) + (["seq", sequence] if sequence else [])
     return update_of_line(" ".join([*words, rest, "counter", counter, "incarnation", incarnation or "0"]))

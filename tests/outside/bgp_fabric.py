@@ -39,7 +39,6 @@ REFLECTED = """  [neighbors.route-reflector.config]
     route-reflector-client = true
     route-reflector-cluster-id = "192.0.2.9"
 """
-FIRST = "[[neighbors]]\n"
 HELPING = """  [neighbors.graceful-restart.config]
     enabled = true
     restart-time = 20
@@ -148,10 +147,8 @@ def gateway_text(neighbour: str, own: str, autonomous: int = 65000) -> str:
     with open(os.path.join(TOP, "examples", "fabric", "gobgpd.toml"), encoding="utf-8") as stream:
         text = stream.read()
     # two with one router-id would drop each other's routes, which a reflector sends with it
-    text = text.replace('router-id = "192.0.2.2"', f'router-id = "{own}"')
-    head, mark, tail = text.replace('local-address-list = ["192.0.2.2"]', f'local-address-list = ["{own}"]').partition(FIRST)
-    tail = tail.replace('"192.0.2.1"', f'"{neighbour}"').replace("peer-as = 65000", f"peer-as = {autonomous}")
-    return f'{head}{mark}  [neighbors.transport.config]\n    local-address = "{own}"\n{tail}'
+    text = text.replace('"192.0.2.2"', f'"{own}"').replace('"192.0.2.1"', f'"{neighbour}"')
+    return text.replace("peer-as = 65000", f"peer-as = {autonomous}")
 
 
 class Gateway(Child):

@@ -1,6 +1,6 @@
 #!/usr/bin/env bash
 # usage: tests/outside/fabric.sh [evpnd]                        (the built program; by default the one that `rt run` leaves)
-#        tests/outside/fabric.sh evpnd failures [NAME..]     (the cost of each failure: served_failures.py)
+#        tests/outside/fabric.sh evpnd failures [KEY=VALUE..] [NAME..]  (the cost of each failure: served_failures.py)
 #        tests/outside/fabric.sh evpnd rounds [ROUNDS] [SEED]  (random histories: fabric_rounds.py; 20 rounds, seed 1)
 #        tests/outside/fabric.sh evpnd ROUTES MINUTES
 #

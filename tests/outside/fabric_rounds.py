@@ -7,19 +7,18 @@ from each host to each other one of its network. The audit (tools/evpnd_audit.py
 round that doesn't agree names whose fault it is. The same seed gives the same history.
 
 Status 0: each round agreed, or differed only at a leaf that contradicts its own routes, which is FRR's fault. What FRR 8.4.4
-does so: zebra is killed, and meanwhile a route ends whose entry it has made. The next zebra leaves this entry in the kernel.
-The audit's own commands mend such an entry, if the audit lists it; otherwise the next rounds differ by it, too. A verdict is a
-hint: it doesn't tell a fault of zebra from a race with this script's own entries.
-
-A gateway keeps what it holds for 60 s after gobgpd has ended (tools/evpnd_bgp.py, KEEP). A route that ends while gobgpd is away
-is therefore in our edge's table for as long. That is our fault by the routes, and such a round isn't agreed.
+does so: zebra is killed, and meanwhile a route ends whose entry it has made. The next zebra leaves this entry in the kernel; the
+entry of a pinned station has no mark of zebra, so the audit doesn't list it. A station spoke at a leaf and is pinned elsewhere; the
+pin ends, and zebra has the station as its own again, but doesn't tell bgpd.
+And zebra keeps a station's place if the new place's sequence number is lower, as that of a pinned station is. Such a leaf begins
+anew, so that the next rounds don't differ by it, too. A leaf is the cause of a difference only if our edges name the right owner,
+and the audit finds the leaf's fault twice.
 """
 
 import itertools
 import os
 import random
 import re
-import signal
 import statistics
 import sys
 import time
@@ -38,6 +37,7 @@ HOSTS = 3  # in each network
 GUESTS = tuple(f"02:00:00:00:78:{number:02x}" for number in (1, 2, 3))  # stations behind hosts, in each network
 LIMIT = 15  # seconds within which all have to agree
 LATE = 45  # seconds more for which a round that doesn't is watched
+TWICE = 5  # seconds between two looks of the audit, which both have to find a leaf's fault
 START = 60  # seconds in which all have to agree at first
 AGEING = 100000  # longer than any run, in seconds
 THEIRS = "a leaf contradicts its own routes"
@@ -200,6 +200,9 @@ class History:
         self.pinned[key] = end
         if end.served:
             end.served.ask("1", "pin", str(vni), key[1], str(port))
+            if not any(key[1] in line and " pinned" in line for line in end.served.ask("1", "stations", str(vni))):
+                del self.pinned[key]
+                return f"{key[1]} of {key[0]} isn't pinned at {end.name}: it is static at another edge still"
         else:
             end.leaf.within("bridge", "fdb", "replace", key[1], "dev", f"acc{port}", "master", "static", "sticky")
         return f"{key[1]} of {vni} is pinned at {end.name}"
@@ -341,44 +344,58 @@ class Looks:
                 end.served.ask("1", "thaw", words[2], words[3])
 
     def agreed(self, limit: float) -> Tuple[Optional[float], Dict[str, object]]:
-        """The seconds until all agree, or nothing and what differs then."""
-        begun = time.monotonic()
-        while True:
+        """The seconds until all agree, or nothing and what differs then. A look counts by its beginning: a ping may wait in it."""
+        begun, found = time.monotonic(), {}
+        while (took := time.monotonic() - begun) <= limit:
             self.thaw()
             found = self.differing()
-            took = time.monotonic() - begun
             if not found:
                 return took, found
-            if took > limit:
-                return None, found
+        return None, found
 
     def verdicts(self, found: Dict[str, object]) -> List[str]:
-        """Whose fault it is: that of a leaf that contradicts its routes, which is mended, else of whom the owners show."""
+        """Whose fault it is: that of a leaf that contradicts its routes, which begins anew, else of whom the owners show."""
         told = []
         for end, vni in itertools.product(self.fabric.ends[2:], NETWORKS):
-            _, text = said(*end.leaf.audit_words("--vni", str(vni)))
-            told += [f"{LEAF_FAULT} {end.name}: {line}" for line in text.splitlines() if FAULTS.search(line)]
-            for command in re.findall(r"mend: (.*)", text):
-                end.leaf.within("sh", "-c", command)
+            _, text = said(*end.leaf.audit_words("--vni", str(vni), "--again", str(TWICE)))
+            told += [f"{LEAF_FAULT} {end.name}: {vni}: {line}" for line in text.splitlines() if FAULTS.search(line)]
         told += [self.verdict(key, owners, told) for key, owners in found.items() if isinstance(owners, dict)]
         if not any(isinstance(owners, dict) for owners in found.values()):
             told.append("fault of the frames: all name the same owners, and pings are lost")
+        for end in self.fabric.ends[2:]:
+            if any(end.name in line and (line.startswith(LEAF_FAULT) or THEIRS in line) for line in told):
+                end.leaf.begin_anew()
         return told
 
     def verdict(self, key: str, owners: Owners, told: List[str]) -> str:
-        """Who differs at a station: our edges from both leaves' routes, or a leaf's kernel from its own zebra."""
-        station = key.partition(",")[0]
+        """Who differs at a station. A leaf is the cause only if our edges are right, and the audit or its own kernel shows it."""
+        station, _, home = key.partition(", home ")
         if len({*owners.values()}) == 1:
             return f"{station}: nobody's by the routes: all name {owners['edge 1']}"
-        one, two = (owners[f"{end.name}'s zebra"] for end in self.fabric.ends[2:])
-        if one != two and not any(station in line for line in told):
-            return f"{station}: the leaves have different routes: fault of the reflector, a session or who announces"
+        leaf = next((end for end in self.fabric.ends[2:] if end.address == home), None)
+        if leaf and owners[f"{leaf.name}'s kernel"] == home != owners[f"{leaf.name}'s zebra"]:
+            return f"{station}: {THEIRS}: zebra of {leaf.name} doesn't take its kernel's entry"
+        ours = {end.name: owners[end.name] for end in self.fabric.ends[:2]}
+        zebras = {end: owners[f"{end.name}'s zebra"] for end in self.fabric.ends[2:]}
+        silent = [end.name for end, owner in zebras.items() if owner == end.address and not self.announces(end, *station.split())]
+        if silent:
+            return f"{station}: {THEIRS}: bgpd of {' and '.join(silent)} doesn't know what its zebra has as local"
+        if len({*ours.values(), *zebras.values()}) == 1 and home in ("unknown", *ours.values()):
+            wrong = [end.name for end, owner in zebras.items() if owners[f"{end.name}'s kernel"] != owner]
+            return f"{station}: {THEIRS}: kernel of {' and '.join(wrong)}"
+        if len({*ours.values()}) > 1 or home not in ("unknown", *ours.values()):
+            has = [line for end in self.fabric.ends[:2] for line in end.served.ask("1", "report") if f" {station} " in line]
+            return f"{station}: fault of our edges, or a gateway there: {ours}; {has}"
         vni, mac = station.split()
-        wrong = [end for end in self.fabric.ends[:2] if owners[end.name] not in (one, two)]
-        has = {end.name: [line for line in end.served.ask("1", "report") if f" {vni} {mac} " in line] for end in wrong}
-        if has:
-            return f"{station}: fault of {' and '.join(has)}, or the gateway there; both leaves' routes say {one}; {has}"
-        return f"{station}: {THEIRS}, or zebra doesn't take the kernel's entry"
+        if any(f": {vni}: " in line and mac in line for line in told):
+            return f"{station}: {THEIRS}"
+        return f"{station}: the leaves have different routes: fault of the reflector, a session or who announces"
+
+    def announces(self, end: End, vni: str, mac: str) -> bool:
+        """Whether a leaf's bgpd has a route of its own of a station in a network."""
+        parts = end.leaf.shell("show bgp l2vpn evpn route type macip").split("Route Distinguisher: ")
+        own = [part for part in parts if part.startswith(f"{end.address}:") and re.search(rf"RT:[0-9]+:{vni}\b", part)]
+        return any(f"[{mac}]" in part for part in own)
 
 
 def play(history: History, looks: Looks, number: int) -> Tuple[Optional[float], bool]:
@@ -418,7 +435,6 @@ def main(rounds: int, seed: int) -> int:
 
 
 if __name__ == "__main__":
-    signal.signal(signal.SIGTERM, lambda *_: sys.exit(143))  # so that the lab is taken down
     try:
         sys.exit(main(int(sys.argv[1]), int(sys.argv[2])))
     except Trouble as trouble:

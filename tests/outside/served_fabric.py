@@ -24,15 +24,13 @@ SILENT = "02:00:00:00:78:01"  # a station that no host has
 class Fabric:
     """Our edge and two leaves, with a host at each and one that moves."""
 
+    neighbours = [OURS, ONE, TWO]  # of the route reflector
+
     def __init__(self, lab: Lab, tally: Tally) -> None:
         self.lab, self.tally = lab, tally
         self.served = Served(lab, "ours", OURS, [ONE, TWO])
-        netns = lab.space("reflector")
-        lab.attach(netns, REFLECTOR)
-        text = reflector_text(REFLECTOR, [OURS, ONE, TWO])
-        self.reflector = Gobgpd(entering(netns), lab.folder, "reflector", text)
-        lab.keep(self.reflector)
-        self.near = Gobgpd(entering(self.served.netns), lab.folder, "near", gateway_text(REFLECTOR, OURS))
+        self.make_reflector()
+        self.near = Gobgpd(entering(self.served.netns), lab.folder, "near", self.near_text())
         lab.keep(self.near)
         self.one, self.two = Leaf(lab, "one", ONE, REFLECTOR), Leaf(lab, "two", TWO, REFLECTOR)
         self.gateways = 0
@@ -43,6 +41,25 @@ class Fabric:
             host.plug(place)
         self.mover = self.hosts[3]
         self.homes = {host.mac: host.place.edge for host in self.hosts}
+
+    def make_reflector(self) -> None:
+        """The route reflector, which is GoBGP."""
+        netns = self.lab.space("reflector")
+        self.lab.attach(netns, REFLECTOR)
+        text = reflector_text(REFLECTOR, self.neighbours)
+        self.reflector = Gobgpd(entering(netns), self.lab.folder, "reflector", text)
+        self.lab.keep(self.reflector)
+
+    def restart_reflector(self) -> None:
+        """It is killed and begins anew."""
+        self.reflector.kill()
+        time.sleep(1)
+        self.reflector = Gobgpd(*self.reflector.again)
+        self.lab.keep(self.reflector)
+
+    def near_text(self) -> str:
+        """The configuration of GoBGP beside the gateway."""
+        return gateway_text(REFLECTOR, OURS)
 
     def start_gateway(self) -> None:
         """A new gateway."""

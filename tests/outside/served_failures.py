@@ -1,33 +1,93 @@
-"""What each failure costs; `fabric.sh EVPND failures` starts this in a network namespace of its own.
+"""What each failure costs; `fabric.sh EVPND failures [KEY=VALUE..] [NAME..]` starts this in a network namespace of its own.
 
 The fabric is that of served_fabric.py: our edge, two FRR leaves, a route reflector of GoBGP, a host at each. While something
 is killed, stopped or cut off, hosts ping each other ten times a second. A line a failure: pings lost, and seconds until all
 agree. A goal that is missed is a failure of the script.
+
+Keys change the fabric: `reflector=frr` has FRR as the route reflector. `hold=SECONDS` and `restart=SECONDS` are the hold time and
+the restart time of examples/fabric/gobgpd.toml, `restart=0` is no graceful restart. `gobgpds=2` has a second GoBGP beside the
+first one, with a gateway that only announces, both without graceful restart. A name may stand several times.
 """
 
+import re
 import signal
 import sys
 import time
-from typing import Callable, List, Optional
+from typing import Callable, Dict, List, Optional
 
-from served_fabric import ONE, OURS, Fabric
-from served_lab import NOBODY, Lab, Pings, differing
+from served_fabric import ONE, OURS, REFLECTOR, Fabric
+from served_lab import NOBODY, Lab, Pings, Reflector, differing, entering
 
-from bgp_fabric import Gobgpd, seconds, waited  # noqa: E402, isort: skip
+from bgp_fabric import Child, Gateway, Gobgpd, seconds, waited  # noqa: E402, isort: skip
 from edge import Trouble, run  # noqa: E402, isort: skip
 from histories import Tally  # noqa: E402, isort: skip
 
+SECOND = "10.0.0.2"  # the second GoBGP's address
 EVERY = 0.1  # seconds between two pings
 AWAY = 30  # seconds for which a link is away
 SETTLED = 25  # seconds that are watched after a daemon has come back: longer than any timer here
 POWER = 10  # seconds after which a host without power has to be gone
+UNSAID = 15  # seconds after which a route that ended while gobgpd was away has to be gone at our edge
+GUEST = "02:00:00:00:78:01"  # a station at a leaf that goes away
 LIFE = 2  # seconds after which all have to agree on an edge that has started again
+
+
+class Varied(Fabric):
+    """The fabric with other timers, or with FRR as the route reflector."""
+
+    def __init__(self, lab: Lab, tally: Tally, keys: Dict[str, str]) -> None:
+        self.keys = {"restart": "0", **keys} if keys.get("gobgpds") == "2" else keys
+        self.seconds: List[Child] = []
+        if self.keys.get("gobgpds") == "2":
+            self.neighbours = [*Fabric.neighbours, SECOND]
+        super().__init__(lab, tally)
+        if self.keys.get("gobgpds") == "2":
+            run("ip", "-n", self.served.netns, "address", "add", f"{SECOND}/24", "dev", "up0")
+            self.start_second()
+
+    def start_second(self) -> None:
+        """A second GoBGP, at a second address of the edge's host, and the gateway that announces by it."""
+        netns = self.served.netns
+        text = self.near_text().replace(f'"{OURS}"', f'"{SECOND}"')
+        second = Gobgpd(entering(netns), self.lab.folder, "second", text)
+        way = ("--socket", self.served.control, "--announce")
+        self.seconds = [second, Gateway(self.lab.folder, second.path, "announcer", way, OURS)]
+        for child in self.seconds:
+            self.lab.keep(child)
+
+    def make_reflector(self) -> None:
+        """The route reflector, GoBGP or FRR."""
+        if self.keys.get("reflector") == "frr":
+            self.reflector = Reflector(self.lab, REFLECTOR, self.neighbours)
+        else:
+            super().make_reflector()
+
+    def restart_reflector(self) -> None:
+        """It is killed and begins anew."""
+        if not isinstance(self.reflector, Reflector):
+            super().restart_reflector()
+            return
+        self.reflector.die()
+        time.sleep(1)
+        self.reflector.start_daemons()
+
+    def near_text(self) -> str:
+        """The example's configuration with these timers."""
+        text, hold, restart = super().near_text(), self.keys.get("hold"), self.keys.get("restart")
+        if hold:
+            text = re.sub("hold-time = .*", f"hold-time = {hold}", text)
+            text = re.sub("keepalive-interval = .*", f"keepalive-interval = {max(1, int(hold) // 3)}", text)
+        if restart == "0":
+            text = text.replace("enabled = true", "enabled = false")
+        elif restart:
+            text = re.sub("restart-time = .*", f"restart-time = {restart}", text)
+        return text
 
 
 class Failures:
     """The failures, one after the other, in one fabric."""
 
-    def __init__(self, fabric: Fabric, tally: Tally) -> None:
+    def __init__(self, fabric: Varied, tally: Tally) -> None:
         self.fabric, self.tally = fabric, tally
         self.near_host, self.one_host, self.two_host = fabric.hosts[:3]
 
@@ -75,16 +135,46 @@ class Failures:
         else:
             self.tally.see(self.agreed() is not None, f"{what}: {lost} pings lost, {lost * EVERY / 2:.1f} s")
 
+    def second(self) -> None:
+        """The second GoBGP and its gateway are killed and begin anew."""
+
+        def failure() -> None:
+            for child in self.fabric.seconds:
+                child.kill()
+            time.sleep(1)
+            self.fabric.start_second()
+
+        self.see_lossless("second gobgpd and its gateway restarted after SIGKILL", self.ping(failure, SETTLED))
+
+    def ended(self) -> None:
+        """A station of a leaf goes away while GoBGP beside the gateway is away."""
+        leaf, homes = self.fabric.one, dict(self.fabric.homes)
+        leaf.within("bridge", "fdb", "replace", GUEST, "dev", "acc1", "master", "static")
+        self.fabric.homes = {**homes, GUEST: ONE}
+        if self.agreed() is None:
+            raise Trouble("a leaf's station isn't known")
+        took = 0.0
+
+        def failure() -> None:
+            nonlocal took
+            self.fabric.near.kill()
+            begun = time.monotonic()
+            leaf.within("bridge", "fdb", "del", GUEST, "dev", "acc1", "master")
+            self.fabric.homes = homes
+            time.sleep(1)
+            self.fabric.near = Gobgpd(*self.fabric.near.again)
+            self.fabric.lab.keep(self.fabric.near)
+            waited(lambda: GUEST not in self.fabric.served.owners(), 120)
+            took = time.monotonic() - begun
+
+        lost = self.ping(failure)
+        what = f"a route ends while gobgpd is away: our edge has withdrawn it {took:.1f} s after gobgpd was killed"
+        self.tally.see(lost == 0 and took <= UNSAID, f"{what}; {lost} pings lost")
+
     def reflector(self) -> None:
         """The route reflector is killed and begins anew."""
 
-        def failure() -> None:
-            self.fabric.reflector.kill()
-            time.sleep(1)
-            self.fabric.reflector = Gobgpd(*self.fabric.reflector.again)
-            self.fabric.lab.keep(self.fabric.reflector)
-
-        lost = self.ping(failure, SETTLED)
+        lost = self.ping(self.fabric.restart_reflector, SETTLED)
         self.tally.see(self.agreed() is not None, f"route reflector restarted after SIGKILL: {lost} pings lost, {lost * EVERY / 2:.1f} s")
 
     def edge(self) -> None:
@@ -136,18 +226,19 @@ class Failures:
         """The edge's host loses power: no packet says so."""
         netns = self.fabric.served.netns
         run("ip", "-n", netns, "link", "set", "up0", "down")
-        for child in (self.fabric.gateway, self.fabric.served.child, self.fabric.near):
+        for child in (self.fabric.gateway, self.fabric.served.child, self.fabric.near, *self.fabric.seconds):
             child.kill()
         self.fabric.homes = {mac: NOBODY if home == OURS else home for mac, home in self.fabric.homes.items()}
         gone = waited(lambda: not differing([self.fabric.one, self.fabric.two], self.fabric.homes), 120)
         self.tally.see(gone is not None and gone <= POWER, f"power lost: the leaves have withdrawn its host after {seconds(gone)}")
 
 
-def main(names: List[str]) -> int:
+def main(words: List[str]) -> int:
     """All of them, or those that are named; the last line is `ok` if all passed."""
-    tally = Tally()
+    tally, keys = Tally(), dict(word.split("=") for word in words if "=" in word)
+    names = [word for word in words if "=" not in word]
     with Lab() as lab:
-        fabric = Fabric(lab, tally)
+        fabric = Varied(lab, tally, keys)
         fabric.all_ping("at first")
         failures = Failures(fabric, tally)
         steps = {
@@ -155,6 +246,8 @@ def main(names: List[str]) -> int:
             "gateway-killed": lambda: failures.gateway(signal.SIGKILL, "SIGKILL"),
             "gobgpd-stopped": lambda: failures.gobgpd(signal.SIGTERM, "SIGTERM", False),
             "gobgpd-killed": lambda: failures.gobgpd(signal.SIGKILL, "SIGKILL", True),
+            **({"second-killed": failures.second} if fabric.seconds else {}),
+            "ended": failures.ended,
             "reflector": failures.reflector,
             "edge": failures.edge,
             "link": failures.link,

@@ -41,6 +41,15 @@ LEAF_LINES = """router bgp 65000
 """
 
 
+REFLECTOR_LINES = """router bgp 65000
+ bgp router-id {0}
+ bgp cluster-id {0}
+ no bgp default ipv4-unicast
+{1} address-family l2vpn evpn
+{2} exit-address-family
+"""
+
+
 class Place(NamedTuple):
     """Where a cable can end: the namespace whose sockets are meant, or none for the lab's; both ends' UDP places; the edge."""
 
@@ -61,6 +70,7 @@ class Lab:
         self.leaves: List[Edge] = []
 
     def __enter__(self) -> "Lab":
+        signal.signal(signal.SIGTERM, lambda *_: sys.exit(143))  # so that all is taken down
         run("ip", "link", "set", "lo", "up")
         self.wire = self.space("wire")
         run("ip", "-n", self.wire, "link", "add", "br0", "type", "bridge")
@@ -349,6 +359,17 @@ class Leaf(Edge):
         for name in ("bgpd.vty", "bgpd.pid"):
             os.unlink(os.path.join(self.folder, name))
 
+    def begin_anew(self) -> None:
+        """Kills both daemons, deletes what zebra has put into the kernel, and starts them again."""
+        self.die()
+        for vni in self.vnis:
+            device = f"vxlan{vni}"
+            for entry in json.loads(run("bridge", "-n", self.inside, "-j", "fdb", "show", "dev", device)):
+                if {"extern_learn", "sticky"} & set(entry.get("flags", [])):
+                    place = ["dst", entry["dst"], "self"] if "dst" in entry else ["master"]
+                    run("bridge", "-n", self.inside, "fdb", "del", entry["mac"], "dev", device, *place)
+        self.start_daemons()
+
     def told(self, vni: int = VNI) -> Dict[str, str]:
         """The stations' owners by zebra."""
         text = self.shell(f"show evpn mac vni {vni} json")  # empty where zebra doesn't know the network yet
@@ -366,6 +387,21 @@ class Leaf(Edge):
     def views(self) -> Dict[str, Callable[[], Dict[str, str]]]:
         """What can be asked here for the stations' owners."""
         return {f"vtysh at {self.name}": self.told, f"the kernel at {self.name}": self.kernel}
+
+
+class Reflector(Leaf):
+    """A route reflector that is FRR: without networks, bridges and ports. It tries to connect each second."""
+
+    def __init__(self, lab: Lab, address: str, neighbours: Sequence[str]) -> None:
+        self.neighbours = neighbours
+        super().__init__(lab, "reflector", address, "", vnis=(), ports=0)
+
+    def start_daemons(self) -> None:
+        """zebra and bgpd, with the neighbours as clients."""
+        sessions = (f" neighbor {each} remote-as 65000\n neighbor {each} timers connect 1\n" for each in self.neighbours)
+        clients = (f"  neighbor {each} activate\n  neighbor {each} route-reflector-client\n" for each in self.neighbours)
+        self.bgpd_lines = REFLECTOR_LINES.format(self.address, "".join(sessions), "".join(clients))
+        super().start_daemons()
 
 
 def differing(asked: Iterable[Any], homes: Dict[str, str]) -> Dict[str, Dict[str, str]]:

@@ -16,7 +16,7 @@ from typing import Dict, List, Optional
 
 from served_lab import HERE, VNI, Host, Lab, Pings, Served, entering
 
-from bgp_fabric import Gateway, Gobgpd, gateway_text, mac_of, seconds, waited  # noqa: E402, isort: skip
+from bgp_fabric import Child, Gateway, Gobgpd, gateway_text, mac_of, seconds, waited  # noqa: E402, isort: skip
 from edge import Trouble  # noqa: E402, isort: skip
 from histories import Tally  # noqa: E402, isort: skip
 
@@ -25,6 +25,7 @@ LEAVES = [f"10.0.0.{last}" for last in (11, 12, 13, 14)]
 RATE = 10  # moves a second
 LOOKED = 25  # moves of which one is checked
 LONG = 600  # seconds that the routes may take
+ENOUGH = 10  # seconds of a processor that the gateway may take for 100,000 routes
 
 
 class Load:
@@ -62,22 +63,32 @@ class Load:
 
     def memory(self) -> str:
         """What each has held at most."""
-        named = {"evpnd serve": self.served.child, "the gateway": self.gateway, "its gobgpd": self.near}
-        return "memory at most: " + ", ".join(f"{name} {child.most_memory()} MB" for name, child in named.items())
+        return "memory at most: " + ", ".join(f"{name} {child.most_memory()} MB" for name, child in self.children().items())
+
+    def processor(self) -> str:
+        """The seconds of a processor that each has taken."""
+        taken = ", ".join(f"{name} {child.processor():.1f} s" for name, child in self.children().items())
+        return f"of a processor: {taken}; load {os.getloadavg()[0]:.1f}"
+
+    def children(self) -> Dict[str, Child]:
+        """The programs that are measured, by their names."""
+        return {"evpnd serve": self.served.child, "the gateway": self.gateway, "its gobgpd": self.near}
 
 
 def many(load: Load, count: int, tally: Tally) -> None:
     """So many routes at once, while the hosts ping each other."""
     before = load.foreign()
     pings = Pings(load.hosts[0], [load.hosts[1]], 0.01)
-    begun = time.monotonic()
+    begun, before_them = time.monotonic(), load.gateway.processor()
     load.tell([f"advert {LEAVES[each % len(LEAVES)]} {VNI} {mac_of(each)} seq 0" for each in range(count)])
     told = time.monotonic() - begun
     came = waited(lambda: load.foreign() >= before + count, LONG)
     tally.see(came is not None, f"{count} routes are in the edge's table {seconds(came)} after the speaker has told them, in {told:.1f} s")
+    took = load.gateway.processor() - before_them
+    tally.see(took <= ENOUGH * max(1, count / 100000), f"the gateway took {took:.1f} s of a processor for them")
     lost = pings.end()
     tally.see(lost == 0, f"{lost} of {pings.sent} pings through the edge were lost meanwhile; the slowest took {pings.slowest} ms")
-    print(load.memory(), flush=True)
+    print(f"{load.memory()}; {load.processor()}", flush=True)
 
 
 def moving(load: Load, count: int, minutes: float, tally: Tally) -> None:

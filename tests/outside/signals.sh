@@ -38,7 +38,7 @@ examples/run/evpnd-run examples/run/two_edges.toml < /dev/null > "$work/out" 2>&
 tell "descriptor 2 closed: the status is 4" $? 4
 
 if command -v systemd-analyze > "$work/found"; then
-  for unit in examples/run/evpnd.service examples/fabric/evpnd-serve.service examples/fabric/evpnd-bgp.service; do
+  for unit in examples/run/evpnd.service examples/fabric/evpnd-serve.service examples/fabric/evpnd-bgp.service examples/fabric/evpnd-bgp2.service; do
     sed -e 's#/usr/local/bin/evpnd-run#/bin/true#' -e 's#/usr/bin/evpnd-bgp#/bin/true#' $unit > "$work/${unit##*/}"
     systemd-analyze verify "$work/${unit##*/}" > "$work/verified" 2>&1
     tell "systemd reads $unit" "$? $(cat "$work/verified")" "0 "

@@ -6,6 +6,7 @@ and docs/records.md.
 
 import contextlib
 import io
+import itertools
 import logging
 import os
 import queue
@@ -28,14 +29,14 @@ from bgp_routes import Heard, Names, Own, Pmsi, Route, announced_by, is_target, 
 from bgp_service import Family, Lock, Pending, prometheus_text  # noqa: E402
 from evpnd_bgp import Gateway  # noqa: E402
 from frr_routes import Routes  # noqa: E402
-from gobgp import Declined, Event, Messages, NoDaemon  # noqa: E402
+from gobgp import Declined, Event, Messages, NoDaemon, Session  # noqa: E402
 from report_model import line_of, random_update, report_of  # noqa: E402
 from report_model import register_of as place_of  # noqa: E402
 from update_records import Advert, Unreadable, Update, read_records, record_of  # noqa: E402
 from update_records import newness_of, update_of_line, update_of_report  # noqa: E402
 
 ONE, TWO, LEAF = (bytes([10, 0, 0, last]) for last in (1, 2, 100))
-STATION, OTHER = "02:00:00:00:00:0a", "02:00:00:00:00:0b"
+STATION, OTHER, THIRD = "02:00:00:00:00:0a", "02:00:00:00:00:0b", "02:00:00:00:00:0c"
 EVERY = range(1 << 24)
 
 
@@ -347,6 +348,18 @@ class Hears(unittest.TestCase):
         self.assertEqual(self.heard.expire(), [])
         self.assertEqual(self.updates(self.heard.lose("a")), [(100, None, 4)])
 
+    def test_what_is_in_doubt_is_withdrawn_if_its_neighbour_no_longer_holds_it(self):
+        """Of this neighbour alone; what the neighbour holds is no longer in doubt."""
+        for mac, neighbour in ((STATION, "a"), (OTHER, "a"), (THIRD, "b")):
+            self.say(leaf_route(mac), neighbour)
+        self.heard.doubt_all()
+        self.assertEqual((self.heard.doubted_of("a"), self.heard.doubted_of("b")), (2, 1))
+        held = [leaf_route().key()]
+        self.assertEqual(self.updates(self.heard.confirm("a", held)), [(100, None, 4)])
+        self.assertEqual((self.heard.doubted_of("a"), self.heard.doubted_of("b")), (0, 1))
+        self.assertEqual(self.updates(self.heard.expire()), [(100, None, 5)])
+        self.assertEqual(self.updates(self.heard.lose("a")), [(100, None, 6)])
+
     def test_what_an_edge_lacks(self):
         """A register that isn't there, or an older update of it; a withdrawal only where the edge has the register."""
         self.say(leaf_route())
@@ -572,6 +585,25 @@ class SpeaksToGobgp(unittest.TestCase):
         path.nlri.Pack(Message(name="EVPNIPPrefixRoute", ip_prefix="192.0.2.0"))
         self.assertEqual(messages().route(path).kind, 0)
 
+    def test_keys(self):
+        for route in (leaf_route(ip="192.0.2.9", mobility=(False, 9)), leaf_flood()):
+            self.assertEqual(messages().key(messages().path(route, False)), route.key())
+
+    def test_sessions(self):
+        """Of the family EVPN alone."""
+
+        def part(family: tuple, received: int, *ends: bool) -> Message:
+            restart = Message(state=Message(received=ends[0], end_of_rib_received=ends[1]))
+            return Message(state=Message(family=family, received=received), mp_graceful_restart=restart)
+
+        for state, parts, wanted in (
+            (6, [part((1, 1), 9, False, False), part((25, 70), 5, True, True)], Session("192.0.2.1", True, 5, True, True)),
+            (6, [part((25, 70), 5, True, False)], Session("192.0.2.1", True, 5, True, False)),
+            (3, [part((1, 1), 9, True, True)], Session("192.0.2.1", False)),
+        ):
+            state = Message(neighbor_address="192.0.2.1", session_state=state)
+            self.assertEqual(messages().session(Message(state=state, afi_safis=parts)), wanted)
+
     def test_events(self):
         path = messages().path(leaf_route(), False)
         path.neighbor_ip, path.identifier = "192.0.2.1", 7
@@ -597,13 +629,15 @@ class Stand:
         self.changes: list = []
         self.is_there = self.has_begun = True
         self.foreign = -1
+        self.neighbours: list = []
+        self.held: list = []
 
     def autonomous(self) -> int:
         """Its AS, which has four octets."""
         return 4200000001
 
-    def watch(self):
-        """Events until an exception is among them."""
+    def watch(self, with_routes: bool = True):
+        """Events until an exception is among them; whoever wants no routes gets none."""
         if not self.is_there:
             raise NoDaemon("not there")
         yield []
@@ -611,7 +645,8 @@ class Stand:
             event = self.events.get()
             if isinstance(event, Exception):
                 raise event
-            yield [event]
+            if with_routes or event.route is None:
+                yield [event]
 
     def own(self) -> list:
         """What it was told."""
@@ -620,6 +655,14 @@ class Stand:
         if not self.has_begun:
             raise Declined("BGP hasn't begun")
         return list(self.table.values())
+
+    def sessions(self) -> list:
+        """Its neighbours' sessions."""
+        return list(self.neighbours)
+
+    def held_of(self, neighbour: str) -> list:
+        """The keys of what a neighbour has said, each with its identifier."""
+        return [(route.key(), 0) for each, route in self.held if each == neighbour]
 
     def clear(self) -> None:
         """Forgets all that it was told."""
@@ -736,7 +779,7 @@ class Joins(unittest.TestCase):
         self.gateways.append(gateway)
         self.out = io.BytesIO()
         self.writer = program.started(gateway.write, self.out, gateway.begin_session())
-        self.threads += [self.writer, *(program.started(body) for body in (gateway.announce, gateway.tend, gateway.watch))]
+        self.threads += [self.writer, *(program.started(body) for body in (gateway.announce, gateway.tend, gateway.resolve, gateway.watch))]
         return gateway
 
     def records(self) -> list:
@@ -805,6 +848,65 @@ class Joins(unittest.TestCase):
         self.assertEqual(self.said.getvalue().count("gone"), 1)
         self.stand.events.put(Event("a"))
         self.writes(*both, (100, OTHER, None, 3), (100, STATION, None, 4))
+
+    def lost_routes(self) -> tuple:
+        """A daemon has ended, with two routes of a neighbour that no limit of time withdraws in this test."""
+        self.set("KEEP", 60)
+        gateway = self.gateway()
+        self.stand.events.put(Event("a", leaf_route()))
+        self.stand.events.put(Event("a", leaf_route(OTHER)))
+        both = (100, STATION, Advert(), 1), (100, OTHER, Advert(), 2)
+        self.writes(*both)
+        self.stand.events.put(NoDaemon("gone"))
+        self.assertTrue(reached(lambda: gateway.lives == 1 and gateway.is_up))
+        return gateway, both
+
+    def test_what_ends_while_a_daemon_is_away_is_withdrawn_with_its_end_of_rib(self):
+        """Not before; and what the neighbour has sent stays, though its event is still on its way."""
+        gateway, both = self.lost_routes()
+        self.stand.held = [("a", leaf_route())]
+        for neighbours in ([], [Session("a", False, 1)], [Session("a", True, 1, marks_end=True)]):
+            self.stand.neighbours = neighbours
+            time.sleep(0.7)
+            self.assertEqual(self.records(), list(both), neighbours)
+        self.stand.neighbours = [Session("a", True, 1, marks_end=True, has_all=True)]
+        self.writes(*both, (100, OTHER, None, 3))
+        self.assertTrue(reached(lambda: gateway.doubt_ends_at is None))
+        self.stand.events.put(Event("a", leaf_route()))
+        self.stand.events.put(Event("a", leaf_route(), True))
+        self.writes(*both, (100, OTHER, None, 3), (100, STATION, None, 4))
+
+    def test_new_routes_dont_delay_that(self):
+        """A fabric where stations come and go all the time."""
+        _, both = self.lost_routes()
+        self.stand.held = [("a", leaf_route())]
+        grows = itertools.count()
+        found = lambda: [Session("a", True, next(grows), marks_end=True, has_all=True)]  # noqa: E731
+        with mock.patch.object(self.stand, "sessions", side_effect=found):
+            self.writes(*both, (100, OTHER, None, 3))
+
+    def test_a_neighbour_that_sends_no_end_of_rib_has_sent_all_when_it_is_silent(self):
+        _, both = self.lost_routes()
+        self.set("QUIET", 1.5)
+        self.stand.held = [("a", leaf_route())]
+        for received in range(10):
+            self.stand.neighbours = [Session("a", True, received)]
+            time.sleep(0.2)
+        self.assertEqual(self.records(), list(both))
+        self.writes(*both, (100, OTHER, None, 3))
+
+    def test_a_daemons_word_doesnt_count_for_the_next_one(self):
+        """A daemon that ends while it lists what it holds settles no doubt."""
+        gateway, both = self.lost_routes()
+
+        def lists(_neighbour: str) -> list:
+            gateway.lose_daemon()
+            return []
+
+        with mock.patch.object(self.stand, "held_of", side_effect=lists):
+            gateway.confirm("a")
+        self.assertEqual(gateway.heard.doubted_of("a"), 2)
+        self.assertEqual(self.records(), list(both))
 
     def test_a_daemon_that_stays_away_takes_all(self):
         self.gateway()
@@ -888,6 +990,22 @@ class Joins(unittest.TestCase):
         edges.table.pop(place_of(update(f"advert 10.0.0.100 5001 {STATION}")))
         self.has(edges, *wanted, (77, None, None))
         self.assertIn("an edge lacked 1 registers", self.said.getvalue())
+
+    def test_one_that_announces_only(self):
+        """For a second GoBGP: it announces and withdraws, and tells the edges nothing, whatever they or the fabric say."""
+        edges = self.edges()
+        edges.own.append(update("advert 10.0.0.77 5001 flood"))
+        self.left_over()
+        gateway = self.at_the_edges(announces_only=True)
+        self.stand.events.put(Event("a", is_up=True))
+        self.stand.events.put(Event("a", leaf_route()))
+        wanted = ("10.0.0.1", "", None), ("10.0.0.1", OTHER, (False, 0))
+        self.announces_in_the_end(*wanted)
+        time.sleep(1.5)
+        self.assertEqual((edges.table, gateway.outgoing.waiting(), gateway.heard.updates), ({}, set(), {}))
+        self.announces(*wanted)
+        edges.end()
+        self.announces_in_the_end()
 
     def test_a_leaf_of_which_the_edges_take_nothing_is_told(self):
         """No [[peer]] names it."""
@@ -1024,9 +1142,10 @@ class Joins(unittest.TestCase):
         self.addCleanup(edges.end)
         return edges
 
-    def at_the_edges(self) -> Gateway:
+    def at_the_edges(self, announces_only: bool = False) -> Gateway:
         """A running gateway at their socket, with a later incarnation than the one before it."""
         gateway = Gateway(self.stand, Routes(EVERY), [ONE], Names(0))
+        gateway.announces_only = announces_only
         gateway.heard.incarnation -= 4 - len(self.gateways)
         self.gateways.append(gateway)
         bodies = (gateway.announce, gateway.tend, gateway.look_often, gateway.watch)
@@ -1207,6 +1326,15 @@ class IsAService(unittest.TestCase):
         second.free()
         third.free()
 
+    def test_a_second_gobgp_has_a_gateway_of_its_own(self):
+        """It shares the edges' socket with the first one, which alone tells them of the fabric."""
+        names = []
+        for words in (["--gobgp", "here:1"], ["--gobgp", "here:2", "--announce"], ["--gobgp", "here:3"]):
+            arguments = program.parser().parse_args(["--own", "10.0.0.1", "--socket", "/run/it", *words])
+            names.append(set(program.lock_names(arguments)))
+        self.assertFalse(names[0] & names[1])
+        self.assertTrue(names[0] & names[2])
+
     def test_one_that_is_killed_frees_its_names(self):
         tool = "import sys; sys.path.insert(0, sys.argv[1]); from bgp_service import Lock; Lock(['killed']); print(flush=True); input()"
         words = [sys.executable, "-B", "-c", f"{tool.replace('Lock([', 'it = Lock([')}", os.path.join(TOP, "tools")]
@@ -1247,7 +1375,7 @@ class AsAProgram(unittest.TestCase):
         self.assertRegex(done.stderr, r"^\S+Z ERROR evpnd_bgp: \S+ has no grpc: install gobgpd .*python3-grpcio.*\n$")
 
     def test_usage(self):
-        wrong = [("--own", "10.0.0.256", "--stdio"), ("--rt", "a:1=5001", "--watch")]
+        wrong = [("--own", "10.0.0.256", "--stdio"), ("--rt", "a:1=5001", "--watch"), ("--own", "10.0.0.1", "--stdio", "--announce")]
         for words in ((), ("--stdio",), ("--watch", "--own", "10.0.0.1"), ("--socket", "it"), ("--withdraw",), *wrong):
             self.assertEqual(self.run_it(*words).returncode, 2)
         self.assertIn("--socket PATH", self.run_it("--help").stdout)

@@ -94,7 +94,8 @@ class Package(unittest.TestCase):
 
     def test_units_name_installed_programs_and_are_not_enabled(self):
         folder = f"{self.folder}/proved/root/lib/systemd/system"
-        for name in ("evpnd.service", "evpnd-serve.service", "evpnd-bgp.service", "evpnd-audit.service", "evpnd-audit.timer"):
+        services = ("evpnd", "evpnd-serve", "evpnd-bgp", "evpnd-bgp2", "evpnd-gobgpd2", "evpnd-audit")
+        for name in (*(f"{each}.service" for each in services), "evpnd-audit.timer"):
             with open(f"{folder}/{name}", encoding="utf-8") as stream:
                 self.assertNotIn("/usr/local", stream.read())
         self.assertFalse(os.path.exists(f"{self.folder}/proved/root/etc"))

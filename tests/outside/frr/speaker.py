@@ -23,6 +23,7 @@ sys.path.insert(0, os.path.join(os.path.dirname(os.path.abspath(__file__)), ".."
 import update_records as records  # noqa: E402
 
 AUTONOMOUS_SYSTEM = 65000
+EVERY = 1  # seconds between two keepalives: the least hold time is 3 seconds (RFC 4271, 4.2)
 L2VPN_EVPN = struct.pack("!HB", 25, 70)
 OPEN, UPDATE, NOTIFICATION, KEEPALIVE = 1, 2, 3, 4
 ORIGIN, AS_PATH, LOCAL_PREF, REACH, UNREACH, COMMUNITIES, TUNNEL = 1, 2, 5, 14, 15, 16, 22
@@ -121,11 +122,24 @@ def open_message(own: str) -> bytes:
     return message(OPEN, head + bytes([len(options)]) + options)
 
 
-def listen(session: socket.socket) -> None:
+class Session:
+    """A TCP connection on which two threads send whole messages."""
+
+    def __init__(self, peer: str, own: str) -> None:
+        self.connection = socket.create_connection((peer, 179), source_address=(own, 0))
+        self.lock = threading.Lock()
+
+    def send(self, octets: bytes) -> None:
+        """Sends a message, or several."""
+        with self.lock:
+            self.connection.sendall(octets)
+
+
+def listen(session: Session) -> None:
     """Answers the peer's OPEN, and says when the session stands or is refused."""
     held = b""
     while True:
-        more = session.recv(65536)
+        more = session.connection.recv(65536)
         if not more:
             print("closed", flush=True)
             return
@@ -133,29 +147,29 @@ def listen(session: socket.socket) -> None:
         while len(held) >= 19 and len(held) >= int.from_bytes(held[16:18], "big"):
             length, kind = int.from_bytes(held[16:18], "big"), held[18]
             if kind == OPEN:
-                session.sendall(message(KEEPALIVE, b""))
+                session.send(message(KEEPALIVE, b""))
                 print("up", flush=True)
             if kind == NOTIFICATION:
                 print("notification", held[19:length].hex(), flush=True)
             held = held[length:]
 
 
-def keep(session: socket.socket) -> None:
+def keep(session: Session) -> None:
     """Keeps the session alive."""
     while True:
-        time.sleep(20)
-        session.sendall(message(KEEPALIVE, b""))
+        time.sleep(EVERY)
+        session.send(message(KEEPALIVE, b""))
 
 
 def main() -> None:
     """Speaks until standard input ends."""
     peer, own = sys.argv[1:3]
-    session = socket.create_connection((peer, 179), source_address=(own, 0))
-    session.sendall(open_message(own))
+    session = Session(peer, own)
+    session.send(open_message(own))
     for work in (listen, keep):
         threading.Thread(target=work, args=(session,), daemon=True).start()
     for line in sys.stdin:
-        session.sendall(message_of_line(line))
+        session.send(message_of_line(line))
 
 
 if __name__ == "__main__":
