@@ -3,9 +3,10 @@
 
     leaves.py [--keep FOLDER] [--tools FOLDER [--no-empty]] [--moves AUDITS] [ROOT ..]
 
-A ROOT is a folder with a Debian that has frr (debootstrap, then apt-get install frr in it by chroot); with none,
-this host's FRR. Each case is what an operator has met; with --tools another commit's tools get the same questions (they find
-evpnd on the path), and --no-empty leaves out the VNI without MACs, at which the tools of 04daf64 end before all else.
+A ROOT is a folder with a Debian that has frr (debootstrap --include=frr,iproute2 SUITE ROOT); with none, this host's FRR. On
+2026-11-27 bullseye had FRR 7.5.1, bookworm 8.4.4, trixie 10.3 and sid 10.7.1. Each case is what an operator has met; with --tools
+another commit's tools get the same questions (they find evpnd on the path), and --no-empty leaves out the VNI without MACs, at
+which the tools of 04daf64 end before all else.
 --moves plays 20 moves a second of 5,000 MACs while the audits run. Not part of the gate.
 """
 
