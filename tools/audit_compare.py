@@ -8,6 +8,7 @@ import audit_causes
 import frr_routes
 import update_records as records
 from audit_causes import Cause
+from audit_frr import Best
 from audit_kernel import FLOODED, LOCAL, NOWHERE, UNKNOWN, Kernel, Network
 from audit_report import NOBODY, Owned, Station, preferences_of, reason_of
 from audit_views import View
@@ -21,7 +22,7 @@ CAUSES = {
     "rule": "bgpd's own best path is there: a difference of rule, or of what the snapshot shows",
     "unknown": "bgpd's own best path isn't known",
 }
-WHOSE = "who made the entry: zebra's have the flag extern_learn (bridge -d fdb show)"
+WHOSE = "who made the entry: zebra's have the flag extern_learn, those of static MACs sticky (bridge -d fdb show)"
 NOT_ZEBRAS = "who made the entry: zebra's are marked 'extern_learn' and 'proto zebra' (ip neigh show)"
 SEGMENTS = "zebra's own view of the segment (show evpn es detail), and the kernel's group (ip nexthop)"
 BY_SEGMENT, NO_EDGE = "by segment", "0.0.0.0"  # FRR 8.4.4 prints 0.0.0.0 for a MAC behind a segment, 10.3 the segment
@@ -153,35 +154,46 @@ def kind_of(wanted: str, zebra: str, kernel: str, is_whole: bool = True) -> str:
     return "wrong"
 
 
-def verdict_of(view: View, station: Station, owned: Owned, is_unjudged: bool, is_asked: bool) -> Verdict:
-    """Compares one MAC at one router; why its owner is the owner is said where it differs, or is asked for."""
+def verdict_of(view: View, station: Station, owned: Owned, is_unjudged: bool) -> Verdict:
+    """Compares one MAC at one router; `explained` says why, where that is wanted."""
     vni, mac = station
-    owner, name = NOWHERE, "none"
-    if owned.owner is not None:
-        name = address_text(owned.owner)
-        owner = LOCAL if owned.owner in view.own else name
+    owner, name = place_of_owner(view, owned)
     table = view.kernel.get(vni)
     zebra = UNKNOWN if view.zebra is None else view.zebra.get(vni, {}).get(mac, NOWHERE)
     kernel = UNKNOWN if table is None else table.places.get(mac, NOWHERE)
     is_whole = table is None or table.is_whole
     kind = "not judged" if is_unjudged else "equal" if zebra == kernel == owner else kind_of(owner, zebra, kernel, is_whole)
-    if kind not in DIFFERING and not is_asked:
-        return Verdict(mac, kind, name, "", "", zebra, kernel, "", "", [], "")
+    return Verdict(mac, kind, name, "", "", zebra, kernel, "", "", [], "")
+
+
+def place_of_owner(view: View, owned: Owned) -> Tuple[str, str]:
+    """Where a MAC should go at a router, and its owner's name."""
+    if owned.owner is None:
+        return NOWHERE, "none"
+    name = address_text(owned.owner)
+    return (LOCAL if owned.owner in view.own else name), name
+
+
+def explained(view: View, best: Optional[Best], vni: int, verdict: Verdict, owned: Owned) -> Verdict:
+    """A verdict with why its owner is the owner, where bgpd's own best path leads, the cause, and what mends it."""
+    mac, kind, zebra, kernel = verdict.mac, verdict.kind, verdict.zebra, verdict.kernel
+    table, owner = view.kernel.get(vni), place_of_owner(view, owned)[0]
     is_heard = owned.owner is None or owned.owner + vni.to_bytes(3, "big") + mac in view.heard
-    bgpd = bgpd_of(view, vni, mac, is_heard and owned.owner is not None)
-    cause = cause_of(bgpd, zebra, kernel, is_whole, is_heard)
+    bgpd = bgpd_of(best, vni, mac, is_heard and owned.owner is not None)
+    cause = cause_of(bgpd, zebra, kernel, table is None or table.is_whole, is_heard)
     reason, heir = reason_of(owned)
+    verdict = verdict._replace(reason=reason, bgpd=bgpd, heir=heir, cause=cause, adverts=preferences_of(owned))
     if kind not in DIFFERING:
-        return Verdict(mac, kind, name, reason, bgpd, zebra, kernel, heir, cause, preferences_of(owned), "")
-    if table is not None and mac in table.foreign and zebra in (owner, NOWHERE, UNKNOWN):
+        return verdict
+    is_zebras_static = table is not None and mac in table.sticky and zebra == owner not in (LOCAL, NOWHERE)
+    if table is not None and mac in table.foreign and zebra in (owner, NOWHERE, UNKNOWN) and not is_zebras_static:
         kind, cause = ("foreign" if kind == "extra" else kind), "foreign"
     mend, see = mend_of(view.networks.get(vni), mac, owner, zebra, kernel, cause)
-    return Verdict(mac, kind, name, reason, bgpd, zebra, kernel, heir, cause, preferences_of(owned), mend, see)
+    return verdict._replace(kind=kind, cause=cause, mend=mend, see=see)
 
 
-def bgpd_of(view: View, vni: int, mac: bytes, is_heard: bool) -> str:
+def bgpd_of(best: Optional[Best], vni: int, mac: bytes, is_heard: bool) -> str:
     """Where bgpd's own best path leads; unknown where its tables don't show a MAC of which it shows a route."""
-    best = view.best()
     if best is None:
         return UNKNOWN
     hides = is_heard and not best.has_mac_tables
@@ -258,7 +270,7 @@ def segment_kind(right: Set[str], zebra: str, kernel: str) -> str:
 
 
 def verdicts_of(view: View, vni: int, truth: Truth, wanted: Set[bytes]) -> List[Verdict]:
-    """All MACs that the report, zebra or the kernel knows, in order."""
+    """All MACs that the report, zebra or the kernel knows, in order; none but those behind a segment is explained."""
     macs = truth.stations.get(vni, set()) | set((view.zebra or {}).get(vni, {}))
     macs |= set(view.kernel[vni].places) if vni in view.kernel else set()
     if wanted:
@@ -270,10 +282,27 @@ def verdicts_of(view: View, vni: int, truth: Truth, wanted: Set[bytes]) -> List[
         if station in truth.multihomed:
             verdicts.append(segment_verdict(view, station, owned, truth))
             continue
-        verdict = verdict_of(view, station, owned, station in truth.unjudged, bool(wanted))
+        verdict = verdict_of(view, station, owned, station in truth.unjudged)
         if verdict.owner != "none" or verdict.kind != "equal" or station in truth.report:
             verdicts.append(verdict)
     return verdicts
+
+
+def all_verdicts_of(view: View, truth: Truth, wanted: Set[bytes]) -> Dict[int, List[Verdict]]:
+    """The MACs of all networks; those that differ or are asked for are explained, and of them alone bgpd's tables are read."""
+    found = {vni: verdicts_of(view, vni, truth, wanted) for vni in view.vnis if vni not in view.faults}
+    open_ones = {
+        (vni, each.mac)
+        for vni, verdicts in found.items()
+        for each in verdicts
+        if (wanted or differs(each)) and (vni, each.mac) not in truth.multihomed
+    }
+    best = view.best(open_ones) if open_ones else None
+    for vni, verdicts in found.items() if open_ones else ():
+        for number, each in enumerate(verdicts):
+            if (vni, each.mac) in open_ones:
+                verdicts[number] = explained(view, best, vni, each, truth.report.get((vni, each.mac), NOBODY))
+    return found
 
 
 def differs(verdict: Verdict) -> bool:
@@ -435,6 +464,7 @@ def mac_or_nowhere(mac: Optional[bytes]) -> str:
 
 def results_of(view: View, truth: Truth, wanted: Set[bytes]) -> Iterator[Result]:
     """Each VNI's result: the networks of layer 2, then the L3VNIs."""
+    verdicts = all_verdicts_of(view, truth, wanted)
     for vni in view.vnis:
         if vni in view.faults:
             yield Result(view.name, vni, view.faults[vni], [], None, None)
@@ -442,7 +472,7 @@ def results_of(view: View, truth: Truth, wanted: Set[bytes]) -> Iterator[Result]
         floods = None if wanted else floods_of(view, vni, truth)
         neighbours = neighbours_of(view, vni, truth, wanted)
         causes = audit_causes.of_network(view, vni, others_of(view, vni, truth, wanted))
-        result = Result(view.name, vni, "", verdicts_of(view, vni, truth, wanted), floods, neighbours, causes)
+        result = Result(view.name, vni, "", verdicts[vni], floods, neighbours, causes)
         yield without_mends(result) if any(cause.kind is audit_causes.Kind.SHARED_BRIDGE for cause in causes) else result
     for vni in view.routed if not wanted else ():
         if vni in view.faults:

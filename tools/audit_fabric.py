@@ -27,6 +27,9 @@ JITTER = 2  # seconds
 DETAIL = "show bgp l2vpn evpn route detail json"  # it has `lastUpdate`
 
 
+Route = Tuple[int, Optional[bytes], bytes, bytes, records.Advert, str]  # VNI, MAC, IP, VTEP, advert, communities
+
+
 @dataclass
 class Look:
     """One look at all leaves: the views of those that answered, and why the others didn't."""
@@ -35,14 +38,14 @@ class Look:
     silent: Dict[str, str] = field(default_factory=dict)
     results: Dict[str, List[Result]] = field(default_factory=dict)
     causes: Dict[str, List[Cause]] = field(default_factory=dict)
-    own: Dict[frr_routes.Path, None] = field(default_factory=dict)
-    heard: Dict[frr_routes.Path, None] = field(default_factory=dict)
+    own: Dict["Route", None] = field(default_factory=dict)
+    heard: Dict["Route", None] = field(default_factory=dict)
 
     def take(self, leaf: str, view: View) -> None:
         """Takes a leaf's view; of its paths each is kept once for all leaves."""
-        for path in view.snapshot.paths or ():
-            kept = self.own if path.is_own else self.heard
-            kept[path._replace(rd="", seconds=0, is_best=False, is_own=False)] = None
+        for _, vni, mac, ip, vtep, advert, _, _, is_own, targets in view.snapshot.paths or ():
+            kept = self.own if is_own else self.heard
+            kept[vni, mac, ip, vtep, advert, targets] = None
         view.snapshot.paths = None
         self.views[leaf] = view
 
@@ -122,7 +125,8 @@ def look(leaves: List[str], arguments: argparse.Namespace) -> Look:
                 found.silent[leaf] = str(unread)
     truths = Truths(found, arguments)
     for leaf, view in found.views.items():
-        found.results[leaf] = list(results_of(view, truths.of(view), set(arguments.mac)))
+        results = results_of(view, truths.of(view), set(arguments.mac))
+        found.results[leaf] = [result._replace(macs=[each for each in result.macs if differs(each)]) for result in results]
         found.causes[leaf] = audit_causes.of_router(view)
     return found
 
@@ -137,7 +141,7 @@ class Truths:
         self.arguments = arguments
         self.known: Dict[tuple, Truth] = {}
         answering = set().union(*(view.own for view in seen.views.values()))
-        self.paths = [*seen.own, *(path for path in seen.heard if path.vtep not in answering)]
+        self.routes = [*seen.own, *(route for route in seen.heard if route[3] not in answering)]
 
     def of(self, view: View) -> Truth:
         """The truth of a leaf."""
@@ -145,21 +149,24 @@ class Truths:
         key = tuple(sorted(view.vnis)), tuple(sorted(view.routed)), imports_key(routes.imports)
         if key not in self.known:
             self.known[key] = self.made(routes)
-        own = truth_of({}, [view.snapshot])  # router MACs and segments by the leaf's own routes: those paths aren't kept
-        return self.known[key]._replace(
-            routers=own.routers, needed=own.needed, multihomed=own.multihomed, segments=own.segments
-        )
+        return with_segments(self.known[key], view.snapshot)
 
     def made(self, like: frr_routes.Routes) -> Truth:
         """What a leaf with these imports should know."""
         routes = frr_routes.Routes(like.vnis, like.any_rd, like.targets.items(), True, like.imports, like.routed)
         snapshot = frr_routes.Snapshot(routes)
-        for path in self.paths:
-            for vni in routes.community(path.targets).vnis:
-                snapshot.take(path._replace(vni=vni))
+        for _, mac, ip, vtep, advert, targets in self.routes:
+            for vni in routes.community(targets).vnis:
+                snapshot.take(frr_routes.Path("", vni, mac, ip, vtep, advert, 0, False, False, targets))
         routes.told.pop(frr_routes.FOLDED, None)
         report: Dict[Station, Owned] = report_of(self.arguments.program, snapshot.updates(lambda _: 1), set(self.arguments.mac))
         return truth_of(report, [snapshot])
+
+
+def with_segments(truth: Truth, snapshot: frr_routes.Snapshot) -> Truth:
+    """A truth with the router MACs and segments of a leaf's own routes: paths of these aren't kept."""
+    own = truth_of({}, [frr_routes.Snapshot(snapshot.routes)])
+    return truth._replace(routers=own.routers, needed=own.needed, multihomed=own.multihomed, segments=own.segments)
 
 
 def imports_key(imports: Optional[frr_routes.Imports]) -> tuple:

@@ -1,25 +1,26 @@
 """What zebra and bgpd say of their own choice: MACs, VNIs, best paths. Their routes stand in frr_routes.py."""
 
 import functools
+import re
 from dataclasses import dataclass, field
 from typing import Dict, FrozenSet, Iterator, List, Mapping, NamedTuple, Optional, Set, TextIO, Tuple
 
 import frr_routes
 import update_records as records
 from audit_kernel import LOCAL, octets_of, read_json
-from audit_report import Said, best_of
+from audit_report import Said, Station, best_of
 from update_records import Unreadable
 
 SWITCHED_ON = "Enabled"
+MAC_IN_KEY = re.compile(r"\[48\]:\[([0-9a-f:]{17})\]")
 
 address_text = functools.lru_cache(maxsize=None)(records.address_text)
 
 
 class Best(NamedTuple):
-    """Where bgpd's own best path of each MAC leads, by VNI, and the router's own addresses."""
+    """Where bgpd's own best path of each MAC that was asked for leads, by VNI."""
 
     places: Dict[int, Dict[bytes, str]]
-    own: Set[bytes]
     has_mac_tables: bool
 
 
@@ -187,8 +188,8 @@ def read_peers(text: str, name: str) -> Dict[str, str]:
     return {peer: str(entry.get("state", "unknown")) for peer, entry in peers.items()}
 
 
-def read_best(stream: TextIO, name: str, routes: frr_routes.Routes) -> Best:
-    """The best paths that bgpd's tables of VNIs show, of one VNI or of all.
+def read_best(stream: TextIO, name: str, routes: frr_routes.Routes, wanted: Set[Station]) -> Best:
+    """The best paths of the wanted stations that bgpd's tables of VNIs show, of one VNI or of all.
 
     FRR 10 keeps MACs in a table of their own, `macTable`, and shows another MAC in the keys of the other
     one; where it is there it alone is read.
@@ -198,41 +199,59 @@ def read_best(stream: TextIO, name: str, routes: frr_routes.Routes) -> Best:
         raise Unreadable(f"{name}: empty")
     if text.peek() != "{":
         raise text.fail("not what 'show bgp vni all json' prints")
-    tables: Tuple[Dict[Tuple[int, bytes], List[Said]], ...] = ({}, {})
-    own: Set[bytes] = set()
-    seen = {"macs": False}
-    for in_mac_table, path in paths_of(text, name, routes, seen):
-        if path.is_own:
-            own.add(path.vtep)
+    tables: Tuple[Dict[Station, List[frr_routes.Path]], ...] = ({}, {})
+    sought = Sought(wanted)
+    for in_mac_table, path in paths_of(text, name, routes, sought):
         if path.is_best and path.mac is not None and any(path.mac):
-            tables[in_mac_table].setdefault((path.vni, path.mac), []).append(Said(path.vtep, path.advert, ""))
+            tables[in_mac_table].setdefault((path.vni, path.mac), []).append(path)
     if text.peek() != "":
         raise text.fail("something stands behind the JSON text")
     places: Dict[int, Dict[bytes, str]] = {}
-    for (vni, mac), said in tables[seen["macs"]].items():
-        place = said[0].originator if len(said) == 1 else best_of(said).originator
-        places.setdefault(vni, {})[mac] = LOCAL if place in own else address_text(place)
-    return Best(places, own, seen["macs"])
+    for (vni, mac), paths in tables[sought.has_mac_tables].items():
+        best = best_of(Said(path.vtep, path.advert, "") for path in paths)
+        is_own = any(path.is_own and path.vtep == best.originator for path in paths)
+        places.setdefault(vni, {})[mac] = LOCAL if is_own else address_text(best.originator)
+    return Best(places, sought.has_mac_tables)
+
+
+class Sought:
+    """The stations whose routes are wanted of bgpd's tables, and whether a table of MACs was met there."""
+
+    def __init__(self, wanted: Set[Station]) -> None:
+        self.has_mac_tables = False
+        self.names: Dict[Optional[int], Set[str]] = {None: set()}
+        for vni, mac in wanted:
+            for table in (vni, None):  # a network's own text doesn't name it
+                self.names.setdefault(table, set()).add(records.mac_text(mac))
+
+    def wants(self, vni: Optional[int], key: str) -> bool:
+        """Returns whether a route's key names a wanted station."""
+        named = MAC_IN_KEY.search(key)
+        return named is not None and named[1] in self.names.get(vni, ())
 
 
 def paths_of(
     text: frr_routes.JsonText,
     name: str,
     routes: frr_routes.Routes,
-    seen: Dict[str, bool],
+    sought: Sought,
     in_mac_table: bool = False,
     vni: Optional[int] = None,
 ) -> Iterator[Tuple[bool, frr_routes.Path]]:
-    """The paths of the next object and of the tables in it, and whether each stands in a table of MACs."""
+    """The wanted paths of the next object and of the tables in it, and whether each stands in a table of MACs."""
     for key in text.keys():
         if key.startswith("["):
             route = text.value()
-            if vni is None or vni in routes.vnis:
+            if sought.wants(vni, key):
                 for path in routes.paths("", key, route, name, vni):
                     yield in_mac_table, path
+        elif key == "macTable" and text.peek() == "{":
+            sought.has_mac_tables = True
+            for mac_key, route in text.items():
+                if sought.wants(vni, mac_key):
+                    for path in routes.paths("", mac_key, route, name, vni):
+                        yield True, path
         elif text.peek() == "{":
-            seen["macs"] |= key == "macTable"
-            table = int(key) if key.isdecimal() else vni
-            yield from paths_of(text, name, routes, seen, in_mac_table or key == "macTable", table)
+            yield from paths_of(text, name, routes, sought, in_mac_table, int(key) if key.isdecimal() else vni)
         else:
             text.value()

@@ -7,17 +7,15 @@ device still holds of a station that has come home.
 
 import ipaddress
 import json
-import re
 from dataclasses import dataclass
 from typing import Dict, FrozenSet, Iterator, List, Mapping, NamedTuple, Optional, Set, Tuple
 
-from update_records import Unreadable, read_ip
+from update_records import Unreadable, mac_octets, read_ip
 
 LOCAL, NOWHERE, UNKNOWN, FLOODED = "local", "nowhere", "unknown", "flooded to "
 ALL_ZERO = bytes(6)
 GONE = ("FAILED", "INCOMPLETE")
 VXLAN_PORT = 4789  # RFC 7348, 5
-MAC_TEXT = re.compile("[0-9a-f]{2}(:[0-9a-f]{2}){5}")
 
 
 class Network(NamedTuple):
@@ -41,8 +39,9 @@ class Neighbour(NamedTuple):
 class Kernel(NamedTuple):
     """What the kernel does with one VNI: each MAC's place, the flood list, the neighbours where it has an address.
 
-    `foreign` has the MACs with an entry of the VXLAN device that zebra didn't make (no `extern_learn`); `learnt` has those
-    that an access port learnt, with the port.
+    `foreign` has the MACs with an entry of the VXLAN device without zebra's mark, `extern_learn`; `sticky` has those of them
+    that are static, since zebra writes a static MAC's entry with `sticky` alone. `learnt` has the MACs that an access port
+    learnt, with the port.
     """
 
     places: Dict[bytes, str]
@@ -51,6 +50,7 @@ class Kernel(NamedTuple):
     is_whole: bool
     foreign: FrozenSet[bytes] = frozenset()
     learnt: Mapping[bytes, str] = {}
+    sticky: FrozenSet[bytes] = frozenset()
 
 
 @dataclass(frozen=True)
@@ -92,9 +92,10 @@ def read_list(text: str, name: str, command: str) -> List[dict]:
 
 def octets_of(mac: object, name: str) -> bytes:
     """A MAC's octets, of a group or not."""
-    if not isinstance(mac, str) or not MAC_TEXT.fullmatch(mac):
+    octets = mac_octets(mac) if isinstance(mac, str) else None
+    if octets is None:
         raise Unreadable(f"{name}: {mac!r} is no MAC address")
-    return bytes.fromhex(mac.replace(":", ""))
+    return octets
 
 
 # ---- which device, bridge and VLAN carries a VNI ------------------------------------------------------------------
@@ -121,13 +122,13 @@ def untagged_of(vlans: List[dict]) -> Dict[str, int]:
 
 def words_of(value: object, name: str) -> List[str]:
     """The words of a list, as `flags` and `state` have them; null is none."""
+    if isinstance(value, list):
+        return value
     if value is None or value == "":
         return []
     if isinstance(value, str):
         return [value]
-    if not isinstance(value, list):
-        raise Unreadable(f"{name}: {str(value)[:40]!r} where a list of words is meant")
-    return value
+    raise Unreadable(f"{name}: {str(value)[:40]!r} where a list of words is meant")
 
 
 def object_of(value: object) -> dict:
@@ -217,8 +218,10 @@ class Tables:
         self.name = name
         self.groups = groups or {}
         self.ports: Dict[Tuple[str, Optional[int]], Dict[bytes, str]] = {}
-        self.tunnels: Dict[Tuple[str, Optional[int]], Dict[bytes, Set[str]]] = {}
+        self.tunnels: Dict[Tuple[str, Optional[int]], Dict[bytes, str]] = {}
+        self.floods: Dict[Tuple[str, Optional[int]], Set[str]] = {}
         self.foreign: Dict[Tuple[str, Optional[int]], Set[bytes]] = {}
+        self.sticky: Dict[Tuple[str, Optional[int]], Set[bytes]] = {}
         self.neighbours: Optional[Dict[str, Dict[bytes, Neighbour]]] = None if neighbours is None else {}
         for entry in entries:
             self.take_entry(entry)
@@ -235,15 +238,23 @@ class Tables:
         flags = words_of(entry.get("flags"), self.name)
         if "master" in entry and "self" not in flags:
             is_own = "extern_learn" not in flags and "permanent" in words_of(entry.get("state"), self.name)
-            vlan = number_of(entry, "vlan", self.name)
+            vlan = number_of(entry, "vlan", self.name) if "vlan" in entry else None
             self.ports.setdefault((str(entry["master"]), vlan), {})[mac] = LOCAL if is_own else device
             return
-        place, vni = place_text(entry, self.name, self.groups), number_of(entry, "src_vni", self.name)
-        if place:
-            places = self.tunnels.setdefault((device, vni), {})
-            places.setdefault(mac, set()).add(place)
-            if "extern_learn" not in flags and any(mac):
-                self.foreign.setdefault((device, vni), set()).add(mac)
+        place = place_text(entry, self.name, self.groups)
+        if not place:
+            return
+        of_device = device, number_of(entry, "src_vni", self.name) if "src_vni" in entry else None
+        if mac == ALL_ZERO:
+            self.floods.setdefault(of_device, set()).add(place)
+            return
+        places = self.tunnels.setdefault(of_device, {})
+        if places.setdefault(mac, place) != place:
+            places[mac] = "+".join(sorted({*places[mac].split("+"), place}))
+        if "extern_learn" not in flags:
+            self.foreign.setdefault(of_device, set()).add(mac)
+            if "sticky" in flags:
+                self.sticky.setdefault(of_device, set()).add(mac)
 
     def take_neighbour(self, entry: dict) -> None:
         """Takes an entry of `ip -j neigh show`; one without a MAC says nothing."""
@@ -257,34 +268,44 @@ class Tables:
     def of_network(self, network: Network) -> Kernel:
         """What the kernel does with a VNI."""
         ports = self.ports.get((network.bridge, network.vlan), {})
-        tunnels = {**self.tunnels.get((network.device, None), {}), **self.tunnels.get((network.device, network.vni), {})}
-        places = {mac: place_of(ports.get(mac), network.device, tunnels.get(mac)) for mac in {*ports, *tunnels} if any(mac)}
+        tunnels = self.tunnels_of(network.device, network.vni)
+        places = {mac: place_of(ports.get(mac), network.device, tunnels.get(mac, "")) for mac in {*ports, *tunnels} - {ALL_ZERO}}
         neighbours = None
         if self.neighbours is not None and network.gateway:
             neighbours = self.neighbours.get(network.gateway, {})
         learnt = {mac: port for mac, port in ports.items() if port not in (LOCAL, network.device)}
-        foreign = self.foreign_of(network.device, network.vni)
-        return Kernel(places, unicast_of(tunnels.get(ALL_ZERO, set())), neighbours, True, foreign, learnt)
+        foreign, sticky = (of_device(marked, network.device, network.vni) for marked in (self.foreign, self.sticky))
+        return Kernel(places, self.floods_of(network.device, network.vni), neighbours, True, foreign, learnt, sticky)
 
-    def foreign_of(self, device: str, vni: int) -> FrozenSet[bytes]:
-        """The MACs with an entry of a VNI's device that zebra didn't make."""
-        return frozenset(self.foreign.get((device, None), set()) | self.foreign.get((device, vni), set()))
+    def tunnels_of(self, device: str, vni: int) -> Dict[bytes, str]:
+        """Where the entries of a VNI's device lead."""
+        return {**self.tunnels.get((device, None), {}), **self.tunnels.get((device, vni), {})}
+
+    def floods_of(self, device: str, vni: int) -> Set[str]:
+        """The flood list of a VNI's device."""
+        return unicast_of(self.floods.get((device, vni), self.floods.get((device, None), set())))
 
     def of_one_device(self, vni: int, device: str) -> Kernel:
         """The same where nobody said which device and bridge is the VNI's: the dump is of its device alone, or that is named."""
-        named = {name for name, _ in self.tunnels}
+        named = {name for name, _ in (*self.tunnels, *self.floods)}
         if not device and len(named) > 1:
             raise Unreadable(f"{self.name}: entries of several VXLAN devices, and no links.json says which is of VNI {vni}")
         if not device or named == {""}:
             device = next(iter(named), "")
         ports = {mac: port for places in self.ports.values() for mac, port in places.items() if port in ("", device, LOCAL)}
-        tunnels = {**self.tunnels.get((device, None), {}), **self.tunnels.get((device, vni), {})}
+        tunnels = self.tunnels_of(device, vni)
         places = {}
         for mac in {*ports, *tunnels} - {ALL_ZERO}:
             hides = mac not in ports and any(port != LOCAL for port in ports.values())
-            towards = "+".join(sorted(tunnels.get(mac, ())))
+            towards = tunnels.get(mac, "")
             places[mac] = LOCAL if ports.get(mac) == LOCAL else UNKNOWN if hides and towards else towards or NOWHERE
-        return Kernel(places, unicast_of(tunnels.get(ALL_ZERO, set())), None, False, self.foreign_of(device, vni))
+        foreign, sticky = (of_device(marked, device, vni) for marked in (self.foreign, self.sticky))
+        return Kernel(places, self.floods_of(device, vni), None, False, foreign, {}, sticky)
+
+
+def of_device(marked: Mapping[Tuple[str, Optional[int]], Set[bytes]], device: str, vni: int) -> FrozenSet[bytes]:
+    """The MACs of a VNI's device, of some that are sorted by device and VNI."""
+    return frozenset(marked.get((device, None), set()) | marked.get((device, vni), set()))
 
 
 def number_of(entry: dict, key: str, name: str) -> Optional[int]:
@@ -314,13 +335,14 @@ def place_text(entry: dict, name: str, groups: Dict[int, str]) -> str:
     if entry.get("dst") is None:
         group = number_of(entry, "nhid", name)
         return "" if group is None else groups.get(group, f"group {group}")
+    if "vni" not in entry and "port" not in entry:
+        return str(entry["dst"])
     more = [f" {key} {number}" for key in ("vni", "port") if (number := number_of(entry, key, name)) is not None]
     return str(entry["dst"]) + "".join(more)
 
 
-def place_of(port: Optional[str], device: str, tunnels: Optional[Set[str]]) -> str:
-    """Where a bridge and its VXLAN device send a MAC."""
-    towards = "+".join(sorted(tunnels or ()))
+def place_of(port: Optional[str], device: str, towards: str) -> str:
+    """Where a bridge and its VXLAN device, whose own entry leads towards some edge or to none, send a MAC."""
     if port is None:
         return FLOODED + towards if towards else NOWHERE
     return towards or NOWHERE if port == device else LOCAL

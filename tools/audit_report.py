@@ -41,14 +41,20 @@ ADDRESS = functools.lru_cache(maxsize=None)(records.read_address)
 def said_of(words: List[str]) -> Optional[Said]:
     """The advert of a line 'mac VNI MAC ORIGINATOR COUNTER ..'; nothing of a withdrawn one."""
     kind, rest = words[5], words[6:] if words[5] == "withdrawn" else words[7:]
-    options = dict(zip(rest[::2], rest[1::2]))
+    options = dict(zip(rest[::2], rest[1::2])) if rest else {}
     if len(rest) % 2 or not {*options} <= {"ip", "label2"}:
         raise ValueError(kind)
     if kind == "withdrawn":
         return None
-    if kind not in ("dynamic", "static") or not words[6].isdecimal():
+    return Said(ADDRESS(words[3]), advert_of(kind, words[6]), options.get("ip", ""))
+
+
+@functools.lru_cache(maxsize=None)
+def advert_of(kind: str, sequence: str) -> Advert:
+    """What two words of a line say of an advert."""
+    if kind not in ("dynamic", "static") or not sequence.isdecimal():
         raise ValueError(kind)
-    return Said(ADDRESS(words[3]), Advert(kind == "static", int(words[6])), options.get("ip", ""))
+    return Advert(kind == "static", int(sequence))
 
 
 def read_report(text: str) -> Dict[Station, Owned]:
@@ -60,7 +66,8 @@ def read_report(text: str) -> Dict[Station, Owned]:
         try:
             if words[0] == "mac":
                 said = said_of(words)
-                adverts += [] if said is None else [said]
+                if said is not None:
+                    adverts.append(said)
             elif words[0] == "owner" and len(words) == 4:
                 owner = None if words[3] == "none" else ADDRESS(words[3])
                 stations[int(words[1]), records.read_mac(words[2])] = Owned(adverts, owner)
@@ -140,8 +147,7 @@ def run_report(program: str, updates: List[Update]) -> str:
     originators = sorted({update.originator for update in updates})
     names = ",".join(records.address_text(originator) for originator in originators)
     with tempfile.TemporaryFile() as stream:
-        for update in updates:
-            stream.write(records.record_of(update))
+        stream.write(b"".join(map(records.record_of, updates)))
         stream.seek(0)
         try:
             alone = os.path.basename(program) == "evpnd_report"
@@ -157,6 +163,10 @@ def run_report(program: str, updates: List[Update]) -> str:
 
 def parts_of(stations: Dict[Station, List[Update]]) -> Iterator[List[Update]]:
     """The stations' updates in parts of 64 originators at most: an owner depends on its MAC's registers alone."""
+    everyone = {update.originator for updates in stations.values() for update in updates}
+    if stations and len(everyone) <= records.MOST_ORIGINATORS:
+        yield [update for updates in stations.values() for update in updates]
+        return
     part: List[Update] = []
     originators: Set[bytes] = set()
     for updates in sorted(stations.values(), key=lambda each: sorted(update.originator for update in each)):

@@ -1,7 +1,7 @@
 """Where the audit's texts come from: a directory that holds what a router printed, or the commands of this host."""
 
 import argparse
-import functools
+import codecs
 import json
 import os
 import re
@@ -18,6 +18,7 @@ import audit_kernel
 import frr_routes
 import update_records as records
 from audit_kernel import Kernel, Link, Network
+from audit_report import Station
 from update_records import Unreadable
 
 ROUTES = "show bgp l2vpn evpn route json"
@@ -33,6 +34,7 @@ SHOWN = {
     "arps": "show evpn arp-cache vni all json",
 }
 MAY_FAIL = ("bgpvnis", "rmacs", "nexthops", "sessions", "arps")
+ENDS = 300  # octets that are looked at of both ends of a large text
 UNDERLAY = "underlay"  # what `ip -j route get` prints of each edge
 EDGES = re.compile(r'"(?:dst|remoteVtep|nexthopIp)":\s*"([0-9]+(?:\.[0-9]+){3})"')
 REMOTE_EDGES = re.compile(r'"remoteVteps":\s*\[([^]]*)\]')
@@ -69,7 +71,7 @@ class View(NamedTuple):
     snapshot: frr_routes.Snapshot
     heard: Set[bytes]
     own: Set[bytes]
-    best: Callable[[], Optional[audit_frr.Best]]
+    best: Callable[[Set[Station]], Optional[audit_frr.Best]]
     zebra: Optional[Dict[int, Dict[bytes, str]]]
     kernel: Dict[int, Kernel]
     networks: Dict[int, Network]
@@ -361,27 +363,37 @@ def view_of(texts: Texts, arguments: argparse.Namespace) -> View:
     )
 
 
-def best_when_asked(texts: Texts, routes: Callable[[], frr_routes.Routes]) -> Callable[[], Optional[audit_frr.Best]]:
+def best_when_asked(
+    texts: Texts, routes: Callable[[], frr_routes.Routes]
+) -> Callable[[Set[Station]], Optional[audit_frr.Best]]:
     """bgpd's own best paths, which are read once something differs: no MAC that agrees depends on them."""
     if texts.best is None:
-        return lambda: None
+        return lambda wanted: None
     stream, name = texts.best(), texts.places["best"]
-    try:
-        text = stream.read().strip()
-    except UnicodeDecodeError as fault:
-        raise Unreadable(f"{name}: a binary file, no text ({fault.reason})") from None
-    if text.startswith("% Unknown command"):
-        raise Unreadable(f"{name}: {text.splitlines()[0]!r}; before FRR 10 the command is '{BEST_BEFORE}', since then '{BEST}'")
-    if not (text.startswith("{") and text.endswith("}")):
-        raise Unreadable(f"{name}: {'no JSON, or the JSON text is cut' if text else 'empty'}")
-    del text
+    start, end = ends_of(stream, name)
+    if start.startswith("% Unknown command"):
+        raise Unreadable(f"{name}: {start.splitlines()[0]!r}; before FRR 10 the command is '{BEST_BEFORE}', since then '{BEST}'")
+    if not (start.startswith("{") and end.endswith("}")):
+        raise Unreadable(f"{name}: {'no JSON, or the JSON text is cut' if start else 'empty'}")
 
-    @functools.lru_cache(maxsize=None)
-    def best() -> audit_frr.Best:
+    def best(wanted: Set[Station]) -> audit_frr.Best:
         stream.seek(0)
-        return audit_frr.read_best(stream, name, routes())
+        return audit_frr.read_best(stream, name, routes(), wanted)
 
     return best
+
+
+def ends_of(stream: TextIO, name: str) -> Tuple[str, str]:
+    """How a text begins and ends, without blanks."""
+    octets = stream.buffer
+    try:
+        start = codecs.getincrementaldecoder("utf-8")().decode(octets.read(ENDS))
+        octets.seek(max(octets.seek(0, os.SEEK_END) - ENDS, 0))
+        return start.strip(), octets.read().decode("utf-8", "ignore").strip()
+    except UnicodeDecodeError as fault:
+        raise Unreadable(f"{name}: a binary file, no text ({fault.reason})") from None
+    except OSError as fault:
+        raise Unreadable(f"{name}: {fault}") from None
 
 
 def stopped_of(

@@ -20,7 +20,7 @@ KEY = re.compile(r'[ \t\n\r]*"([^"\\]*)"[ \t\n\r]*:[ \t\n\r]*')
 class JsonText:
     """A JSON text that is read value by value, so that a table of a million routes never stands in memory."""
 
-    PIECE = 1 << 18
+    PIECE = 1 << 20
 
     def __init__(self, stream: TextIO, name: str) -> None:
         self.stream = stream
@@ -104,6 +104,17 @@ class JsonText:
             if self.take(",}") == "}":
                 return
 
+    def items(self) -> Iterator[Tuple[str, object]]:
+        """The keys and values of the next object: all at once if the piece at hand has the whole object, else one by one."""
+        try:
+            table, end = self.decoder.raw_decode(self.text, self.place)
+        except (json.JSONDecodeError, RecursionError):
+            for key in self.keys():
+                yield key, self.value()
+            return
+        self.place = end
+        yield from table.items()
+
 
 PREFIX = re.compile(
     r"\[(?P<type>[0-9]+)\]:\[(?P<tag>[0-9]+)\]:\[(?:48\]:\[(?P<mac>[0-9a-f:]{17})\](?::\[(?:32|128)\]:\[(?P<ip>[^]]+)\])?"
@@ -177,6 +188,16 @@ class Community(NamedTuple):
     router: bytes
 
 
+class Alike(NamedTuple):
+    """What the paths of MACs have in common that agree in RD, next hop, communities and label, and of which nothing is counted."""
+
+    vnis: Tuple[int, ...]
+    vtep: bytes
+    advert: Advert
+    is_own: bool
+    said: Community
+
+
 class Routes:
     """The paths of FRR's tables that are of the wanted VNIs; what is left out is counted by cause.
 
@@ -213,6 +234,7 @@ class Routes:
         self.addresses: Dict[str, bytes] = {}
         self.rds: Dict[str, Optional[str]] = {}
         self.places: Dict[tuple, Tuple[bytes, int]] = {}
+        self.alike: Dict[tuple, Alike] = {}
 
     def read(self, stream: TextIO, name: str) -> Iterator[Path]:
         """The paths that a stream's text shows: by RD as the whole table has them, or without, as a VNI's."""
@@ -226,10 +248,9 @@ class Routes:
             if key.startswith("["):
                 yield from self.paths("", key, text.value(), name)
             elif text.peek() == "{":
-                for prefix in text.keys():
-                    value = text.value()
+                for prefix, route in text.items():
                     if prefix.startswith("["):
-                        yield from self.paths(key, prefix, value, name)
+                        yield from self.paths(key, prefix, route, name)
             else:
                 text.value()
         if text.peek() != "":
@@ -237,25 +258,53 @@ class Routes:
         if self.routes == before and not self.may_be_empty:
             raise Unreadable(f"{name}: no EVPN route stands there")
 
-    def paths(self, rd: str, prefix: str, route: object, name: str, vni: Optional[int] = None) -> Iterator[Path]:
+    def paths(self, rd: str, prefix: str, route: object, name: str, vni: Optional[int] = None) -> List[Path]:
         """The paths of one route, for each network that imports it; in a network's own table `vni` is that network."""
         groups = route.get("paths") if isinstance(route, dict) else None
         if not isinstance(groups, list):
             raise Unreadable(f"{name}: route {prefix} has no 'paths'")
         match = PREFIX.fullmatch(prefix)
         segment = SEGMENT.fullmatch(prefix) if prefix.startswith(("[1]", "[4]")) else None
+        found: List[Path] = []
         for group in groups:
             for path in group if isinstance(group, list) else [group]:
                 self.routes += 1
                 if not isinstance(path, dict):
                     raise Unreadable(f"{name}: route {prefix} has a path that is no object")
                 try:
-                    found = self.path(rd, match, path, vni) if segment is None else self.take_segment(segment[1], path)
+                    found += self.path(rd, match, path, vni) if segment is None else self.take_segment(segment[1], path)
                 except (KeyError, TypeError, AttributeError, IndexError) as fault:
                     raise Unreadable(f"{name}: route {prefix} lacks a field that is needed ({fault})") from None
-                yield from found
+        return found
 
     def path(self, rd: str, match: Optional["re.Match[str]"], path: dict, vni: Optional[int]) -> List[Path]:
+        """One path for each network that imports it: most are like an earlier path of another MAC."""
+        kind, tag, mac_text, ip_text, _ = match.groups() if match is not None else ("", "", None, None, None)
+        if kind != "2" or mac_text is None:
+            return self.other_path(rd, match, path, vni)
+        hop, targets = path["nexthops"][0]["ip"], path.get("extendedCommunity", {}).get("string", "")
+        key = rd, hop, targets, str(path.get("VNI", "")), path.get("peerId"), path.get("local"), vni
+        alike = self.alike.get(key)
+        is_plain = tag == "0" and path.get("valid") is True and not path.get("esi")
+        if alike is None or not is_plain:
+            counted = self.counted()
+            found = self.other_path(rd, match, path, vni)
+            if is_plain and found and self.counted() == counted:
+                like = found[0]
+                self.alike[key] = Alike(tuple(each.vni for each in found), like.vtep, like.advert, like.is_own, self.community(targets))
+            return found
+        vnis, vtep, advert, is_own, said = alike
+        if said.routed and ip_text:
+            self.take_router(said, hop, ip_text, b"" if is_own else said.router)
+        mac, ip = read_mac(mac_text), read_ip(ip_text) if ip_text else b""
+        seconds, is_best = seconds_of(path) if "lastUpdate" in path else 0, is_chosen(path)
+        return [Path(rd, each, mac, ip, vtep, advert, seconds, is_best, is_own, targets) for each in vnis]
+
+    def counted(self) -> int:
+        """How many paths were counted for whatever cause."""
+        return sum(self.left_out.values()) + sum(self.told.values())
+
+    def other_path(self, rd: str, match: Optional["re.Match[str]"], path: dict, vni: Optional[int]) -> List[Path]:
         """One path for each network that imports it; what a record can't say is counted by its cause."""
         kind = match["type"] if match is not None else ""
         targets = path.get("extendedCommunity", {}).get("string", "")
@@ -276,9 +325,7 @@ class Routes:
         vnis: Tuple[Optional[int], ...] = self.networks_of(rd, said, is_own) if vni is None else (vni,)
         if not is_valid and not is_own:
             self.take_invalid(vnis, hop, mac)
-        best = path.get("bestpath", False)
-        is_best = best.get("overall") is True if isinstance(best, dict) else best is True
-        seconds = read_number(str(path["lastUpdate"]["epoch"]), 1 << 63, "time") if "lastUpdate" in path else 0
+        is_best, seconds = is_chosen(path), seconds_of(path)
         advert = Advert() if mac is None else self.advert(said.static, said.sequence, labels[2] if labels else None)
         ip = read_ip(match["ip"]) if match["ip"] else b""
         found = []
@@ -414,6 +461,19 @@ class Routes:
             print(f"left out {count}: {cause}", file=out)
         for cause, count in sorted(self.told.items()):
             print(f"told {count}: {cause}", file=out)
+
+
+def is_chosen(path: dict) -> bool:
+    """Whether a path is bgpd's own best one."""
+    best = path.get("bestpath", False)
+    return best.get("overall") is True if isinstance(best, dict) else best is True
+
+
+def seconds_of(path: dict) -> int:
+    """The second of a path's last update, which detail alone shows."""
+    if "lastUpdate" not in path:
+        return 0
+    return read_number(str(path["lastUpdate"]["epoch"]), 1 << 63, "time")
 
 
 class Snapshot:

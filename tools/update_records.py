@@ -16,11 +16,13 @@ WRITTEN_VERSION = 3
 ADVERTISE, WITHDRAW = 1, 2
 MAC_ROUTE, FLOOD_ROUTE = 2, 3
 GREATEST_LENGTH = 512
+MAC_PLACE = 50  # where a record has its MAC: after six octets of a head, 19 of a register, and 25 of a route
 ADDRESS_RD = b"\x00\x01"
 MOBILITY = b"\x06\x00"
 STATIC_FLAG = 1
 MOST_ORIGINATORS = 64
 MAC_TEXT = re.compile("[0-9a-f]{2}(:[0-9a-f]{2}){5}")
+MACS_KEPT = 1 << 17  # a MAC stands in five texts of a router, and in those of each leaf
 
 
 class Unreadable(Exception):
@@ -107,11 +109,17 @@ def read_address(text: str) -> bytes:
     return bytes(int(part) for part in parts)
 
 
+@functools.lru_cache(maxsize=MACS_KEPT)
+def mac_octets(text: str) -> Optional[bytes]:
+    """The octets of six pairs of lower case hexadecimal digits with colons; nothing of another text."""
+    return bytes.fromhex(text.replace(":", "")) if MAC_TEXT.fullmatch(text) else None
+
+
 def read_mac(text: str) -> bytes:
     """Six pairs of lower case hexadecimal digits with colons, of one station."""
-    if not MAC_TEXT.fullmatch(text):
+    mac = mac_octets(text)
+    if mac is None:
         raise Unreadable(f"{text!r} is no MAC address (six pairs of lower case digits)")
-    mac = bytes.fromhex(text.replace(":", ""))
     if mac[0] & 1:
         raise Unreadable(f"{text!r} is a group address")
     return mac
@@ -177,7 +185,22 @@ def community_of(update: Update) -> bytes:
 
 
 def record_of(update: Update) -> bytes:
-    """The version 3 record that spells an update."""
+    """The version 3 record that spells an update: those that differ only in MAC and IP differ in these octets."""
+    if update.mac is None:
+        return spelt(update)
+    before, length, after = around_mac(update._replace(mac=bytes(6), ip=bytes(len(update.ip))))
+    return before + update.mac + length + update.ip + after
+
+
+@functools.lru_cache(maxsize=1 << 12)
+def around_mac(update: Update) -> Tuple[bytes, bytes, bytes]:
+    """The octets of a MAC route's record before its MAC, the length of its IP, and the octets after its IP."""
+    record, behind = spelt(update), MAC_PLACE + 6
+    return record[:MAC_PLACE], record[behind : behind + 1], record[behind + 1 + len(update.ip) :]
+
+
+def spelt(update: Update) -> bytes:
+    """The octets of an update's record."""
     rest = (
         update.originator
         + update.incarnation.to_bytes(4, "big")

@@ -423,6 +423,56 @@ def older(record: bytes, version: int) -> bytes:
     return record[:2] + bytes([version, record[3]]) + len(rest).to_bytes(2, "big") + rest
 
 
+class NoMemory(dict):
+    """A table that keeps nothing."""
+
+    def __setitem__(self, key: object, value: object) -> None:
+        pass
+
+
+class Alike(unittest.TestCase):
+    """What is kept of one path for others like it changes no answer."""
+
+    def test_stored_routes_without_what_is_kept(self):
+        """All stored routes, with imports where they are stored, with an L3VNI and without."""
+        paths = [os.path.join(place, name) for place, _, names in os.walk(DATA) for name in names if name == "routes.json" or name == "detail.json"]
+        self.assertGreater(len(paths), 30)
+        for path in paths:
+            for routed in ((), (6000,)):
+                kept, forgotten = (frr_routes.Routes([5001, 5002, 5003], True, (), True, None, routed) for _ in range(2))
+                forgotten.alike = NoMemory()
+                found = []
+                for routes in (kept, forgotten):
+                    with records.open_text(path) as stream:
+                        found.append(list(routes.read(stream, path)))
+                self.assertEqual(*found, path)
+                for name in ("left_out", "told", "routers", "prefixes", "invalid", "segments", "multihomed", "unjudged", "routes"):
+                    self.assertEqual(getattr(kept, name), getattr(forgotten, name), f"{path}: {name}")
+
+    def test_records_of_one_kind(self):
+        """A record by another one's octets is the record that is spelt whole."""
+        rests = ("1 seq 3", "2 seq 3", "3 ip 198.18.0.9 static seq 0", "4 ip 198.18.0.7 static seq 0", "5 ip 2001:db8::1 seq 0 label2 6000")
+        lines = [f"advert 10.0.0.1 5001 02:00:00:00:00:0{rest}" for rest in rests]
+        lines += [f"withdraw 10.0.0.1 5001 02:00:00:00:00:0{rest}" for rest in ("1", "2", "3 ip 198.18.0.9")]
+        for line in (*lines, "advert 10.0.0.1 5001 flood"):
+            update = records.update_of_line(line)
+            self.assertEqual(records.record_of(update), records.spelt(update), line)
+
+
+class OtherProgram(unittest.TestCase):
+    """`evpnd_report`, which is the report only, in the place of `evpnd`."""
+
+    def test_its_words(self):
+        with tempfile.TemporaryDirectory() as folder:
+            for name, wanted in (("evpnd_report", "10.0.0.1"), ("evpnd", "report --originators 10.0.0.1")):
+                program = os.path.join(folder, name)
+                with open(program, "w", encoding="utf-8") as out:
+                    out.write('#!/bin/sh\necho "$@"\n')
+                os.chmod(program, 0o755)
+                updates = [records.update_of_line("advert 10.0.0.1 5001 02:00:00:00:00:01 seq 0")]
+                self.assertEqual(audit_report.run_report(program, updates), f"{wanted}\n")
+
+
 @needs_program
 class AgreesWithTheProgram(unittest.TestCase):
     """The proved program reads records as these tools do."""

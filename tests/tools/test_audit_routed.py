@@ -1,5 +1,6 @@
-"""The audit of stored views of FRR 8.4.4 and 10.3 in a routed fabric, as tests/outside/frr/routed.py kept them: an L3VNI, route
-targets, other programs' devices and entries, and what keeps frames from arriving. Each case is a row of what once misled."""
+"""The audit of stored views of FRR 8.4.4, 10.3 and partly 7.5.1 in a routed fabric, as tests/outside/frr/routed.py kept them: an
+L3VNI, route targets, other programs' devices and entries, and what keeps frames from arriving. Each case is a row of what once
+misled."""
 
 import json
 import os
@@ -18,7 +19,8 @@ from test_records import DATA, TOP
 import audit_frr
 
 ROUTED = os.path.join(DATA, "routed")
-VERSIONS = sorted(os.listdir(ROUTED))
+VERSIONS = ("10.3", "8.4.4")
+PLAYED = (*VERSIONS, "7.5.1")  # of the last one some cases are stored
 FAR, OTHER, ROUTER = "02:00:00:00:00:01", "02:00:00:00:00:02", "02:00:00:00:fe:01"
 FAR_IP = "198.18.1.7"
 
@@ -32,12 +34,14 @@ def view(version: str, name: str) -> str:
 class Routed(unittest.TestCase):
     """Each case by the texts of each version."""
 
-    def test_both_versions_are_there(self):
-        self.assertEqual(VERSIONS, ["10.3", "8.4.4"])
+    def test_the_versions_are_there(self):
+        """Each case of 8.4.4 and 10.3; of 7.5.1 those that were played."""
+        self.assertEqual(sorted(os.listdir(ROUTED)), sorted(PLAYED))
+        self.assertEqual(*(sorted(os.listdir(os.path.join(ROUTED, version))) for version in ("10.3", "8.4.4")))
 
     def each(self, name: str, *words: str) -> List[subprocess.CompletedProcess]:
-        """The audit of a stored view, of each version."""
-        return [run(*words, view(version, name)) for version in VERSIONS]
+        """The audit of a stored view, of each version that has it."""
+        return [run(*words, view(version, name)) for version in PLAYED if os.path.isdir(view(version, name))]
 
     def agrees(self, name: str) -> None:
         """Nothing differs."""

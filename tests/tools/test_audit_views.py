@@ -115,8 +115,24 @@ class AuditsLeaves(unittest.TestCase):
         for version in VERSIONS:
             done = run(view(version, "planted"))
             self.assertIn("; an entry that zebra didn't make: by hand, by another program, or learnt by the device\n", done.stdout)
-            self.assertIn("    see who made the entry: zebra's have the flag extern_learn (bridge -d fdb show)\n", done.stdout)
+            self.assertIn("    see who made the entry: zebra's have the flag extern_learn, those of static MACs sticky (bridge -d fdb show)\n", done.stdout)
             self.assertNotIn("mend:", done.stdout)
+
+    def test_a_static_macs_entry_is_zebras(self):
+        """zebra writes the entry of a static MAC with 'sticky' in the place of 'extern_learn' (seen with both versions)."""
+        for version in VERSIONS:
+            with Changed(version, "planted") as changed:
+                entries = text_of(changed.path, "fdb.json")
+                for entry in entries:
+                    if entry["mac"] == FAR and "dst" in entry:
+                        entry.update(flags=["self", "sticky"], state="static")
+                stray = {"mac": "02:00:00:00:66:66", "ifname": "vxlan5001", "dst": "10.0.0.1", "flags": ["self", "sticky"], "state": "static"}
+                changed.write("fdb.json", [*entries, stray])
+                lines = run(changed.path).stdout.splitlines()
+            place = next(number for number, line in enumerate(lines) if line.startswith(f"wrong 5001 {FAR} "))
+            self.assertIn(f"    mend: bridge fdb replace {FAR} dev vxlan5001 dst 10.0.0.1 self extern_learn; ", lines[place + 2])
+            place = next(number for number, line in enumerate(lines) if line.startswith("foreign 5001 02:00:00:00:66:66 "))
+            self.assertTrue(lines[place + 1].startswith("    see who made the entry: "), "what nobody advertises isn't touched")
 
     def test_an_empty_vni_hides_nothing(self):
         """VNI 5003 has no MACs; the wrong one of VNI 5001 is told all the same."""

@@ -56,8 +56,12 @@ class Edge:
         self.address, self.bgpd_lines, self.routed, self.vrf = OWN, BGPD_LINES, routed, vrf
         self.folder = tempfile.mkdtemp(prefix="evpnd-frr-", dir=f"{self.root}/var/tmp" if root else None)
         self.frr_folder = self.folder[len(self.root) :]
+        self.run_folder = os.path.join(self.folder, "run")  # an edge's own /run/frr, where mgmtd always has its sockets
+        for folder in (self.run_folder, f"{self.root}/run/frr") if root else ():
+            os.makedirs(folder, exist_ok=True)
         self.children: List[subprocess.Popen] = []
         self.speaker: Optional[subprocess.Popen] = None
+        self.speaker_words: List[str] = []
         self.daemons: Dict[str, subprocess.Popen] = {}
         self.marks = 0
 
@@ -165,7 +169,7 @@ class Edge:
 
     def frr(self, *words: str) -> List[str]:
         """A command of FRR, in its folder's Debian where there is one."""
-        enter = 'mount -t proc proc "$0/proc" && exec chroot "$0" "$@"'
+        enter = f'mount -t proc proc "$0/proc" && mount --bind {shlex.quote(self.run_folder)} "$0/run/frr" && exec chroot "$0" "$@"'
         return ["sh", "-c", enter, self.root, *words] if self.root else list(words)
 
     def start_daemons(self) -> None:
@@ -187,7 +191,7 @@ class Edge:
         self.wait_for(known, "the VNIs")
 
     def start_daemon(self, daemon: str, text: str) -> None:
-        """A daemon with its configuration, until it answers. FRR 10's mgmtd has its own sockets in /run/frr: one edge at a time."""
+        """A daemon with its configuration, until it answers."""
         inner = self.frr_folder
         path = os.path.join(self.folder, f"{daemon}.conf")
         with open(path, "w", encoding="utf-8") as stream:
@@ -211,7 +215,7 @@ class Edge:
 
     def start_speaker(self) -> None:
         """The speaker, until its session stands."""
-        words = [sys.executable, os.path.join(HERE, "speaker.py"), "192.168.77.1", "192.168.77.2"]
+        words = [sys.executable, os.path.join(HERE, "speaker.py"), "192.168.77.1", "192.168.77.2", *self.speaker_words]
         pipe = subprocess.PIPE
         self.speaker = self.start(self.outside, words, stdin=pipe, stdout=pipe, encoding="utf-8")
         self.children.append(self.speaker)

@@ -3,16 +3,17 @@
 
     fabric_leaves.py [--audits N] [ROOT]
 
-Four edges (edge.py) with one speaker in a route reflector's place: what a leaf advertises is what the speaker says of its address to
-the others, and what its own access port heard. `evpnd_audit.py fabric` asks all four in their namespaces (--run), while stations
-move 20 times a second. No audit may find anything; then a planted fault, a leaf that lacks routes and a leaf that doesn't answer
-each have to be found. Not part of the gate.
+Four edges (edge.py), whose speakers are a route reflector together: each UPDATE of a leaf is sent to the other three as it is. A
+station moves by a real frame at another leaf's access port. `evpnd_audit.py fabric` queries all four in their namespaces (--run)
+while stations move 20 times a second. No audit may find anything; then a planted fault, a leaf that lacks routes and a leaf that
+doesn't answer each have to be found. Not part of the gate.
 """
 
 import argparse
 import contextlib
 import os
 import random
+import shlex
 import subprocess
 import sys
 import threading
@@ -25,6 +26,7 @@ from histories import Tally
 
 LEAVES, MACS, VNI = 4, 400, 5001
 RATE = 20.0
+PROGRAM = "/run/evpnd-lab-{}"  # runs a command of a leaf
 
 
 def address_of(leaf: int) -> str:
@@ -38,7 +40,10 @@ class Leaf(Edge):
     def __init__(self, number: int, root: str) -> None:
         super().__init__(f"leaf{number}", root, (VNI,), access=True)
         self.number, self.address = number, address_of(number)
-        self.bgpd_lines = lab.BGPD_LINES.replace(lab.OWN, self.address)
+        distinguisher = f"  vni {VNI}\n   rd {self.address}:{VNI}\n  exit-vni\n"  # the speaker withdraws a route of this one
+        lines = lab.BGPD_LINES.replace("  advertise-all-vni\n", f"  advertise-all-vni\n{distinguisher}")
+        self.bgpd_lines = lines.replace(lab.OWN, self.address)
+        self.speaker_words, self.speaks = ["reflect"], threading.Lock()
 
     def __enter__(self) -> "Leaf":
         super().__enter__()
@@ -54,8 +59,17 @@ class Leaf(Edge):
 
     def say(self, lines: List[str]) -> None:
         """Tells routes, and waits for nothing."""
-        self.speaker.stdin.write("".join(f"{line}\n" for line in lines))
-        self.speaker.stdin.flush()
+        with self.speaks:
+            self.speaker.stdin.write("".join(f"{line}\n" for line in lines))
+            self.speaker.stdin.flush()
+
+    def reflect(self, others: List["Leaf"]) -> None:
+        """Sends each UPDATE of this leaf to the others, until its session ends."""
+        for line in self.speaker.stdout:
+            kind, _, octets = line.strip().partition(" ")
+            for other in others if kind == "update" else ():
+                with contextlib.suppress(OSError, ValueError):  # its speaker may have ended
+                    other.say([f"raw {octets}"])
 
 
 def station(place: int) -> str:
@@ -67,32 +81,24 @@ class Fabric:
     """The leaves, and where each station is."""
 
     def __init__(self, leaves: List[Leaf]) -> None:
-        self.leaves, self.homes, self.sequences = leaves, [place % LEAVES for place in range(MACS)], [0] * MACS
+        self.leaves, self.homes, self.moves = leaves, [place % LEAVES for place in range(MACS)], 0
 
     def begin(self) -> None:
-        """Each station is heard at its leaf, and the others are told."""
+        """Each station is heard at its leaf, and the leaves hear each other."""
         for leaf in self.leaves:
             others = [each for each in self.leaves if each is not leaf]
-            leaf.say([f"advert {each.address} {VNI} flood" for each in others])
-            leaf.say([f"advert {address_of(home)} {VNI} {station(place)} seq 0" for place, home in enumerate(self.homes) if home != leaf.number])
-            heard = [station(place) for place, home in enumerate(self.homes) if home == leaf.number]
-            leaf.hear(heard)
-
-    def move(self, place: int, home: int) -> None:
-        """A station moves: its new leaf hears it, the others are told with the next sequence number."""
-        self.homes[place], self.sequences[place] = home, self.sequences[place] + 1
-        mac, leaf = station(place), self.leaves[home]
-        leaf.hear([mac])
-        for each in self.leaves:
-            if each is not leaf:
-                each.say([f"advert {leaf.address} {VNI} {mac} seq {self.sequences[place]}"])
+            threading.Thread(target=leaf.reflect, args=(others,), daemon=True).start()
+        for leaf in self.leaves:
+            leaf.hear([station(place) for place, home in enumerate(self.homes) if home == leaf.number])
 
     def keep_moving(self, ended: threading.Event) -> None:
         """Stations move until that ends."""
         numbers = random.Random(4)
         while not ended.wait(1 / RATE):
             place = numbers.randrange(MACS)
-            self.move(place, (self.homes[place] + numbers.randint(1, LEAVES - 1)) % LEAVES)
+            self.homes[place] = (self.homes[place] + numbers.randint(1, LEAVES - 1)) % LEAVES
+            self.leaves[self.homes[place]].hear([station(place)])
+            self.moves += 1
 
 
 def audited(fabric: Fabric, *words: str) -> Tuple[int, str]:
@@ -100,22 +106,20 @@ def audited(fabric: Fabric, *words: str) -> Tuple[int, str]:
     names = ",".join(leaf.inside for leaf in fabric.leaves)
     tool = [sys.executable, os.path.join(lab.TOOLS, "evpnd_audit.py"), "fabric", names, "--again", "4", *words]
     how = {"capture_output": True, "encoding": "utf-8", "check": False}
-    done = subprocess.run([*tool, "--run", f"{sys.executable} {os.path.abspath(__file__)} within {{leaf}}"], **how)
+    done = subprocess.run([*tool, "--run", PROGRAM.format("{leaf}")], **how)
     return done.returncode, done.stdout + done.stderr
 
 
-def within(leaf: str, words: List[str]) -> None:
-    """Runs a command of a leaf in its namespace; vtysh gets the folder of its sockets."""
-    if words[0] == "vtysh":
-        with open(f"/run/evpnd-lab-{leaf}", encoding="utf-8") as stream:
-            words = [*stream.read().splitlines(), *words[1:]]
-    os.execvp("ip", ["ip", "netns", "exec", leaf, *words])
+def write_within(leaf: Leaf, path: str) -> None:
+    """Writes the program that runs a command of a leaf in its namespace; vtysh gets the folder of its sockets."""
+    there, shell = f"exec ip netns exec {leaf.inside}", shlex.join(leaf.shell_words())
+    with open(path, "w", encoding="utf-8") as out:
+        out.write(f'#!/bin/sh\n[ "$1" = vtysh ] && shift && {there} {shell} "$@"\n{there} "$@"\n')
+    os.chmod(path, 0o755)
 
 
 def main() -> int:
     """Plays the fabric."""
-    if sys.argv[1:2] == ["within"]:
-        within(sys.argv[2], sys.argv[3:])
     words = argparse.ArgumentParser(description=__doc__, formatter_class=argparse.RawDescriptionHelpFormatter)
     words.add_argument("--audits", type=int, default=10, metavar="N")
     words.add_argument("root", nargs="?", default="", metavar="ROOT")
@@ -125,10 +129,9 @@ def main() -> int:
         try:
             leaves = [stack.enter_context(Leaf(number, arguments.root)) for number in range(LEAVES)]
             for leaf in leaves:
-                path = f"/run/evpnd-lab-{leaf.inside}"
+                path = PROGRAM.format(leaf.inside)
                 stack.callback(os.remove, path)
-                with open(path, "w", encoding="utf-8") as out:
-                    out.write("\n".join(leaf.shell_words()))
+                write_within(leaf, path)
             print(f"-- FRR {leaves[0].version()}", flush=True)
             play(Fabric(leaves), tally, arguments.audits)
         except (Trouble, subprocess.SubprocessError, OSError) as trouble:
@@ -152,12 +155,10 @@ def play(fabric: Fabric, tally: Tally, audits: int) -> None:
             status, text = audited(fabric)
             alarms += status != 0
             print(f"audit {turn + 1}: {alarms} alarms {text if status else ''}", flush=True)
-        rate = sum(fabric.sequences) / (time.monotonic() - begun)
+        rate = fabric.moves / (time.monotonic() - begun)
         tally.see(alarms == 0, f"{alarms} alarms in {audits} audits at {rate:.0f} moves a second")
         first, second = fabric.leaves[:2]
         mac = "02:00:00:00:00:77"
-        for leaf in fabric.leaves[1:]:
-            leaf.say([f"advert {first.address} {VNI} {mac} seq 0"])
         first.hear([mac])
         time.sleep(3)
         wrong = ["dst", fabric.leaves[2].address, "self", "extern_learn"]

@@ -3,8 +3,9 @@
 
     frames.py heard PORT MAC ..                sends a frame of each station into a port
     frames.py stations PORT                    sends a frame of each station whose MAC comes on standard input
-    frames.py judge UPLINK VNI ..              the same as `goes` of many: reads a list of [VNI, MAC] a line, and prints a list
-                                               of places a line, as JSON, for the bridges brVNI with their ports hostVNI
+    frames.py judge UPLINK VNI ..              the same as `goes` and `routed` of many: reads a list of [VNI, MAC] and a list of
+                                               addresses a line, and prints two lists of places a line, as JSON, for the
+                                               bridges brVNI with their ports hostVNI
     frames.py goes BRIDGE MAC PORT UPLINK      sends a frame to a MAC from the bridge, and says where it came out:
                                                'local' at the port, the outer address of each VXLAN datagram, or 'nowhere';
                                                a datagram of another VNI than the bridge's, or UDP port, has that behind it
@@ -17,11 +18,12 @@ import select
 import socket
 import sys
 import time
-from typing import List, Set
+from typing import Dict, List, Set
 
 EXPERIMENT = "88b5"  # IEEE Std 802: the first local experimental EtherType
 VXLAN_PORT = 4789
 WAIT = 0.4
+QUIET = 0.12  # seconds: a frame passes bridge, VXLAN device and cable while it is sent
 
 
 def opened(device: str) -> socket.socket:
@@ -66,24 +68,45 @@ def goes(bridge: str, mac: str, port: str, uplink: str) -> str:
 
 
 def judge(uplink: str, vnis: List[str]) -> None:
-    """Says of each list on standard input where a frame to each MAC goes."""
+    """Says of each two lists on standard input where a frame to each MAC goes, and a datagram to each address by the kernel's routes."""
     out, senders = opened(uplink), {int(vni): opened(f"br{vni}") for vni in vnis}
     ports = {opened(f"host{vni}"): int(vni) for vni in vnis}
+    datagrams = socket.socket(socket.AF_INET, socket.SOCK_DGRAM)
     for line in sys.stdin:
-        asked = [(vni, frame(mac, f"02:00:00:00:ff:{vni & 255:02x}")) for vni, mac in json.loads(line)]
+        macs, addresses = json.loads(line)
+        asked = [(vni, frame(mac, f"02:00:00:00:ff:{vni & 255:02x}")) for vni, mac in macs]
         found: List[Set[str]] = [set() for _ in asked]
+        ways: Dict[str, Set[str]] = {address: set() for address in addresses}
         for vni, sent in asked:
             senders[vni].send(sent)
-        end = time.monotonic() + WAIT
-        while time.monotonic() < end:
-            for ready in select.select([out, *ports], [], [], 0.05)[0]:
+        for address in addresses:
+            try:
+                datagrams.sendto(f"evpnd, to {address}".encode(), (address, 9))
+            except OSError:
+                continue
+        while there := select.select([out, *ports], [], [], QUIET)[0]:
+            for ready in there:
                 octets = ready.recv(65536)
                 for (vni, sent), places in zip(asked, found):
                     if ready is out:
                         places.add(outer_address(octets, sent, vni))
                     elif ports[ready] == vni and octets[: len(sent)] == sent:
                         places.add("local")
-        print(json.dumps(["+".join(sorted(places - {""})) or "nowhere" for places in found]), flush=True)
+                for address in addresses if ready is out and is_datagram(octets) else ():
+                    if octets.endswith(f"evpnd, to {address}".encode()):
+                        ways[address].add(way_of(octets))
+        places = ["+".join(sorted(each - {""})) or "nowhere" for each in found]
+        print(json.dumps([places, ["+".join(sorted(ways[address])) or "nowhere" for address in addresses]]), flush=True)
+
+
+def is_datagram(octets: bytes) -> bool:
+    """Whether a frame is a UDP datagram of IPv4."""
+    return octets[12:14] == b"\x08\x00" and octets[23] == 17
+
+
+def way_of(octets: bytes) -> str:
+    """The outer address, the VNI and the inner destination MAC of a VXLAN datagram."""
+    return f"{socket.inet_ntoa(octets[30:34])} vni {int.from_bytes(octets[46:49], 'big')} {octets[50:56].hex(':')}"
 
 
 def routed(address: str, uplink: str) -> str:
@@ -100,9 +123,8 @@ def routed(address: str, uplink: str) -> str:
     while time.monotonic() < until:
         for ready in select.select([end], [], [], 0.05)[0]:
             octets = ready.recv(65536)
-            if octets.endswith(text) and octets[12:14] == b"\x08\x00" and octets[23] == 17:
-                vni, mac = int.from_bytes(octets[46:49], "big"), octets[50:56].hex(":")
-                found.add(f"{socket.inet_ntoa(octets[30:34])} vni {vni} {mac}")
+            if octets.endswith(text) and is_datagram(octets):
+                found.add(way_of(octets))
     return "+".join(sorted(found)) or "nowhere"
 
 

@@ -3,9 +3,10 @@
 
     leaves.py [--keep FOLDER] [--tools FOLDER [--no-empty]] [--moves AUDITS] [ROOT ..]
 
-A ROOT is a folder with a Debian that has frr (debootstrap, then apt-get install frr in it by chroot); with none,
-this host's FRR. Each case is what an operator has met; with --tools another commit's tools get the same questions (they find
-evpnd on the path), and --no-empty leaves out the VNI without MACs, at which the tools of 04daf64 end before all else.
+A ROOT is a folder with a Debian that has frr (debootstrap --include=frr,iproute2 SUITE ROOT); with none, this host's FRR. On
+2026-11-27 bullseye had FRR 7.5.1, bookworm 8.4.4, trixie 10.3 and sid 10.7.1. Each case is what an operator has met; with --tools
+another commit's tools get the same questions (they find evpnd on the path), and --no-empty leaves out the VNI without MACs, at
+which the tools of 04daf64 end before all else.
 --moves plays 20 moves a second of 5,000 MACs while the audits run. Not part of the gate.
 """
 
@@ -13,6 +14,7 @@ import argparse
 import json
 import os
 import random
+import signal
 import subprocess
 import sys
 import tempfile
@@ -181,6 +183,41 @@ def has_planted_floods(edge: Edge, tally: Tally) -> None:
     keep(edge, "noflood")
 
 
+def has_lost_flood(edge: Edge, tally: Tally) -> None:
+    """A flood entry is lost while zebra sleeps, which puts it back otherwise: the mend that is printed for it brings the frames back."""
+    zero, nobody = "00:00:00:00:00:00", "02:00:00:00:77:77"
+    edge.tell(start_of(edge))
+    time.sleep(1)
+    agrees(edge, tally, "at the beginning")
+    mend = mend_of_lost_flood(edge, zero, "10.0.0.2")
+    tally.see(mend.startswith("bridge fdb append "), f"flood missing has a mend: {mend}")
+    edge.daemons["zebra"].send_signal(signal.SIGSTOP)
+    try:
+        edge.within("bridge", "fdb", "del", zero, "dev", "vxlan5001", "dst", "10.0.0.2", "self")
+        as_frames(edge, tally, 5001, nobody, "10.0.0.1+local")
+        edge.within("sh", "-c", mend)
+        as_frames(edge, tally, 5001, nobody, "10.0.0.1+10.0.0.2+local")
+    finally:
+        edge.daemons["zebra"].send_signal(signal.SIGCONT)
+    time.sleep(2)
+    as_frames(edge, tally, 5001, nobody, "10.0.0.1+10.0.0.2+local")
+    agrees(edge, tally, "zebra awake again")
+
+
+def mend_of_lost_flood(edge: Edge, mac: str, place: str) -> str:
+    """The mend that the audit prints for this edge without one entry of the kernel."""
+    with tempfile.TemporaryDirectory() as folder:
+        edge.save(folder)
+        path = os.path.join(folder, "fdb.json")
+        with open(path, encoding="utf-8") as stream:
+            entries = json.load(stream)
+        with open(path, "w", encoding="utf-8") as out:
+            json.dump([each for each in entries if (each["mac"], each["ifname"], each.get("dst")) != (mac, "vxlan5001", place)], out)
+        _, text = said(sys.executable, os.path.join(lab.TOOLS, "evpnd_audit.py"), "--vni", "5001", folder)
+    lines = text.split(f"flood missing 5001 {place}")[-1].splitlines()
+    return next((line.strip()[len("mend: ") :] for line in lines if line.strip().startswith("mend: ")), "")
+
+
 def is_not_told(edge: Edge, tally: Tally) -> None:
     """A MAC-only route that another router shows and this one doesn't: that cause, not the forwarding plane's."""
     edge.tell([*start_of(edge), f"advert 10.0.0.1 5001 {SHARED} seq 3"])
@@ -247,7 +284,7 @@ def loses_session(edge: Edge, tally: Tally) -> None:
 
 
 CASES: Tuple[Tuple[str, Callable[[Edge, Tally], None]], ...] = (
-    ("home", moves_home), ("sticky", is_sticky), ("entries", has_planted_entries), ("floods", has_planted_floods),
+    ("home", moves_home), ("sticky", is_sticky), ("entries", has_planted_entries), ("floods", has_planted_floods), ("lostflood", has_lost_flood),
     ("untold", is_not_told), ("gateway", is_gateway), ("esi", is_multihomed), ("lost", loses_session),
 )
 

@@ -1,9 +1,10 @@
 #!/usr/bin/env python3
 """A small BGP speaker: readable lines (tools/evpnd_records.py) on standard input become EVPN UPDATEs.
 
-    speaker.py PEER OWN-ADDRESS
+    speaker.py PEER OWN-ADDRESS [reflect]
 
-A line may begin with 'esi' (its route has a nonzero ESI), 'pref N' (its local preference, 100 else), 'target AS:N' (a route
+With 'reflect' each EVPN UPDATE of the peer is a line 'update OCTETS' on standard output, in hexadecimal digits, and a line 'raw
+OCTETS' on standard input is sent as it is: so several speakers are a route reflector. A line may begin with 'esi' (its route has a nonzero ESI), 'pref N' (its local preference, 100 else), 'target AS:N' (a route
 target in place of AS:VNI; may stand more than once) and 'router MAC' (the EVPN Router's MAC community of RFC 9135, 8.1).
 'segment EDGE VNI' says that an edge is at the segment of 'esi': its Ethernet A-D routes and its Ethernet Segment route (RFC 7432,
 7.1, 7.4). It speaks as a route reflector would: one internal session, the next hop of each route is the line's
@@ -55,6 +56,8 @@ class Extras(NamedTuple):
 def message_of_line(line: str) -> bytes:
     """The UPDATE that a line says."""
     words, extras = line.split(), Extras(bytes(10), 100, [], b"")
+    if words[0] == "raw":
+        return bytes.fromhex(words[1])
     if words[0] == "segment":
         return segment_messages(records.read_address(words[1]), int(words[2]))
     while words and words[0] in ("esi", "pref", "target", "router"):
@@ -135,8 +138,8 @@ class Session:
             self.connection.sendall(octets)
 
 
-def listen(session: Session) -> None:
-    """Answers the peer's OPEN, and says when the session stands or is refused."""
+def listen(session: Session, reflects: bool) -> None:
+    """Answers the peer's OPEN, and says when the session stands or is refused, and what the peer advertises if that is wanted."""
     held = b""
     while True:
         more = session.connection.recv(65536)
@@ -149,6 +152,8 @@ def listen(session: Session) -> None:
             if kind == OPEN:
                 session.send(message(KEEPALIVE, b""))
                 print("up", flush=True)
+            if kind == UPDATE and reflects:
+                print("update", held[:length].hex(), flush=True)
             if kind == NOTIFICATION:
                 print("notification", held[19:length].hex(), flush=True)
             held = held[length:]
@@ -166,8 +171,8 @@ def main() -> None:
     peer, own = sys.argv[1:3]
     session = Session(peer, own)
     session.send(open_message(own))
-    for work in (listen, keep):
-        threading.Thread(target=work, args=(session,), daemon=True).start()
+    for work, arguments in ((listen, (session, sys.argv[3:] == ["reflect"])), (keep, (session,))):
+        threading.Thread(target=work, args=arguments, daemon=True).start()
     for line in sys.stdin:
         session.send(message_of_line(line))
 

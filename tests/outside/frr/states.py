@@ -1,23 +1,26 @@
 #!/usr/bin/env python3
 """States of random histories in a routed leaf, judged by real frames. As root, with frr and iproute2:
 
-    states.py [--states N] [--seed N] [ROOT]
+    states.py [--states N] [--seed N] [--until HH:MM] [ROOT]
 
 The leaf has an L3VNI, another program's VXLAN device, a network with a configured import target, and routes with two local route
 targets. In each state some routes change, and in half of them an entry of the kernel is changed as zebra would write it. A real
 frame to each MAC says where it goes; the owner is that of the routes that were told (a model of its own here). Each MAC whose
 frame goes elsewhere has to be told, no other one may be, and after each `mend:` its frame has to go to the owner. A line a state
-that is missed or false, a sum each 20 states. Not part of the gate.
+that is missed or false, a sum each 20 states. The audits are those of one process (auditor.py); each 50th state is audited by
+the program and by vtysh as well, which has to print the same. Several may run side by side. Not part of the gate.
 """
 
 import argparse
 import json
 import os
 import random
+import re
+import shlex
 import subprocess
 import sys
 import time
-from typing import Dict, List, NamedTuple, Optional, Tuple
+from typing import Dict, List, NamedTuple, Optional, Set, Tuple
 
 import edge as lab
 from edge import Edge, Trouble, run
@@ -25,6 +28,7 @@ from leaves import audited
 
 VNIS, L3VNI, IMPORT = (5001, 5002), 6000, 100
 STATIONS, EDGES, CHANGES = 24, 4, 6
+SETTLES, COMPARED = 0.4, 50  # seconds that zebra gets after a change; each so many states vtysh is asked as well
 Key = Tuple[int, str]
 
 
@@ -75,107 +79,225 @@ class Model:
             lines.append(f"{words}advert 10.0.0.{edge} {vni} {mac}{ip}{' static' if said.static else ''} seq {said.sequence}{label}")
         return lines
 
+    def routed(self) -> Dict[str, Set[int]]:
+        """The edges of each address that has a route."""
+        found: Dict[str, Set[int]] = {}
+        for said in self.routes.values():
+            for edge, route in said.items():
+                if route.ip:
+                    found.setdefault(route.ip, set()).add(edge)
+        return found
+
     def address(self, place: int, vni: int) -> str:
         """An address of the network for a third of the stations."""
         return f"198.18.{vni % 250}.{100 + place}" if place % 3 == 0 else ""
 
 
-def prepare(edge: Edge) -> subprocess.Popen:
-    """The other device, the import target and the flood lists; returns the judge."""
-    inside = ["ip", "-n", edge.inside]
-    run(*inside, "link", "add", "flannel.1", "type", "vxlan", "id", "1", "dstport", "8472", "local", edge.address, "nolearning")
-    run(*inside, "link", "set", "flannel.1", "up")
-    edge.within("bridge", "fdb", "append", "02:00:00:00:f1:01", "dev", "flannel.1", "dst", "10.0.0.1", "self", "permanent")
-    edge.shell_lines(
-        "configure terminal", "router bgp 65000", "address-family l2vpn evpn", "vni 5002", f"route-target import 65000:{IMPORT}"
-    )
-    floods = [f"target 65000:{IMPORT if vni == 5002 else vni} advert 10.0.0.{pe} {vni} flood" for pe in range(1, EDGES + 1) for vni in VNIS]
-    edge.tell(floods)
-    words = [sys.executable, os.path.join(lab.HERE, "frames.py"), "judge", "up0", *map(str, VNIS)]
-    judge = edge.start(edge.inside, words, stdin=subprocess.PIPE, stdout=subprocess.PIPE, encoding="utf-8")
-    edge.children.append(judge)
-    return judge
+class Leaf:
+    """The leaf with its judge and its auditor."""
+
+    def __init__(self, edge: Edge) -> None:
+        """Makes the other device, the import target and the flood lists."""
+        self.edge, self.marks = edge, 0
+        inside = ["ip", "-n", edge.inside]
+        run(*inside, "link", "add", "flannel.1", "type", "vxlan", "id", "1", "dstport", "8472", "local", edge.address, "nolearning")
+        run(*inside, "link", "set", "flannel.1", "up")
+        edge.within("bridge", "fdb", "append", "02:00:00:00:f1:01", "dev", "flannel.1", "dst", "10.0.0.1", "self", "permanent")
+        target = f"route-target import 65000:{IMPORT}"
+        edge.shell_lines("configure terminal", "router bgp 65000", "address-family l2vpn evpn", "vni 5002", target)
+        self.judge = self.started("frames.py", "judge", "up0", *map(str, VNIS))
+        self.auditor = self.started("auditor.py", edge.folder)
+        pairs = [(pe, vni) for pe in range(1, EDGES + 1) for vni in VNIS]
+        self.tell([f"target 65000:{IMPORT if vni == 5002 else vni} advert 10.0.0.{pe} {vni} flood" for pe, vni in pairs])
+
+    def started(self, program: str, *words: str) -> subprocess.Popen:
+        """A program of this folder in the leaf's namespace, which answers lines."""
+        pipe, command = subprocess.PIPE, [sys.executable, os.path.join(lab.HERE, program), *words]
+        child = self.edge.start(self.edge.inside, command, stdin=pipe, stdout=pipe, encoding="utf-8")
+        self.edge.children.append(child)
+        return child
+
+    def asked(self, *words: str) -> Tuple[int, str]:
+        """The auditor's answer."""
+        self.auditor.stdin.write(json.dumps(words) + "\n")
+        self.auditor.stdin.flush()
+        status, text = json.loads(self.auditor.stdout.readline())
+        return status, text
+
+    def tell(self, lines: List[str]) -> None:
+        """Says some lines and a mark behind them in the place of the last one, and waits until the kernel has the mark."""
+        last, self.marks = self.marks, self.marks + 1
+        names = [f"02:ff:ff:{each >> 16:02x}:{each >> 8 & 255:02x}:{each & 255:02x}" for each in (last, self.marks)]
+        gone = [f"withdraw 10.0.0.1 {VNIS[0]} {names[0]}"] if last else []
+        self.edge.speaker.stdin.write("\n".join([*gone, *lines, f"advert 10.0.0.1 {VNIS[0]} {names[1]} seq 0", ""]))
+        self.edge.speaker.stdin.flush()
+        status, fault = self.asked("mark", f"vxlan{VNIS[0]}", names[1])
+        if status:
+            raise Trouble(fault)
+
+    def audited(self, *words: str) -> Tuple[int, str]:
+        """The audit by the auditor."""
+        return self.asked("audit", *words)
+
+    def agrees(self) -> bool:
+        """Whether the program with vtysh prints what the auditor prints; both are asked until nothing moves."""
+        for _ in range(3):
+            before, whole, after = self.audited("--json"), audited(self.edge, "--json"), self.audited("--json")
+            if before == after:
+                return whole[0] == before[0] and whole[1].startswith(before[1])  # standard error stands behind
+        return False
 
 
-def judged(judge: subprocess.Popen, keys: List[Key]) -> Dict[Key, str]:
-    """Where a real frame to each MAC goes: 'flooded' where all edges get it; one edge and the access port is the device's entry alone."""
-    judge.stdin.write(json.dumps(keys) + "\n")
-    judge.stdin.flush()
-    places = json.loads(judge.stdout.readline())
+class Judgement(NamedTuple):
+    """The MACs whose real frames go elsewhere than to their owner, and the addresses whose datagrams aren't routed to an edge of theirs."""
+
+    frames: Dict[Key, str]
+    datagrams: Dict[str, str]
+
+
+def judged(leaf: Leaf, model: Model, keys: List[Key]) -> Judgement:
+    """Sends a frame to each MAC and a datagram to each address that has a route: without an owner a frame is flooded to all edges."""
+    routed = model.routed()
+    leaf.judge.stdin.write(json.dumps([keys, list(routed)]) + "\n")
+    leaf.judge.stdin.flush()
+    places, ways = json.loads(leaf.judge.stdout.readline())
     everywhere = {f"10.0.0.{edge}" for edge in range(1, EDGES + 1)}
-    return {key: "flooded" if everywhere <= {*place.split("+")} else place for key, place in zip(keys, places)}
+    found = {key: "flooded" if everywhere <= {*place.split("+")} else place for key, place in zip(keys, places)}
+    frames = {key: place for key, place in found.items() if place != (model.owner(key) or "flooded")}
+    right = {address: {way_to(edge) for edge in edges} for address, edges in routed.items()}
+    return Judgement(frames, {address: way for address, way in zip(routed, ways) if way not in right[address]})
 
 
-def differing(judge: subprocess.Popen, model: Model, keys: List[Key]) -> Dict[Key, str]:
-    """The MACs whose frames go elsewhere than to the owner: without one a frame is flooded."""
-    return {key: place for key, place in judged(judge, keys).items() if place != (model.owner(key) or "flooded")}
+def way_to(edge: int) -> str:
+    """How a datagram that is routed to an edge leaves: its outer address, the L3VNI and the router's MAC."""
+    return f"10.0.0.{edge} vni {L3VNI} 02:00:00:00:fe:{edge:02x}"
 
 
-def plant(edge: Edge, model: Model, keys: List[Key]) -> str:
+def plant(leaf: Leaf, model: Model, keys: List[Key]) -> str:
     """Changes an entry of the kernel, as zebra would write it."""
     vni, mac = model.numbers.choice(keys)
     device, kind = f"vxlan{vni}", model.numbers.choice(["edge", "vni", "port", "gone", "stray"])
     owner = model.owner((vni, mac)) or "10.0.0.1"
     other = f"10.0.0.{1 + int(owner.rpartition('.')[2]) % EDGES}"
     words = {"edge": ["dst", other], "vni": ["dst", owner, "vni", "77"], "port": ["dst", owner, "port", "4790"]}
-    if kind in words and model.owner((vni, mac)):
-        edge.within("bridge", "fdb", "replace", mac, "dev", device, *words[kind], "self", "extern_learn")
-    elif kind == "gone" and model.owner((vni, mac)):
-        subprocess.run(["bridge", "-n", edge.inside, "fdb", "del", mac, "dev", device, "self"], capture_output=True, check=False)
-    elif not model.owner((vni, mac)):
-        edge.within("bridge", "fdb", "replace", mac, "dev", device, "dst", owner, "self", "extern_learn")
-        edge.within("bridge", "fdb", "replace", mac, "dev", device, "master", "extern_learn")
+    replace, owned = ["bridge", "fdb", "replace", mac, "dev", device], model.owner((vni, mac)) is not None
+    commands: List[List[str]] = []
+    if kind in words and owned:
+        commands = [[*replace, *words[kind], "self", "extern_learn"]]
+    elif kind == "gone" and owned:
+        commands = [["bridge", "fdb", "del", mac, "dev", device, "self"]]
+    elif not owned:
+        commands = [[*replace, "dst", owner, "self", "extern_learn"], [*replace, "master", "extern_learn"]]
+    leaf.asked("run", *map(shlex.join, commands)) if commands else None
     return f"{kind} {vni} {mac}"
 
 
-def told_of(text: str) -> Tuple[Dict[Key, str], List[str]]:
-    """The MACs of which an audit tells that frames go elsewhere, each with its mend, and what else it tells.
+def restore(leaf: Leaf, model: Model, keys: List[Key]) -> None:
+    """Puts the owners' entries of MACs back that no mend was printed for, so that later states differ in other MACs."""
+    places = [(vni, mac, model.owner((vni, mac))) for vni, mac in keys]
+    commands = [f"bridge fdb replace {mac} dev vxlan{vni} dst {owner} self" for vni, mac, owner in places if owner]
+    if commands:
+        leaf.asked("run", *commands)
+
+
+class Told(NamedTuple):
+    """What an audit tells: MACs whose frames go elsewhere, and edges that datagrams aren't routed to, each with its mend; and the rest."""
+
+    macs: Dict[Key, str]
+    edges: Dict[int, str]
+    others: List[str]
+
+
+def told_of(text: str) -> Told:
+    """What an audit tells, of its JSON.
 
     zebra 8.4.4 may name a wrong edge while the kernel is right: that is told too, and no frame shows it.
     """
     said = json.loads(text)
-    told, others = {}, [cause["text"] for view in said["views"] for cause in view["causes"]]
+    told = Told({}, {}, [cause["text"] for view in said["views"] for cause in view["causes"]])
     for result in said["results"]:
         wrong = [each for each in result["macs"] if each["kernel"].replace("nowhere", "none") != each["owner"]]
-        told.update({(result["vni"], each["mac"]): each["mend"] for each in wrong})
-        others += [f"{result['vni']} {cause['text']}" for cause in result["causes"]]
-        for name in ("floods", "routers"):
-            others += [f"{each['kind']} {result['vni']} {each['what']}" for each in result[name] or []]
-    return told, others
+        told.macs.update({(result["vni"], each["mac"]): each["mend"] for each in wrong})
+        told.others.extend(f"{result['vni']} {cause['text']}" for cause in result["causes"])
+        told.others.extend(f"{each['kind']} {result['vni']} {each['what']}" for each in result["floods"] or [])
+        for each in result["routers"] or []:
+            if each["kind"].endswith(("missing", "wrong")):
+                told.edges[int(re.split("[.:]", each["what"])[-1], 16)] = each["mend"]
+            else:
+                told.others.append(f"{each['kind']} {result['vni']} {each['what']}")
+    return told
 
 
-def play(edge: Edge, states: int, seed: int) -> int:
-    """Plays so many states."""
-    judge, model = prepare(edge), Model(random.Random(seed))
+NAMES = (
+    "states", "differed", "told", "missed", "false", "mends", "failed mends",
+    "addresses differed", "edges told", "addresses missed", "edges false", "others", "compared",
+)  # fmt: skip
+FAULTS = ("missed", "false", "failed mends", "addresses missed", "edges false", "others")
+
+
+def play(edge: Edge, states: int, seed: int, until: str) -> int:
+    """Plays so many states, or until a time."""
+    leaf, model = Leaf(edge), Model(random.Random(seed))
     keys = [(vni, f"02:00:00:00:05:{place:02x}") for place in range(STATIONS) for vni in (VNIS if place % 6 == 1 else (VNIS[place % 2],))]
-    sums = dict.fromkeys(("states", "differed", "told", "missed", "false", "mends", "failed mends", "others"), 0)
+    sums = dict.fromkeys(NAMES, 0)
     for state in range(states):
-        edge.tell(model.change())
-        time.sleep(0.4)
-        planted = plant(edge, model, keys) if model.numbers.random() < 0.5 else ""
-        wrong = differing(judge, model, keys)
-        status, text = audited(edge, "--json", "--again", "1")
-        if status not in (0, 1):
-            raise Trouble(f"status {status}: {text}")
-        told, others = told_of(text)
-        again = differing(judge, model, keys)
-        missed, false = set(wrong) & set(again) - set(told), set(told) - set(wrong) - set(again)
-        for name, count in (("differed", len(wrong)), ("told", len(told)), ("missed", len(missed)), ("false", len(false)), ("others", len(others))):
+        if until and time.strftime("%H:%M") >= until:
+            break
+        found = played(leaf, model, keys, state)
+        for name, count in found.items():
             sums[name] += count
-        sums["states"] += 1
-        mended = [key for key, mend in told.items() if mend]
-        for key in mended:
-            edge.within("sh", "-c", told[key])
-        failed = set(differing(judge, model, mended)) if mended else set()
-        sums["mends"] += len(mended)
-        sums["failed mends"] += len(failed)
-        if missed or false or failed or others:
-            print(f"state {state} ({planted}): missed {[(key, wrong[key], model.owner(key)) for key in sorted(missed)]}, false {sorted(false)}, failed {sorted(failed)}, others {others}", flush=True)
-            for key in false:
-                print(audited(edge, "--vni", str(key[0]), "--mac", key[1])[1], end="", flush=True)
-        if state % 20 == 19 or state == states - 1:
+        if state % 20 == 19:
             print(f"{time.strftime('%H:%M:%S')} {sums}", flush=True)
-    return sums["missed"] + sums["false"] + sums["failed mends"] + sums["others"]
+    print(f"end {time.strftime('%H:%M:%S')} {sums}", flush=True)
+    return sum(sums[name] for name in FAULTS)
+
+
+def played(leaf: Leaf, model: Model, keys: List[Key], state: int) -> Dict[str, int]:
+    """Plays one state; says what came."""
+    leaf.tell(model.change())
+    time.sleep(SETTLES)
+    planted = plant(leaf, model, keys) if model.numbers.random() < 0.5 else ""
+    before = judged(leaf, model, keys)
+    status, text = leaf.audited("--json", "--again", "1")
+    if status not in (0, 1):
+        raise Trouble(f"status {status}: {text}")
+    told, after = told_of(text), judged(leaf, model, keys)
+    found = dict.fromkeys(NAMES, 0)
+    missed, false = {*before.frames} & {*after.frames} - {*told.macs}, {*told.macs} - {*before.frames} - {*after.frames}
+    lost, needless = compared(model, told, before, after)
+    if state % COMPARED == COMPARED - 1:
+        found["compared"] = 1
+        told.others.extend([] if leaf.agrees() else ["vtysh and the sockets differ"])
+    mended = [key for key, mend in told.macs.items() if mend]
+    commands = [told.macs[key] for key in mended] + [mend for mend in told.edges.values() if mend]
+    if commands:
+        leaf.asked("run", *commands)
+    failed = failed_of(judged(leaf, model, mended), told, model) if commands else set()
+    restore(leaf, model, [key for key in told.macs if key not in mended])
+    if missed or false or failed or lost or needless or told.others:
+        shown = [(key, before.frames[key], model.owner(key)) for key in sorted(missed)]
+        lists = f"missed {shown}, false {sorted(false)}, failed {sorted(failed)}, addresses {lost}, edges {needless}, others {told.others}"
+        print(f"state {state} ({planted}): {lists}", flush=True)
+        for key in false:
+            print(leaf.audited("--vni", str(key[0]), "--mac", key[1])[1], end="", flush=True)
+    counts = (1, len(before.frames), len(told.macs), len(missed), len(false), len(commands), len(failed))
+    more = (len(before.datagrams), len(told.edges), len(lost), len(needless), len(told.others), found["compared"])
+    return dict(zip(NAMES, counts + more))
+
+
+def compared(model: Model, told: Told, before: Judgement, after: Judgement) -> Tuple[List[str], List[int]]:
+    """The addresses that aren't routed and of whose edges none is told, and the edges that are told though their addresses are routed."""
+    routed, wrong = model.routed(), {*before.datagrams} & {*after.datagrams}
+    lost = [f"{address} {before.datagrams[address]}" for address in sorted(wrong) if not routed[address] & {*told.edges}]
+    either = {*before.datagrams, *after.datagrams}
+    needless = [edge for edge in told.edges if not any(address in either and edge in edges for address, edges in routed.items())]
+    return lost, needless
+
+
+def failed_of(after: Judgement, told: Told, model: Model) -> Set[str]:
+    """What still differs though a mend was run for it."""
+    addresses = {address for address, edges in model.routed().items() if any(told.edges.get(edge) for edge in edges)}
+    return {f"{vni} {mac}" for vni, mac in after.frames} | (addresses & {*after.datagrams})
 
 
 def main() -> int:
@@ -183,11 +305,12 @@ def main() -> int:
     words = argparse.ArgumentParser(description=__doc__, formatter_class=argparse.RawDescriptionHelpFormatter)
     words.add_argument("--states", type=int, default=100, metavar="N")
     words.add_argument("--seed", type=int, default=56, metavar="N")
+    words.add_argument("--until", default="", metavar="HH:MM")
     words.add_argument("root", nargs="?", default="", metavar="ROOT")
     arguments = words.parse_args()
     with Edge("states", arguments.root, VNIS, access=True, routed=L3VNI) as edge:
         print(f"-- FRR {edge.version()}, seed {arguments.seed}", flush=True)
-        return 1 if play(edge, arguments.states, arguments.seed) else 0
+        return 1 if play(edge, arguments.states, arguments.seed, arguments.until) else 0
 
 
 if __name__ == "__main__":
