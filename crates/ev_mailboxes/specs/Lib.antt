@@ -1,3 +1,4 @@
-pub mod Mailbox
+pub mod Letter
+pub mod Posts
 pub mod Outbox
 pub mod Inner

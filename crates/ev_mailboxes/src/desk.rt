@@ -1,11 +1,10 @@
-//! The desk of an edge: the operator's request waits there for the edge's worker, and the answer
-//! for the operator.
+//! The desk of an edge: the answer to the operator's request waits there for the operator.
 
 ghost use Rattle.std.specs.Prelude.{◌≡◌, true, false};
-ghost use Rattle.ev_mailboxes.specs.Inner.Desk.{put_on, take_from, collect_from};
+ghost use Rattle.ev_mailboxes.specs.Inner.Desk.{ask_on, collect_from};
 ghost use Rattle.ev_mailboxes.specs.declared.desk.Slip.TheVariants.{Free, Answered};
 
-use crate::request::{Answer, Request};
+use crate::request::Answer;
 use std::mem;
 
 /// The state of a desk.
@@ -13,10 +12,8 @@ use std::mem;
 enum Slip {
     /// Nothing: the next request has room.
     Free,
-    /// A request that the worker hasn't taken yet.
-    Asked(Request),
-    /// The worker has taken the request, and hasn't answered it yet.
-    Taken,
+    /// A request was sent to the worker, which hasn't answered it yet.
+    Asked,
     /// An answer that the caller hasn't collected yet.
     Answered(Answer),
 }
@@ -40,30 +37,16 @@ impl Desk {
         }
     }
 
-    /// Puts a request there if the desk is free. Returns `true` if it did.
-    pub(crate) fn put(&mut self, request: &Request) -> bool
-        ensures puts { (result, self.new.slip) ≡ put_on request.now self.old.slip }
+    /// Takes the desk for a request if the desk is free. Returns `true` if it did.
+    pub(crate) fn ask(&mut self) -> bool
+        ensures asks { (result, self.new.slip) ≡ ask_on self.old.slip }
         ensures stays { self.new.is_closed ≡ self.old.is_closed }
     {
         if let Slip::Free = self.slip {
-            self.slip = Slip::Asked(*request);
+            self.slip = Slip::Asked;
             return true;
         }
         false
-    }
-
-    /// Takes the request, if one waits.
-    pub(crate) fn take(&mut self) -> Option<Request>
-        ensures takes { (result, self.new.slip) ≡ take_from self.old.slip }
-        ensures stays { self.new.is_closed ≡ self.old.is_closed }
-    {
-        match self.slip {
-            Slip::Asked(request) => {
-                self.slip = Slip::Taken;
-                Some(request)
-            }
-            _ => None,
-        }
     }
 
     /// Puts the answer there.

@@ -1,42 +1,63 @@
 //! The inputs of an edge's worker of updates, and of the worker that writes the operator's lines.
-ghost use Rattle.std.specs.Prelude.{◌≡◌, ◌∷◌, [], Option, List};
-ghost use Rattle.ev_links.specs.Coming.{behind};
-ghost use Rattle.ev_mailboxes.specs.declared.mailbox.Message.{Message};
+ghost use Rattle.std.specs.Prelude.{◌≡◌, ◌++◌, ◌∷◌, [], Option, List};
+ghost use Rattle.ev_mailboxes.specs.Letter.{came_of};
+ghost use Rattle.ev_mailboxes.specs.declared.message.Message.{Message};
 
 use crate::boards::Boards;
-use crate::mailbox::Message;
+use crate::message::{Letter, Message, coming};
 use crate::peers::Peers;
+use ev_channel::Inbox;
 use ev_notices::{News, NoticesIn};
 use std::sync::Wait;
+use std::thread;
 
 /// A source of the messages that other edges send.
 pub trait UpdatesIn {
-    /// The messages that came, in their order, if the source reports them: `Some` for each message,
-    /// and `None` for the end.
-    ghost came: { Self → Option (List (Option Message)) };
+    /// The messages that came, in their order, and `None` for the end.
+    ghost came: { Self → List (Option Message) };
 
     /// Waits for the next message. Returns `None` at the end.
     fn next(&mut self) -> Option<Message>
-        ensures { came self.new ≡ behind (came self.old) (result ∷ []) };
+        ensures { came self.new ≡ came self.old ++ result ∷ [] };
 }
 
-/// The messages in an edge's mailbox. Clauses can't see the content of a lock, so this source
-/// doesn't report the messages that came.
+/// The messages in an edge's mailbox: those of the letters that its inbox receives.
 #[derive(Drop)]
 pub struct UpdateBox<'x, R> {
-    /// The handle that calls need to wait.
-    pub rt: &'x R,
+    rt: &'x R,
     /// The mailboxes, as the edge sees them.
-    pub peers: Peers<'x>,
+    peers: Peers<'x>,
+    inbox: Inbox<Letter>,
+}
+
+impl<'x, R: Wait> UpdateBox<'x, R> {
+    /// Opens the edge's mailbox. Returns `None` if another worker has it.
+    pub fn open(rt: &'x R, peers: Peers<'x>) -> Option<Self> {
+        let inbox = peers.take_inbox(rt)?;
+        Some(UpdateBox { rt, peers, inbox })
+    }
+
+    /// Closes the edge's mailbox: the edge takes no more messages, so no other edge keeps its own
+    /// updates back for it.
+    pub fn close(self) {
+        let UpdateBox { rt, peers, inbox } = self;
+        peers.return_inbox(rt, inbox);
+        peers.leave(rt);
+    }
 }
 
 impl<R: Wait> UpdatesIn for UpdateBox<'_, R> {
-    ghost use Rattle.std.specs.Prelude.{None};
-
-    ghost came = { λ b. None };
+    ghost came = { λ b. came_of b.inbox };
 
     fn next(&mut self) -> Option<Message> {
-        self.peers.next(self.rt)
+        for _ in self.rt.forever() {
+            if let Some(letter) = self.inbox.next(self.rt) {
+                self.peers.received(self.rt, &letter);
+                return coming(letter);
+            }
+            thread::yield_now();
+        }
+        unreachable!()
     }
 }
 

@@ -1,28 +1,74 @@
 //! The edges that run together, as one of them sees them: the mailboxes of the others, and its own
 //! board.
 
-ghost use Rattle.std.specs.Prelude.{◌≡◌, ◌-◌, IfSome, IfOk, slice_get, option_copied, vec_len};
+ghost use Rattle.std.specs.Prelude.{◌≡◌, ◌-◌, ◌<◌, IfSome, IfOk, slice_get, option_copied, vec_len, length};
+ghost use Rattle.ev_mailboxes.specs.Posts.{sent_to, with_record};
 
 use crate::boards::Boards;
-use crate::mailbox::Message;
+use crate::message::Letter;
 use crate::outboxes::Outboxes;
+use crate::posts::Posts;
 use crate::request::Answer;
 use crate::shared_mailbox::SharedMailbox;
+use crate::waiting::ROOM;
+use ev_channel::{Inbox, mailbox};
 use ev_notices::{Alarm, Reception};
 use route_wire::Update;
 use std::alloc::{AllocError, Global};
-use std::sync::Wait;
+use std::sync::{Mutex, Wait};
+
+/// The number of places in a mailbox for letters that no worker of an edge sends: an update of each
+/// connection to another process, a call, a request and the end.
+const OTHERS: usize = 16;
 
 /// The mailboxes of all edges, and the outboxes of the connections to other processes. No clause
-/// describes the messages that go over them, since a clause can't name the content of a lock.
+/// names the content of a lock or an atomic.
 #[derive(Drop)]
 pub struct Mailboxes {
     all: Vec<SharedMailbox>,
+    /// The posts of the workers that haven't begun.
+    posts: Mutex<Vec<Posts>>,
     outboxes: Outboxes,
 }
 
+/// Returns the inboxes of `edges` empty mailboxes, each with `places` places.
+fn empty_inboxes(
+    alloc: Global,
+    edges: usize,
+    places: usize,
+) -> Result<Vec<Inbox<Letter>>, AllocError>
+    requires { 0 < places }
+    ensures { IfOk result (λ inboxes. vec_len inboxes ≡ edges) }
+{
+    let mut inboxes = Vec::with_capacity(alloc, edges)?;
+    for place in 0..edges {
+        let _ = place;
+        inboxes.push_reserved(mailbox(alloc, places)?);
+    }
+    Ok(inboxes)
+}
+
+/// Returns the posts of `workers` workers, each with one to each of these mailboxes.
+fn posts_of(
+    alloc: Global,
+    workers: usize,
+    inboxes: &mut [Inbox<Letter>],
+) -> Result<Vec<Posts>, AllocError>
+    ensures all { IfOk result (λ posts. vec_len posts ≡ workers) }
+    ensures len { length inboxes.new ≡ length inboxes.old }
+{
+    let mut posts = Vec::with_capacity(alloc, workers)?;
+    for worker in 0..workers {
+        let _ = worker;
+        posts.push_reserved(Posts::new(alloc, inboxes)?);
+    }
+    Ok(posts)
+}
+
 impl Mailboxes {
-    /// Returns a mailbox for each of `edges` edges, which have `workers` workers together.
+    /// Returns a mailbox for each of `edges` edges, which have `workers` workers together. Each
+    /// mailbox has places for the updates with which its edge falls behind, and for one more of
+    /// each worker, which may have checked for room before.
     ///
     /// # Errors
     ///
@@ -30,12 +76,17 @@ impl Mailboxes {
     pub fn new(alloc: Global, edges: usize, workers: u32) -> Result<Self, AllocError>
         ensures { IfOk result (λ mailboxes. vec_len mailboxes.all ≡ edges) }
     {
+        let workers = workers as usize;
+        let mut inboxes = empty_inboxes(alloc, edges, ROOM + workers + OTHERS)?;
+        let posts = posts_of(alloc, workers, inboxes.as_mut_slice())?;
         let mut all = Vec::with_capacity(alloc, edges)?;
-        for place in 0..edges {
-            all.push_reserved(SharedMailbox::new(alloc, place + 1, workers)?);
+        while let Some(inbox) = inboxes.pop() {
+            all.push_reserved(SharedMailbox::new(inboxes.len() + 1, inbox)?);
         }
+        all.as_mut_slice().reverse();
         Ok(Mailboxes {
             all,
+            posts: Mutex::new(posts),
             outboxes: Outboxes::new(),
         })
     }
@@ -83,6 +134,7 @@ impl Mailboxes {
     {
         Peers {
             mailboxes: self.all.as_slice(),
+            posts: &self.posts,
             outboxes: &self.outboxes,
             boards,
             number,
@@ -94,6 +146,7 @@ impl Mailboxes {
 #[derive(Clone, Copy, Drop)]
 pub struct Peers<'x> {
     mailboxes: &'x [SharedMailbox],
+    posts: &'x Mutex<Vec<Posts>>,
     outboxes: &'x Outboxes,
     boards: &'x Boards,
     /// The edge's number, from 1.
@@ -118,13 +171,17 @@ impl Peers<'_> {
         true
     }
 
-    /// Sends an update to each of the other edges, and to other processes.
-    pub fn send<R: Wait>(&self, rt: &R, update: Update) {
-        for (place, mailbox) in self.mailboxes.iter().enumerate() {
-            if place + 1 != self.number {
-                mailbox.put(rt, update);
-            }
-        }
+    /// Takes the posts of a worker that begins. Returns `None` if all workers have theirs.
+    pub fn posts<R: Wait>(&self, rt: &R) -> Option<Posts> {
+        self.posts.lock(rt).pop()
+    }
+
+    /// Sends an update to each of the other edges, by the posts of the calling worker, and to other
+    /// processes.
+    pub fn send<R: Wait>(&self, rt: &R, posts: &mut Posts, update: Update)
+        ensures { sent_to posts.new ≡ with_record self.now.number update (sent_to posts.old) }
+    {
+        posts.send(rt, self.mailboxes, self.number, &update);
         self.outboxes.put(rt, update);
     }
 
@@ -152,16 +209,28 @@ impl Peers<'_> {
         }
     }
 
-    /// Waits for the next message to this edge. Returns `None` once nothing waits and nothing more
-    /// comes.
-    pub(crate) fn next<R: Wait>(&self, rt: &R) -> Option<Message> {
-        let own = self.own()?;
-        let (message, has_room_again) = own.next(rt);
-        if has_room_again {
-            own.ring_room();
+    /// Takes this edge's inbox for its worker of updates, unless another worker has it.
+    pub(crate) fn take_inbox<R: Wait>(&self, rt: &R) -> Option<Inbox<Letter>> {
+        self.own()?.take_inbox(rt)
+    }
+
+    /// Takes this edge's inbox back from its worker of updates.
+    pub(crate) fn return_inbox<R: Wait>(&self, rt: &R, inbox: Inbox<Letter>) {
+        if let Some(own) = self.own() {
+            own.return_inbox(rt, inbox);
+        }
+    }
+
+    /// Is called for each letter that this edge's worker of updates receives. If the edge has
+    /// caught up, calls the others.
+    pub(crate) fn received<R: Wait>(&self, rt: &R, letter: &Letter) {
+        let Some(own) = self.own() else {
+            return;
+        };
+        if own.received(letter) {
+            own.ring_room(rt);
             self.call(rt);
         }
-        message
     }
 
     /// Answers the request that this edge's worker of updates received last.
@@ -171,7 +240,7 @@ impl Peers<'_> {
         }
     }
 
-    /// Lets this edge's worker of updates end once nothing waits.
+    /// Lets this edge's worker of updates end, once it has taken the letters that wait.
     pub fn end<R: Wait>(&self, rt: &R) {
         if let Some(mailbox) = self.own() {
             mailbox.end(rt);
@@ -185,13 +254,5 @@ impl Peers<'_> {
             mailbox.close(rt);
         }
         self.call(rt);
-    }
-
-    /// Returns `true` if an update for this edge was lost because each place was taken.
-    pub fn has_lost<R: Wait>(&self, rt: &R) -> bool {
-        match self.own() {
-            Some(mailbox) => mailbox.lost(rt) > 0,
-            None => false,
-        }
     }
 }

@@ -1,60 +1,60 @@
-//! A mailbox that the workers of all edges share: the workers of the other edges put their updates
-//! into it, the operator sends requests through it, and the worker of its edge takes both.
+//! A mailbox as the workers of all edges share it. The workers of the other edges send their
+//! updates by posts of their own. All other letters go by one post, under a lock: requests of the
+//! operator, calls that another edge has room, updates from other processes, and the end.
 
 ghost use Rattle.std.specs.Prelude.{◌≡◌, IfOk};
 
 use crate::desk::Desk;
-use crate::mailbox::{Mailbox, Message};
+use crate::message::{Letter, Message};
 use crate::request::{Answer, Request};
+use crate::waiting::Waiting;
+use ev_channel::{Inbox, Post};
 use route_wire::Update;
-use std::alloc::{AllocError, Global};
+use std::alloc::AllocError;
 use std::sync::atomic::{AtomicBool, Ordering};
 use std::sync::{Condvar, Mutex, Wait};
+use std::thread;
 
-/// The content of a mailbox's lock.
-#[derive(Drop)]
-struct Held {
-    mailbox: Mailbox,
-    desk: Desk,
-}
-
-/// A mailbox under a lock of its own. Each call acts as the call of `Mailbox` for which it is
-/// named; no clause can state that, since a clause can't name the content of a lock at that moment.
-/// A thread that holds the lock never waits for another lock.
+/// The shared part of a mailbox. No clause names the content of a lock or an atomic. A thread that
+/// holds a lock never waits for another lock.
 #[derive(Drop)]
 pub(crate) struct SharedMailbox {
     /// The number of its edge, from 1.
     pub(crate) number: usize,
-    held: Mutex<Held>,
-    /// Whether its edge is behind, readable without the lock.
-    is_behind: AtomicBool,
-    /// The condition variable of the lock, notified when there is something to take or nothing more
-    /// comes.
-    bell: Condvar,
-    /// The condition variable of the lock, notified when a caller has an answer to take, has room
-    /// for a request, or gets no answer.
+    /// The post for all letters but the updates of the other edges.
+    post: Mutex<Post<Letter>>,
+    /// The inbox, while no worker receives from it.
+    inbox: Mutex<Option<Inbox<Letter>>>,
+    /// The number of updates that wait.
+    waiting: Waiting,
+    /// Whether a call waits: then no other one is sent.
+    is_called: AtomicBool,
+    desk: Mutex<Desk>,
+    /// The condition variable of the desk's lock, notified when a caller has an answer to take, has
+    /// room for a request, or gets no answer.
     desk_bell: Condvar,
-    /// The condition variable of the lock, notified when its edge isn't behind any more.
+    /// The condition variable of the post's lock, notified when its edge isn't behind any more.
     room_bell: Condvar,
 }
 
 impl SharedMailbox {
-    /// Returns an empty mailbox for the edge with this number, to which `workers` workers send.
+    /// Returns the mailbox of the edge with this number, which has this inbox.
     ///
     /// # Errors
     ///
-    /// `AllocError` if memory is refused.
-    pub(crate) fn new(alloc: Global, number: usize, workers: u32) -> Result<Self, AllocError>
+    /// `AllocError` if the mailbox has as many posts as can be counted.
+    pub(crate) fn new(number: usize, inbox: Inbox<Letter>) -> Result<Self, AllocError>
         ensures { IfOk result (λ mailbox. mailbox.number ≡ number) }
     {
+        let mut inbox = inbox;
+        let post = inbox.post()?;
         Ok(SharedMailbox {
             number,
-            held: Mutex::new(Held {
-                mailbox: Mailbox::new(alloc, workers)?,
-                desk: Desk::new(),
-            }),
-            is_behind: AtomicBool::new(false),
-            bell: Condvar::new(),
+            post: Mutex::new(post),
+            inbox: Mutex::new(Some(inbox)),
+            waiting: Waiting::new(),
+            is_called: AtomicBool::new(false),
+            desk: Mutex::new(Desk::new()),
             desk_bell: Condvar::new(),
             room_bell: Condvar::new(),
         })
@@ -62,118 +62,148 @@ impl SharedMailbox {
 
     /// Returns `true` if its edge is behind.
     pub(crate) fn is_behind(&self) -> bool {
-        self.is_behind.load(Ordering::SeqCst)
+        self.waiting.is_behind()
     }
 
-    /// Puts an update after the others.
-    pub(crate) fn put<R: Wait>(&self, rt: &R, update: Update) {
-        {
-            let mut held = self.held.lock(rt);
-            held.mailbox.put(update);
-            self.is_behind
-                .store(held.mailbox.is_behind(), Ordering::SeqCst);
-        }
-        self.bell.notify_one();
+    /// Counts an update that is about to be sent.
+    pub(crate) fn expect_update(&self) {
+        self.waiting.add();
     }
 
-    /// Waits until its edge isn't behind, then puts an update after the others.
-    pub(crate) fn put_waiting<R: Wait>(&self, rt: &R, update: Update) {
-        let mut held = self.held.lock(rt);
+    /// Receives and drops all letters that wait, if no worker receives them.
+    fn discard<R: Wait>(&self, rt: &R) {
+        let mut held = self.inbox.lock(rt);
+        let Some(inbox) = &mut *held else {
+            return;
+        };
         for _ in rt.forever() {
-            if !held.mailbox.is_behind() {
-                held.mailbox.put(update);
-                self.is_behind
-                    .store(held.mailbox.is_behind(), Ordering::SeqCst);
-                self.bell.notify_one();
+            if inbox.try_next(rt).is_none() {
                 return;
             }
-            held = self.room_bell.wait(rt, held);
         }
     }
 
-    /// Wakes the threads that wait until its edge isn't behind.
-    pub(crate) fn ring_room(&self) {
+    /// Is called if each place is taken. Empties a closed mailbox, from which no worker receives;
+    /// otherwise lets the edge's worker run.
+    pub(crate) fn make_place<R: Wait>(&self, rt: &R) {
+        if self.waiting.is_closed() {
+            self.discard(rt);
+        } else {
+            thread::yield_now();
+        }
+    }
+
+    /// Sends a letter by the shared post.
+    fn send<R: Wait>(&self, rt: &R, letter: Letter) {
+        let mut letter = letter;
+        for _ in rt.forever() {
+            let sent = self.post.lock(rt).send(rt, letter);
+            match sent {
+                Ok(()) => return,
+                Err(back) => letter = back,
+            }
+            self.make_place(rt);
+        }
+    }
+
+    /// Waits until its edge isn't behind.
+    fn wait_for_room<R: Wait>(&self, rt: &R) {
+        let mut post = self.post.lock(rt);
+        for _ in rt.forever() {
+            if !self.is_behind() {
+                return;
+            }
+            post = self.room_bell.wait(rt, post);
+        }
+    }
+
+    /// Waits until its edge isn't behind, then sends an update from another process.
+    pub(crate) fn put_waiting<R: Wait>(&self, rt: &R, update: Update) {
+        self.wait_for_room(rt);
+        self.expect_update();
+        self.send(rt, Letter::Of(Message::Record(update)));
+    }
+
+    /// Wakes the threads that wait until its edge isn't behind. Each of them has seen that it is
+    /// behind under the lock, and waits, or will see that it isn't.
+    pub(crate) fn ring_room<R: Wait>(&self, rt: &R) {
+        {
+            let _post = self.post.lock(rt);
+        }
         self.room_bell.notify_all();
     }
 
     /// Calls its edge: another edge has room again.
     pub(crate) fn call<R: Wait>(&self, rt: &R) {
-        {
-            let mut held = self.held.lock(rt);
-            held.mailbox.call();
+        if !self.is_called.swap(true, Ordering::SeqCst) {
+            self.send(rt, Letter::Of(Message::Room));
         }
-        self.bell.notify_one();
     }
 
-    /// Marks the end: nothing more comes.
+    /// Sends the end: its worker takes no letter that comes after it.
     pub(crate) fn end<R: Wait>(&self, rt: &R) {
-        {
-            let mut held = self.held.lock(rt);
-            held.mailbox.end();
-        }
-        self.bell.notify_one();
+        self.send(rt, Letter::Stop);
     }
 
-    /// Closes the mailbox and its desk: drops the updates, ignores later ones, and answers no more
-    /// requests.
+    /// Takes the inbox for the worker that receives from it, unless another worker has it.
+    pub(crate) fn take_inbox<R: Wait>(&self, rt: &R) -> Option<Inbox<Letter>> {
+        self.inbox.lock(rt).take()
+    }
+
+    /// Takes the inbox back from the worker.
+    pub(crate) fn return_inbox<R: Wait>(&self, rt: &R, inbox: Inbox<Letter>) {
+        *self.inbox.lock(rt) = Some(inbox);
+    }
+
+    /// Closes the mailbox and its desk: drops the letters that wait and come later, and answers no
+    /// more requests.
     pub(crate) fn close<R: Wait>(&self, rt: &R) {
-        {
-            let mut held = self.held.lock(rt);
-            held.mailbox.close();
-            held.desk.close();
-            self.is_behind.store(false, Ordering::SeqCst);
-        }
+        self.waiting.close();
+        self.discard(rt);
+        self.desk.lock(rt).close();
         self.desk_bell.notify_all();
-        self.room_bell.notify_all();
+        self.ring_room(rt);
     }
 
-    /// Waits for the first message, a request before all updates. Also returns `true` if its edge
-    /// was behind and isn't any more. The message is `None` once nothing waits and nothing more
-    /// comes.
-    pub(crate) fn next<R: Wait>(&self, rt: &R) -> (Option<Message>, bool) {
-        let mut held = self.held.lock(rt);
-        for _ in rt.forever() {
-            if let Some(request) = held.desk.take() {
-                return (Some(Message::Ask(request)), false);
+    /// Is called for each letter that its worker receives. Returns `true` if its edge was behind
+    /// and isn't any more.
+    pub(crate) fn received(&self, letter: &Letter) -> bool {
+        match letter {
+            Letter::Of(Message::Record(_)) => self.waiting.remove(),
+            Letter::Of(Message::Room) => {
+                self.is_called.store(false, Ordering::SeqCst);
+                false
             }
-            let was_behind = held.mailbox.is_behind();
-            let first = held.mailbox.take();
-            if first.is_some() || held.mailbox.has_ended() {
-                let is_behind = held.mailbox.is_behind();
-                self.is_behind.store(is_behind, Ordering::SeqCst);
-                return (first, was_behind && !is_behind);
-            }
-            held = self.bell.wait(rt, held);
+            Letter::Of(Message::Ask(_)) | Letter::Stop => false,
         }
-        unreachable!()
     }
 
-    /// Waits until the desk is free, and puts this request there. Returns `true` if the request is
-    /// there, and `false` if the desk is closed.
-    fn hand_in<R: Wait>(&self, rt: &R, request: &Request) -> bool {
-        let mut held = self.held.lock(rt);
+    /// Waits until the desk is free, and takes it for a request. Returns `false` if the desk is
+    /// closed.
+    fn take_desk<R: Wait>(&self, rt: &R) -> bool {
+        let mut desk = self.desk.lock(rt);
         for _ in rt.forever() {
-            if held.desk.is_closed() {
+            if desk.is_closed() {
                 return false;
             }
-            if held.desk.put(request) {
+            if desk.ask() {
                 return true;
             }
-            held = self.desk_bell.wait(rt, held);
+            desk = self.desk_bell.wait(rt, desk);
         }
         unreachable!()
     }
 
-    /// Waits for the answer to the request on the desk. Returns `None` if the desk is closed
+    /// Waits for the answer to the request that was sent. Returns `None` if the desk is closed
     /// without an answer.
     fn collect<R: Wait>(&self, rt: &R) -> Option<Answer> {
-        let mut held = self.held.lock(rt);
+        let mut desk = self.desk.lock(rt);
         for _ in rt.forever() {
-            let answer = held.desk.collect();
-            if answer.is_some() || held.desk.is_closed() {
+            let answer = desk.collect();
+            if answer.is_some() || desk.is_closed() {
                 return answer;
             }
-            held = self.desk_bell.wait(rt, held);
+            desk = self.desk_bell.wait(rt, desk);
         }
         unreachable!()
     }
@@ -181,26 +211,18 @@ impl SharedMailbox {
     /// Sends the edge a request, and waits for its answer. Returns `None` if the edge has ended, or
     /// has no thread for its updates.
     pub(crate) fn ask<R: Wait>(&self, rt: &R, request: &Request) -> Option<Answer> {
-        if !self.hand_in(rt, request) {
+        if !self.take_desk(rt) {
             return None;
         }
-        self.bell.notify_one();
+        self.send(rt, Letter::Of(Message::Ask(*request)));
         let answer = self.collect(rt);
         self.desk_bell.notify_all();
         answer
     }
 
-    /// Answers the request that was taken last: puts the answer on the desk for the caller.
+    /// Answers the request that was received last: puts the answer on the desk for the caller.
     pub(crate) fn answer<R: Wait>(&self, rt: &R, answer: Answer) {
-        {
-            let mut held = self.held.lock(rt);
-            held.desk.answer(answer);
-        }
+        self.desk.lock(rt).answer(answer);
         self.desk_bell.notify_all();
-    }
-
-    /// Returns the number of lost updates.
-    pub(crate) fn lost<R: Wait>(&self, rt: &R) -> u64 {
-        self.held.lock(rt).mailbox.lost()
     }
 }

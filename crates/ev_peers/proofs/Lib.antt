@@ -1,2 +1,4 @@
 pub mod PassingOn
 pub mod Plans
+pub mod Contained
+pub mod Letters

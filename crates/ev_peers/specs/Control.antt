@@ -27,8 +27,7 @@ use Rattle.ev_mailboxes.specs.declared.request.Answer.TheVariants as replies
 use Rattle.ev_mailboxes.specs.declared.request.PortView.{PortView}
 use Rattle.ev_mailboxes.specs.declared.request.Served.{Served}
 use Rattle.ev_peers.specs.Giving.{Parcel}
-use Rattle.ev_links.specs.Coming.{behind}
-use Rattle.ev_peers.specs.Passing.{Word, answers, PassesOn}
+use Rattle.ev_peers.specs.Passing.{Said, says, answers, PassesOn}
 
 -- ---- a step
 
@@ -43,8 +42,8 @@ event_of (commands.PortDown port) = events.PortDown port
 
 -- The step was entered once and passed on, as a worker's event is, and `answer` is the book's answer.
 pub record Obeys (bridge : ℕ) (command : Command) (answer : Result Reply BookRefusal) (p : PassState)
-    (given : Option (List Parcel)) (records : Option (List Word)) (p' : PassState) (given' : Option (List Parcel))
-    (records' : Option (List Word)) : Type 0 where
+    (given : Option (List Parcel)) (records : Said) (p' : PassState) (given' : Option (List Parcel))
+    (records' : Said) : Type 0 where
   pub passes : PassesOn bridge 0 [] p (event_of command) given records p' given' records'
   pub is : passes.answer ≡ answer
 
@@ -92,8 +91,8 @@ pub record Looked (reading : Reading) (answer : Answer) : Type 0 where
 
 -- a step is entered once and passed on; a reading changes nothing, and sends nothing to links, other edges or the
 -- operator
-abbrev pub Fulfils : ℕ → Request → Answer → PassState → Option (List Parcel) → Option (List Word) → PassState
-    → Option (List Parcel) → Option (List Word) → Type 0
+abbrev pub Fulfils : ℕ → Request → Answer → PassState → Option (List Parcel) → Said → PassState
+    → Option (List Parcel) → Said → Type 0
 Fulfils bridge (Enter command) (replies.Entered answer) p given records p' given' records' =
     Obeys bridge command answer p given records p' given' records'
 Fulfils bridge (Enter command) answer p given records p' given' records' = ⊥
@@ -102,9 +101,9 @@ Fulfils bridge (Read reading) answer p given records p' given' records' =
 
 -- The request is carried out once, and then its answer is sent to the requester, once.
 pub record Answers (bridge : ℕ) (request : Request) (p : PassState) (given : Option (List Parcel))
-    (records : Option (List Word)) (p' : PassState) (given' : Option (List Parcel)) (records' : Option (List Word)) :
+    (records : Said) (p' : PassState) (given' : Option (List Parcel)) (records' : Said) :
     Type 0 where
   pub answer : Answer
-  pub before : Option (List Word)
+  pub before : Said
   pub fulfils : Fulfils bridge request answer p given records p' given' before
-  pub told : records' ≡ behind before (answers answer ∷ [])
+  pub told : records' ≡ says before (answers answer ∷ [])

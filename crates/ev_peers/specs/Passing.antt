@@ -9,7 +9,9 @@ use Rattle.ev_book.specs.declared.refusal.BookRefusal.{BookRefusal}
 use Rattle.ev_book.specs.Book.{BookState, PassState}
 use Rattle.ev_book.specs.Entering.{CallsBook}
 use Rattle.ev_notices.specs.declared.alarm.Alarm.{Alarm}
+use Rattle.ev_mailboxes.specs.declared.message.Letter.{Letter}
 use Rattle.ev_mailboxes.specs.declared.request.Answer.{Answer}
+use Rattle.ev_mailboxes.specs.Posts.{with_record}
 use Rattle.ev_notices.specs.declared.receptions.Reception.{Reception}
 use Rattle.ev_notices.specs.Alarm.{alarm_of, is_second}
 use Rattle.ev_peers.specs.Giving.{Parcel, parcels_of}
@@ -39,20 +41,38 @@ abbrev pub AskedEach : PassState → List Fields → PassState → Type 0
 AskedEach p [] p' = p' ≡ p
 AskedEach p (u ∷ us) p' = (middle : PassState) × AskedEach p us middle × Asked middle (Some u) p'
 
--- one exchange with the other edges: whether they have room, or a record that is sent to them; or with the operator: a
--- second that passes, an alert, that receiving over a link failed or works again, or an answer to a request
+-- a word of a worker's outlet: whether the other edges have room; or a message to the operator: a second that passes,
+-- an alert, that receiving over a link failed or works again, or an answer to a request
 pub data Word : Type 0 where
   has_room : Bool → Word
-  record_of : Fields → Word
   second_passes : Word
   tells : Alarm → Word
   answers : Answer → Word
   hears : Reception → Word
 
--- for each update one after the other: there was room, and then the update was sent; the list has the last one first
-abbrev pub words_of : List Fields → List Word
-words_of [] = []
-words_of (u ∷ us) = words_of us ++ has_room true ∷ record_of u ∷ []
+-- The messages of a worker's outlet: the number of its own edge, the letters that the worker has sent to each edge, and
+-- the words, if the outlet shows any.
+pub record Said : Type 0 where
+  pub own : ℕ
+  pub sent : List (ℕ × List Letter)
+  pub words : Option (List Word)
+
+abbrev pub said_of : ℕ → List (ℕ × List Letter) → Option (List Word) → Said
+said_of own sent words = record { own = own; sent = sent; words = words }
+
+-- these words come after the others
+abbrev pub says : Said → List Word → Said
+says s more = said_of s.own s.sent (behind s.words more)
+
+-- a record is sent to each of the other edges, after the letters before; none is sent to the worker's own edge
+abbrev pub sends : Said → Fields → Said
+sends s u = said_of s.own (with_record s.own u s.sent) s.words
+
+-- for each update one after the other: there was room, and then the update was sent to each of the other edges; the
+-- list has the last one first
+abbrev pub announced : Said → List Fields → Said
+announced s [] = s
+announced s (u ∷ us) = sends (says (announced s us) (has_room true ∷ [])) u
 
 -- if there was room once more, an announcement was requested, and there was none or the call was refused; if there was
 -- no room, none was requested
@@ -62,14 +82,13 @@ Stops false p p' = p' ≡ p
 
 -- While the other edges had room the worker requested announcements, until there was none or a call was refused. It
 -- sent each to the other edges, in their order. Announcements that it did not request stay pending in the edge.
-pub record Announces (p : PassState) (old : Option (List Word)) (p' : PassState) (new : Option (List Word)) :
-    Type 0 where
+pub record Announces (p : PassState) (old : Said) (p' : PassState) (new : Said) : Type 0 where
   pub middle : PassState
   pub got : List Fields
   pub asked : AskedEach p got middle
   pub had_room : Bool
   pub last : Stops had_room middle p'
-  pub given : new ≡ behind old (words_of got ++ has_room had_room ∷ [])
+  pub given : new ≡ says (announced old got) (has_room had_room ∷ [])
 
 -- ---- one event
 
@@ -91,10 +110,10 @@ signs_of vni event answer = (if is_second event then second_passes ∷ [] else [
 -- The worker entered the event once, passed the answer's parcels to the links, passed the words of event and answer to
 -- the operator's board, and then announced.
 pub record PassesOn (bridge vni : ℕ) (frame : List ℕ) (p : PassState) (event : Event) (given : Option (List Parcel))
-    (records : Option (List Word)) (p' : PassState) (given' : Option (List Parcel)) (records' : Option (List Word)) :
+    (records : Said) (p' : PassState) (given' : Option (List Parcel)) (records' : Said) :
     Type 0 where
   pub answer : Result Reply BookRefusal
   pub middle : PassState
   pub entered : Entered p event answer middle
   pub parcels : given' ≡ behind given (given_by bridge vni frame answer)
-  pub announces : Announces middle (behind records (signs_of vni event answer)) p' records'
+  pub announces : Announces middle (says records (signs_of vni event answer)) p' records'

@@ -9,8 +9,8 @@ use Rattle.ev_edge.specs.declared.event.Event.TheVariants as events
 use Rattle.ev_book.specs.Book.{PassState}
 use Rattle.ev_peers.specs.declared.shared_edge.Ended.{Ended}
 use Rattle.ev_peers.specs.declared.shared_edge.Ended.TheVariants.{End, Device as Failed, NoMemory}
-use Rattle.ev_mailboxes.specs.declared.mailbox.Message.{Message}
-use Rattle.ev_mailboxes.specs.declared.mailbox.Message.TheVariants.{Record, Room, Ask}
+use Rattle.ev_mailboxes.specs.declared.message.Message.{Message}
+use Rattle.ev_mailboxes.specs.declared.message.Message.TheVariants.{Record, Room, Ask}
 use Rattle.ev_notices.specs.declared.receptions.Input.{Input}
 use Rattle.ev_notices.specs.declared.receptions.Input.TheVariants as inputs
 use Rattle.ev_notices.specs.declared.receptions.Reception.{Reception}
@@ -18,9 +18,9 @@ use Rattle.ev_peers.specs.declared.workers.Source.{Source}
 use Rattle.ev_peers.specs.declared.workers.Source.TheVariants.{Port, Tunnel, Clock}
 use Rattle.ev_peers.specs.Giving.{Parcel}
 use Rattle.ev_links.specs.Links.{Arrival, Call, brings, fails}
-use Rattle.ev_peers.specs.Passing.{Word, hears, Announces, PassesOn}
+use Rattle.ev_peers.specs.Passing.{Said, says, hears, Announces, PassesOn}
 use Rattle.ev_peers.specs.Control.{Answers as AnswersRequest}
-use Rattle.ev_links.specs.Coming.{behind, DoesAll, DoesAllToTheEnd}
+use Rattle.ev_links.specs.Coming.{DoesAll, DoesAllToTheEnd}
 
 -- ---- the event of a datagram
 
@@ -57,13 +57,13 @@ carried Clock octets = (0, [])
 
 -- ---- the handling of a datagram
 
--- a worker's pass, the parcels for links, and the words exchanged with the other edges and the operator
+-- a worker's pass, the parcels for links, and the messages to the other edges and the operator
 pub record Standing : Type 0 where
   pub pass : PassState
   pub parcels : Option (List Parcel)
-  pub records : Option (List Word)
+  pub records : Said
 
-abbrev pub standing : PassState → Option (List Parcel) → Option (List Word) → Standing
+abbrev pub standing : PassState → Option (List Parcel) → Said → Standing
 standing pass parcels records = record { pass = pass; parcels = parcels; records = records }
 
 -- an event is entered once and passed on; if there is no event, nothing is done
@@ -122,7 +122,7 @@ change_of source works = record { input = input_of source; works = works }
 -- the operator receives the message that a link works again or has failed, and the link's port comes up or goes down
 abbrev pub Changes : ℕ → Source → Bool → Standing → Standing → Type 0
 Changes bridge source works s s' =
-    Turns bridge source works (standing s.pass s.parcels (behind s.records (hears (change_of source works) ∷ []))) s'
+    Turns bridge source works (standing s.pass s.parcels (says s.records (hears (change_of source works) ∷ []))) s'
 
 -- this happens exactly if the link started or stopped failing with this call
 abbrev pub Becomes : ℕ → Source → Bool → Bool → Standing → Standing → Type 0
@@ -179,8 +179,7 @@ pub record PortEnds (bridge port vni failed : ℕ) (came : Option (List (Option 
   pub ends : Ends bridge (Port port vni) failed came up came' s'
 
 -- a worker of other edges' updates took all messages that came, to the end; it has no link
-abbrev pub PeerEnds : Ended → ℕ → Option (List (Option Message)) → Standing → Option (List (Option Message)) → Standing
-    → Type 0
-PeerEnds End bridge came s came' s' = DoesAllToTheEnd (Takes bridge) came s came' s'
+abbrev pub PeerEnds : Ended → ℕ → List (Option Message) → Standing → List (Option Message) → Standing → Type 0
+PeerEnds End bridge came s came' s' = DoesAllToTheEnd (Takes bridge) (Some came) s (Some came') s'
 PeerEnds Failed bridge came s came' s' = ⊥
 PeerEnds NoMemory bridge came s came' s' = ⊥

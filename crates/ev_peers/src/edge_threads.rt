@@ -212,7 +212,7 @@ pub fn edge_worker<
     ensures totals { IfOk result (λ o. length o.totals ≡ vec_len links.ports + 3) }
     ensures dropped { IfOk result (λ o. vec_len o.dropped ≡ vec_len links.ports + 1) }
 {
-    let (rt, alloc, peers) = (host.rt, host.alloc, host.peers);
+    let (rt, alloc) = (host.rt, host.alloc);
     let count = links.ports.len() + 3;
     let bridge = bridge_of(&config);
     let dropped = Vec::with_capacity(alloc, links.ports.len() + 1)?;
@@ -232,7 +232,7 @@ pub fn edge_worker<
     };
     let (passes, faults) = run_workers(rt, ready_threads);
     let (edge, totals) = book.into_inner().close(passes);
-    let out_of_memory = shared.out_of_memory.load(Ordering::SeqCst) || peers.has_lost(rt);
+    let out_of_memory = shared.out_of_memory.load(Ordering::SeqCst);
     Ok(Outcome {
         edge,
         totals,

@@ -4,7 +4,7 @@ ghost use Rattle.std.specs.Prelude.{◌≡◌, ◌+◌, ◌≤◌, vec_len, vec_
 
 use crate::gate::Gate;
 use crate::outcome::Faults;
-use crate::outlet::Senders;
+use crate::outlet::{Senders, WorkerOutlet};
 use crate::plan::{Entered, Entering, Shared, Task};
 use crate::shared_edge::{Ended, SharedEdge};
 use crate::worker::Worker;
@@ -29,6 +29,20 @@ pub(crate) struct Workplace<'x, L: Ledger, G, R> {
     pub(crate) shared: &'x Shared,
 }
 
+/// Runs the worker of other edges' updates over the edge's mailbox, and closes the mailbox. Returns
+/// at once with `Ended::NoMemory` if another worker has the mailbox.
+fn enter_updates<'x, L: Ledger, G: Gate, R: Wait>(
+    worker: &mut Worker<'_, L, WorkerOutlet<'x, R>, G, R>,
+    senders: Senders<'x, R>,
+) -> Ended {
+    let Some(mut updates) = UpdateBox::open(senders.rt, senders.peers) else {
+        return Ended::NoMemory;
+    };
+    let ended = peer_worker(worker, &mut updates);
+    updates.close();
+    ended
+}
+
 /// Runs the worker of a task until it ends. Returns at once with `Ended::NoMemory` if the task's
 /// thread was refused.
 fn enter_task<L: Ledger, I: LinkIn + Drop, G: Gate, R: Wait>(
@@ -40,16 +54,13 @@ fn enter_task<L: Ledger, I: LinkIn + Drop, G: Gate, R: Wait>(
     if is_refused.load(Ordering::SeqCst) {
         return (pass, Ended::NoMemory);
     }
-    let outlet = workplace.outlet;
+    let senders = workplace.outlet;
+    let Some(outlet) = WorkerOutlet::new(senders) else {
+        return (pass, Ended::NoMemory);
+    };
     let mut worker = Worker::new(&workplace.shared_edge, pass, outlet);
     let ended = match task {
-        Task::Peer => {
-            let mut updates = UpdateBox {
-                rt: outlet.rt,
-                peers: outlet.peers,
-            };
-            peer_worker(&mut worker, &mut updates)
-        }
+        Task::Peer => enter_updates(&mut worker, senders),
         Task::Port(port, vni, mut link) => port_worker(&mut worker, &mut link, port, vni),
         Task::Tunnel(mut link) => tunnel_worker(&mut worker, &mut link),
         Task::Clock(mut clock) => clock_worker(&mut worker, &mut clock),

@@ -9,6 +9,7 @@ mod edge_threads;
 mod entering;
 mod gate;
 mod giving;
+pub mod laws;
 mod outcome;
 mod outlet;
 mod packets;

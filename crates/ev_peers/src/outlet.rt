@@ -4,11 +4,12 @@ ghost use Rattle.std.specs.Prelude.{◌≡◌, ◌∷◌, [], Option, List, slic
 ghost use Rattle.ev_peers.specs.Giving.{Parcel, parcel, first_parcel};
 ghost use Rattle.ev_peers.specs.Inner.Giving.{place_of};
 ghost use Rattle.ev_links.specs.Coming.{behind};
-ghost use Rattle.ev_peers.specs.Passing.{Word, has_room, record_of, second_passes, tells, hears, answers};
+ghost use Rattle.ev_mailboxes.specs.Posts.{sent_to};
+ghost use Rattle.ev_peers.specs.Passing.{Said, said_of, says, sends, has_room, second_passes, tells, hears, answers};
 
 use crate::shared_line::SharedLine;
 use ether_wire::Addr;
-use ev_mailboxes::{Answer, Peers};
+use ev_mailboxes::{Answer, Peers, Posts};
 use ev_mobility::Alert;
 use ev_notices::{Alarm, Reception};
 use route_wire::Update;
@@ -29,10 +30,11 @@ pub trait Outlet {
     /// The frames that it took, each with its link, in their order; `None` if it shows none.
     ghost parcels: { Self → Option (List Parcel) };
 
-    /// The messages to the other edges and to the operator, in their order: each answer about
-    /// room, each record, second and alert, each failure or recovery of a link that receives, and
-    /// each answer to a request; `None` if it shows none.
-    ghost records: { Self → Option (List Word) };
+    /// The messages to the other edges and to the operator: the records that were sent to each
+    /// other edge, in their order; and each answer about room, each second and alert, each failure
+    /// or recovery of a link that receives, and each answer to a request, in their order, if it
+    /// shows these.
+    ghost records: { Self → Said };
 
     /// Takes a frame for a link. If the link's line is full, the line drops and counts the frame.
     fn frame(&mut self, to: Target, octets: &[u8])
@@ -48,32 +50,32 @@ pub trait Outlet {
 
     /// Returns `true` if each of the other edges has room for one more record.
     fn has_room(&mut self) -> bool
-        ensures told { records self.new ≡ behind (records self.old) (has_room result ∷ []) }
+        ensures told { records self.new ≡ says (records self.old) (has_room result ∷ []) }
         ensures parcels { parcels self.new ≡ parcels self.old };
 
     /// Takes a record for each of the other edges.
     fn record(&mut self, update: Update)
-        ensures given { records self.new ≡ behind (records self.old) (record_of update ∷ []) }
+        ensures given { records self.new ≡ sends (records self.old) update }
         ensures parcels { parcels self.new ≡ parcels self.old };
 
     /// Reports to the operator's board that a second passed.
     fn second(&mut self)
-        ensures told { records self.new ≡ behind (records self.old) (second_passes ∷ []) }
+        ensures told { records self.new ≡ says (records self.old) (second_passes ∷ []) }
         ensures parcels { parcels self.new ≡ parcels self.old };
 
     /// Puts an alert on the operator's board, or counts it if the board's rate is exceeded.
     fn alarm(&mut self, alarm: Alarm)
-        ensures told { records self.new ≡ behind (records self.old) (tells alarm ∷ []) }
+        ensures told { records self.new ≡ says (records self.old) (tells alarm ∷ []) }
         ensures parcels { parcels self.new ≡ parcels self.old };
 
     /// Reports to the operator that receiving over a link failed, or works again.
     fn reception(&mut self, reception: Reception)
-        ensures told { records self.new ≡ behind (records self.old) (hears reception ∷ []) }
+        ensures told { records self.new ≡ says (records self.old) (hears reception ∷ []) }
         ensures parcels { parcels self.new ≡ parcels self.old };
 
     /// Gives the operator the answer to a request.
     fn answer(&mut self, answer: Answer)
-        ensures told { records self.new ≡ behind (records self.old) (answers answer ∷ []) }
+        ensures told { records self.new ≡ says (records self.old) (answers answer ∷ []) }
         ensures parcels { parcels self.new ≡ parcels self.old };
 }
 
@@ -113,49 +115,66 @@ fn line_at(lines: &[SharedLine], place: usize) -> Option<&SharedLine>
     lines.get(place)
 }
 
-impl<R: Wait> Outlet for Senders<'_, R> {
+/// The outlet of one worker: the lines, mailboxes and board of its edge, and posts of its own to
+/// the mailboxes of the other edges.
+#[derive(Drop)]
+pub(crate) struct WorkerOutlet<'x, R> {
+    senders: Senders<'x, R>,
+    posts: Posts,
+}
+
+impl<'x, R: Wait> WorkerOutlet<'x, R> {
+    /// Returns the outlet of a worker that begins. Returns `None` if all workers have theirs.
+    pub(crate) fn new(senders: Senders<'x, R>) -> Option<Self> {
+        let posts = senders.peers.posts(senders.rt)?;
+        Some(WorkerOutlet { senders, posts })
+    }
+}
+
+impl<R: Wait> Outlet for WorkerOutlet<'_, R> {
     ghost use Rattle.std.specs.Prelude.{None};
 
-    ghost parcels = { λ s. None };
+    ghost parcels = { λ o. None };
 
-    ghost records = { λ s. None };
+    ghost records = { λ o. said_of o.senders.peers.number (sent_to o.posts) None };
 
     fn frame(&mut self, to: Target, octets: &[u8]) {
         let (place, address) = place_of(to);
-        if let Some(line) = line_at(self.lines, place) {
-            line.put(self.rt, address, octets);
+        if let Some(line) = line_at(self.senders.lines, place) {
+            line.put(self.senders.rt, address, octets);
         }
     }
 
     fn bpdu(&mut self, port: u8, frame: &[u8; 60]) {
         let (place, _) = place_of(Target::Port(port));
-        if let Some(line) = line_at(self.lines, place) {
-            line.put_bpdu(self.rt, frame);
+        if let Some(line) = line_at(self.senders.lines, place) {
+            line.put_bpdu(self.senders.rt, frame);
         }
     }
 
     fn has_room(&mut self) -> bool {
-        self.peers.have_room()
+        self.senders.peers.have_room()
     }
 
     fn record(&mut self, update: Update) {
-        self.peers.send(self.rt, update);
+        let senders = self.senders;
+        senders.peers.send(senders.rt, &mut self.posts, update);
     }
 
     fn second(&mut self) {
-        self.peers.second(self.rt);
+        self.senders.peers.second(self.senders.rt);
     }
 
     fn alarm(&mut self, alarm: Alarm) {
-        self.peers.alarm(self.rt, alarm);
+        self.senders.peers.alarm(self.senders.rt, alarm);
     }
 
     fn reception(&mut self, reception: Reception) {
-        self.peers.reception(self.rt, reception);
+        self.senders.peers.reception(self.senders.rt, reception);
     }
 
     fn answer(&mut self, answer: Answer) {
-        self.peers.answer(self.rt, answer);
+        self.senders.peers.answer(self.senders.rt, answer);
     }
 }
 

@@ -2,7 +2,7 @@
 ghost use Rattle.std.specs.Prelude.{◌≡◌, ◌≤◌, length};
 ghost use Rattle.ev_book.specs.Entering.{answered};
 ghost use Rattle.ev_links.specs.Coming.{behind};
-ghost use Rattle.ev_peers.specs.Passing.{Entered, Announces, PassesOn, given_by, signs_of};
+ghost use Rattle.ev_peers.specs.Passing.{Entered, Announces, PassesOn, says, given_by, signs_of};
 
 use crate::gate::Gate;
 use crate::giving::{Carried, give_out};
@@ -93,7 +93,7 @@ impl<L: Ledger, O: Outlet + Drop, G: Gate, R: Wait> Worker<'_, L, O, G, R> {
         ensures parcels { O.parcels self.new.outlet ≡ behind (O.parcels self.old.outlet)
             (given_by self.old.shared_edge.now.bridge carried.now.vni carried.now.frame.now
             (answered result self.new.scratch.reply)) }
-        ensures records { O.records self.new.outlet ≡ behind (O.records self.old.outlet)
+        ensures records { O.records self.new.outlet ≡ says (O.records self.old.outlet)
             (signs_of carried.now.vni event.now (answered result self.new.scratch.reply)) }
         ensures stays { self.new.shared_edge ≡ self.old.shared_edge }
     {
@@ -150,7 +150,7 @@ fn give_answer<O: Outlet>(
 
 /// Reports a second to the operator's board if the event is one, and then the alarm of the answer
 /// if there is one.
-#[tactic(auto, using(ev_links::proofs::Behind::behind_none, ev_links::proofs::Behind::behind_twice))]
+#[tactic(auto, using(crate::proofs::PassingOn::says_none, crate::proofs::PassingOn::says_twice))]
 fn give_signs<O: Outlet>(
     outlet: &mut O,
     vni: Vni,
@@ -158,7 +158,7 @@ fn give_signs<O: Outlet>(
     answer: &Result<(), BookRefusal>,
     reply: &Reply,
 )
-    ensures records { O.records outlet.new ≡ behind (O.records outlet.old)
+    ensures records { O.records outlet.new ≡ says (O.records outlet.old)
         (signs_of vni event.now (answered answer.now reply.now)) }
     ensures parcels { O.parcels outlet.new ≡ O.parcels outlet.old }
 {

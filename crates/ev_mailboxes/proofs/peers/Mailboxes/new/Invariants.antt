@@ -1,8 +1,11 @@
-use Rattle.std.proofs.Common.{◌≡◌, ◌≤◌, vec_len, vec_capacity}
+use Rattle.std.proofs.Common.{◌≡◌, ◌+◌, ◌≤◌, vec_len, vec_capacity}
 use Rattle.ev_mailboxes.proofs.peers.Mailboxes.new.Given as goal
 
-abbrev pub invariant-loop-place : goal.invariant-loop-place
-invariant-loop-place l = record {
-  len : vec_len l.all ≡ l.place;
+abbrev pub invariant-loop-inbox : goal.invariant-loop-inbox
+invariant-loop-inbox l = record {
+  all : vec_len l.all + vec_len l.inboxes ≡ l.edges;
   room : l.edges ≤ vec_capacity l.all;
 }
+
+abbrev pub decreases-loop-inbox : goal.decreases-loop-inbox
+decreases-loop-inbox l = vec_len l.inboxes

@@ -1,0 +1,3 @@
+pub mod Delivery
+pub mod Ends
+pub mod Laws

@@ -1,0 +1,13 @@
+use Rattle.std.proofs.Common.{◌≡◌}
+use Rattle.ev_channel.specs.Ends.{sent_by}
+use Rattle.ev_mailboxes.specs.declared.message.Message.TheVariants.{Record}
+use Rattle.ev_mailboxes.specs.declared.message.Letter.TheVariants.{Of}
+use Rattle.ev_mailboxes.proofs.posts.send_one.Given as goal
+
+-- the letter wasn't sent yet
+abbrev pub invariant-loop : goal.invariant-loop
+invariant-loop g l = record {
+  to : l.post.to ≡ l.fn.post.to;
+  sent : sent_by l.post.post ≡ sent_by l.fn.post.post;
+  letter : l.letter ≡ Of (Record l.update);
+}

@@ -1,0 +1,16 @@
+-- The letters of an edge's mailbox, as its worker of updates takes them.
+use Rattle.std.specs.Prelude.{List, map, Option, Some, None}
+use Rattle.ev_channel.specs.declared.ends.Inbox.{Inbox}
+use Rattle.ev_channel.specs.Ends.{received_by}
+use Rattle.ev_mailboxes.specs.declared.message.Message.{Message}
+use Rattle.ev_mailboxes.specs.declared.message.Letter.{Letter}
+use Rattle.ev_mailboxes.specs.declared.message.Letter.TheVariants.{Of, Stop}
+
+-- the message of a letter; a stop is the end
+abbrev pub coming : Letter → Option Message
+coming (Of message) = Some message
+coming Stop = None
+
+-- the messages that came to a worker: that of each letter which its inbox received, and `None` for the end
+abbrev pub came_of : Inbox Letter → List (Option Message)
+came_of inbox = map coming (received_by inbox)

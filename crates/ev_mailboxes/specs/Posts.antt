@@ -1,0 +1,30 @@
+-- The letters that a worker sends to the other edges.
+use Rattle.std.specs.Prelude.{ℕ, zero, suc, ◌+◌, ◌==◌, if◌then◌else◌, List, [], ◌∷◌, ◌++◌, map}
+use Rattle.route_wire.specs.Fields.{Fields}
+use Rattle.ev_channel.specs.Ends.{sent_by}
+use Rattle.ev_mailboxes.specs.declared.message.Message.TheVariants.{Record}
+use Rattle.ev_mailboxes.specs.declared.message.Letter.{Letter}
+use Rattle.ev_mailboxes.specs.declared.message.Letter.TheVariants.{Of}
+use Rattle.ev_mailboxes.specs.declared.posts.EdgePost.{EdgePost}
+use Rattle.ev_mailboxes.specs.declared.posts.Posts.{Posts}
+
+-- the number of an edge, and the letters that a post has sent to its mailbox
+abbrev pub letters_to : EdgePost → ℕ × List Letter
+letters_to post = (post.to, sent_by post.post)
+
+-- the letters that a worker has sent to each edge
+abbrev pub sent_to : Posts → List (ℕ × List Letter)
+sent_to posts = map letters_to posts.all.items
+
+-- nothing was sent to edges 1 .. n
+abbrev pub none_sent : ℕ → List (ℕ × List Letter)
+none_sent zero = []
+none_sent (suc n) = none_sent n ++ (n + 1, []) ∷ []
+
+-- a record more for this edge, unless it is the sender's own
+abbrev pub one_with : ℕ → Fields → ℕ × List Letter → ℕ × List Letter
+one_with own u e = if e.0 == own then e else (e.0, e.1 ++ Of (Record u) ∷ [])
+
+-- a record more for each edge but the sender's own
+abbrev pub with_record : ℕ → Fields → List (ℕ × List Letter) → List (ℕ × List Letter)
+with_record own u sent = map (one_with own u) sent

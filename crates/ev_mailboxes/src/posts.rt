@@ -1,0 +1,104 @@
+//! The posts of a worker: one to the mailbox of each edge.
+ghost use Rattle.std.specs.Prelude.{◌≡◌, IfOk, length, map};
+ghost use Rattle.ev_mailboxes.specs.Posts.{letters_to, sent_to, none_sent, one_with, with_record};
+
+use crate::message::{Letter, Message};
+use crate::shared_mailbox::SharedMailbox;
+use ev_channel::{Inbox, Post};
+use route_wire::Update;
+use std::alloc::{AllocError, Global};
+use std::sync::Wait;
+
+/// A post to the mailbox of one edge.
+#[derive(Drop)]
+pub struct EdgePost {
+    /// The number of the edge, from 1.
+    to: usize,
+    post: Post<Letter>,
+}
+
+/// Sends an update, unless the edge is the worker's own. Never waits for a place: if each place is
+/// taken, empties a closed mailbox and tries again.
+fn send_one<R: Wait>(
+    rt: &R,
+    mailboxes: &[SharedMailbox],
+    own: usize,
+    post: &mut EdgePost,
+    update: &Update,
+)
+    ensures { letters_to post.new ≡ one_with own update.now (letters_to post.old) }
+{
+    if post.to == own {
+        return;
+    }
+    let mailbox = mailboxes.get(post.to.saturating_sub(1));
+    if let Some(mailbox) = mailbox {
+        mailbox.expect_update();
+    }
+    let mut letter = Letter::Of(Message::Record(*update));
+    for _ in rt.forever() {
+        match post.post.send(rt, letter) {
+            Ok(()) => return,
+            Err(back) => letter = back,
+        }
+        if let Some(mailbox) = mailbox {
+            mailbox.make_place(rt);
+        }
+    }
+    unreachable!()
+}
+
+/// Sends an update to each of these edges but the worker's own.
+fn send_each<R: Wait>(
+    rt: &R,
+    mailboxes: &[SharedMailbox],
+    own: usize,
+    posts: &mut [EdgePost],
+    update: &Update,
+)
+    ensures { map letters_to posts.new ≡ with_record own update.now (map letters_to posts.old) }
+{
+    for post in posts.iter_mut() {
+        send_one(rt, mailboxes, own, post, update);
+    }
+}
+
+/// The posts of a worker, one to the mailbox of each edge. The post to its own edge sends nothing.
+#[derive(Drop)]
+pub struct Posts {
+    all: Vec<EdgePost>,
+}
+
+impl Posts {
+    /// Makes posts to these mailboxes, of edges 1, 2 ..
+    ///
+    /// # Errors
+    ///
+    /// `AllocError` if memory is refused.
+    pub(crate) fn new(alloc: Global, inboxes: &mut [Inbox<Letter>]) -> Result<Self, AllocError>
+        ensures sent { IfOk result (λ posts. sent_to posts ≡ none_sent (length inboxes.old)) }
+        ensures len { length inboxes.new ≡ length inboxes.old }
+    {
+        let mut all = Vec::with_capacity(alloc, inboxes.len())?;
+        for place in 0..inboxes.len() {
+            all.push_reserved(EdgePost {
+                to: place + 1,
+                post: inboxes[place].post()?,
+            });
+        }
+        Ok(Posts { all })
+    }
+
+    /// Sends an update to each edge but the worker's own, which has the number `own`.
+    pub(crate) fn send<R: Wait>(
+        &mut self,
+        rt: &R,
+        mailboxes: &[SharedMailbox],
+        own: usize,
+        update: &Update,
+    )
+        ensures { sent_to self.new ≡ with_record own update.now (sent_to self.old) }
+    {
+        send_each(rt, mailboxes, own, self.all.as_mut_slice(), update);
+    }
+}
