@@ -161,7 +161,7 @@ class Kits(unittest.TestCase):
     def test_listed_kit_and_another_one(self):
         first = self.run_kits(line="any").stdout.splitlines()[0]
         done = self.run_kits("--here", line=first)
-        self.assertEqual((done.returncode, done.stdout), (0, f"this commit was proved with this kit: {first}\n"))
+        self.assertEqual((done.returncode, done.stdout), (0, f"a gate ended green with this kit: {first}\n"))
         done = self.run_kits("--here", line="another-kit 1")
         self.assertEqual(done.returncode, 1)
         self.assertIn("the commands are the same", done.stdout)
