@@ -7,11 +7,11 @@ import sys
 import tempfile
 import time
 import unittest
-from typing import List
+from typing import List, Optional
 
 from test_audit import PROGRAM, needs_program
 from test_records import TOP
-from test_run import BROADCAST, FLOODS, ONE, TWO, Cable, Running, TwoCables, edge, first_life, frame, learnt, station
+from test_run import BROADCAST, FLOODS, ONE, STRANGER, TWO, Cable, Running, TwoCables, edge, first_life, frame, learnt, station
 
 TOOL = [sys.executable, os.path.join(TOP, "tools", "evpndctl"), "--control"]
 
@@ -29,10 +29,15 @@ class Joined(TwoCables):
         self.addCleanup(self.part)
         self.programs = [self.serve(0, ONE, self.one, TWO), self.serve(1, TWO, self.two, ONE)]
 
-    def serve(self, place: int, address: str, cable: Cable, other: str, incarnation: int = 1) -> Running:
+    def serve(self, place: int, address: str, cable: Cable, other: str, incarnation: Optional[int] = 1) -> Running:
         """A program with one edge that knows of the other one, until it answers."""
-        text = f'control = "{self.paths[place]}"\n' + edge(address, place + 1, cable, keys=f"incarnation = {incarnation}\n")
-        running = Running(f'{text}[[peer]]\naddress = "{other}"\n', subcommand="serve")
+        keys = "" if incarnation is None else f"incarnation = {incarnation}\n"
+        text = f'control = "{self.paths[place]}"\n' + edge(address, place + 1, cable, keys=keys)
+        return self.started(place, f'{text}[[peer]]\naddress = "{other}"\n')
+
+    def started(self, place: int, text: str) -> Running:
+        """A program of this configuration, once it answers."""
+        running = Running(text, subcommand="serve")
         self.addCleanup(running.kill)
         for _ in range(100):
             if self.report(place):
@@ -126,6 +131,58 @@ class Joined(TwoCables):
         report = f"{flood}mac 5001 {mac} {TWO} 2.2 withdrawn\nowner 5001 {mac} none\n"
         self.both_report(report)
         self.end_well(report)
+
+    def again(self, incarnation: Optional[int]) -> None:
+        """Edge 2 learns a station, of which edge 1 hears; its program is killed, and starts again. Then edge 2 learns another one."""
+        self.join()
+        self.is_carried(self.two, self.one, frame(BROADCAST, station(2), b"here"))
+        self.both_report(FLOODS + learnt(2, TWO, 2))
+        self.part()
+        self.programs[1].kill()
+        self.programs[1] = self.serve(1, TWO, self.two, ONE, incarnation)
+        self.two.send(frame(BROADCAST, station(3), b"here"))
+        for _ in range(100):
+            if "owner 5001 02:00:00:00:00:03" in self.report(1):
+                return
+            time.sleep(0.05)
+        self.fail(self.report(1))
+
+    def test_same_configuration_agrees_within_two_seconds(self) -> None:
+        """An edge without a configured incarnation: two seconds after they are joined both have its new station, and not its old one."""
+        self.again(None)
+        self.join()
+        begun = time.monotonic()
+        told = ["", "-"]
+        while told[0] != told[1] or "owner 5001 02:00:00:00:00:02 none" not in told[0]:
+            self.assertLess(time.monotonic() - begun, 2, told)
+            told = [self.report(0), self.report(1)]
+        self.assertRegex(told[0], rf"(?m)^mac 5001 02:00:00:00:00:02 {TWO} [0-9]+\.[0-9]+ withdrawn$")
+        self.assertRegex(told[0], rf"(?m)^owner 5001 02:00:00:00:00:03 {TWO}$")
+
+    def test_incarnation_that_does_not_rise_is_told_at_both_ends(self) -> None:
+        """Also where the new life has made as many updates as the earlier one: as soon as they are joined."""
+        self.again(1)
+        self.join()
+        there = f"records of {TWO}: older than those of its earlier life; raise its incarnation there\n"
+        here = f"records of {TWO}: a peer holds newer ones of its earlier life; raise its incarnation here\n"
+        self.assertEqual([running.note(10) for running in self.programs], [there, here])
+
+    def test_peer_that_is_not_listed_is_told_once(self) -> None:
+        """Nothing of it is taken; its name is told at the first connection, and not at the second."""
+        text = f'control = "{self.paths[1]}"\n' + edge(STRANGER, 2, self.two, keys="incarnation = 1\n") + f'[[peer]]\naddress = "{ONE}"\n'
+        self.programs[1].kill()
+        self.programs[1] = self.started(1, text)
+        for _ in range(2):
+            self.join()
+            for _ in range(100):
+                if ONE in self.report(1):
+                    break
+                time.sleep(0.05)
+            self.part()
+        noted = f"records of {STRANGER}: dropped; no [[edge]] and no [[peer]] has this address\n"
+        self.assertEqual(self.programs[0].note(1), noted)
+        status, out, told = self.programs[0].end()
+        self.assertEqual((status, first_life(out), told), (0, f"edge 1\nflood 5001 {ONE} 1 up\n", ""))
 
 
 @needs_program

@@ -23,7 +23,7 @@ from update_records import Answer, Update, line_of, read_records, record_of, upd
 
 # addresses of these tests' own, beside those of test_run.py
 ONE, TWO, ELSEWHERE = HOST + "1", HOST + "2", HOST + "3"
-SEATS = 8
+SEATS, CONSOLES = 8, 6
 WRONG = b"error: the first line is neither 'console' nor 'records'\n"
 MAC = "02:00:00:00:00:01"
 
@@ -137,6 +137,16 @@ class Served(unittest.TestCase):
                 return client
             except (AssertionError, OSError):
                 time.sleep(0.05)
+        raise AssertionError("busy for five seconds")
+
+    def seated_records(self) -> Client:
+        """A client that exchanges records and reads nothing; again where those that have just gone still have their seats."""
+        for _ in range(100):
+            client = self.client().send(b"records\n")
+            with contextlib.suppress(OSError):
+                if client.socket.recv(44, socket.MSG_WAITALL | socket.MSG_PEEK)[:2] == b"EV":
+                    return client
+            time.sleep(0.05)
         raise AssertionError("busy for five seconds")
 
     def hears_station(self) -> None:
@@ -265,11 +275,15 @@ class Clients(Served):
             self.assertEqual(self.client().send(octets).rest(), WRONG, octets)
         self.ends_well()
 
-    def test_ninth_is_busy(self) -> None:
-        """Eight are served; the ninth is told so, and another one is served once one of the eight has gone."""
-        held = [self.seated() for _ in range(SEATS)]
-        self.assertEqual(self.client().rest(), b"busy\n")
+    def test_seventh_console_and_ninth_client_are_busy(self) -> None:
+        """Six consoles are served, and two that exchange records; another console is served once one of the six has gone."""
+        held = [self.seated() for _ in range(CONSOLES)]
         self.assertEqual(self.console().rest(), b"busy\n")
+        records = [self.seated_records() for _ in range(SEATS - CONSOLES)]
+        for client in (self.client(), self.console(), self.client().send(b"records\n")):
+            self.assertEqual(client.rest(), b"busy\n")
+        records[0].close()
+        self.seated_records()
         held[3].close()
         self.assertEqual(self.seated().ask("1 report"), FLOODS)
         for client in held[:3] + held[4:]:
@@ -297,7 +311,7 @@ class Clients(Served):
 
     def test_end_with_clients_that_do_not_read(self) -> None:
         """They ask until there is no room for more, read nothing, and the run ends all the same."""
-        for _ in range(SEATS):
+        for _ in range(CONSOLES):
             self.flood(self.console())
         self.ends_well()
 
@@ -363,6 +377,30 @@ class Clients(Served):
                 threads.append(self.threads_down_to(threads[0] if threads else None))
         self.assertLess(sizes[-1], sizes[0] + 1024, f"kilobytes after each 1,000: {sizes}")
         self.assertEqual(threads, threads[:1] * 3)
+        self.ends_well()
+
+
+@needs_program
+class Idle(Served):
+    """Clients that send nothing for longer than the configured second."""
+
+    def text(self) -> str:
+        """The configuration, with the key."""
+        return "idle = 1\n" + super().text()
+
+    def test_silent_console_is_ended(self) -> None:
+        """It receives a line. One that sends lines is served for longer, and so is a silent connection of records."""
+        self.begin()
+        silent, records, asks = self.seated(), self.seated_records(), self.seated()
+        for _ in range(4):
+            time.sleep(0.5)
+            self.assertEqual(asks.ask("1 report"), FLOODS)
+        self.assertEqual(silent.rest(), b"error: no line came in time\n")
+        self.assertEqual(asks.rest(), b"error: no line came in time\n")
+        self.assertEqual(len(records.socket.recv(88, socket.MSG_WAITALL)), 88)
+        records.socket.settimeout(0.2)
+        with self.assertRaises(socket.timeout):
+            records.socket.recv(1)
         self.ends_well()
 
 
@@ -442,16 +480,6 @@ class Records(Joined):
         self.assertEqual(self.seated().ask("1 port 1"), "1 port 1 designated forwarding passes\n")
         self.assertEqual(len(held), SEATS - 1)
         self.ends_well(FLOODS + learnt(1, ONE, 2))
-
-    def seated_records(self) -> Client:
-        """A client that exchanges records and reads nothing; again where those that have just gone still have their seats."""
-        for _ in range(100):
-            client = self.client().send(b"records\n")
-            with contextlib.suppress(OSError):
-                if client.socket.recv(44, socket.MSG_WAITALL | socket.MSG_PEEK)[:2] == b"EV":
-                    return client
-            time.sleep(0.05)
-        raise AssertionError("busy for five seconds")
 
 
 @needs_program

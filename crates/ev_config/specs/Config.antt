@@ -15,7 +15,7 @@ use Rattle.ev_config.specs.declared.whole.Use.TheVariants.{Any, Run, Serve}
 use Rattle.ev_config.specs.declared.config.ConfigRefusal.{ConfigRefusal}
 use Rattle.ev_config.specs.declared.config.ConfigRefusal.TheVariants as refusal
 use Rattle.ev_config.specs.Keys.{Key, ◌>>=◌, read_or, required, optional, tables_in, count_of, tables_beside}
-use Rattle.ev_config.specs.Keys.{path_in, only}
+use Rattle.ev_config.specs.Keys.{path_in, number_in, only}
 use Rattle.ev_config.specs.ConfigEdge.{edge_of}
 use Rattle.ev_config.specs.ConfigPeer.{listed_from}
 
@@ -85,9 +85,12 @@ ConfigOf for_run = TextGives view_of (config_in for_run)
 
 -- ---- edges that answer queries while they run
 
--- the edges, and the path of the control socket
+-- the edges, the path of the control socket, and the seconds after which a console is ended that sends nothing
 abbrev pub ServedWhole : Type 0
-ServedWhole = Whole × List ℕ
+ServedWhole = Whole × (List ℕ × ℕ)
+
+abbrev pub idle_of : Members → Result ℕ Key
+idle_of t = optional (codes "idle") (number_in 1 86400) 300 t
 
 -- each of these edges lists all edges, and the peers of these tables
 abbrev pub with_peers : Items → Edges → Result Whole Key
@@ -99,22 +102,24 @@ abbrev pub served_in : Members → Result ServedWhole Key
 served_in t = do
   tables ← required (codes "edge") tables_in t
   path ← required (codes "control") path_in t
+  idle ← idle_of t
   peers ← optional (codes "peer") (tables_beside (count_of tables)) no_items t
-  _ ← only (codes "edge" ∷ codes "control" ∷ codes "peer" ∷ []) t
+  _ ← only (codes "edge" ∷ codes "control" ∷ codes "idle" ∷ codes "peer" ∷ []) t
   edges ← edges_from true no_edges tables
   all ← with_peers peers edges
-  Ok (all, path)
+  Ok (all, (path, idle))
 
 abbrev pub served_view : Served → ServedWhole
-served_view s = (view_of s.config, string_bytes s.control)
+served_view s = (view_of s.config, (string_bytes s.control, s.idle))
 
 abbrev pub ServedOf : List ℕ → Result Served ConfigRefusal → Type 0
 ServedOf = TextGives served_view served_in
 
--- the configuration without the path of the control socket
+-- the configuration of the edges alone
 abbrev pub ServedEdgesOf : List ℕ → Result Config ConfigRefusal → Type 0
 ServedEdgesOf text (Ok config) =
-    (control : String Global) × ServedOf text (Ok (record { config = config; control = control }))
+    (control : String Global) × (idle : ℕ)
+    × ServedOf text (Ok (record { config = config; control = control; idle = idle }))
 ServedEdgesOf text (Err refused) = ServedOf text (Err refused)
 
 -- ---- a configuration for a use

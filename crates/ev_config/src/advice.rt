@@ -72,7 +72,8 @@ fn allowed_in_file(wanted: Use, key: &str) -> &'static str {
             "allowed is the path of a socket, 1 to 107 octets, none of them 0",
         "peer" if wanted == Use::Serve =>
             "allowed are tables, each written as [[peer]], at most 64 with those of [[edge]]",
-        "control" | "peer" => "which is a key of what `serve` runs alone",
+        "idle" if wanted == Use::Serve => "allowed are 1 to 86400 seconds",
+        "control" | "idle" | "peer" => "which is a key of what `serve` runs alone",
         _ => "which is no key of the file",
     }
 }

@@ -64,8 +64,9 @@ pub fn config_of(alloc: Global, text: &str, for_run: bool) -> Result<Config, Con
 }
 
 /// Returns the configuration of a text for edges that answer queries while they run: that of a run,
-/// with the path of a Unix socket at the key `control`, and optional peers, which are edges that
-/// run elsewhere. Each edge lists all edges and all peers.
+/// with the path of a Unix socket at the key `control`, the seconds after which a silent console is
+/// ended at the optional key `idle`, and optional peers, which are edges that run elsewhere. Each
+/// edge lists all edges and all peers.
 ///
 /// # Errors
 ///
@@ -81,7 +82,7 @@ pub fn served_config_of(alloc: Global, text: &str) -> Result<Served, ConfigRefus
     }
 }
 
-/// Returns the configuration of `served_config_of`, without the path of the control socket.
+/// Returns the edges of the configuration of `served_config_of`.
 fn served_edges_of(alloc: Global, text: &str) -> Result<Config, ConfigRefusal>
     ensures { ServedEdgesOf text.now result }
 {
@@ -90,6 +91,7 @@ fn served_edges_of(alloc: Global, text: &str) -> Result<Config, ConfigRefusal>
             let Served {
                 config,
                 control: _path,
+                idle: _seconds,
             } = served;
             Ok(config)
         }

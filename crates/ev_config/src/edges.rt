@@ -8,12 +8,12 @@ ghost use Rattle.ev_fabric.specs.Opening.{AreConfigs};
 ghost use Rattle.ev_config.specs.Inner.Fitting.{Fits, FitTogether};
 ghost use Rattle.ev_config.specs.Keys.{optional, tables_beside, count_of};
 ghost use Rattle.ev_config.specs.Inner.Keys.{Gives};
-ghost use Rattle.ev_config.specs.Config.{no_edges, with_edge, edges_from, listening, described, config_in, view_of, with_peers, served_in, served_view};
+ghost use Rattle.ev_config.specs.Config.{no_edges, with_edge, edges_from, listening, described, config_in, view_of, with_peers, idle_of, served_in, served_view};
 ghost use Rattle.ev_config.specs.Inner.Config.{edges_view};
 
 use crate::edge::{Described, edge_of};
 use crate::endpoint::PortEndpoints;
-use crate::keys::{Fault, only, path_at, tables_at, tables_beside};
+use crate::keys::{Fault, number, only, path_at, tables_at, tables_beside};
 use crate::peers::listed_with;
 use crate::whole::{Config, Served};
 use arrayvec::ArrayVec;
@@ -27,7 +27,7 @@ use toml::value::Array;
 pub(crate) const FILE_KEYS: [&'static str; 1] = ["edge"];
 
 /// The edges of a document whose edges answer queries while they run.
-pub(crate) const SERVED_KEYS: [&'static str; 3] = ["edge", "control", "peer"];
+pub(crate) const SERVED_KEYS: [&'static str; 4] = ["edge", "control", "idle", "peer"];
 
 /// The edges read so far, with their addresses and bridges. They have no lists of originators yet.
 #[derive(Drop)]
@@ -185,6 +185,13 @@ pub(crate) fn peers_at<'a>(table: &'a Table, edges: &Array) -> Result<Option<&'a
     tables_beside(table, "peer", edges.len())
 }
 
+/// Returns the number of seconds after which a console is ended that sends nothing.
+pub(crate) fn idle_of<'a>(table: &'a Table) -> Result<u64, Fault<'a>>
+    ensures { Gives (λ n. n) (idle_of (table_view table.now)) result }
+{
+    number(table, "idle", 1, 86_400, 300)
+}
+
 /// Returns the configuration of a document of edges that answer queries while they run.
 pub(crate) fn served_in<'a>(alloc: Global, table: &'a Table) -> Result<Served, Fault<'a>>
     ensures value { Gives served_view (served_in (table_view table.now)) result }
@@ -192,10 +199,15 @@ pub(crate) fn served_in<'a>(alloc: Global, table: &'a Table) -> Result<Served, F
 {
     let tables = tables_at(table, "edge")?;
     let path = path_at(table, "control")?;
+    let idle = idle_of(table)?;
     let peers = peers_at(table, tables)?;
     only(table, &SERVED_KEYS)?;
     let edges = edges_of(alloc, true, tables)?;
     let config = with_peers(edges, peers)?;
     let control = String::from_str(alloc, path)?;
-    Ok(Served { config, control })
+    Ok(Served {
+        config,
+        control,
+        idle,
+    })
 }

@@ -34,4 +34,6 @@ pub struct Served {
     pub config: Config,
     /// The path of the Unix control socket.
     pub control: String,
+    /// The number of seconds after which a console is ended that sends nothing, 1 to 86,400.
+    pub idle: u64,
 }

@@ -108,7 +108,7 @@ said_of (e ∷ edges) o t u c own = go (λ more. said_of edges o t u more own) (
     go rest (inr c) = Contains-append_right (own_updates e.1 e.0) (said_by edges) u (rest c)
 
 -- each sent update is of one of the edges
-said_from : (edges : List (ℕ × Table)) (u : Fields) → Contains (said_by edges) u
+pub said_from : (edges : List (ℕ × Table)) (u : Fields) → Contains (said_by edges) u
     → (t : Table) × Contains edges (u.register.originator, t) × Contains (own_updates t u.register.originator) u
 said_from [] u c = absurd (omega (arith, c.1))
 said_from (e ∷ edges) u c = go (said_from edges u) (Contains-append_cases (own_updates e.1 e.0) (said_by edges) u c)

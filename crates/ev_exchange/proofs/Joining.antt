@@ -1,14 +1,12 @@
 -- The streams of two joined processes. One of them sends back the registers that it held of the other's edge.
-use Rattle.std.proofs.Common.{◌≡◌, ◌⊎◌, inl, inr, ℕ, List, [], ◌∷◌, ◌++◌, Contains, Some, sym, ap, subst, ◌∙◌, arith}
+use Rattle.std.proofs.Common.{◌≡◌, ◌⊎◌, inl, inr, ℕ, List, [], ◌∷◌, ◌++◌, Contains, Some, sym, subst, ◌∙◌, arith}
 use Rattle.std.proofs.Common.{eq-eqb}
 use Rattle.std.specs.List.{flat_map}
 use Rattle.std.proofs.lemmas.List.Elements.{Contains-append_left, Contains-append_right, Contains-append_cases}
 use Rattle.std.proofs.lemmas.Map.Views.{exact_unsigned_eq}
 use Rattle.route_wire.specs.declared.update.Register.{Register}
-use Rattle.route_wire.specs.declared.update.Value.{Value}
 use Rattle.route_wire.specs.Fields.{Fields}
 use Rattle.route_join.specs.Table.{Table, value_at, IsTableOf}
-use Rattle.route_join.specs.Updates.{all_updates}
 use Rattle.ev_exchange.specs.declared.announcing.EdgeTable.{EdgeTable}
 use Rattle.ev_exchange.specs.Sending.{is_own, own_of, own_updates}
 use Rattle.ev_exchange.specs.Saying.{Step, announces, says_back, said_at, said_of, sent_by}
@@ -92,7 +90,7 @@ stream_carries edges steps o start h = record {
 
 -- ---- both streams
 -- the updates that a table holds of an originator are sent back
-in_back : (o : ℕ) (held : Table) (back : List Step) → SaidBack o held back → (u : Fields)
+pub in_back : (o : ℕ) (held : Table) (back : List Step) → SaidBack o held back → (u : Fields)
     → Contains (own_updates held o) u → Contains (sent_by back) u
 in_back o held back h u c = in_flat said_at back (says_back o h.tables) u h.named
     (in_flat (λ (t : EdgeTable). own_of o t.updates.items) h.tables h.table u h.one_of

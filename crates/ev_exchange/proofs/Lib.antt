@@ -6,3 +6,5 @@ pub mod Sending
 pub mod Sayings
 pub mod Arriving
 pub mod Joining
+pub mod Lives
+pub mod Meeting

@@ -7,7 +7,6 @@ use Rattle.std.proofs.lemmas.List.Elements.{Contains-push_cases}
 use Rattle.route_wire.specs.Fields.{Fields}
 use Rattle.ev_links.specs.Coming.{behind}
 use Rattle.ev_links.proofs.Behind.{behind_twice, behind_none}
-use Rattle.ev_exchange.specs.declared.announcing.Due.{Due}
 use Rattle.ev_exchange.specs.declared.announcing.Due.TheVariants.{Update, Back}
 use Rattle.ev_exchange.specs.declared.announcing.EdgeTable.{EdgeTable}
 use Rattle.ev_exchange.specs.Sending.{Sending, HasSent, HasSaid, own_of}

@@ -2,5 +2,7 @@ pub mod Receiving
 pub mod Sending
 pub mod Known
 pub mod Saying
+pub mod Life
 pub mod Laws
+pub mod Processes
 pub mod Inner

@@ -34,6 +34,15 @@ impl Known {
         }
     }
 
+    /// Returns these originators, each of which occurs once.
+    pub fn of(originators: &ArrayVec<Addr, 64>) -> Self
+        ensures { result ≡ originators.now.items }
+    {
+        let mut all = ArrayVec::new();
+        let _fits = all.try_extend_from_slice(originators.as_slice());
+        Known { all }
+    }
+
     /// Returns `true` if the originator is one of these.
     pub fn has(&self, originator: Addr) -> bool
         ensures { result ≡ list_any (λ x. eqb x originator) self.now }

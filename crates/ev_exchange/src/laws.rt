@@ -1,5 +1,6 @@
 //! Laws, as functions that do nothing: the contract is the law.
 ghost use Rattle.ev_exchange.specs.Laws.{OwnUpdatesAre, SaidIsCarried, NewestArrives, OwnRegistersAgree, BothAgree, MeetingAgrees, StreamCarries, JoinedAgrees};
+ghost use Rattle.ev_exchange.specs.Processes.{ProcessesAgree, EarlierLivesEnd};
 
 /// The updates that an edge sends from its table at the beginning are its own registers, all of
 /// them, each with its value, in the order of a report.
@@ -51,4 +52,20 @@ pub fn stream_carries()
 /// edge as the edge's own table has it, since its process sent back what it held.
 pub fn joined_agrees()
     ensures { JoinedAgrees }
+{}
+
+/// Two processes of any number of edges each are joined. Whatever their edges had taken before,
+/// including updates of earlier lives, once both streams are taken each table of one process has
+/// each register of each edge of the other process as that edge's own table has it. The premises
+/// are that each process sends back what its tables hold of the other's edges, and that its tables
+/// agree on these registers.
+pub fn processes_agree()
+    ensures { ProcessesAgree }
+{}
+
+/// If an edge's own table advertises only in the edge's present life, then each table of the other
+/// process has no advert of an earlier life of the edge any more, under the premises of
+/// `processes_agree`.
+pub fn earlier_lives_end()
+    ensures { EarlierLivesEnd }
 {}

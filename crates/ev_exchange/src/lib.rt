@@ -7,6 +7,7 @@ mod entrance;
 mod intake;
 mod known;
 mod laws;
+mod life;
 mod receiver;
 mod saying;
 mod sender;
@@ -17,9 +18,10 @@ pub use entrance::Entrance;
 pub use intake::{Incoming, receive};
 pub use known::Known;
 pub use laws::{
-    both_agree, joined_agrees, meeting_agrees, newest_arrives, own_registers_agree,
-    own_updates_are, said_is_carried, stream_carries,
+    both_agree, earlier_lives_end, joined_agrees, meeting_agrees, newest_arrives,
+    own_registers_agree, own_updates_are, processes_agree, said_is_carried, stream_carries,
 };
+pub use life::{Life, has_any_of};
 pub use receiver::{KINDS, Receiver};
 pub use saying::announce;
 pub use sender::Sender;

@@ -2,7 +2,7 @@
 //! operator's lines.
 ghost use Rattle.std.specs.Prelude.{◌≡◌, ◌-◌, IfOk, slice_get, option_copied, vec_len};
 
-use ev_notices::{Alarm, Board, News, Reception, Receptions, Refusals};
+use ev_notices::{Alarm, Board, News, Reception, Receptions, Refusals, Refused};
 use std::alloc::{AllocError, Global};
 use std::sync::{Condvar, Mutex, Wait};
 
@@ -114,9 +114,9 @@ impl Boards {
         }
     }
 
-    /// Reports that input from another process was refused, each number once.
-    pub(crate) fn refuse<R: Wait>(&self, rt: &R, number: u8) {
-        let is_put = self.refusals.lock(rt).put(number);
+    /// Reports that input from another process was refused, each refusal once.
+    pub(crate) fn refuse<R: Wait>(&self, rt: &R, refused: Refused) {
+        let is_put = self.refusals.lock(rt).put(refused);
         if is_put {
             self.ring(rt, false);
         }
@@ -129,8 +129,8 @@ impl Boards {
 
     /// Takes the first waiting news, with the number of its edge, or 0 if it belongs to no edge.
     fn first<R: Wait>(&self, rt: &R) -> Option<(u64, News)> {
-        if let Some(number) = self.refusals.lock(rt).take() {
-            return Some((0, News::Refused(u64::from(number))));
+        if let Some(refused) = self.refusals.lock(rt).take() {
+            return Some((0, News::Refused(refused)));
         }
         for (place, of_edge) in self.all.iter().enumerate() {
             let edge = place as u64 + 1;

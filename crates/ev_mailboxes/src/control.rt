@@ -10,6 +10,7 @@ use crate::request::{Command, PortView, Reading, Request, Served};
 use crate::shared_mailbox::SharedMailbox;
 use ev_book::BookRefusal;
 use ev_edge::Reply;
+use ev_notices::Refused;
 use ev_view::EdgeQuestion;
 use route_wire::Update;
 use std::alloc::{AllocError, Global};
@@ -63,11 +64,10 @@ impl<'x> Running<'x> {
         self.mailboxes.take(rt, update);
     }
 
-    /// Reports to the operator that input from another process was refused: a fault of its stream
-    /// by its number (1 to 4), or a refusal of a record (5 and above). Each number is reported
-    /// once.
-    pub fn refuse<R: Wait>(&self, rt: &R, number: u8) {
-        self.boards.refuse(rt, number);
+    /// Reports to the operator that input from another process was refused. Each refusal is
+    /// reported once.
+    pub fn refuse<R: Wait>(&self, rt: &R, refused: Refused) {
+        self.boards.refuse(rt, refused);
     }
 }
 

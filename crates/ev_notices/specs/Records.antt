@@ -1,31 +1,37 @@
--- Refused records of connections: each kind of fault and of refusal is reported once.
-use Rattle.std.specs.Prelude.{ℕ, ◌+◌, Bool, not, ◌&&◌, ◌==◌, nat_lt, if◌then◌else◌, List, [], ◌∷◌, ◌++◌, length}
+-- Refused records of connections: each fault and each refusal is reported once.
+use Rattle.std.specs.Prelude.{ℕ, ◌+◌, Bool, false, not, ◌&&◌, ◌==◌, nat_lt, if◌then◌else◌, List, [], ◌∷◌, ◌++◌, length}
 use Rattle.std.specs.Prelude.{Option, slice_get}
 use Rattle.std.specs.List.{list_any}
+use Rattle.ev_notices.specs.declared.records.Refused.{Refused}
+use Rattle.ev_notices.specs.declared.records.Refused.TheVariants.{Record, Unlisted, Outlived, OwnOutlived}
 
--- The numbers of the kinds that came, the first one first; and the number of them that were taken.
+-- The refusals that came, the first one first; and the number of them that were taken.
 pub record RefusalsState : Type 0 where
-  pub came : List ℕ
+  pub came : List Refused
   pub told : ℕ
 
-abbrev pub refusals_of : List ℕ → ℕ → RefusalsState
+abbrev pub refusals_of : List Refused → ℕ → RefusalsState
 refusals_of came told = record { came = came; told = told }
 
 abbrev pub no_refusals : RefusalsState
 no_refusals = refusals_of [] 0
 
-abbrev pub is_number : ℕ → ℕ → Bool
-is_number number known = known == number
+abbrev pub is_same : Refused → Refused → Bool
+is_same (Record number) (Record other) = number == other
+is_same (Unlisted originator) (Unlisted other) = originator == other
+is_same (Outlived originator) (Outlived other) = originator == other
+is_same (OwnOutlived originator) (OwnOutlived other) = originator == other
+is_same _ _ = false
 
--- this kind hasn't come yet, and fewer than 16 kinds came
-abbrev pub is_new : ℕ → RefusalsState → Bool
-is_new number r = nat_lt (length r.came) 16 && not (list_any (is_number number) r.came)
+-- this refusal hasn't come yet, and fewer than 64 refusals came
+abbrev pub is_new : Refused → RefusalsState → Bool
+is_new refused r = nat_lt (length r.came) 64 && not (list_any (is_same refused) r.came)
 
-abbrev pub after_refusal : ℕ → RefusalsState → RefusalsState
-after_refusal number r = if is_new number r then refusals_of (r.came ++ number ∷ []) r.told else r
+abbrev pub after_refusal : Refused → RefusalsState → RefusalsState
+after_refusal refused r = if is_new refused r then refusals_of (r.came ++ refused ∷ []) r.told else r
 
--- the first kind that wasn't taken
-abbrev pub first_refusal : RefusalsState → Option ℕ
+-- the first refusal that wasn't taken
+abbrev pub first_refusal : RefusalsState → Option Refused
 first_refusal r = slice_get r.came r.told
 
 abbrev pub after_told : RefusalsState → RefusalsState

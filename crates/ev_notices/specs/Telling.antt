@@ -3,7 +3,7 @@ use Rattle.std.specs.Prelude.{◌≡◌, ℕ, Bool, false, true, List, [], ◌�
 use Rattle.std.specs.Prelude.{Option, Some, None, Result}
 use Rattle.std.specs.Prelude.{Ok, Err}
 use Rattle.std.specs.Fmt.{decimal}
-use Rattle.ether_wire.specs.Addr.{mac_text}
+use Rattle.ether_wire.specs.Addr.{mac_text, addr_text}
 use Rattle.ether_wire.specs.declared.ends.Device.{Device}
 use Rattle.ether_wire.specs.Ends.{End, Puts}
 use Rattle.mac_arena.specs.declared.station.Station.{Station}
@@ -15,6 +15,8 @@ use Rattle.ev_notices.specs.declared.board.Notice.{Notice}
 use Rattle.ev_notices.specs.declared.receptions.Input.{Input}
 use Rattle.ev_notices.specs.declared.receptions.Input.TheVariants.{Port, Tunnel, Clock}
 use Rattle.ev_notices.specs.declared.receptions.Reception.{Reception as Change}
+use Rattle.ev_notices.specs.declared.records.Refused.{Refused as Refusal}
+use Rattle.ev_notices.specs.declared.records.Refused.TheVariants.{Record, Unlisted, Outlived, OwnOutlived}
 use Rattle.ev_notices.specs.declared.telling.News.{News}
 use Rattle.ev_notices.specs.declared.telling.News.TheVariants.{Alerts, Reception, Untold, Refused}
 use Rattle.ev_links.specs.Coming.{behind, after_these}
@@ -86,9 +88,23 @@ untold_text edge count =
 
 -- ---- records of a connection
 
+-- `records of ORIGINATOR: ` and these words
+abbrev pub records_text : ℕ → List ℕ → List ℕ
+records_text originator words = codes "records of " ++ addr_text originator ++ codes ": " ++ words
+
 -- `records: refused NUMBER`, for a record or for the octets after the last one
-abbrev pub refused_text : ℕ → List ℕ
-refused_text number = codes "records: refused " ++ decimal number ++ codes "\n"
+abbrev pub number_text : ℕ → List ℕ
+number_text number = codes "records: refused " ++ decimal number ++ codes "\n"
+
+-- the refusal's number; or the originator, and why its records are refused
+abbrev pub refused_text : Refusal → List ℕ
+refused_text (Record number) = number_text number
+refused_text (Unlisted originator) = records_text originator
+    (codes "dropped; no [[edge]] and no [[peer]] has this address\n")
+refused_text (Outlived originator) = records_text originator
+    (codes "older than those of its earlier life; raise its incarnation there\n")
+refused_text (OwnOutlived originator) = records_text originator
+    (codes "a peer holds newer ones of its earlier life; raise its incarnation here\n")
 
 -- ---- all lines
 
@@ -96,7 +112,7 @@ abbrev pub news_text : ℕ → News → List ℕ
 news_text edge (Alerts notice) = notice_text edge notice
 news_text edge (Reception change) = reception_text edge change
 news_text edge (Untold count) = untold_text edge count
-news_text edge (Refused number) = refused_text number
+news_text edge (Refused refusal) = refused_text refusal
 
 -- a piece of news, and the number of its edge
 abbrev pub Told : Type 0

@@ -13,5 +13,5 @@ pub use alarm::{Alarm, alarm_of, alert_of, is_second};
 pub use board::{Board, Notice, Posted};
 pub use in_turn::tell_in_turn;
 pub use receptions::{Input, Reception, Receptions};
-pub use records::Refusals;
+pub use records::{Refusals, Refused};
 pub use telling::{News, NoticesIn, notice_worker, put_notice};

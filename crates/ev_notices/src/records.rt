@@ -1,20 +1,44 @@
-//! Refused records of connections: each kind of fault and of refusal is reported once.
+//! Refused records of connections: each fault and each refusal is reported once.
 ghost use Rattle.std.specs.Prelude.{◌≡◌};
 ghost use Rattle.std.specs.List.{list_any};
-ghost use Rattle.ev_notices.specs.Records.{no_refusals, is_number, is_new, after_refusal, first_refusal, after_told};
+ghost use Rattle.ev_notices.specs.Records.{no_refusals, is_same, is_new, after_refusal, first_refusal, after_told};
 
 use arrayvec::ArrayVec;
+use ether_wire::Addr;
 use std::marker::Model;
 
-/// The greatest number of kinds that are reported: there are fewer faults and refusals.
-const MOST: usize = 16;
+/// The greatest number of refusals that are reported.
+const MOST: usize = 64;
 
-/// The kinds that came, reported or waiting. They take no memory beyond their own.
+/// A refusal of records that another process sent.
+#[derive(Clone, Copy, Debug, PartialEq, Eq)]
+pub enum Refused {
+    /// A record or the octets after the last record: a fault of the stream by its number (1 to 4),
+    /// or the refusal of a record (5 and above).
+    Record(u8),
+    /// All records of this originator: the configuration names no peer with this address.
+    Unlisted(Addr),
+    /// Records of this peer: this process holds routes of an earlier life of the peer that aren't
+    /// older.
+    Outlived(Addr),
+    /// Records of this edge of this process: another process holds routes of an earlier life of the
+    /// edge that aren't older.
+    OwnOutlived(Addr),
+}
+
+impl Default for Refused {
+    /// Returns the content of an unused place.
+    fn default() -> Self {
+        Refused::Record(0)
+    }
+}
+
+/// The refusals that came, reported or waiting. They take no memory beyond their own.
 #[derive(Drop)]
 pub struct Refusals {
-    /// The numbers of the kinds that came, the first one first.
-    came: ArrayVec<u8, MOST>,
-    /// The number of kinds that were taken.
+    /// The refusals that came, the first one first, each once.
+    came: ArrayVec<Refused, MOST>,
+    /// The number of refusals that were taken.
     told: usize,
 }
 
@@ -33,12 +57,25 @@ impl Model for Refusals {
     ghost invariant = { λ r. r.told ≤ length r.came.items };
 }
 
-/// Returns `true` if the number is among these.
-fn is_known(number: u8, all: &[u8]) -> bool
-    ensures { result ≡ list_any (is_number number) all.now }
+/// Returns `true` if two refusals are equal.
+fn is_same(one: &Refused, other: &Refused) -> bool
+    ensures { result ≡ is_same one.now other.now }
+{
+    match (one, other) {
+        (Refused::Record(one), Refused::Record(other)) => one == other,
+        (Refused::Unlisted(one), Refused::Unlisted(other)) => one.number() == other.number(),
+        (Refused::Outlived(one), Refused::Outlived(other)) => one.number() == other.number(),
+        (Refused::OwnOutlived(one), Refused::OwnOutlived(other)) => one.number() == other.number(),
+        _ => false,
+    }
+}
+
+/// Returns `true` if the refusal is among these.
+fn is_known(refused: &Refused, all: &[Refused]) -> bool
+    ensures { result ≡ list_any (is_same refused.now) all.now }
 {
     for known in all {
-        if *known == number {
+        if is_same(refused, known) {
             return true;
         }
     }
@@ -46,7 +83,7 @@ fn is_known(number: u8, all: &[u8]) -> bool
 }
 
 impl Refusals {
-    /// Returns an empty list of kinds.
+    /// Returns an empty list of refusals.
     pub fn new() -> Self
         ensures { result ≡ no_refusals }
     {
@@ -56,27 +93,26 @@ impl Refusals {
         }
     }
 
-    /// Puts a fault of a stream (1 to 4) or a refusal of a record (5 and above) after the others,
-    /// by its number. Returns `true` if it is the first of its kind and has a place; only then it
+    /// Puts a refusal after the others. Returns `true` if it is new and has a place; only then it
     /// is reported.
-    pub fn put(&mut self, number: u8) -> bool
-        ensures put { result ≡ is_new number self.old }
-        ensures after { self.new ≡ after_refusal number self.old }
+    pub fn put(&mut self, refused: Refused) -> bool
+        ensures put { result ≡ is_new refused self.old }
+        ensures after { self.new ≡ after_refusal refused self.old }
     {
-        if self.came.len() >= MOST || is_known(number, self.came.as_slice()) {
+        if self.came.len() >= MOST || is_known(&refused, self.came.as_slice()) {
             return false;
         }
-        self.came.push(number);
+        self.came.push(refused);
         true
     }
 
-    /// Takes the first kind that wasn't taken before.
-    pub fn take(&mut self) -> Option<u8>
+    /// Takes the first refusal that wasn't taken before.
+    pub fn take(&mut self) -> Option<Refused>
         ensures first { result ≡ first_refusal self.old }
         ensures rest { self.new ≡ after_told self.old }
     {
-        let number = self.came.as_slice().get(self.told)?;
+        let refused = self.came.as_slice().get(self.told)?;
         self.told += 1;
-        Some(*number)
+        Some(*refused)
     }
 }

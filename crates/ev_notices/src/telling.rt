@@ -3,12 +3,13 @@ ghost use Rattle.std.specs.Prelude.{◌≡◌, ◌++◌, ◌∷◌, [], Option, 
 ghost use Rattle.std.specs.Fmt.{decimal};
 ghost use Rattle.ether_wire.specs.Ends.{IsOpen, Puts};
 ghost use Rattle.ev_links.specs.Coming.{behind};
-ghost use Rattle.ev_notices.specs.Telling.{Told, alert_words, edge_text, count_text, held_text, station_text, place_text, about_text, alarm_text, notice_text, input_text, state_text, reception_text, untold_text, refused_text, news_text, TellsAll};
+ghost use Rattle.ev_notices.specs.Telling.{Told, alert_words, edge_text, count_text, held_text, station_text, place_text, about_text, alarm_text, notice_text, input_text, state_text, reception_text, untold_text, records_text, number_text, refused_text, news_text, TellsAll};
 
 use crate::alarm::Alarm;
 use crate::board::Notice;
 use crate::receptions::{Input, Reception};
-use ether_wire::{Device, Out, put_decimal, put_mac};
+use crate::records::Refused;
+use ether_wire::{Addr, Device, Out, put_addr, put_decimal, put_mac};
 use ev_mobility::Alert;
 use mac_arena::Station;
 use std::sync::Wait;
@@ -22,9 +23,8 @@ pub enum News {
     Reception(Reception),
     /// The number of changes of links that were not reported.
     Untold(u64),
-    /// Records of a connection were refused: a fault of the stream by its number (1 to 4), or a
-    /// refusal of a record (5 and above). It belongs to no edge.
-    Refused(u64),
+    /// Records of a connection were refused. It belongs to no edge.
+    Refused(Refused),
 }
 
 /// A source of news for an operator.
@@ -209,15 +209,52 @@ fn put_untold<N: Out>(notes: &mut N, edge: u64, count: u64) -> Result<(), Device
     notes.put(b" more times\n")
 }
 
+/// Writes `records of ORIGINATOR: WORDS`.
+#[tactic(auto, using(ether_wire::proofs::Appending::with_text_twice))]
+fn put_records_of<N: Out>(notes: &mut N, originator: Addr, words: &[u8]) -> Result<(), Device>
+    requires { IsOpen (N.end notes.old) }
+    ensures { Puts (N.end notes.old) (N.end notes.new) (records_text originator words.now) result }
+{
+    notes.put(b"records of ")?;
+    put_addr(notes, originator)?;
+    notes.put(b": ")?;
+    notes.put(words)
+}
+
 /// Writes `records: refused NUMBER`.
 #[tactic(auto, using(ether_wire::proofs::Appending::with_text_twice))]
-fn put_refused<N: Out>(notes: &mut N, number: u64) -> Result<(), Device>
+fn put_number<N: Out>(notes: &mut N, number: u64) -> Result<(), Device>
     requires { IsOpen (N.end notes.old) }
-    ensures { Puts (N.end notes.old) (N.end notes.new) (refused_text number) result }
+    ensures { Puts (N.end notes.old) (N.end notes.new) (number_text number) result }
 {
     notes.put(b"records: refused ")?;
     put_decimal(notes, number)?;
     notes.put(b"\n")
+}
+
+/// Writes why records were refused.
+fn put_refused<N: Out>(notes: &mut N, refused: Refused) -> Result<(), Device>
+    requires { IsOpen (N.end notes.old) }
+    ensures { Puts (N.end notes.old) (N.end notes.new) (refused_text refused) result }
+{
+    match refused {
+        Refused::Record(number) => put_number(notes, u64::from(number)),
+        Refused::Unlisted(originator) => put_records_of(
+            notes,
+            originator,
+            b"dropped; no [[edge]] and no [[peer]] has this address\n",
+        ),
+        Refused::Outlived(originator) => put_records_of(
+            notes,
+            originator,
+            b"older than those of its earlier life; raise its incarnation there\n",
+        ),
+        Refused::OwnOutlived(originator) => put_records_of(
+            notes,
+            originator,
+            b"a peer holds newer ones of its earlier life; raise its incarnation here\n",
+        ),
+    }
 }
 
 /// Writes a piece of news of the edge with this number, and flushes the writer.
@@ -240,8 +277,8 @@ fn put_news<N: Out>(notes: &mut N, edge: u64, news: &News) -> Result<(), Device>
             put_untold(notes, edge, *count)?;
             notes.flush()
         }
-        News::Refused(number) => {
-            put_refused(notes, *number)?;
+        News::Refused(refused) => {
+            put_refused(notes, *refused)?;
             notes.flush()
         }
     }

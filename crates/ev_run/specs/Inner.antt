@@ -1,4 +1,6 @@
 pub mod ControlSocket
+pub mod Lives
 pub mod RunEdges
+pub mod Serving
 pub mod Sockets
 pub mod ThreadCheck

@@ -5,11 +5,12 @@ ghost use Rattle.ether_wire.specs.Ends.{Allows};
 ghost use Rattle.ev_run.specs.RunEdges.{ReadsOut};
 
 use crate::control_socket::ControlSocket;
-use crate::records::exchange;
+use crate::records::{ServedEdges, exchange};
 use crate::run::is_read_out;
 use arrayvec::ArrayVec;
 use ether_wire::{Buffered, In, Reader, Writer};
 use ev_console::converse;
+use ev_exchange::Known;
 use ev_mailboxes::Running;
 use std::alloc::Global;
 use std::io::{Read, Write};
@@ -23,8 +24,14 @@ use std::{io, thread};
 /// The most clients that are served at once.
 const SEATS: usize = 8;
 
+/// The most consoles that are served at once: two seats are left for clients that exchange records.
+const CONSOLES: usize = 6;
+
 /// The timeout in seconds of each read of a client's first line, and of each write to a client.
 const PATIENCE: u64 = 10;
+
+/// The timeout in milliseconds of the last write to a client.
+const FAREWELL: u64 = 100;
 
 /// The milliseconds to wait before the next try if no client could be accepted.
 const PAUSE: u64 = 100;
@@ -32,11 +39,19 @@ const PAUSE: u64 = 100;
 /// The most octets of a client's first line that are read.
 const OPENING: usize = 16;
 
-/// The seats of the clients that are being served. A taken seat holds the handle that ends the
-/// client's connection.
+/// A seat that a client has taken.
+#[derive(Drop)]
+struct Seated {
+    /// The handle that ends the client's connection.
+    end: UnixStream,
+    /// The client is a console.
+    is_console: bool,
+}
+
+/// The seats of the clients that are being served.
 #[derive(Drop)]
 struct Seats {
-    taken: [Option<UnixStream>; SEATS],
+    taken: [Option<Seated>; SEATS],
     is_closed: bool,
 }
 
@@ -57,11 +72,36 @@ impl Seats {
         }
         for (place, seat) in self.taken.iter_mut().enumerate() {
             if seat.is_none() {
-                *seat = Some(end);
+                *seat = Some(Seated {
+                    end,
+                    is_console: false,
+                });
                 return Some(place);
             }
         }
         None
+    }
+
+    /// Returns the number of consoles.
+    fn consoles(&self) -> usize {
+        let mut count = 0usize;
+        for seat in self.taken.iter() {
+            if let Some(seated) = seat {
+                count = count.saturating_add(usize::from(seated.is_console));
+            }
+        }
+        count
+    }
+
+    /// Marks a client as a console. Returns `false` if there are six consoles already.
+    fn converse(&mut self, place: usize) -> bool {
+        if self.consoles() >= CONSOLES {
+            return false;
+        }
+        if let Some(Some(seated)) = self.taken.get_mut(place) {
+            seated.is_console = true;
+        }
+        true
     }
 
     /// Frees a client's seat.
@@ -76,11 +116,22 @@ impl Seats {
     fn close(&mut self) {
         self.is_closed = true;
         for seat in self.taken.iter() {
-            if let Some(end) = seat {
-                let _ = end.shutdown(Shutdown::Both);
+            if let Some(seated) = seat {
+                let _ = seated.end.shutdown(Shutdown::Both);
             }
         }
     }
+}
+
+/// The service for clients while edges run.
+#[derive(Drop)]
+pub(crate) struct Service {
+    /// The socket to which the clients connect.
+    pub(crate) socket: ControlSocket,
+    /// The originators that the configuration lists.
+    pub(crate) listed: Known,
+    /// The number of seconds after which a console is ended that sends nothing.
+    pub(crate) idle: u64,
 }
 
 /// The state that the clients share.
@@ -92,8 +143,8 @@ struct Hall<'x, R> {
     alloc: Global,
     /// The edges that the clients query.
     running: Running<'x>,
-    /// The socket to which the clients connect.
-    socket: &'x ControlSocket,
+    /// The service for the clients.
+    service: &'x Service,
     /// The seats of the clients.
     seats: &'x Mutex<Seats>,
 }
@@ -146,33 +197,56 @@ fn wanted_by(stream: &UnixStream) -> Wanted {
     }
 }
 
-/// Answers a client's lines until the client ends, or doesn't read the answers in time.
-fn console<R: Wait>(hall: &Hall<'_, R>, stream: &UnixStream) {
+/// Answers a client's lines until the client ends, sends nothing for too long, or doesn't read the
+/// answers in time.
+fn console<R: Wait>(hall: &Hall<'_, R>, stream: &UnixStream) -> io::Result<()> {
+    stream.set_read_timeout(Some(Duration::from_secs(hall.service.idle)))?;
     let mut reader = Reader::new(stream);
     let mut out = Buffered::new(Writer::new(stream));
-    let _ = converse(hall.rt, hall.alloc, &hall.running, &mut reader, &mut out);
+    let conversed = converse(hall.rt, hall.alloc, &hall.running, &mut reader, &mut out);
     let _ = out.abandon();
+    if conversed.is_err() {
+        // A read timed out, or the client doesn't read: then this line has no room either.
+        stream.set_write_timeout(Some(Duration::from_millis(FAREWELL)))?;
+        say(stream, b"error: no line came in time\n");
+    }
+    Ok(())
 }
 
-/// Writes a short text to a client, for which the socket has room in any case.
+/// Serves a client that is a console, or writes `busy` to it if there are six consoles already.
+fn console_seated<R: Wait>(
+    hall: &Hall<'_, R>,
+    stream: &UnixStream,
+    place: usize,
+) -> io::Result<()> {
+    if hall.seats.lock(hall.rt).converse(place) {
+        console(hall, stream)
+    } else {
+        say(stream, b"busy\n");
+        Ok(())
+    }
+}
+
+/// Writes a short text to a client.
 fn say(stream: &UnixStream, words: &[u8]) {
     let mut stream = stream;
     let _ = stream.write_all(words);
 }
 
-/// Serves a client by its first line.
-fn attend<R: Threads + Wait + Sync>(hall: &Hall<'_, R>, stream: &UnixStream) -> io::Result<()> {
+/// Serves a client in a seat by its first line.
+fn attend<R: Threads + Wait + Sync>(
+    hall: &Hall<'_, R>,
+    stream: &UnixStream,
+    place: usize,
+) -> io::Result<()> {
     let patience = Some(Duration::from_secs(PATIENCE));
     stream.set_write_timeout(patience)?;
     stream.set_read_timeout(patience)?;
     match wanted_by(stream) {
-        Wanted::Console => {
-            stream.set_read_timeout(None)?;
-            console(hall, stream);
-        }
+        Wanted::Console => console_seated(hall, stream, place)?,
         Wanted::Records => {
             stream.set_read_timeout(None)?;
-            exchange(hall.rt, hall.alloc, hall.running, stream);
+            exchange(hall.served_edges(), stream);
         }
         Wanted::Unknown => say(
             stream,
@@ -185,7 +259,7 @@ fn attend<R: Threads + Wait + Sync>(hall: &Hall<'_, R>, stream: &UnixStream) -> 
 
 /// Serves a client, ends its connection, and frees its seat.
 fn attend_seated<R: Threads + Wait + Sync>(hall: &Hall<'_, R>, stream: UnixStream, place: usize) {
-    let _ = attend(hall, &stream);
+    let _ = attend(hall, &stream, place);
     let _ = stream.shutdown(Shutdown::Both);
     hall.seats.lock(hall.rt).leave(place);
 }
@@ -218,7 +292,7 @@ fn receive<'s, 'x: 's, R: Threads + Wait + Clock + Sync>(
     hall: &'x Hall<'x, R>,
 ) {
     for _ in hall.rt.forever() {
-        match hall.socket.accept() {
+        match hall.service.socket.accept() {
             Ok(stream) => let_in(scope, hall, stream),
             Err(_) if hall.is_closed() => return,
             Err(_) => thread::sleep(hall.rt, Duration::from_millis(PAUSE)),
@@ -258,7 +332,21 @@ impl<R: Wait> Hall<'_, R> {
     /// Closes the hall: accepts no more clients, and ends the connections of all.
     fn close(&self) {
         self.seats.lock(self.rt).close();
-        self.socket.end();
+        self.service.socket.end();
+    }
+}
+
+impl<'x, R> Hall<'x, R> {
+    /// Returns the edges as clients exchange records with them.
+    fn served_edges(&self) -> ServedEdges<'x, R>
+        ensures { result.listed.now ≡ self.now.service.now.listed }
+    {
+        ServedEdges {
+            rt: self.rt,
+            alloc: self.alloc,
+            running: self.running,
+            listed: &self.service.listed,
+        }
     }
 }
 
@@ -292,13 +380,13 @@ pub(crate) fn read_out<'x, R: Threads + Wait + Clock + Sync, E: In>(
     rt: &'x R,
     alloc: Global,
     running: Running<'x>,
-    socket: Option<&'x ControlSocket>,
+    service: Option<&'x Service>,
     reader: &mut E,
 ) -> bool
     requires { Allows (2 ^ 40) (E.end reader.old) }
     ensures { ReadsOut (E.end reader.old) (E.end reader.new) result }
 {
-    let Some(socket) = socket else {
+    let Some(service) = service else {
         return is_read_out(reader);
     };
     let seats = Mutex::new(Seats::new());
@@ -306,7 +394,7 @@ pub(crate) fn read_out<'x, R: Threads + Wait + Clock + Sync, E: In>(
         rt,
         alloc,
         running,
-        socket,
+        service,
         seats: &seats,
     };
     read_serving(&hall, reader)

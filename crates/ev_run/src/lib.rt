@@ -6,6 +6,7 @@ mod bound;
 mod clients;
 mod control_socket;
 mod links;
+mod lives;
 mod needs;
 mod obstacles;
 mod print;

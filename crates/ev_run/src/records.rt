@@ -1,27 +1,53 @@
 //! A client that exchanges records with edges that run. The edges' updates are written to it as the
 //! edges announce them, and the edges take its updates. The registers that the edges hold of an
 //! edge of the client are written back to it, so that an edge that has restarted withdraws the
-//! routes of its earlier life.
+//! routes of its earlier life. The operator receives a message if the configuration doesn't list an
+//! originator, and if an edge was restarted in an incarnation that isn't higher.
+ghost use Rattle.std.specs.Prelude.{◌≡◌, true};
+ghost use Rattle.std.specs.List.{list_any};
+ghost use Rattle.std.specs.Option.{option_map_or};
+ghost use Rattle.ev_exchange.specs.Sending.{is_own};
 
-use ether_wire::{Buffered, Reader, Writer};
+use crate::lives::{OwnLives, PeerLives};
+use ether_wire::{Addr, Buffered, Reader, Writer};
 use ev_exchange::{
-    Announcing, Due, EdgeTable, Entrance, Known, Sender, StreamEnd, announce, receive,
+    Announcing, Due, EdgeTable, Entrance, Known, Sender, StreamEnd, announce, has_any_of, receive,
 };
-use ev_mailboxes::{Joined, Running};
+use ev_mailboxes::{Control, Joined, Running};
+use ev_notices::Refused;
 use route_wire::Update;
-use std::alloc::Global;
+use std::alloc::{AllocError, Global};
 use std::net::Shutdown;
 use std::os::unix::net::UnixStream;
 use std::sync::Wait;
 use std::thread;
 use std::thread::{Scope, Threads};
 
+/// The most times that an edge is asked for a table that has taken an update.
+const TRIES: usize = 100;
+
+/// The edges that exchange records with clients.
+#[derive(Drop)]
+pub(crate) struct ServedEdges<'x, R> {
+    pub(crate) rt: &'x R,
+    pub(crate) alloc: Global,
+    pub(crate) running: Running<'x>,
+    /// The originators that the configuration lists.
+    pub(crate) listed: &'x Known,
+}
+
+impl<R> Clone for ServedEdges<'_, R> {
+    fn clone(&self) -> Result<Self, AllocError> {
+        Ok(*self)
+    }
+}
+
+impl<R> Copy for ServedEdges<'_, R> {}
+
 /// A connection that exchanges records, as its two threads share it.
 #[derive(Drop)]
 struct Connection<'x, R> {
-    rt: &'x R,
-    alloc: Global,
-    running: Running<'x>,
+    edges: ServedEdges<'x, R>,
     joined: Joined<'x>,
     /// The addresses of the edges of this process.
     own: Known,
@@ -33,6 +59,36 @@ struct Connection<'x, R> {
 #[derive(Drop)]
 struct Announced<'x, R> {
     connection: &'x Connection<'x, R>,
+    /// The listed originator that the other side named last, if that was the last item.
+    named: Option<Addr>,
+}
+
+impl<R: Wait> Announced<'_, R> {
+    /// Returns `true` if these updates of an edge's table contain one of the named originator, or
+    /// none is named.
+    fn is_taken(&self, updates: &[Update]) -> bool
+        ensures { result
+            ≡ option_map_or (λ o. list_any (is_own o) updates.now) self.now.named true }
+    {
+        match self.named {
+            Some(originator) => has_any_of(originator, updates),
+            None => true,
+        }
+    }
+
+    /// Returns the updates of an edge's table. An edge answers before it takes the waiting updates:
+    /// asks again, up to 100 times, while the table lacks the update that named an originator.
+    fn updates(&self, alloc: Global, control: &Control<'_>) -> Option<Vec<Update>> {
+        let edges = self.connection.edges;
+        let rt = edges.rt;
+        for _ in 0..TRIES {
+            let updates = control.table(rt, alloc)?.ok()?;
+            if self.is_taken(updates.as_slice()) {
+                return Some(updates);
+            }
+        }
+        control.table(rt, alloc)?.ok()
+    }
 }
 
 impl<R: Wait> Announcing for Announced<'_, R> {
@@ -41,10 +97,10 @@ impl<R: Wait> Announcing for Announced<'_, R> {
     ghost told = { λ a. None };
 
     fn table(&mut self, alloc: Global, edge: u64) -> Option<EdgeTable> {
-        let rt = self.connection.rt;
-        let control = self.connection.running.edge(edge as usize)?;
-        let served = control.served(rt, alloc)?.ok()?;
-        let updates = control.table(rt, alloc)?.ok()?;
+        let edges = self.connection.edges;
+        let control = edges.running.edge(edge as usize)?;
+        let served = control.served(edges.rt, alloc)?.ok()?;
+        let updates = self.updates(alloc, &control)?;
         Some(EdgeTable {
             address: served.address,
             updates,
@@ -52,17 +108,23 @@ impl<R: Wait> Announcing for Announced<'_, R> {
     }
 
     fn next(&mut self) -> Option<Due> {
-        let update = self.connection.joined.next(self.connection.rt)?;
+        let edges = self.connection.edges;
+        let update = self.connection.joined.next(edges.rt)?;
         let originator = update.register().originator;
+        self.named = None;
         if self.connection.own.has(originator) {
             return Some(Due::Update(update));
         }
         // The reader has put it there: it is the first one of an edge elsewhere.
+        if edges.listed.has(originator) {
+            self.named = Some(originator);
+        }
         Some(Due::Back(originator))
     }
 
     fn is_idle(&self) -> bool {
-        self.connection.joined.is_idle(self.connection.rt)
+        let edges = self.connection.edges;
+        self.connection.joined.is_idle(edges.rt)
     }
 }
 
@@ -73,6 +135,33 @@ struct Entered<'x, R> {
     connection: &'x Connection<'x, R>,
     /// The edges elsewhere of which an update has come.
     named: Known,
+    /// The lives of these edges.
+    peers: PeerLives,
+    /// The life of an edge of this process whose updates come back.
+    own: OwnLives,
+}
+
+impl<R: Wait> Entered<'_, R> {
+    /// Handles the first update of an edge elsewhere: the registers that the edges hold of that
+    /// edge are due on the connection.
+    fn meet(&self, originator: Addr, update: &Update) {
+        let edges = &self.connection.edges;
+        if !edges.listed.has(originator) {
+            edges
+                .running
+                .refuse(edges.rt, Refused::Unlisted(originator));
+        }
+        self.connection.joined.put(edges.rt, *update);
+    }
+
+    /// Compares the lives of edges with an update of an edge of this process that comes back. It
+    /// shows that the other side has sent all own registers.
+    fn compare(&mut self, update: &Update) {
+        let connection = self.connection;
+        let edges = &connection.edges;
+        self.peers.compare(edges);
+        self.own.compare(edges, update);
+    }
 }
 
 impl<R: Wait> Entrance for Entered<'_, R> {
@@ -82,27 +171,37 @@ impl<R: Wait> Entrance for Entered<'_, R> {
 
     fn enter(&mut self, update: &Update) {
         let connection = self.connection;
-        connection.running.take(connection.rt, update);
+        connection.edges.running.take(connection.edges.rt, update);
         let originator = update.register().originator;
-        if !connection.own.has(originator) && self.named.meet(originator) {
-            connection.joined.put(connection.rt, *update);
+        if connection.own.has(originator) {
+            self.compare(update);
+            return;
+        }
+        self.peers.add(connection.edges.alloc, update);
+        self.own.forget();
+        if self.named.meet(originator) {
+            self.meet(originator, update);
         }
     }
 
     fn tell(&mut self, refusal: u8) {
-        self.connection.running.refuse(self.connection.rt, refusal);
+        let edges = &self.connection.edges;
+        edges.running.refuse(edges.rt, Refused::Record(refusal));
     }
 }
 
 /// Sends the edges' updates on a connection until it is cut off, and then ends the connection.
 fn say<R: Wait>(connection: &Connection<'_, R>) {
-    let mut from = Announced { connection };
+    let mut from = Announced {
+        connection,
+        named: None,
+    };
     let mut sender = Sender::new(Buffered::new(Writer::new(connection.stream)));
-    let edges = connection.running.edges() as u64;
+    let edges = &connection.edges;
     announce(
-        connection.rt,
-        connection.alloc,
-        edges,
+        edges.rt,
+        edges.alloc,
+        edges.running.edges() as u64,
         &mut from,
         &mut sender,
     );
@@ -115,10 +214,13 @@ fn hear<R: Wait>(connection: &Connection<'_, R>) {
     let mut into = Entered {
         connection,
         named: Known::new(),
+        peers: PeerLives::new(connection.edges.alloc),
+        own: OwnLives::new(),
     };
     let incoming = receive(&mut into, &mut Reader::new(connection.stream));
     if let StreamEnd::Faulty(fault) = incoming.end {
-        connection.running.refuse(connection.rt, fault);
+        let edges = &connection.edges;
+        edges.running.refuse(edges.rt, Refused::Record(fault));
     }
 }
 
@@ -131,7 +233,7 @@ fn hear_beside<'s, 'x: 's, R: Threads + Wait + Sync>(
     if scope.spawn(move || say(connection)).is_ok() {
         hear(connection);
     }
-    connection.joined.cut_off(connection.rt);
+    connection.joined.cut_off(connection.edges.rt);
     let _ = connection.stream.shutdown(Shutdown::Both);
 }
 
@@ -149,12 +251,8 @@ fn own_edges<R: Wait>(rt: &R, alloc: Global, running: Running<'_>) -> Option<Kno
 /// Exchanges records over a connection until either peer ends it, a fault is received, or the peer
 /// is too slow to read the updates. Doesn't begin if memory or a thread is refused, if an edge has
 /// ended, or if eight connections exchange records already.
-pub(crate) fn exchange<R: Threads + Wait + Sync>(
-    rt: &R,
-    alloc: Global,
-    running: Running<'_>,
-    stream: &UnixStream,
-) {
+pub(crate) fn exchange<R: Threads + Wait + Sync>(edges: ServedEdges<'_, R>, stream: &UnixStream) {
+    let (rt, alloc, running) = (edges.rt, edges.alloc, edges.running);
     let Some(own) = own_edges(rt, alloc, running) else {
         return;
     };
@@ -162,9 +260,7 @@ pub(crate) fn exchange<R: Threads + Wait + Sync>(
         return;
     };
     let connection = Connection {
-        rt,
-        alloc,
-        running,
+        edges,
         joined,
         own,
         stream,

@@ -12,8 +12,7 @@ ghost use Rattle.ev_run.specs.Inner.RunEdges.{EachConfig, begun_of, PutsRest, Te
 
 use crate::begun::{begun_in, first_incarnation};
 use crate::bound::{Sockets, end_all_reads};
-use crate::clients::read_out;
-use crate::control_socket::ControlSocket;
+use crate::clients::{Service, read_out};
 use crate::links::links_of;
 use crate::print::{Watched, put_notes, put_reports};
 use crate::sockets::{StartError, bind_all, put_bind_error};
@@ -227,16 +226,16 @@ pub(crate) struct Host<'x, R> {
     pub(crate) rt: &'x R,
     /// The allocator.
     pub(crate) alloc: Global,
-    /// The socket whose clients may query the edges, if there is one.
-    pub(crate) control: Option<&'x ControlSocket>,
+    /// The service for clients, if they may query the edges.
+    pub(crate) service: Option<&'x Service>,
 }
 
 impl<'x, R> Host<'x, R> {
     /// Returns these as one value.
-    pub(crate) fn new(rt: &'x R, alloc: Global, control: Option<&'x ControlSocket>) -> Self
-        ensures { is_some result.control ≡ is_some control.entry }
+    pub(crate) fn new(rt: &'x R, alloc: Global, service: Option<&'x Service>) -> Self
+        ensures { is_some result.service ≡ is_some service.entry }
     {
-        Host { rt, alloc, control }
+        Host { rt, alloc, service }
     }
 }
 
@@ -254,7 +253,7 @@ fn run_reading<'x, R: Threads + Wait + Clock + Sync, E: In>(
     ensures all { vec_len result.0 ≡ start.entry }
     ensures read { ReadsOut (E.end reader.old) (E.end reader.new) result.1 }
 {
-    let (rt, alloc, control) = (host.rt, host.alloc, host.control);
+    let (rt, alloc, service) = (host.rt, host.alloc, host.service);
     // The closure returns the reader; its ghost name shows that it is this reader.
     let (ended, (is_read, _reader)) = run_all(
         rt,
@@ -266,7 +265,7 @@ fn run_reading<'x, R: Threads + Wait + Clock + Sync, E: In>(
             ensures same { result.1.ghost_name ≡ reader.entry.ghost_name }
             ensures read { ReadsOut (E.end reader.entry.now) (E.end result.1.now) result.0 }
         {
-            let is_read = read_out(rt, alloc, running, control, &mut *reader);
+            let is_read = read_out(rt, alloc, running, service, &mut *reader);
             stop.store(true, Ordering::SeqCst);
             end_all_reads(sockets);
             (is_read, reader)
@@ -303,7 +302,7 @@ fn run_bound<R: Threads + Wait + Files + Clock + Sync, E: In, W: Out, N: Out + S
 {
     let (rt, alloc) = (host.rt, host.alloc);
     let stop = AtomicBool::new(false);
-    let incarnation = first_incarnation(rt, host.control.is_some());
+    let incarnation = first_incarnation(rt, host.service.is_some());
     let setups = all_ready(rt, alloc, incarnation, configs, sockets, &stop)?;
     let boards = Boards::new(alloc, setups.len())?;
     let start = Start::new(alloc, setups)?;
@@ -365,7 +364,7 @@ pub(crate) fn run_asked<
     requires reader { Allows (2 ^ 40) (E.end reader.old) }
     requires out { IsOpen (W.end out.old) }
     requires notes { IsOpen (N.end notes.old) }
-    ensures { RunsEdges (is_some host.now.control) config
+    ensures { RunsEdges (is_some host.now.service) config
         (devices (E.end reader.old) (W.end out.old) (N.end notes.old))
         (devices (E.end reader.new) (W.end out.new) (N.end notes.new)) result }
 {
@@ -373,7 +372,7 @@ pub(crate) fn run_asked<
         Ok(sockets) => sockets,
         Err(start_error) => return tell_start_error(start_error, notes),
     };
-    if let Err(lack) = check_threads(host.rt, &config, host.control.is_some()) {
+    if let Err(lack) = check_threads(host.rt, &config, host.service.is_some()) {
         return tell_too_few(lack, notes);
     }
     let Config { edges, links: _ } = config;

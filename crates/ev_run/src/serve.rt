@@ -1,14 +1,17 @@
 //! Edges that carry frames as in a run, and answer clients at a control socket meanwhile.
-ghost use Rattle.std.specs.Prelude.{◌^◌, string_bytes};
+ghost use Rattle.std.specs.Prelude.{◌≡◌, ◌^◌, string_bytes};
 ghost use Rattle.ether_wire.specs.Ends.{IsOpen, Allows};
 ghost use Rattle.ev_fabric.specs.Opening.{AreConfigs};
 ghost use Rattle.ev_report.specs.Ends.{AreOpen, devices};
 ghost use Rattle.ev_run.specs.Serving.{TellsListenError, ServesEdges};
+ghost use Rattle.ev_run.specs.Inner.Serving.{listed_by};
 
+use crate::clients::Service;
 use crate::control_socket::{ControlSocket, ListenError, put_listen_error};
 use crate::run::{Host, run_asked};
 use ether_wire::{In, Out};
-use ev_config::Served;
+use ev_config::{Config, Served};
+use ev_exchange::Known;
 use ev_report::{Buffers, DEVICE, Devices};
 use std::alloc::Global;
 use std::fs::Files;
@@ -24,6 +27,16 @@ fn tell_listen_error<N: Out>(path: &[u8], why: ListenError, notes: &mut N) -> u8
 {
     let _ = put_listen_error(notes, path, why);
     DEVICE
+}
+
+/// Returns the originators that each edge of the configuration lists.
+fn listed_by(config: &Config) -> Known
+    ensures { result ≡ listed_by config.now.edges.items }
+{
+    match config.edges.as_slice().first() {
+        Some(edge) => Known::of(&edge.originators),
+        None => Known::new(),
+    }
 }
 
 /// Runs the edges of a configuration as `run_edges` does, and answers up to 8 clients at a time
@@ -48,15 +61,25 @@ pub fn serve_edges<R: Threads + Wait + Net + Files + Clock + Sync, E: In, W: Out
         (devices (E.end reader.old) (W.end out.old) (N.end notes.old))
         (devices (E.end reader.new) (W.end out.new) (N.end notes.new)) result }
 {
-    let Served { config, control } = served;
+    let Served {
+        config,
+        control,
+        idle,
+    } = served;
     let path = control.as_bytes();
     let socket = match ControlSocket::open(rt, path) {
         Ok(socket) => socket,
         Err(why) => return tell_listen_error(path, why, notes),
     };
-    let host = Host::new(rt, alloc, Some(&socket));
+    let listed = listed_by(&config);
+    let service = Service {
+        socket,
+        listed,
+        idle,
+    };
+    let host = Host::new(rt, alloc, Some(&service));
     let status = run_asked(&host, config, reader, out, notes);
-    socket.remove(rt, path);
+    service.socket.remove(rt, path);
     status
 }
 

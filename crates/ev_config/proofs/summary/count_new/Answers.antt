@@ -1,4 +1,4 @@
-use Rattle.std.proofs.Common.{◌≡◌, ◌+◌, ◌≤◌, ◌++◌, drop, arith}
+use Rattle.std.proofs.Common.{arith}
 use Rattle.ev_config.specs.Summary.{all_vnis}
 use Rattle.ev_config.proofs.Counting.{counted_more}
 use Rattle.ev_config.proofs.summary.count_new.Goals as goal

@@ -2,7 +2,7 @@ use Rattle.std.proofs.Common.{Bool, [], ◌∷◌, Some, sym, ap, subst, ◌∙�
 use Rattle.ev_links.specs.Coming.{behind}
 use Rattle.ev_exchange.specs.declared.announcing.Due.{Due}
 use Rattle.ev_exchange.specs.Saying.{has_due, SaysTables}
-use Rattle.ev_exchange.proofs.Sayings.{passing_flushed, passing_update, passing_back, passes_broken, passes_to_end}
+use Rattle.ev_exchange.proofs.Sayings.{passing_flushed, passing_update, passing_back, passes_to_end}
 use Rattle.ev_exchange.proofs.Sayings.{passes_shut}
 use Rattle.ev_exchange.proofs.saying.pass_on.Goals as goal
 

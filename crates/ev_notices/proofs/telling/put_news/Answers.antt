@@ -9,7 +9,7 @@ returns-in_ok-put_refused-in-Refused g c =
     let old = g.N.Out.end c.args.notes.now in
     let mid = g.N.Out.end c.put_refused.new.notes in
     let new = g.N.Out.end c.flush-in-Refused.new.self in
-    let text = refused_text c.in-Refused.number in
+    let text = refused_text c.in-Refused.refused in
     subst (λ (t : List ℕ). Puts old new t c.flush-in-Refused.result)
     (append-nil text ∙ ap (news_text c.args.edge) (sym c.in-Refused.is))
     (puts_behind old mid new text [] c.flush-in-Refused.result c.in_ok-put_refused-in-Refused.ensures
