@@ -16,13 +16,13 @@ WRITTEN_VERSION = 3
 ADVERTISE, WITHDRAW = 1, 2
 MAC_ROUTE, FLOOD_ROUTE = 2, 3
 GREATEST_LENGTH = 512
-MAC_PLACE = 50  # where a record has its MAC: after six octets of a head, 19 of a register, and 25 of a route
+MAC_PLACE = 50  # the place of the MAC in a record: after six octets of a head, 19 of a register, and 25 of a route
 ADDRESS_RD = b"\x00\x01"
 MOBILITY = b"\x06\x00"
 STATIC_FLAG = 1
 MOST_ORIGINATORS = 64
 MAC_TEXT = re.compile("[0-9a-f]{2}(:[0-9a-f]{2}){5}")
-MACS_KEPT = 1 << 17  # a MAC stands in five texts of a router, and in those of each leaf
+MACS_KEPT = 1 << 17  # five texts of a router name a MAC, and so do those of each leaf
 
 
 class Unreadable(Exception):

@@ -12,7 +12,8 @@ from typing import Callable, Dict, Iterator, List, Optional, Set, Tuple
 Path = Tuple[str, ...]
 TOKEN = re.compile(r"[(){}\[\],;|]|\.(?=\s|$)|[^\s(){}\[\],;|]+")
 WORD = re.compile(r"[^\s(){}\[\],;|.:=]+")
-USE = re.compile(r"^[ \t]*(?:pub )?(?:ghost )?use Rattle\.([\w.]+?)(?:\.\{([^}]*)\}| as (\S+?)|);?[ \t]*$", re.M)
+USE = re.compile(r"^[ \t]*(?:pub )?(?:ghost )?use (?:Rattle\.|(?=mathlib\.|lib\.))([\w.]+?)(?:\.\{([^}]*)\}| as (\S+?)|);?[ \t]*$", re.M)
+PARAMETERS = re.compile(r"module _ .* where$")
 KINDS = "abbrev pub|abbrev|unfoldable pub|unfoldable|pub record|record|pub data|data|pub"
 HEAD = re.compile(rf"(?:{KINDS})\s+([^\s:(]+)|([^\s:(]+)(?= : )")
 CONSTRUCTOR = re.compile(r"^\s+(?:pub )?([^\s:]+) :", re.M)
@@ -95,8 +96,22 @@ def without_remarks(text: str) -> str:
     return re.sub(r"(?m)(?<!\S)--(?=\s|-|$).*$", "", text)
 
 
+def flat(text: str) -> str:
+    """The text with what stands in a module of parameters at the left edge, each line in its place."""
+    lines, is_inside = text.split("\n"), False
+    for at, line in enumerate(lines):
+        if PARAMETERS.match(line):
+            lines[at], is_inside = "", True
+        elif is_inside and line.startswith("  "):
+            lines[at] = line[2:]
+        elif line.strip():
+            is_inside = False
+    return "\n".join(lines)
+
+
 def module_of(text: str, path: Path, file: str) -> Module:
     """A file's imports and definitions."""
+    text = flat(text)
     module = Module(path, file, imports(without_remarks(text)), text.count("\n"))
     for statement in statements(text):
         add(module, *statement)

@@ -10,8 +10,10 @@ use lib.ListN.{get_elem?}
 use Rattle.crossbeam_channel.specs.Fifo.{Pushes, Pops, Forks}
 use Rattle.ev_channel.specs.declared.view.View.{View}
 use Rattle.ev_channel.specs.declared.view.View.TheVariants.{Sender, Receiver}
-use Rattle.ev_channel.specs.Delivery.{of, messages, with_put, with_made, next_sender, number_of, IsSender, IsReceiver}
-use Rattle.ev_channel.specs.Delivery.{Fits, Delivers, Takes}
+use Rattle.ev_channel.specs.Delivery.{of, messages, number_of, IsSender, IsReceiver}
+use Rattle.ev_channel.specs.Inner.Calls.{with_put, with_made, next_sender}
+use Rattle.ev_channel.specs.Delivery.{Fits, Delivers}
+use Rattle.ev_channel.specs.Inner.Calls.{Takes}
 
 -- ---- which pass a post has
 

@@ -1,5 +1,5 @@
--- The rule of a mailbox with any number of posts and one inbox, and the effect of each call.
-use Rattle.std.specs.Prelude.{◌≡◌, ◌≤◌, ◌+◌, ◌==◌, ℕ, Bool, true, false, List, [], ◌∷◌, ◌++◌, map, if◌then◌else◌}
+-- The rule of a mailbox with any number of posts and one inbox.
+use Rattle.std.specs.Prelude.{◌≡◌, ◌≤◌, ◌==◌, ℕ, Bool, true, false, List, [], ◌∷◌, ◌++◌, map, if◌then◌else◌}
 use mathlib.Core.Option.{Option, some, none}
 use lib.ListN.{get_elem?}
 use Rattle.ev_channel.specs.declared.view.View.{View}
@@ -18,26 +18,6 @@ module _ {T : Type 0} where
   messages entries = map (λ e. e.1) entries
 
   -- ---- the knowledge of a pass
-
-  -- the post has sent one more message
-  abbrev pub with_put : T → View T → View T
-  with_put x (Sender p put) = Sender p (put ++ x ∷ [])
-  with_put x (Receiver got made) = Receiver got made
-
-  -- the inbox has received one more message, of post p
-  abbrev pub with_got : ℕ → T → View T → View T
-  with_got p x (Sender q put) = Sender q put
-  with_got p x (Receiver got made) = Receiver (got ++ (p, x) ∷ []) made
-
-  -- the inbox has made one more post
-  abbrev pub with_made : View T → View T
-  with_made (Sender q put) = Sender q put
-  with_made (Receiver got made) = Receiver got (made + 1)
-
-  -- the new post, which has sent nothing
-  abbrev pub next_sender : View T → View T
-  next_sender (Sender q put) = Sender q put
-  next_sender (Receiver got made) = Sender made []
 
   -- the number of a post
   abbrev pub number_of : View T → Option ℕ
@@ -76,9 +56,3 @@ module _ {T : Type 0} where
     pub seated : (p pass : ℕ) → seat p ≡ some pass
         → (v : View T) × (get_elem? views pass ≡ some v) × (number_of v ≡ some p)
     pub of_posts : (p : ℕ) → seat p ≡ none → of p (got ++ waiting) ≡ []
-
-  -- ---- a call
-
-  -- the inbox received this message, of some post
-  abbrev pub Takes : View T → T → View T → Type 0
-  Takes v x w = (p : ℕ) × (w ≡ with_got p x v)

@@ -22,8 +22,9 @@ abbrev IsSame : Result Reply Refusal → Result Reply Refusal → Edge → Edge 
 IsSame x y a b = (x ≡ y) × (a ≡ b)
 
 -- only messages are sent, and they are those in the slots
-same_reply : (x y : Reply) (s t : Tree) → x ≡ record nothing { bpdus = x.bpdus } → y ≡ record nothing { bpdus = y.bpdus }
-    → x.bpdus.items ≡ sent_from 1 s.ports → y.bpdus.items ≡ sent_from 1 t.ports → s ≡ t → x ≡ y
+same_reply : (x y : Reply) (s t : Tree) → x ≡ record nothing { bpdus = x.bpdus }
+    → y ≡ record nothing { bpdus = y.bpdus } → x.bpdus.items ≡ sent_from 1 s.ports
+    → y.bpdus.items ≡ sent_from 1 t.ports → s ≡ t → x ≡ y
 same_reply x y s t x_is y_is x_sent y_sent same =
     let items : x.bpdus.items ≡ y.bpdus.items = x_sent ∙ ap (λ (v : Tree). sent_from 1 v.ports) same ∙ sym y_sent in
     x_is ∙ ap (λ list. record nothing { bpdus = record { items = list } }) items ∙ sym y_is

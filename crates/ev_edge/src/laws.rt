@@ -5,7 +5,9 @@ ghost use Rattle.ev_claims.specs.Opening.{Opens};
 ghost use Rattle.ev_edge.specs.Config.{IsConfig};
 ghost use Rattle.ev_edge.specs.Opening.{IsOpening, start_of};
 ghost use Rattle.ev_edge.specs.Steps.{Steps};
-ghost use Rattle.ev_edge.specs.Laws.{decision_in, IsReserved, HoldsReserved, StaysGood, ChangesItsOwn, LeavesByMembers, LeavesNoTunnelByOne, OwnsItsAdverts, TakesNoMemory, BridgeHasOneOutcome};
+ghost use Rattle.ev_edge.specs.Laws.{decision_in, IsReserved, HoldsReserved, StaysGood};
+ghost use Rattle.ev_edge.specs.Laws.{ChangesItsOwn, LeavesByMembers, LeavesNoTunnelByOne};
+ghost use Rattle.ev_edge.specs.Laws.{OwnsItsAdverts, TakesNoMemory, BridgeHasOneOutcome};
 ghost use Rattle.ev_edge.specs.Removed.{StepsRemove};
 
 use crate::config::EdgeConfig;
@@ -99,7 +101,7 @@ pub fn steps_remove()
 {}
 
 /// An event of the bridge has one answer and one edge afterwards: a second, a port that goes up or
-/// down, a check of migration, or a frame with a BPDU. They are functions of the edge and the event.
+/// down, a check of migration, or a frame with a BPDU. They are functions of edge and event.
 pub fn bridge_has_one_outcome()
     ensures { BridgeHasOneOutcome }
 {

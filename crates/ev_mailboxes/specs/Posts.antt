@@ -1,5 +1,5 @@
 -- The letters that a worker sends to the other edges.
-use Rattle.std.specs.Prelude.{ℕ, zero, suc, ◌+◌, ◌==◌, if◌then◌else◌, List, [], ◌∷◌, ◌++◌, map}
+use Rattle.std.specs.Prelude.{ℕ, ◌==◌, if◌then◌else◌, List, [], ◌∷◌, ◌++◌, map}
 use Rattle.route_wire.specs.Fields.{Fields}
 use Rattle.ev_channel.specs.Ends.{sent_by}
 use Rattle.ev_mailboxes.specs.declared.message.Message.TheVariants.{Record}
@@ -15,11 +15,6 @@ letters_to post = (post.to, sent_by post.post)
 -- the letters that a worker has sent to each edge
 abbrev pub sent_to : Posts → List (ℕ × List Letter)
 sent_to posts = map letters_to posts.all.items
-
--- nothing was sent to edges 1 .. n
-abbrev pub none_sent : ℕ → List (ℕ × List Letter)
-none_sent zero = []
-none_sent (suc n) = none_sent n ++ (n + 1, []) ∷ []
 
 -- a record more for this edge, unless it is the sender's own
 abbrev pub one_with : ℕ → Fields → ℕ × List Letter → ℕ × List Letter

@@ -1,6 +1,7 @@
 //! The posts of a worker: one to the mailbox of each edge.
 ghost use Rattle.std.specs.Prelude.{◌≡◌, IfOk, length, map};
-ghost use Rattle.ev_mailboxes.specs.Posts.{letters_to, sent_to, none_sent, one_with, with_record};
+ghost use Rattle.ev_mailboxes.specs.Posts.{letters_to, sent_to, one_with, with_record};
+ghost use Rattle.ev_mailboxes.specs.Inner.Posts.{none_sent};
 
 use crate::message::{Letter, Message};
 use crate::shared_mailbox::SharedMailbox;

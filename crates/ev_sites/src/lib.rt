@@ -10,4 +10,6 @@ pub use fabrics::{every_run_can_be, no_circle_in_a_fabric};
 pub use laws::{
     never_back_to_its_bridge, no_circle_through_tunnels, one_tunnel_at_most, sites_can_be_at_rest,
 };
-pub use witnesses::{fabric_carries_a_frame, fabric_has_sites, fabric_moves_a_station};
+pub use witnesses::{
+    fabric_carries_a_frame, fabric_has_sites, fabric_moves_a_station, fabric_moves_in_traffic,
+};

@@ -1,4 +1,5 @@
--- The sweep in a form that is cheap to compute: antt evaluates both branches of an `if`, but only one case of an `elim`.
+-- The sweep in a form that is cheap to compute: antt evaluates both branches of an `if`, but only one case of an
+-- `elim`.
 use Rattle.std.proofs.Common.{◌≡◌, ℕ, zero, suc, ◌&&◌, ◌==◌, Bool, true, false, List, [], ◌∷◌, length, refl, ◌∙◌, ap}
 use Rattle.std.proofs.Common.{if◌then◌else◌}
 use Rattle.std.specs.Prelude.{nat_lt}
@@ -48,7 +49,8 @@ one_pass-is rules limit g = try_ports-is rules (length g.tree.ports) limit g
 abbrev repeat_from : ℕ → (Going → Going) → Going → Going → Going
 repeat_from zero f g next = g
 repeat_from (suc n) f g next =
-    elim (length next.firings == length g.firings) as (λ c. Going) [ true ↦ next | false ↦ repeat_from n f next (f next) ]
+    elim (length next.firings == length g.firings) as (λ c. Going)
+        [ true ↦ next | false ↦ repeat_from n f next (f next) ]
 
 repeat_from-is : (n : ℕ) (f f' : Going → Going) → ((g : Going) → f g ≡ f' g) → (g : Going)
     → repeat_from n f g (f g) ≡ until_idle n f' g

@@ -60,7 +60,8 @@ come_to (h ∷ earlier) s = runs h.firings (direct h.event (come_to earlier s))
 -- the firings are those of the sweep at each event
 abbrev pub AllHappen : List Happening → Tree → Type 0
 AllHappen [] s = Unit {0}
-AllHappen (h ∷ earlier) s = AllHappen earlier s × AreSwept (length h.firings) h.firings (direct h.event (come_to earlier s))
+AllHappen (h ∷ earlier) s =
+    AllHappen earlier s × AreSwept (length h.firings) h.firings (direct h.event (come_to earlier s))
 
 comes : RunsHappen → (history : List Happening) (s : Tree) → AllHappen history s
     → Comes (map (λ h. h.event) history) s (come_to history s)

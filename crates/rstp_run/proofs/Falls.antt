@@ -87,9 +87,10 @@ module _ (n : ℕ) (timing : Timing) (ports : List PortState) (p : ℕ) (port : 
       let there = slice_get-map change.with_propagation ports p port at in
       let a = total-map selecting change.with_propagation 0 (λ q. omega arith) ports in
       let b = total-map (acting n timing) change.with_propagation 2 (changes.telling_raises n timing) ports in
-      let d = total-set selecting (map change.with_propagation ports) p (change.with_propagation port) (does port) there in
-      let e = total-set (acting n timing) (map change.with_propagation ports) p (change.with_propagation port) (does port)
+      let d = total-set selecting (map change.with_propagation ports) p (change.with_propagation port) (does port)
       there in
+      let e = total-set (acting n timing) (map change.with_propagation ports) p (change.with_propagation port)
+      (does port) there in
       let f = changes.telling_keeps n timing port in
       let P : List PortState → Type 0 = λ l. Falls n timing ports l in
       subst P (sym (told p does ports port at)) (inr (omega (arith, a, d, stays), omega (arith, b, e, f, lowers)))
@@ -341,12 +342,12 @@ role_falls role_rule.Retired s p h =
     (of_role.retired_lowers (length s.ports) (timing_in s) port on)
 role_falls role_rule.DesignatedDiscard s p h =
     let (port, at, on) = tested_at (asks (rules.Role role_rule.DesignatedDiscard) s p) s.ports p h in
-    by_acting (length s.ports) (timing_in s) s.ports p port at (roles.designated_discard_effect (timing_in s)) (omega arith)
-    (of_role.designated_discard_lowers (length s.ports) (timing_in s) port on)
+    by_acting (length s.ports) (timing_in s) s.ports p port at (roles.designated_discard_effect (timing_in s))
+    (omega arith) (of_role.designated_discard_lowers (length s.ports) (timing_in s) port on)
 role_falls role_rule.DesignatedLearn s p h =
     let (port, at, on) = tested_at (asks (rules.Role role_rule.DesignatedLearn) s p) s.ports p h in
-    by_acting (length s.ports) (timing_in s) s.ports p port at (roles.designated_learn_effect (timing_in s)) (omega arith)
-    (of_role.designated_learn_lowers (length s.ports) (timing_in s) port on)
+    by_acting (length s.ports) (timing_in s) s.ports p port at (roles.designated_learn_effect (timing_in s))
+    (omega arith) (of_role.designated_learn_lowers (length s.ports) (timing_in s) port on)
 role_falls role_rule.DesignatedForward s p h =
     let (port, at, on) = tested_at (asks (rules.Role role_rule.DesignatedForward) s p) s.ports p h in
     by_acting (length s.ports) (timing_in s) s.ports p port at roles.designated_forward_effect (omega arith)

@@ -1,6 +1,7 @@
 -- The mask has exactly the ports at which the flush rule fired.
 use Rattle.std.proofs.Common.{◌≡◌, ℕ, ◌≤◌, ◌<◌, ◌-◌, ◌^◌, ◌&&◌, ◌||◌, ◌==◌, Bool, true, false, List, [], ◌∷◌, length}
-use Rattle.std.proofs.Common.{refl, sym, arith, if◌then◌else◌, bit_or, max, ◌≢◌, ◌+◌, ◌⊎◌, inl, inr, subst, ap, ◌∙◌, ◌↔◌, IsTrue}
+use Rattle.std.proofs.Common.{refl, sym, arith, if◌then◌else◌, bit_or, max, ◌≢◌, ◌+◌}
+use Rattle.std.proofs.Common.{◌⊎◌, inl, inr, subst, ap, ◌∙◌, ◌↔◌, IsTrue}
 use Rattle.std.specs.Int.{bit_at}
 use Rattle.std.proofs.lemmas.Bool.{eqb-true, eqb-false}
 use Rattle.std.proofs.lemmas.List.{append-nil}

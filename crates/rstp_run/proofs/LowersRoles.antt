@@ -35,7 +35,8 @@ disable_lowers n timing port h =
     let selected : is_disabled port.selected_role ≡ true = (and_parts _ _ first).1 in
     let a = if_not (4 * n + 10) (same_role port.role port.selected_role)
     (other_role is_disabled port.role port.selected_role selected (not-true _ other)) in
-    let b = unless (4 * n + 10) (same_role role.Disabled port.selected_role) (same_disabled port.selected_role selected) in
+    let b = unless (4 * n + 10) (same_role role.Disabled port.selected_role)
+    (same_disabled port.selected_role selected) in
     let c = going-disabled (4 * n + 8) port.selected_role (is_held port) false false selected in
     let d = changing-le (2 * n + 2) port.topology true false in
     let e = stepping-le false false port.learning port.forwarding in

@@ -1,4 +1,5 @@
--- A measure of a bridge that each firing of the sweep lowers. Its first level is what may still request a selection. Its
+-- A measure of a bridge that each firing of the sweep lowers. Its first level is what may still request a
+-- selection. Its
 -- second level is what the other rules may still do before the next selection. n is the number of ports.
 use Rattle.std.proofs.Common.{ℕ, ◌+◌, ◌*◌, ◌≤◌, Bool, true, false, not, ◌&&◌, ◌||◌, ◌==◌, is_none, arith}
 use Rattle.rstp_state.specs.declared.port.Migration.{Migration}

@@ -1,5 +1,6 @@
 -- Enough firings settle every event: the sweep fires no more often than the measure says.
-use Rattle.std.proofs.Common.{◌≡◌, ℕ, ◌+◌, ◌≤◌, ◌<◌, ◌⊎◌, inl, inr, Bool, true, false, ◌&&◌, List, [], ◌∷◌, ◌++◌, Option, Some}
+use Rattle.std.proofs.Common.{◌≡◌, ℕ, ◌+◌, ◌≤◌, ◌<◌, ◌⊎◌, inl, inr, Bool}
+use Rattle.std.proofs.Common.{true, false, ◌&&◌, List, [], ◌∷◌, ◌++◌, Option, Some}
 use Rattle.std.proofs.Common.{None, zero, suc, drop, length, map, slice_get, slice_set, refl, sym, subst, ◌∙◌, arith}
 use Rattle.std.proofs.lemmas.Bool.{and_parts, cases_lt, or_parts}
 use Rattle.std.proofs.lemmas.List.{length-map}
@@ -122,7 +123,8 @@ stays_off (rules.Transmit rule) s p h off = cc
 
 full-tries : (rule : Rule) (p limit : ℕ) (g : Going) → limit ≤ length g.firings
     → limit ≤ length (tries rule p limit g).firings
-full-tries rule p limit g full = subst (λ (x : Going). limit ≤ length x.firings) (sym (tries-full rule p limit g full)) full
+full-tries rule p limit g full =
+    subst (λ (x : Going). limit ≤ length x.firings) (sym (tries-full rule p limit g full)) full
 
 off-tries : (rule : Rule) (p limit : ℕ) (g : Going) → is_between rule ≡ true → IsOffAt p limit g
     → IsOffAt p limit (tries rule p limit g)

@@ -45,7 +45,8 @@ direct event s = record s { ports = ports_at event (map without_slot s.ports) }
 abbrev pub flushes : ℕ → List Firing → Bool
 flushes p firings = list_any (λ f. is_flush f.rule && f.place == p) firings
 
--- The bridge changes from s to t by the event and at most limit firings: those of the sweep. It is settled exactly if no
+-- The bridge changes from s to t by the event and at most limit firings: those of the sweep. It is settled exactly
+-- if no
 -- rule is enabled in t. It is unsettled only after exactly limit firings.
 pub record Happens (event : Event) (limit : ℕ) (s t : Tree) (settled : Bool) (mask : ℕ) : Type 0 where
   pub firings : List Firing

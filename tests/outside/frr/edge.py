@@ -56,7 +56,7 @@ class Edge:
         self.address, self.bgpd_lines, self.routed, self.vrf = OWN, BGPD_LINES, routed, vrf
         self.folder = tempfile.mkdtemp(prefix="evpnd-frr-", dir=f"{self.root}/var/tmp" if root else None)
         self.frr_folder = self.folder[len(self.root) :]
-        self.run_folder = os.path.join(self.folder, "run")  # an edge's own /run/frr, where mgmtd always has its sockets
+        self.run_folder = os.path.join(self.folder, "run")  # an edge's own /run/frr: mgmtd always has its sockets there
         for folder in (self.run_folder, f"{self.root}/run/frr") if root else ():
             os.makedirs(folder, exist_ok=True)
         self.children: List[subprocess.Popen] = []

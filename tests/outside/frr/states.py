@@ -28,7 +28,7 @@ from leaves import audited
 
 VNIS, L3VNI, IMPORT = (5001, 5002), 6000, 100
 STATIONS, EDGES, CHANGES = 24, 4, 6
-SETTLES, COMPARED = 0.4, 50  # seconds that zebra gets after a change; each so many states vtysh is asked as well
+SETTLES, COMPARED = 0.4, 50  # seconds that zebra gets after a change; after each COMPARED states vtysh is queried, too
 Key = Tuple[int, str]
 
 
@@ -144,7 +144,7 @@ class Leaf:
         for _ in range(3):
             before, whole, after = self.audited("--json"), audited(self.edge, "--json"), self.audited("--json")
             if before == after:
-                return whole[0] == before[0] and whole[1].startswith(before[1])  # standard error stands behind
+                return whole[0] == before[0] and whole[1].startswith(before[1])  # then comes standard error
         return False
 
 

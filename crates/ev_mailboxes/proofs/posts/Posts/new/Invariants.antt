@@ -1,5 +1,6 @@
 use Rattle.std.proofs.Common.{◌≡◌, ◌≤◌, length, map, vec_len, vec_capacity}
-use Rattle.ev_mailboxes.specs.Posts.{letters_to, none_sent}
+use Rattle.ev_mailboxes.specs.Posts.{letters_to}
+use Rattle.ev_mailboxes.specs.Inner.Posts.{none_sent}
 use Rattle.ev_mailboxes.proofs.posts.Posts.new.Given as goal
 
 abbrev pub invariant-loop-place : goal.invariant-loop-place
