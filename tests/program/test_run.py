@@ -323,13 +323,14 @@ class FullSockets(TwoCables):
     """One edge with two ports, which stands still while its tunnel's socket and that of port 1 are filled."""
 
     def fill(self, tunnel: int, port: int) -> None:
-        """Sends both sockets as many datagrams, none of which is a frame that any edge takes."""
+        """Sends both sockets as many datagrams. An edge refuses each: as a frame it is shorter than its length, and no edge has its VNI."""
+        octets = b"\xff" * 12 + (1500).to_bytes(2, "big") + b"\xff" * 1386
         self.running.program.send_signal(signal.SIGSTOP)
         # each of its threads goes on until it meets the signal, on a busy machine for milliseconds
         os.waitid(os.P_PID, self.running.program.pid, os.WSTOPPED | os.WNOWAIT)
         for at, many in ((TUNNELS, tunnel), (self.one.port, port)):
             for _ in range(many):
-                self.one.here.sendto(b"\xff" * 1400, (ONE, at))
+                self.one.here.sendto(octets, (ONE, at))
         self.running.program.send_signal(signal.SIGCONT)
 
     def lost(self, port: int) -> int:
