@@ -1,2 +1,3 @@
 pub mod PassingOn
 pub mod Plans
+pub mod Threads

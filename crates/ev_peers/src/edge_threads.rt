@@ -19,6 +19,7 @@ use ev_links::{LinkIn, LinkOut};
 use ev_mailboxes::Peers;
 use std::alloc::{AllocError, Global};
 use std::marker::Model;
+use std::snapshot::Snapshot;
 use std::sync::atomic::Ordering;
 use std::sync::ledger::{Blank, Ledger};
 use std::sync::{Mutex, Wait};
@@ -209,12 +210,15 @@ pub fn edge_worker<
     requires each { blank.parts ≡ vec_len links.ports + 3 }
     requires most { vec_len links.ports ≤ 253 }
     requires config { IsConfig config }
+    ensures number { IfOk result (λ o. o.number ≡ host.entry.number) }
+    ensures config { IfOk result (λ o. o.config.value ≡ config) }
     ensures totals { IfOk result (λ o. length o.totals ≡ vec_len links.ports + 3) }
     ensures dropped { IfOk result (λ o. vec_len o.dropped ≡ vec_len links.ports + 1) }
 {
     let (rt, alloc, peers) = (host.rt, host.alloc, host.peers);
     let count = links.ports.len() + 3;
     let bridge = bridge_of(&config);
+    let opened = Snapshot::of(&config);
     let dropped = Vec::with_capacity(alloc, links.ports.len() + 1)?;
     let (threads, shared) = planned(alloc, links, &config)?;
     let (book, mut fresh) = Book::<L>::open(alloc, blank, config, count)?;
@@ -234,6 +238,8 @@ pub fn edge_worker<
     let (edge, totals) = book.into_inner().close(passes);
     let out_of_memory = shared.out_of_memory.load(Ordering::SeqCst) || peers.has_lost(rt);
     Ok(Outcome {
+        number: host.number,
+        config: opened,
         edge,
         totals,
         faults: faults.with_out_of_memory(out_of_memory),

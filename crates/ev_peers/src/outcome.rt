@@ -4,11 +4,16 @@ ghost use Rattle.ev_peers.specs.Inner.Outcome.{no_faults, both_faults, is_device
 
 use crate::shared_edge::Ended;
 use ev_book::Totals;
-use ev_edge::Edge;
+use ev_edge::{Edge, EdgeConfig};
+use std::snapshot::Snapshot;
 
 /// The outcome of an edge whose workers have ended.
 #[derive(Drop)]
 pub struct Outcome {
+    /// The edge's number, from 1.
+    pub number: usize,
+    /// The configuration that the edge was opened with, as clauses see it.
+    pub config: Snapshot<EdgeConfig>,
     /// The edge.
     pub edge: Edge,
     /// How many calls of each worker were counted.

@@ -11,7 +11,7 @@ use Rattle.ether_wire.specs.declared.ends.Device as device
 use Rattle.ether_wire.specs.Ends.{End, Source, Gets, Puts}
 use Rattle.ev_edge.specs.declared.config.EdgeConfig.{EdgeConfig}
 use Rattle.ev_edge.specs.Config.{IsConfig}
-use Rattle.ev_peers.specs.EdgeThreads.{EdgeSetup}
+use Rattle.ev_peers.specs.EdgeThreads.{EdgeSetup, IsRanOf, AreRanFrom}
 use Rattle.ev_config.specs.declared.endpoint.Endpoint.{Endpoint}
 use Rattle.ev_config.specs.declared.whole.Config.{Config}
 use Rattle.ev_run.specs.declared.sockets.BindError.{BindError}
@@ -23,8 +23,8 @@ use Rattle.ev_report.specs.declared.input.ReadError.TheVariants.{Device}
 use Rattle.ev_report.specs.Input.{ReadsWhole, Gathers}
 use Rattle.ev_report.specs.Notes.{status_of}
 use Rattle.ev_run.specs.RunEdges.{bind_error_text, Ended, reports_from, noted_text, sends_failed}
-use Rattle.ev_run.specs.Inner.RunEdges.{EachConfig, begun_of}
-use Rattle.ev_run.specs.RunEdges.{system_text, Ran}
+use Rattle.ev_run.specs.Inner.RunEdges.{EachConfig}
+use Rattle.ev_run.specs.RunEdges.{system_text, begun_of, IsEndedOf, AreEndedFrom, Ran}
 use Rattle.ev_run.specs.RunEdges.{link_failed, was_out_of_memory, all_lost, IsReadOut, ReadsOut, TellsEnded}
 use Rattle.ev_run.specs.Inner.RunEdges.{PutsRest, TellsRest}
 use Rattle.ev_notices.specs.Telling.{Told, lines_of}
@@ -88,16 +88,17 @@ module _ (all left : List EdgeConfig) (config : EdgeConfig) (same : all ≡ left
       (Contains-append_left left (config ∷ []) c k))
 
   -- one configuration more with which an edge begins, put after those behind it
-  pub one_begun : (start : ℕ) (setups setups' : List EdgeSetup) (setup : EdgeSetup) (begun : List EdgeConfig)
+  pub one_begun : {O : Type 0} (start : ℕ) (setups setups' : List (EdgeSetup O)) (setup : EdgeSetup O)
+      (begun : List EdgeConfig)
       → setups' ≡ setups ++ setup ∷ [] → setup.config ≡ begun_of start config
-      → map (begun_of start) all ++ map (λ (s : EdgeSetup). s.config) (reverse setups) ≡ begun
-      → map (begun_of start) left ++ map (λ (s : EdgeSetup). s.config) (reverse setups') ≡ begun
-  one_begun start setups setups' setup begun pushed is so_far =
-      let of : EdgeSetup → EdgeConfig = λ s. s.config in
+      → map (begun_of start) all ++ map (λ (s : EdgeSetup O). s.config) (reverse setups) ≡ begun
+      → map (begun_of start) left ++ map (λ (s : EdgeSetup O). s.config) (reverse setups') ≡ begun
+  one_begun {O} start setups setups' setup begun pushed is so_far =
+      let of : EdgeSetup O → EdgeConfig = λ s. s.config in
       let rest = map of (reverse setups) in
       let before = map (begun_of start) left in
-      ap (λ (l : List EdgeSetup). before ++ map of (reverse l)) pushed
-      ∙ ap (λ (l : List EdgeSetup). before ++ map of l) (reverse-append setups (setup ∷ []))
+      ap (λ (l : List (EdgeSetup O)). before ++ map of (reverse l)) pushed
+      ∙ ap (λ (l : List (EdgeSetup O)). before ++ map of l) (reverse-append setups (setup ∷ []))
       ∙ ap (λ (c : EdgeConfig). before ++ c ∷ rest) is
       ∙ sym (append_assoc before (begun_of start config ∷ []) rest)
       ∙ ap (λ (l : List EdgeConfig). l ++ rest) (sym (map-append (begun_of start) left (config ∷ [])))
@@ -105,14 +106,32 @@ module _ (all left : List EdgeConfig) (config : EdgeConfig) (same : all ≡ left
       ∙ so_far
 
 -- all configurations with which edges begin, in their order again
-pub all_begun : (start : ℕ) (left : List EdgeConfig) (setups setups' : List EdgeSetup) (begun : List EdgeConfig)
+pub all_begun : {O : Type 0} (start : ℕ) (left : List EdgeConfig) (setups setups' : List (EdgeSetup O))
+    (begun : List EdgeConfig)
     → left ≡ [] → setups' ≡ reverse setups
-    → map (begun_of start) left ++ map (λ (s : EdgeSetup). s.config) (reverse setups) ≡ begun
-    → map (λ (s : EdgeSetup). s.config) setups' ≡ begun
-all_begun start left setups setups' begun none reversed is =
-    let of : EdgeSetup → EdgeConfig = λ s. s.config in
+    → map (begun_of start) left ++ map (λ (s : EdgeSetup O). s.config) (reverse setups) ≡ begun
+    → map (λ (s : EdgeSetup O). s.config) setups' ≡ begun
+all_begun {O} start left setups setups' begun none reversed is =
+    let of : EdgeSetup O → EdgeConfig = λ s. s.config in
     ap (map of) reversed
     ∙ ap (λ (l : List EdgeConfig). map (begun_of start) l ++ map of (reverse setups)) (sym none) ∙ is
+
+-- ---- the results
+
+one_ended : {O : Type 0} (number : ℕ) (setup : EdgeSetup O) (one : Ended) → IsRanOf number setup one
+    → IsEndedOf number setup.config one
+one_ended number setup (Ok outcome) h = (h.number_is, h.config_is)
+one_ended number setup (Err refused) h = h
+
+-- the results are those of the configurations of their setups
+pub ended_from : {O : Type 0} (number : ℕ) (setups : List (EdgeSetup O)) (ended : List Ended)
+    → AreRanFrom number setups ended
+    → AreEndedFrom number (map (λ (s : EdgeSetup O). s.config) setups) ended
+ended_from number [] [] h = h
+ended_from number [] (one ∷ ended) h = h
+ended_from number (setup ∷ setups) [] h = h
+ended_from number (setup ∷ setups) (one ∷ ended) h =
+    (one_ended number setup one h.0, ended_from (number + 1) setups ended h.1)
 
 -- ---- the texts
 
@@ -208,11 +227,11 @@ runs_none is_asked config NoMemory input out notes notes' status hinders told =
 -- the edges ran with sockets that are bound to the right endpoints
 pub runs_bound : (is_asked : Bool) (config : Config) (bound : List (List Endpoint)) (before after : Devices)
     (status : ℕ)
-    → Ran (length config.edges.items) bound before after status → bound ≡ endpoints_of config
+    → Ran config.edges.items bound before after status → bound ≡ endpoints_of config
     → lacks_address config ≡ false → RunsEdges is_asked config before after status
 runs_bound is_asked config bound before after status ran same whole = inl (
   whole,
-  subst (λ (ends : List (List Endpoint)). Ran (length config.edges.items) ends before after status) same ran,
+  subst (λ (ends : List (List Endpoint)). Ran config.edges.items ends before after status) same ran,
 )
 
 -- the memory with which the edges begin was refused
@@ -259,20 +278,22 @@ module _ (is_asked : Bool) (config : Config) (before held after : Devices) (stat
     status_is = passed_four before held after status last p u.status_is;
   }
 
-  passed_ran : (many : ℕ) (sockets : List (List Endpoint)) → Ran many sockets before held status
-      → Ran many sockets before after last
-  passed_ran many sockets r = record {
+  passed_ran : (configs : List EdgeConfig) (sockets : List (List Endpoint)) → Ran configs sockets before held status
+      → Ran configs sockets before after last
+  passed_ran configs sockets r = record {
     is_read = r.is_read;
     read = subst (λ (s : Source). ReadsOut before.input s r.is_read) (sym p.input) r.read;
+    incarnation = r.incarnation;
     ended = r.ended;
     all = r.all;
+    each = r.each;
     alerts = r.alerts;
     table = r.table;
     told = passed_ended r.alerts r.ended (system_text r.table sockets) r.is_read r.told;
   }
 
   pub passed_runs : RunsEdges is_asked config before held status → RunsEdges is_asked config before after last
-  passed_runs (inl r) = inl (r.0, passed_ran (length config.edges.items) (endpoints_of config) r.1)
+  passed_runs (inl r) = inl (r.0, passed_ran config.edges.items (endpoints_of config) r.1)
   passed_runs (inr (inl h)) = inr (inl (
     p.input ∙ h.0,
     passed_out before held after status last p [] h.1,

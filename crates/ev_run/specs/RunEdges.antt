@@ -1,6 +1,6 @@
 -- The results of a run of edges over sockets.
 use Rattle.std.specs.Prelude.{◌≡◌, ℕ, ◌-◌, ◌^◌, min, ◌⊎◌, ◌||◌, Bool, true, false, not, ◌==◌, nat_lt}
-use Rattle.std.specs.Prelude.{if◌then◌else◌, List, [], ◌++◌, length, codes, Option, Some, None}
+use Rattle.std.specs.Prelude.{if◌then◌else◌, List, [], ◌∷◌, ◌++◌, length, map, codes, Option, Some, None}
 use Rattle.std.specs.Prelude.{Result, Ok, Err}
 use Rattle.std.specs.Fmt.{decimal}
 use Rattle.std.specs.List.{sum_by, list_any}
@@ -8,6 +8,7 @@ use Rattle.std.specs.declared.alloc.AllocError.{AllocError}
 use Rattle.ether_wire.specs.Ends.{End, Source}
 use Rattle.ether_wire.specs.Addr.{addr_text}
 use Rattle.ev_edge.specs.Edge.{Edge, table_of}
+use Rattle.ev_edge.specs.declared.config.EdgeConfig.{EdgeConfig}
 use Rattle.ev_peers.specs.declared.outcome.Outcome.{Outcome}
 use Rattle.ev_notices.specs.Telling.{Told, lines_of}
 use Rattle.route_join.specs.Report.{report_of}
@@ -152,13 +153,34 @@ pub record TellsEnded (alerts : List Told) (ended : List Ended) (system : Text) 
 
 -- ---- a run
 
--- Edges ran until the input's end, and `many` of them have a result. `sockets` are the endpoints of their sockets;
--- `table` is the system's table of UDP sockets at that time, empty if it couldn't be read.
-pub record Ran (many : ℕ) (sockets : List (List Endpoint)) (before after : Devices) (status : ℕ) : Type 0 where
+-- the configuration with which an edge begins: in this incarnation if it names none
+abbrev pub begun_of : ℕ → EdgeConfig → EdgeConfig
+begun_of incarnation config =
+    record config { incarnation = if config.incarnation == 0 then incarnation else config.incarnation }
+
+-- the edge has this number, and its book was opened with this configuration; or the edge didn't begin
+abbrev pub IsEndedOf : ℕ → EdgeConfig → Ended → Type 0
+IsEndedOf number config (Ok outcome) = (outcome.number ≡ number) × (outcome.config.value ≡ config)
+IsEndedOf number config (Err refused) = Unit {0}
+
+-- the results are those of edges with these configurations, in their order; the first edge has this number
+abbrev pub AreEndedFrom : ℕ → List EdgeConfig → List Ended → Type 0
+AreEndedFrom number [] [] = Unit {0}
+AreEndedFrom number [] (one ∷ ended) = ⊥
+AreEndedFrom number (config ∷ configs) [] = ⊥
+AreEndedFrom number (config ∷ configs) (one ∷ ended) =
+    IsEndedOf number config one × AreEndedFrom (number + 1) configs ended
+
+-- Edges with these configurations ran until the input's end, and each has its result. `sockets` are the endpoints of
+-- their sockets; `table` is the system's table of UDP sockets at that time, empty if it couldn't be read.
+pub record Ran (configs : List EdgeConfig) (sockets : List (List Endpoint)) (before after : Devices) (status : ℕ)
+    : Type 0 where
   pub is_read : Bool
   pub read : ReadsOut before.input after.input is_read
+  pub incarnation : ℕ
   pub ended : List Ended
-  pub all : length ended ≡ many
+  pub all : length ended ≡ length configs
+  pub each : AreEndedFrom 1 (map (begun_of incarnation) configs) ended
   pub alerts : List Told
   pub table : Text
   pub told : TellsEnded alerts ended (system_text table sockets) is_read before.out after.out before.notes after.notes
@@ -186,7 +208,7 @@ pub record IsStartError (config : Config) (notes notes' : End) (status : ℕ) : 
 -- edges meanwhile if `is_asked`.
 abbrev pub RunsEdges : Bool → Config → Devices → Devices → ℕ → Type 0
 RunsEdges is_asked config before after status =
-    ((lacks_address config ≡ false) × Ran (length config.edges.items) (endpoints_of config) before after status)
+    ((lacks_address config ≡ false) × Ran config.edges.items (endpoints_of config) before after status)
     ⊎ (((after.input ≡ before.input) × Holds before.out after.out []
     × IsStartError config before.notes after.notes status)
     ⊎ (IsRefusedMemory before.out after.out before.notes after.notes status

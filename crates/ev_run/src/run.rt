@@ -6,9 +6,10 @@ ghost use Rattle.ether_wire.specs.Ends.{IsOpen, Allows};
 ghost use Rattle.ev_fabric.specs.Opening.{AreConfigs};
 ghost use Rattle.ev_edge.specs.Config.{IsConfig};
 ghost use Rattle.ev_report.specs.Ends.{AreOpen, Holds, devices};
+ghost use Rattle.ev_peers.specs.EdgeThreads.{AreRanFrom};
 ghost use Rattle.ev_run.specs.Inner.Sockets.{bound_at};
-ghost use Rattle.ev_run.specs.RunEdges.{ReadsOut, sends_failed, link_failed, was_out_of_memory, all_lost, system_text, noted_text, Ran, start_text, RunsEdges};
-ghost use Rattle.ev_run.specs.Inner.RunEdges.{EachConfig, begun_of, PutsRest, TellsMeanwhile, TellsRest};
+ghost use Rattle.ev_run.specs.RunEdges.{ReadsOut, sends_failed, link_failed, was_out_of_memory, all_lost, system_text, noted_text, Ran, start_text, begun_of, RunsEdges};
+ghost use Rattle.ev_run.specs.Inner.RunEdges.{EachConfig, PutsRest, TellsMeanwhile, TellsRest};
 
 use crate::begun::{begun_in, first_incarnation};
 use crate::bound::{Sockets, end_all_reads};
@@ -251,7 +252,8 @@ fn run_reading<'x, R: Threads + Wait + Clock + Sync, E: In>(
     reader: &mut E,
 ) -> Reached
     requires { Allows (2 ^ 40) (E.end reader.old) }
-    ensures all { vec_len result.0 ≡ start.entry }
+    ensures all { vec_len result.0 ≡ length start.entry }
+    ensures each { AreRanFrom 1 start.entry result.0.items }
     ensures read { ReadsOut (E.end reader.old) (E.end reader.new) result.1 }
 {
     let (rt, alloc, control) = (host.rt, host.alloc, host.control);
@@ -295,7 +297,7 @@ fn run_bound<R: Threads + Wait + Files + Clock + Sync, E: In, W: Out, N: Out + S
     requires out { IsOpen (W.end out.old) }
     requires notes { IsOpen (N.end notes.old) }
     ensures ran { IfOk result
-        (λ status. Ran (length configs.items) (map bound_at sockets.now)
+        (λ status. Ran configs.items (map bound_at sockets.now)
         (devices (E.end reader.old) (W.end out.old) (N.end notes.old))
         (devices (E.end reader.new) (W.end out.new) (N.end notes.new)) status) }
     ensures out { OnErr result (W.end out.new ≡ W.end out.old) }
@@ -321,7 +323,8 @@ fn run_bound<R: Threads + Wait + Files + Clock + Sync, E: In, W: Out, N: Out + S
         || -> (Reached, &mut E)
             requires { Allows (2 ^ 40) (E.end reader.now) }
             ensures same { result.1.ghost_name ≡ reader.entry.ghost_name }
-            ensures all { vec_len result.0.0 ≡ start.entry }
+            ensures all { vec_len result.0.0 ≡ length start.entry }
+            ensures each { AreRanFrom 1 start.entry result.0.0.items }
             ensures read { ReadsOut (E.end reader.entry.now) (E.end result.1.now) result.0.1 }
         {
             let reached = run_reading(host, start, &boards, sockets, &stop, &mut *reader);

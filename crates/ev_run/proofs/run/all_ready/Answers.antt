@@ -1,5 +1,5 @@
 use Rattle.std.proofs.Common.{rules, map, ◌∙◌}
-use Rattle.ev_run.specs.Inner.RunEdges.{begun_of}
+use Rattle.ev_run.specs.RunEdges.{begun_of}
 use Rattle.ev_run.proofs.Running.{last_config, each_left, one_begun, all_begun}
 use Rattle.ev_run.proofs.run.all_ready.Goals as goal
 

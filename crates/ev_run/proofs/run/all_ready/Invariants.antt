@@ -1,5 +1,6 @@
 use Rattle.std.proofs.Common.{◌≡◌, ◌+◌, ◌++◌, length, map, reverse, vec_len}
-use Rattle.ev_run.specs.Inner.RunEdges.{EachConfig, begun_of}
+use Rattle.ev_run.specs.RunEdges.{begun_of}
+use Rattle.ev_run.specs.Inner.RunEdges.{EachConfig}
 use Rattle.ev_run.proofs.run.all_ready.Given as goal
 
 abbrev pub invariant-loop-config : goal.invariant-loop-config

@@ -1,7 +1,10 @@
-use Rattle.std.proofs.Common.{rules, ℕ, List, map, sym, subst, ◌∙◌}
+use Rattle.std.proofs.Common.{rules, ℕ, List, length, map, ap, sym, subst, ◌∙◌}
 use Rattle.ether_wire.specs.Ends.{End, Source}
 use Rattle.ev_run.specs.Inner.Sockets.{bound_at}
-use Rattle.ev_run.specs.RunEdges.{ReadsOut, Ended, system_text, TellsEnded}
+use Rattle.ev_run.specs.RunEdges.{ReadsOut, Ended, system_text, TellsEnded, AreEndedFrom}
+use Rattle.ev_edge.specs.declared.config.EdgeConfig.{EdgeConfig}
+use Rattle.ev_peers.specs.EdgeThreads.{AreRanFrom}
+use Rattle.ev_run.proofs.Running.{ended_from}
 use Rattle.ev_run.proofs.run.run_bound.Goals as goal
 
 pub returns-clause-ran : goal.returns-clause-ran
@@ -19,10 +22,14 @@ returns-clause-ran g c =
     let notes' = g.N.Out.end c.tell_ended.new.notes in
     record {
       is_read = is_read;
-      read = subst (λ (s : Source). ReadsOut (g.E.In.end c.args.reader.now) s is_read) (search rules) reached.1;
+      read = subst (λ (s : Source). ReadsOut (g.E.In.end c.args.reader.now) s is_read) (search rules) reached.1.1;
+      incarnation = c.first_incarnation-incarnation.result;
       ended = ended.items;
-      all = sym ended.ok.0 ∙ reached.0 ∙ c.in_ok-start.ensures ∙ c.in_ok-setups.ensures.many
-          ∙ c.args.configs.ok.0;
+      all = sym ended.ok.0 ∙ reached.0 ∙ ap length c.in_ok-start.ensures ∙ sym c.in_ok-setups.setups.ok.0
+          ∙ c.in_ok-setups.ensures.many ∙ c.args.configs.ok.0;
+      each = subst (λ (cs : List EdgeConfig). AreEndedFrom 1 cs ended.items) c.in_ok-setups.ensures.begun
+          (ended_from 1 c.in_ok-setups.setups.items ended.items
+          (subst (λ ss. AreRanFrom 1 ss ended.items) c.in_ok-start.ensures reached.1.0));
       alerts = meanwhile.alerts;
       table = table.items;
       told = subst (λ (n : End). TellsEnded meanwhile.alerts ended.items system is_read out out' notes n
