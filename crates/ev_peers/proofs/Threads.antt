@@ -1,6 +1,6 @@
 -- Threads of edges, the last edge first.
 use Rattle.std.proofs.Common.{◌≡◌, ℕ, ◌+◌, List, [], ◌∷◌, ◌++◌, length, reverse, refl, ap, sym, subst, ◌∙◌, append_assoc}
-use Rattle.std.proofs.Common.{append-nil, length-append, Option, Some, None, Result, Ok, Err, arith}
+use Rattle.std.proofs.Common.{append-nil, length-append, Option, Some, None, Result, Ok, Err, IfOk, vec_len, arith}
 use Rattle.std.proofs.lemmas.List.{reverse-append, length-reverse}
 use Rattle.std.specs.declared.alloc.AllocError.{AllocError}
 use Rattle.std.specs.declared.thread.PromisedHandle.{PromisedHandle}
@@ -149,3 +149,16 @@ module _ {I O : Type 0} where
       → IsHandle number setup (Some handle) → IsRanOf number setup ran
   kept_of number setup handle ran kept is = subst (λ (n : ℕ). IsRanOf n setup ran) is.0
       (subst (λ (s : EdgeSetup O). IsRanOf handle.promise.number s ran) is.1 kept)
+
+  -- what the edge's own call says of its result
+  pub ran_is : (number : ℕ) (setup : EdgeSetup O) (ports : ℕ) (ran : Ran) → ports ≡ length setup.outputs
+      → IfOk ran (λ o. o.number ≡ number) → IfOk ran (λ o. o.config.value ≡ setup.config)
+      → IfOk ran (λ o. length o.totals ≡ ports + 3) → IfOk ran (λ o. vec_len o.dropped ≡ ports + 1)
+      → IsRanOf number setup ran
+  ran_is number setup ports (Ok outcome) is a b c d = record {
+    number_is = a;
+    config_is = b;
+    totals = c ∙ ap (λ (n : ℕ). n + 3) is;
+    dropped = d ∙ ap (λ (n : ℕ). n + 1) is;
+  }
+  ran_is number setup ports (Err refused) is a b c d = tt
