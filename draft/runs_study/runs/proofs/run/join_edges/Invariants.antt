@@ -1,0 +1,16 @@
+use Rattle.std.proofs.Common.{◌≡◌, ◌+◌, ◌≤◌, List, reverse, vec_len, vec_capacity}
+use Rattle.runs.specs.EdgeThreads.{EdgeSetup}
+use Rattle.runs.specs.Handles.{AreHandles}
+use Rattle.runs.proofs.Threads.{Joined}
+use Rattle.runs.proofs.run.join_edges.Given as goal
+
+abbrev pub invariant-loop-handle : goal.invariant-loop-handle
+invariant-loop-handle g l = record {
+  all : vec_len l.ended + vec_len l.running ≡ vec_len l.fn.running;
+  room : vec_len l.fn.running ≤ vec_capacity l.ended;
+  joined : (setups : List (EdgeSetup g.row.O.Denot)) → AreHandles 0 (reverse setups) l.fn.running.items
+      → Joined setups l.ended.items l.running.items;
+}
+
+abbrev pub decreases-loop-handle : goal.decreases-loop-handle
+decreases-loop-handle g l = vec_len l.running

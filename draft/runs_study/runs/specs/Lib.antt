@@ -1,0 +1,2 @@
+pub mod EdgeThreads
+pub mod Handles
