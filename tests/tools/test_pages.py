@@ -189,6 +189,16 @@ class Sentences(unittest.TestCase):
             done = subprocess.run(audit, capture_output=True, text=True, check=False)
             self.assertEqual((done.returncode, done.stdout.count(" wrong,")), (1, 2), done.stdout + done.stderr)
 
+    def test_views_of_a_fabric(self) -> None:
+        """The audit reads the views of a fabric, here with 4 leaves of 20 stations: each leaf has one wrong entry."""
+        with tempfile.TemporaryDirectory() as folder:
+            words = [os.path.join(TOP, "tests", "tools", "many_leaves.py"), folder, "4", "20"]
+            subprocess.run([sys.executable, *words], check=True)
+            audit = [sys.executable, os.path.join(TOP, "tools", "evpnd_audit.py"), "fabric", "leaves"]
+            done = subprocess.run(audit, cwd=folder, capture_output=True, text=True, check=False)
+            last = "fabric: 4 leaves, 4 answered; 4 differences"
+            self.assertEqual((done.returncode, done.stdout.splitlines()[-1:]), (1, [last]), done.stdout + done.stderr)
+
 
 class Pages(unittest.TestCase):
     """Each page whose commands the gate runs."""
