@@ -4,5 +4,5 @@ pub mod Known
 pub mod Saying
 pub mod Life
 pub mod Laws
-pub mod Processes
+pub mod JoinedProcesses
 pub mod Inner

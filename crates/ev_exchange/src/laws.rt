@@ -1,6 +1,6 @@
 //! Laws, as functions that do nothing: the contract is the law.
 ghost use Rattle.ev_exchange.specs.Laws.{OwnUpdatesAre, SaidIsCarried, NewestArrives, OwnRegistersAgree, BothAgree, MeetingAgrees, StreamCarries, JoinedAgrees};
-ghost use Rattle.ev_exchange.specs.Processes.{ProcessesAgree, EarlierLivesEnd};
+ghost use Rattle.ev_exchange.specs.JoinedProcesses.{ProcessesAgree, EarlierLivesEnd};
 
 /// The updates that an edge sends from its table at the beginning are its own registers, all of
 /// them, each with its value, in the order of a report.

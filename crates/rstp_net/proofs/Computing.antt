@@ -50,7 +50,7 @@ abbrev repeat_from : ℕ → (Going → Going) → Going → Going → Going
 repeat_from zero f g next = g
 repeat_from (suc n) f g next =
     elim (length next.firings == length g.firings) as (λ c. Going)
-        [ true ↦ next | false ↦ repeat_from n f next (f next) ]
+    [ true ↦ next | false ↦ repeat_from n f next (f next) ]
 
 repeat_from-is : (n : ℕ) (f f' : Going → Going) → ((g : Going) → f g ≡ f' g) → (g : Going)
     → repeat_from n f g (f g) ≡ until_idle n f' g
