@@ -10,8 +10,8 @@ use Rattle.rstp_state.specs.Selection.{selected_ports, selected_root, best_path}
 use Rattle.rstp_run.specs.Events.{RunsHappen}
 use Rattle.rstp_run.specs.Settled.{SettledByLists}
 use Rattle.rstp_net.specs.Network.{Spot, Network, IsBridgeAt, IsNetwork, IsAtRest, PassesAt}
-use Rattle.rstp_net.proofs.Ring.{root_bridge, second_bridge, third_bridge, ring_of, AreRing, a_ring, network, at_rest}
-use Rattle.rstp_net.proofs.Ring.{over_first}
+use Rattle.rstp_net.proofs.Ring.{root_bridge, second_bridge, third_bridge, AreRing, a_ring, network, at_rest, passing}
+use Rattle.rstp_net.proofs.Round.{ring_of}
 use Rattle.ev_tunnel.specs.declared.decision.Decision.{Decision}
 use Rattle.ev_tunnel.specs.declared.decision.Source.TheVariants.{Port, Tunnel}
 use Rattle.ev_tunnel.specs.Decision.{open_ports, others_of, remote_for}
@@ -174,7 +174,7 @@ module _ (lists : SettledByLists) (happens : RunsHappen) where
   }
 
   arrives_third : PassesAt ring (record { bridge = 2; place = 0 })
-  arrives_third = (over_first root_bridge second_bridge third_bridge _ _ _ _ _ _ is_ring).arrives
+  arrives_third = (passing root_bridge second_bridge third_bridge _ _ _ _ _ _ is_ring).c0
 
   leaves : (address : ℕ) (d : Decision) → has_port d.local 2 ≡ true
       → Leaves (site_of address) d (record { bridge = 2; place = 0 })

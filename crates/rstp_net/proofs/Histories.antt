@@ -1,5 +1,5 @@
 -- Bridges that are reachable from their starts by events, each event with the rules that fire at it.
-use Rattle.std.proofs.Common.{◌≡◌, List, [], ◌∷◌, length, refl, sym, ◌∙◌, ap}
+use Rattle.std.proofs.Common.{◌≡◌, Bool, false, List, [], ◌∷◌, length, refl, sym, ◌∙◌, ap}
 use Rattle.std.specs.Prelude.{ℕ, map}
 use Rattle.rstp_state.specs.declared.start.PortSettings.{PortSettings}
 use Rattle.rstp_state.specs.declared.start.Settings.{Settings}
@@ -12,7 +12,8 @@ use Rattle.rstp_run.specs.declared.rule.InformationRule.TheVariants as informati
 use Rattle.rstp_run.specs.declared.rule.ReceiveRule.TheVariants as receive_rule
 use Rattle.rstp_run.specs.declared.rule.TopologyRule.TheVariants as topology_rule
 use Rattle.rstp_run.specs.declared.rule.TransmitRule.TheVariants as transmit_rule
-use Rattle.rstp_run.specs.Events.{direct, start, RunsHappen}
+use Rattle.rstp_run.specs.Events.{direct, start, Happens, RunsHappen}
+use Rattle.rstp_run.specs.Lasting.{Lasts, selects}
 use Rattle.rstp_run.specs.RootPort.{CanBe, Comes}
 use Rattle.rstp_run.specs.Rules.{Tree, after}
 use Rattle.rstp_run.specs.Runs.{Firing, Run, flushed}
@@ -63,20 +64,48 @@ AllHappen [] s = Unit {0}
 AllHappen (h ∷ earlier) s =
     AllHappen earlier s × AreSwept (length h.firings) h.firings (direct h.event (come_to earlier s))
 
+-- so they are a possible effect of the event
+pub happens_so : RunsHappen → (h : Happening) (s : Tree) → AreSwept (length h.firings) h.firings (direct h.event s)
+    → (settled : Bool) × Happens h.event (length h.firings) s (runs h.firings (direct h.event s)) settled
+    (flushed h.firings 0)
+happens_so law h s are =
+    law h.event (length h.firings) s (runs h.firings (direct h.event s)) h.firings
+    (swept-is (length h.firings) h.firings (direct h.event s) are)
+
 comes : RunsHappen → (history : List Happening) (s : Tree) → AllHappen history s
     → Comes (map (λ h. h.event) history) s (come_to history s)
 comes law [] s all = refl
 comes law (h ∷ earlier) s all =
     let mid = come_to earlier s in
-    let (settled, happens) =
-    law h.event (length h.firings) mid (runs h.firings (direct h.event mid)) h.firings
-    (swept-is (length h.firings) h.firings (direct h.event mid) all.1) in (
+    let (settled, happens) = happens_so law h mid all.1 in (
       mid,
       length h.firings,
       settled,
       flushed h.firings 0,
       comes law earlier s all.0,
       happens,
+    )
+
+-- Select is not among the firings at any of the events
+abbrev pub NoneSelects : List Happening → Type 0
+NoneSelects [] = Unit {0}
+NoneSelects (h ∷ earlier) = NoneSelects earlier × (selects h.firings ≡ false)
+
+pub lasts : RunsHappen → (history : List Happening) (s : Tree) → AllHappen history s → NoneSelects history
+    → Lasts (map (λ h. h.event) history) s (come_to history s)
+lasts law [] s all none = refl
+lasts law (h ∷ earlier) s all none =
+    let mid = come_to earlier s in
+    let (settled, happens) = happens_so law h mid all.1 in
+    let same : happens.firings ≡ h.firings = ap (λ (g : Going). g.firings)
+    (sym happens.order ∙ swept-is (length h.firings) h.firings (direct h.event mid) all.1) in (
+      mid,
+      length h.firings,
+      settled,
+      flushed h.firings 0,
+      lasts law earlier s all.0 none.0,
+      happens,
+      ap selects same ∙ none.1,
     )
 
 -- so a bridge with these settings may reach this state
@@ -119,3 +148,22 @@ blocking =
     ∷ fire (rules.Topology topology_rule.Flush) 0 ∷ fire (rules.Topology topology_rule.Propagating) 0
     ∷ fire rules.Select 0 ∷ fire (rules.Topology topology_rule.Detected) 1
     ∷ fire (rules.Information information_rule.Superior) 1 ∷ fire (rules.Receive receive_rule.Receive) 1 ∷ []
+
+-- when two ports of a bridge send their Hello messages
+abbrev pub greeting : List Firing
+greeting =
+    fire (rules.Transmit transmit_rule.SendRst) 1 ∷ fire (rules.Transmit transmit_rule.Periodic) 1
+    ∷ fire (rules.Transmit transmit_rule.SendRst) 0 ∷ fire (rules.Transmit transmit_rule.Periodic) 0 ∷ []
+
+-- when a bridge receives its root port's information again
+abbrev pub repeating : List Firing
+repeating =
+    fire (rules.Information information_rule.Repeated) 0 ∷ fire (rules.Receive receive_rule.Receive) 0 ∷ []
+
+-- when the second port goes down
+abbrev pub losing : List Firing
+losing =
+    fire (rules.Role role_rule.DisabledPort) 1 ∷ fire (rules.Topology topology_rule.Flush) 1
+    ∷ fire (rules.Topology topology_rule.TcInactive) 1 ∷ fire (rules.State state_rule.ToDiscarding) 1
+    ∷ fire (rules.Role role_rule.Disable) 1 ∷ fire rules.Select 0
+    ∷ fire (rules.Information information_rule.Disabled) 1 ∷ []

@@ -1,7 +1,7 @@
 -- A ring of three bridges at rest, with one blocked port: it meets the laws' premises, and without the blocked port it
 -- would be a circle.
-use Rattle.std.proofs.Common.{◌≡◌, ℕ, zero, suc, ◌+◌, ◌-◌, true, false, ◌&&◌, List, [], ◌∷◌, length, Some, slice_get}
-use Rattle.std.proofs.Common.{◌⊎◌, inl, inr, refl, sym, ap, subst, ◌∙◌, arith}
+use Rattle.std.proofs.Common.{◌≡◌, ℕ, zero, suc, ◌+◌, ◌-◌, Bool, true, false, ◌&&◌, List, [], ◌∷◌}
+use Rattle.std.proofs.Common.{length, Some, slice_get, ◌⊎◌, inl, inr, refl, sym, ap, subst, ◌∙◌, arith}
 use Rattle.bpdu_wire.specs.declared.bpdu.Bpdu.{Bpdu}
 use Rattle.bpdu_wire.specs.declared.bpdu.Bpdu.TheVariants.{Rst}
 use Rattle.rstp_state.specs.declared.port.PortState.{PortState}
@@ -18,8 +18,10 @@ use Rattle.rstp_run.specs.Events.{start, RunsHappen}
 use Rattle.rstp_run.specs.Rules.{Tree}
 use Rattle.rstp_run.specs.Runs.{IsSettled, AreOff, AreOffAt}
 use Rattle.rstp_run.specs.Settled.{IsReached, SettledByLists}
-use Rattle.rstp_net.specs.Network.{Spot, Network, IsBridgeAt, IsPortAt, IsNetwork, HasTimesOf, IsTold, IsAtRest}
-use Rattle.rstp_net.specs.Network.{PassesAt, Crosses, CanBeAtRest, IsBlockedRing, RingCanBeAtRest}
+use Rattle.rstp_net.specs.Network.{Spot, IsBridgeAt, IsPortAt, IsNetwork, HasTimesOf, IsTold, IsAtRest}
+use Rattle.rstp_net.specs.Network.{CanBeAtRest, RingCanBeAtRest}
+use Rattle.rstp_net.proofs.Round.{spot, segment_of, ring_of, IsOpen, passes_frames, passes_at, closed_at}
+use Rattle.rstp_net.proofs.Round.{over_second, round}
 use Rattle.rstp_net.proofs.Histories.{Happening, come_to, AllHappen, can_be, coming_up, hearing, blocking}
 
 no : {A : Type 0} → false ≡ true → A
@@ -63,21 +65,6 @@ pub record IsRing (a b c : Tree) (a0 a1 b0 b1 c0 c1 : PortState) : Type 0 where
   pub b1_passes : b1.enabled && b1.forwarding ≡ true
   pub c0_passes : c0.enabled && c0.forwarding ≡ true
   pub c1_passes : c1.enabled && c1.forwarding ≡ false
-
-abbrev spot : ℕ → ℕ → Spot
-spot b p = record { bridge = b; place = p }
-
--- the segment of a port, by the place of its bridge and its own place
-abbrev segment_of : ℕ → ℕ → ℕ
-segment_of zero zero = 0
-segment_of zero (suc p) = 1
-segment_of (suc zero) zero = 0
-segment_of (suc zero) (suc p) = 2
-segment_of (suc (suc b)) zero = 1
-segment_of (suc (suc b)) (suc p) = 2
-
-abbrev pub ring_of : Tree → Tree → Tree → Network
-ring_of a b c = record { bridges = a ∷ b ∷ c ∷ []; segment = λ x. segment_of x.bridge x.place }
 
 -- the spot has this bridge and place, and its port is the known one
 record IsSpot (b p : ℕ) (known : PortState) (x : Spot) (port : PortState) : Type 0 where
@@ -261,84 +248,25 @@ module _ (a b c : Tree) (a0 a1 b0 b1 c0 c1 : PortState) (is : IsRing a b c a0 a1
 
   -- ---- the way round
 
-  passes_at : (n p : ℕ) (s : Tree) (ports : List PortState) → IsBridgeAt (ring_of a b c) n s → s.ports ≡ ports
-      → IsSettled s
-      → test_at (p + 1 - 1) (λ port. port.enabled && port.forwarding) ports ≡ true → PassesAt (ring_of a b c) (spot n p)
-  passes_at n p s ports at same settled h = (
-    s,
-    at,
-    (
-      settled,
-      ap (λ l. test_at (p + 1 - 1) (λ (port : PortState). port.enabled && port.forwarding) l) same
-          ∙ h,
-    ),
-  )
+  opens_at : (p : ℕ) (s : Tree) (x y : PortState) → s.ports ≡ x ∷ y ∷ [] → (passes : Bool)
+      → test_at (p + 1 - 1) passes_frames (x ∷ y ∷ []) ≡ passes → test_at (p + 1 - 1) passes_frames s.ports ≡ passes
+  opens_at p s x y same passes h = ap (test_at (p + 1 - 1) passes_frames) same ∙ h
 
-  passes_a0 : PassesAt (ring_of a b c) (spot 0 0)
-  passes_a0 = passes_at 0 0 a (a0 ∷ a1 ∷ []) refl is.a_ports is.a_settled is.a0_passes
-
-  passes_a1 : PassesAt (ring_of a b c) (spot 0 1)
-  passes_a1 = passes_at 0 1 a (a0 ∷ a1 ∷ []) refl is.a_ports is.a_settled is.a1_passes
-
-  other_bridge : (m n p q : ℕ) → (m ≡ n → ⊥) → spot m p ≡ spot n q → ⊥
-  other_bridge m n p q differ same = differ (ap (λ (x : Spot). x.bridge) same)
-
-  other_place : (m n p q : ℕ) → (p ≡ q → ⊥) → spot m p ≡ spot n q → ⊥
-  other_place m n p q differ same = differ (ap (λ (x : Spot). x.place) same)
-
-  pub over_second : Crosses (ring_of a b c) (spot 1 1) (spot 0 0)
-  over_second = record {
-    out = spot 1 0;
-    bridge = refl;
-    other = other_place 1 1 0 1 (λ e. omega arith);
-    segment = refl;
-    apart = other_bridge 1 0 0 0 (λ e. omega arith);
-    enters = passes_at 1 1 b (b0 ∷ b1 ∷ []) refl is.b_ports is.b_settled is.b1_passes;
-    leaves = passes_at 1 0 b (b0 ∷ b1 ∷ []) refl is.b_ports is.b_settled is.b0_passes;
-    arrives = passes_a0;
-  }
-
-  pub over_first : Crosses (ring_of a b c) (spot 0 0) (spot 2 0)
-  over_first = record {
-    out = spot 0 1;
-    bridge = refl;
-    other = other_place 0 0 1 0 (λ e. omega arith);
-    segment = refl;
-    apart = other_bridge 0 2 1 0 (λ e. omega arith);
-    enters = passes_a0;
-    leaves = passes_a1;
-    arrives = passes_at 2 0 c (c0 ∷ c1 ∷ []) refl is.c_ports is.c_settled is.c0_passes;
-  }
-
-  blocked : PassesAt (ring_of a b c) (spot 2 1) → ⊥
-  blocked (s, at, passes) =
-      let here : c ≡ s = cc in
-      let open_there : test_at 1 (λ (port : PortState). port.enabled && port.forwarding) c.ports ≡ true =
-      ap (λ (t : Tree). test_at 1 (λ (port : PortState). port.enabled && port.forwarding) t.ports) here
-      ∙ passes.1 in
-      no (sym is.c1_passes ∙ sym (ap (λ l. test_at 1 (λ (port : PortState). port.enabled && port.forwarding) l)
-      is.c_ports) ∙ open_there)
-
-  ring : IsBlockedRing (ring_of a b c)
-  ring = record {
-    x = spot 1 1;
-    y = spot 0 0;
-    z = spot 2 0;
-    out = spot 2 1;
-    three = refl;
-    goes = (over_second, (over_first, refl));
-    bridge = refl;
-    other = other_place 2 2 1 0 (λ e. omega arith);
-    segment = refl;
-    apart = other_bridge 2 1 1 1 (λ e. omega arith);
-    blocked = blocked;
+  pub passing : IsOpen a b c
+  passing = record {
+    a0 = passes_at (ring_of a b c) 0 0 a refl is.a_settled (opens_at 0 a a0 a1 is.a_ports true is.a0_passes);
+    a1 = passes_at (ring_of a b c) 0 1 a refl is.a_settled (opens_at 1 a a0 a1 is.a_ports true is.a1_passes);
+    b0 = passes_at (ring_of a b c) 1 0 b refl is.b_settled (opens_at 0 b b0 b1 is.b_ports true is.b0_passes);
+    b1 = passes_at (ring_of a b c) 1 1 b refl is.b_settled (opens_at 1 b b0 b1 is.b_ports true is.b1_passes);
+    c0 = passes_at (ring_of a b c) 2 0 c refl is.c_settled (opens_at 0 c c0 c1 is.c_ports true is.c0_passes);
+    c1 = closed_at (ring_of a b c) 2 1 c refl (opens_at 1 c c0 c1 is.c_ports false is.c1_passes);
   }
 
   pub ring_rests : RingCanBeAtRest
-  ring_rests = (ring_of a b c, network, at_rest, ring)
+  ring_rests = (ring_of a b c, network, at_rest, round a b c passing)
 
   pub some_rests : CanBeAtRest
-  some_rests = (ring_of a b c, spot 1 1, spot 0 0, network, at_rest, over_second)
+  some_rests = (ring_of a b c, spot 1 1, spot 0 0, network, at_rest, over_second a b c passing)
 
 -- ---- three bridges that meet the conditions
 
@@ -352,7 +280,7 @@ abbrev pub two_ports : List PortSettings
 two_ports = edge_port ∷ edge_port ∷ []
 
 -- the message of a designated port
-abbrev proposal : ℕ → ℕ → ℕ → ℕ → Bpdu
+abbrev pub proposal : ℕ → ℕ → ℕ → ℕ → Bpdu
 proposal cost bridge port age =
     Rst (record {
       flags = 60;
@@ -432,7 +360,7 @@ reached : RunsHappen → (id : ℕ) (history : List Happening)
     → AllHappen history (start (settings_of id) two_ports) → IsReached (bridge_of id history)
 reached law id history e = (settings_of id, two_ports, can_be law (settings_of id) two_ports history e)
 
-abbrev port_at : List PortState → ℕ → PortState
+abbrev pub port_at : List PortState → ℕ → PortState
 port_at [] p = start_port (settings_of 0) edge_port 1
 port_at (x ∷ xs) zero = x
 port_at (x ∷ xs) (suc p) = port_at xs p

@@ -43,7 +43,7 @@ pub record IsKept (ports : List PortState) : Type 0 where
 
 -- ---- if each port keeps the invariant
 
-each_role : (a b : List PortState) → Each Keeps a b → roles_of a ≡ roles_of b
+pub each_role : (a b : List PortState) → Each Keeps a b → roles_of a ≡ roles_of b
 each_role [] [] h = refl
 each_role [] (y ∷ ys) h = absurd h
 each_role (x ∷ xs) [] h = absurd h
@@ -155,19 +155,23 @@ selection_kept s ports k = record {
 
 kept_walks : Walks (λ s. IsKept s.ports) (λ s. Keeps)
 kept_walks = record {
-  by = λ s ports h k. kept_by s.ports ports h k;
-  quiet = λ s. keeps_quiet;
-  informed = λ s. information_keeps;
-  second = λ s port. (λ h. h, refl, refl);
+  moves = record {
+    by = λ s ports h k. kept_by s.ports ports h k;
+    quiet = λ s. keeps_quiet;
+    informed = λ s. information_keeps;
+    second = λ s port. (λ h. h, refl, refl);
+  };
   chosen = λ s p k. selection_kept s.settings s.ports k;
 }
 
 numbered_walks : Walks AreNumbered (λ s. Keeps)
 numbered_walks = record {
-  by = λ s ports h k. each_number 1 s.ports ports h k;
-  quiet = λ s. keeps_quiet;
-  informed = λ s. information_keeps;
-  second = λ s port. (λ h. h, refl, refl);
+  moves = record {
+    by = λ s ports h k. each_number 1 s.ports ports h k;
+    quiet = λ s. keeps_quiet;
+    informed = λ s. information_keeps;
+    second = λ s port. (λ h. h, refl, refl);
+  };
   chosen = λ s p k. selection_numbered s.settings s.ports k;
 }
 

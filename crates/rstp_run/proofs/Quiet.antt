@@ -1,5 +1,6 @@
 -- The tree information of a port, and the rules that don't change it: all except selection and those of information.
-use Rattle.std.proofs.Common.{◌≡◌, ℕ, ◌+◌, Bool, true, false, ◌==◌, cond, List, Some, map, refl, ◌∙◌}
+-- All of these except Discard and Receive don't change its pending messages either.
+use Rattle.std.proofs.Common.{◌≡◌, ℕ, ◌+◌, Bool, true, false, ◌==◌, cond, List, Some, map, refl, ap, ◌∙◌}
 use Rattle.bpdu_wire.specs.declared.bpdu.Bpdu.{Bpdu}
 use Rattle.rstp_state.specs.declared.port.PortState.{PortState}
 use Rattle.rstp_state.specs.declared.port.Timing.{Timing}
@@ -41,6 +42,7 @@ pub record Known : Type 0 where
   pub info_is : InfoIs
   pub update_info : Bool
   pub identifier : ℕ
+  pub cost : ℕ
   pub designated_priority : Vector
   pub designated_times : Times
   pub port_priority : Vector
@@ -56,6 +58,7 @@ known_of port = record {
   info_is = port.info_is;
   update_info = port.update_info;
   identifier = port.identifier;
+  cost = port.cost;
   designated_priority = port.designated_priority;
   designated_times = port.designated_times;
   port_priority = port.port_priority;
@@ -67,36 +70,58 @@ known_of port = record {
 abbrev pub IsQuiet : PortState → PortState → Type 0
 IsQuiet port next = known_of next ≡ known_of port
 
+-- the tree information of a port, its pending messages, and whether it is enabled
+pub record Still : Type 0 where
+  pub known : Known
+  pub received_bpdu : Bool
+  pub received_message : Bool
+  pub enabled : Bool
+
+abbrev pub still_of : PortState → Still
+still_of port = record {
+  known = known_of port;
+  received_bpdu = port.received_bpdu;
+  received_message = port.received_message;
+  enabled = port.enabled;
+}
+
+-- all of this stays
+abbrev pub IsStill : PortState → PortState → Type 0
+IsStill port next = still_of next ≡ still_of port
+
+pub still_quiet : (port next : PortState) → IsStill port next → IsQuiet port next
+still_quiet port next h = ap (λ s. s.known) h
+
 pub receive_quiet : (rule : ReceiveRule) (port : PortState) → receive_asks rule port ≡ true
     → IsQuiet port (receive_does rule port)
 receive_quiet receive_rule.Discard port g = refl
 receive_quiet receive_rule.Receive port g = refl
 
-pub migration_quiet : (rule : MigrationRule) (port : PortState) → migration_asks rule port ≡ true
-    → IsQuiet port (migration_does rule port)
-migration_quiet migration_rule.Recheck port g = refl
-migration_quiet migration_rule.Checked port g = refl
-migration_quiet migration_rule.Selected port g = refl
-migration_quiet migration_rule.ToRstp port g = refl
-migration_quiet migration_rule.ToStp port g = refl
+pub migration_still : (rule : MigrationRule) (port : PortState) → migration_asks rule port ≡ true
+    → IsStill port (migration_does rule port)
+migration_still migration_rule.Recheck port g = refl
+migration_still migration_rule.Checked port g = refl
+migration_still migration_rule.Selected port g = refl
+migration_still migration_rule.ToRstp port g = refl
+migration_still migration_rule.ToStp port g = refl
 
-pub detection_quiet : (rule : DetectionRule) (port : PortState) → detection_asks rule port ≡ true
-    → IsQuiet port (detection_does rule port)
-detection_quiet detection_rule.Edge port g = refl
-detection_quiet detection_rule.NotEdge port g = refl
+pub detection_still : (rule : DetectionRule) (port : PortState) → detection_asks rule port ≡ true
+    → IsStill port (detection_does rule port)
+detection_still detection_rule.Edge port g = refl
+detection_still detection_rule.NotEdge port g = refl
 
-pub transmit_quiet : (rule : TransmitRule) (timing : Timing) (port : PortState) → transmit_asks rule timing port ≡ true
-    → IsQuiet port (transmit_does rule timing port)
-transmit_quiet transmit_rule.Periodic timing port g = refl
-transmit_quiet transmit_rule.SendConfig timing port g = refl
-transmit_quiet transmit_rule.SendTcn timing port g = refl
-transmit_quiet transmit_rule.SendRst timing port g = refl
+pub transmit_still : (rule : TransmitRule) (timing : Timing) (port : PortState) → transmit_asks rule timing port ≡ true
+    → IsStill port (transmit_does rule timing port)
+transmit_still transmit_rule.Periodic timing port g = refl
+transmit_still transmit_rule.SendConfig timing port g = refl
+transmit_still transmit_rule.SendTcn timing port g = refl
+transmit_still transmit_rule.SendRst timing port g = refl
 
-pub state_quiet : (rule : StateRule) (port : PortState) → state_asks rule port ≡ true
-    → IsQuiet port (state_does rule port)
-state_quiet state_rule.ToLearning port g = refl
-state_quiet state_rule.ToForwarding port g = refl
-state_quiet state_rule.ToDiscarding port g = refl
+pub state_still : (rule : StateRule) (port : PortState) → state_asks rule port ≡ true
+    → IsStill port (state_does rule port)
+state_still state_rule.ToLearning port g = refl
+state_still state_rule.ToForwarding port g = refl
+state_still state_rule.ToDiscarding port g = refl
 
 -- ---- information
 
@@ -114,78 +139,78 @@ answer_quiet false port = refl
 -- ---- topology change
 
 timer_at : (started rapid : Bool) (timing : Timing) (port : PortState)
-    → IsQuiet port (cond started (cond rapid (record port { topology_change_while = timing.hello + 1; new_info = true })
+    → IsStill port (cond started (cond rapid (record port { topology_change_while = timing.hello + 1; new_info = true })
     (record port { topology_change_while = timing.max_age + timing.forward_delay })) port)
 timer_at false rapid timing port = refl
 timer_at true true timing port = refl
 timer_at true false timing port = refl
 
-timer_quiet : (timing : Timing) (port : PortState) → IsQuiet port (with_change_timer timing port)
-timer_quiet timing port = timer_at (port.topology_change_while == 0) port.send_rstp timing port
+timer_still : (timing : Timing) (port : PortState) → IsStill port (with_change_timer timing port)
+timer_still timing port = timer_at (port.topology_change_while == 0) port.send_rstp timing port
 
-abbrev EachQuiet : List PortState → List PortState → Type 0
-EachQuiet a b = Each IsQuiet a b
+abbrev EachStill : List PortState → List PortState → Type 0
+EachStill a b = Each IsStill a b
 
 pub changes_at : (does : PortState → PortState) (ports : List PortState) (p : ℕ)
-    → ((port : PortState) → IsQuiet port (does port)) → EachQuiet ports (change_at p does ports)
-changes_at does ports p h = each_change IsQuiet (λ port. refl) does ports p (λ port at. h port)
+    → ((port : PortState) → IsStill port (does port)) → EachStill ports (change_at p does ports)
+changes_at does ports p h = each_change IsStill (λ port. refl) does ports p (λ port at. h port)
 
 tells_at : (does : PortState → PortState) (ports : List PortState) (p : ℕ)
-    → ((port : PortState) → IsQuiet port (does port)) → EachQuiet ports (telling_others p does ports)
-tells_at does ports p h = each_telling IsQuiet (λ port. refl) (λ port. refl) does ports p h
+    → ((port : PortState) → IsStill port (does port)) → EachStill ports (telling_others p does ports)
+tells_at does ports p h = each_telling IsStill (λ port. refl) (λ port. refl) does ports p h
 
-pub topology_quiet : (rule : TopologyRule) (timing : Timing) (ports : List PortState) (p : ℕ)
-    → EachQuiet ports (topology_does rule timing ports p)
-topology_quiet topology_rule.TcLearning timing ports p = changes_at changes.tc_learning_effect ports p (λ port. refl)
-topology_quiet topology_rule.Detected timing ports p =
-    tells_at (changes.detected_at timing) ports p (λ port. timer_quiet timing
+pub topology_still : (rule : TopologyRule) (timing : Timing) (ports : List PortState) (p : ℕ)
+    → EachStill ports (topology_does rule timing ports p)
+topology_still topology_rule.TcLearning timing ports p = changes_at changes.tc_learning_effect ports p (λ port. refl)
+topology_still topology_rule.Detected timing ports p =
+    tells_at (changes.detected_at timing) ports p (λ port. timer_still timing
     (record port { topology = topology.Active }))
-topology_quiet topology_rule.TcClear timing ports p = changes_at changes.tc_clear_effect ports p (λ port. refl)
-topology_quiet topology_rule.TcInactive timing ports p = changes_at changes.tc_inactive_effect ports p (λ port. refl)
-topology_quiet topology_rule.TcBack timing ports p = changes_at changes.tc_back_effect ports p (λ port. refl)
-topology_quiet topology_rule.NotifiedTcn timing ports p =
-    tells_at (changes.notified_tcn_at timing) ports p (λ port. timer_quiet timing port)
-topology_quiet topology_rule.NotifiedTc timing ports p = tells_at changes.notified_at ports p (λ port. refl)
-topology_quiet topology_rule.Propagating timing ports p =
-    changes_at (changes.propagating_effect timing) ports p (λ port. timer_quiet timing port)
-topology_quiet topology_rule.Acknowledged timing ports p = changes_at changes.acknowledged_effect ports p (λ port. refl)
-topology_quiet topology_rule.Flush timing ports p = changes_at changes.flush_effect ports p (λ port. refl)
+topology_still topology_rule.TcClear timing ports p = changes_at changes.tc_clear_effect ports p (λ port. refl)
+topology_still topology_rule.TcInactive timing ports p = changes_at changes.tc_inactive_effect ports p (λ port. refl)
+topology_still topology_rule.TcBack timing ports p = changes_at changes.tc_back_effect ports p (λ port. refl)
+topology_still topology_rule.NotifiedTcn timing ports p =
+    tells_at (changes.notified_tcn_at timing) ports p (λ port. timer_still timing port)
+topology_still topology_rule.NotifiedTc timing ports p = tells_at changes.notified_at ports p (λ port. refl)
+topology_still topology_rule.Propagating timing ports p =
+    changes_at (changes.propagating_effect timing) ports p (λ port. timer_still timing port)
+topology_still topology_rule.Acknowledged timing ports p = changes_at changes.acknowledged_effect ports p (λ port. refl)
+topology_still topology_rule.Flush timing ports p = changes_at changes.flush_effect ports p (λ port. refl)
 
 -- ---- role transitions
 
-proposed_quiet : (ports : List PortState) (p : ℕ) → EachQuiet ports
+proposed_still : (ports : List PortState) (p : ℕ) → EachStill ports
     (change_at p roles.without_proposal (map with_sync ports))
-proposed_quiet ports p =
-    each_then IsQuiet (λ a b c h k. k ∙ h) ports (map with_sync ports) _
-    (each_map IsQuiet with_sync (λ port. refl) ports)
+proposed_still ports p =
+    each_then IsStill (λ a b c h k. k ∙ h) ports (map with_sync ports) _
+    (each_map IsStill with_sync (λ port. refl) ports)
     (changes_at roles.without_proposal (map with_sync ports) p (λ port. refl))
 
-pub role_quiet : (rule : RoleRule) (timing : Timing) (ports : List PortState) (p : ℕ)
-    → EachQuiet ports (role_does rule timing ports p)
-role_quiet role_rule.Disable timing ports p = changes_at roles.disable_effect ports p (λ port. refl)
-role_quiet role_rule.DisabledPort timing ports p = changes_at (roles.disabled_port_effect timing) ports p (λ port. refl)
-role_quiet role_rule.Root timing ports p = changes_at (roles.root_effect timing) ports p (λ port. refl)
-role_quiet role_rule.RootProposed timing ports p = proposed_quiet ports p
-role_quiet role_rule.RootAgreed timing ports p = changes_at roles.root_agreed_effect ports p (λ port. refl)
-role_quiet role_rule.Reroot timing ports p = each_map IsQuiet with_re_root (λ port. refl) ports
-role_quiet role_rule.Rerooted timing ports p = changes_at roles.rerooted_effect ports p (λ port. refl)
-role_quiet role_rule.RootLearn timing ports p = changes_at (roles.root_learn_effect timing) ports p (λ port. refl)
-role_quiet role_rule.RootForward timing ports p = changes_at roles.root_forward_effect ports p (λ port. refl)
-role_quiet role_rule.Designated timing ports p = changes_at roles.designated_effect ports p (λ port. refl)
-role_quiet role_rule.Propose timing ports p = changes_at (roles.propose_effect timing) ports p (λ port. refl)
-role_quiet role_rule.Synced timing ports p = changes_at roles.synced_effect ports p (λ port. refl)
-role_quiet role_rule.Retired timing ports p = changes_at roles.retired_effect ports p (λ port. refl)
-role_quiet role_rule.DesignatedDiscard timing ports p =
+pub role_still : (rule : RoleRule) (timing : Timing) (ports : List PortState) (p : ℕ)
+    → EachStill ports (role_does rule timing ports p)
+role_still role_rule.Disable timing ports p = changes_at roles.disable_effect ports p (λ port. refl)
+role_still role_rule.DisabledPort timing ports p = changes_at (roles.disabled_port_effect timing) ports p (λ port. refl)
+role_still role_rule.Root timing ports p = changes_at (roles.root_effect timing) ports p (λ port. refl)
+role_still role_rule.RootProposed timing ports p = proposed_still ports p
+role_still role_rule.RootAgreed timing ports p = changes_at roles.root_agreed_effect ports p (λ port. refl)
+role_still role_rule.Reroot timing ports p = each_map IsStill with_re_root (λ port. refl) ports
+role_still role_rule.Rerooted timing ports p = changes_at roles.rerooted_effect ports p (λ port. refl)
+role_still role_rule.RootLearn timing ports p = changes_at (roles.root_learn_effect timing) ports p (λ port. refl)
+role_still role_rule.RootForward timing ports p = changes_at roles.root_forward_effect ports p (λ port. refl)
+role_still role_rule.Designated timing ports p = changes_at roles.designated_effect ports p (λ port. refl)
+role_still role_rule.Propose timing ports p = changes_at (roles.propose_effect timing) ports p (λ port. refl)
+role_still role_rule.Synced timing ports p = changes_at roles.synced_effect ports p (λ port. refl)
+role_still role_rule.Retired timing ports p = changes_at roles.retired_effect ports p (λ port. refl)
+role_still role_rule.DesignatedDiscard timing ports p =
     changes_at (roles.designated_discard_effect timing) ports p (λ port. refl)
-role_quiet role_rule.DesignatedLearn timing ports p = changes_at (roles.designated_learn_effect timing) ports p
+role_still role_rule.DesignatedLearn timing ports p = changes_at (roles.designated_learn_effect timing) ports p
     (λ port. refl)
-role_quiet role_rule.DesignatedForward timing ports p =
+role_still role_rule.DesignatedForward timing ports p =
     changes_at roles.designated_forward_effect ports p (λ port. refl)
-role_quiet role_rule.Block timing ports p = changes_at roles.block_effect ports p (λ port. refl)
-role_quiet role_rule.Alternate timing ports p = changes_at (roles.alternate_effect timing) ports p (λ port. refl)
-role_quiet role_rule.AlternateProposed timing ports p = proposed_quiet ports p
-role_quiet role_rule.AlternateAgreed timing ports p = changes_at roles.alternate_agreed_effect ports p (λ port. refl)
-role_quiet role_rule.Backup timing ports p = changes_at (roles.backup_effect timing) ports p (λ port. refl)
+role_still role_rule.Block timing ports p = changes_at roles.block_effect ports p (λ port. refl)
+role_still role_rule.Alternate timing ports p = changes_at (roles.alternate_effect timing) ports p (λ port. refl)
+role_still role_rule.AlternateProposed timing ports p = proposed_still ports p
+role_still role_rule.AlternateAgreed timing ports p = changes_at roles.alternate_agreed_effect ports p (λ port. refl)
+role_still role_rule.Backup timing ports p = changes_at (roles.backup_effect timing) ports p (λ port. refl)
 
 -- ---- events
 

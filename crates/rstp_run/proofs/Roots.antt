@@ -13,7 +13,7 @@ use Rattle.rstp_run.specs.declared.rule.Rule.TheVariants as rules
 use Rattle.rstp_run.specs.declared.rule.InformationRule.TheVariants as information_rule
 use Rattle.rstp_run.specs.Rules.{Tree, asks, wants_selection}
 use Rattle.rstp_run.specs.Runs.{IsSettled}
-use Rattle.rstp_run.proofs.Sound.{IsSound}
+use Rattle.rstp_run.proofs.Sound.{IsSound, neither}
 use Rattle.rstp_run.proofs.Kept.{AllSound, IsKept, roles_of}
 
 -- ---- lists
@@ -25,15 +25,11 @@ sound_at (x ∷ xs) zero port at h = let same : x ≡ port = cc in let P : PortS
     subst P same h.0
 sound_at (x ∷ xs) (suc p) port at h = sound_at xs p port at h.1
 
-role_at : (ports : List PortState) (p : ℕ) (port : PortState) → slice_get ports p ≡ Some port
+pub role_at : (ports : List PortState) (p : ℕ) (port : PortState) → slice_get ports p ≡ Some port
     → slice_get (roles_of ports) p ≡ Some port.selected_role
 role_at [] p port at = cc
 role_at (x ∷ xs) zero port at = let same : x ≡ port = cc in ap (λ (y : PortState). Some y.selected_role) same
 role_at (x ∷ xs) (suc p) port at = role_at xs p port at
-
-neither : (a b : Bool) → a || b ≡ false → (a ≡ false) × (b ≡ false)
-neither true b h = cc
-neither false b h = (refl, h)
 
 none_asks : (ports : List PortState) (p : ℕ) (port : PortState) → list_any wants_selection ports ≡ false
     → slice_get ports p ≡ Some port → port.reselect ≡ false
@@ -91,7 +87,7 @@ module _ (s : Tree) (kept : IsKept s.ports) (settled : IsSettled s) (p : ℕ) (p
   pub is_off : (rule : Rule) → asks rule s p port ≡ false
   is_off rule = sym (ap (λ o. option_map_or (asks rule s p) o false) at) ∙ settled rule p
 
-  is_selected : port.selected ≡ true
+  pub is_selected : port.selected ≡ true
   is_selected =
       let unasked = first_asked s.ports p port (list_any wants_selection s.ports) at (settled rules.Select 0) in
       selected_then port.selected port.reselect (sound_at s.ports p port at kept.sound).0

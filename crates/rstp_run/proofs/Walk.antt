@@ -12,22 +12,34 @@ use Rattle.rstp_run.specs.declared.rule.Rule.TheVariants as rules
 use Rattle.rstp_run.specs.Events.{direct, Happens, ports_at}
 use Rattle.rstp_run.specs.Machines.{receive_asks, receive_does, migration_asks, migration_does, detection_asks}
 use Rattle.rstp_run.specs.Machines.{detection_does, information_asks, information_does, transmit_asks, transmit_does}
+use Rattle.rstp_run.specs.Lasting.{is_select, selects}
 use Rattle.rstp_run.specs.RootPort.{Comes}
-use Rattle.rstp_run.specs.Rules.{Tree, guard, after, timing_in}
+use Rattle.rstp_run.specs.Rules.{Tree, guard, after, ports_after, timing_in}
 use Rattle.rstp_run.specs.Runs.{Firing, Run}
 use Rattle.rstp_run.proofs.Each.{Each, each_map, each_weaker, each_change, each_at}
-use Rattle.rstp_run.proofs.Quiet.{IsQuiet, receive_quiet, migration_quiet, detection_quiet, state_quiet, transmit_quiet}
-use Rattle.rstp_run.proofs.Quiet.{role_quiet, topology_quiet, message_quiet}
+use Rattle.rstp_run.proofs.Quiet.{IsQuiet, IsStill, receive_quiet, migration_still, detection_still, state_still}
+use Rattle.rstp_run.proofs.Sound.{neither}
+use Rattle.rstp_run.proofs.Quiet.{transmit_still, role_still, topology_still, message_quiet, still_quiet}
 
 -- P stays if each port changes by R. R allows changes that keep a port's tree information, the rules of information,
--- and a second. P stays after selection.
-pub record Walks (P : Tree → Type 0) (R : Tree → PortState → PortState → Type 0) : Type 0 where
+-- and a second.
+pub record Moves (P : Tree → Type 0) (R : Tree → PortState → PortState → Type 0) : Type 0 where
   pub by : (s : Tree) (ports : List PortState) → Each (R s) s.ports ports → P s → P (record s { ports = ports })
   pub quiet : (s : Tree) (a b : PortState) → IsQuiet a b → R s a b
   pub informed : (s : Tree) (rule : InformationRule) (port : PortState) → information_asks rule port ≡ true
       → R s port (information_does rule port)
   pub second : (s : Tree) (port : PortState) → R s port (with_second port)
+
+-- and P stays after selection
+pub record Walks (P : Tree → Type 0) (R : Tree → PortState → PortState → Type 0) : Type 0 where
+  pub moves : Moves P R
   pub chosen : (s : Tree) (p : ℕ) → P s → P (after rules.Select s p)
+
+-- a rule of one port that keeps the port's tree information and pending messages
+still_at : (asks : PortState → Bool) (does : PortState → PortState) (ports : List PortState) (p : ℕ)
+    → ((port : PortState) → asks port ≡ true → IsStill port (does port)) → test_at p asks ports ≡ true
+    → Each IsStill ports (change_at p does ports)
+still_at asks does ports p h g = each_at IsStill (λ port. refl) asks does ports p h g
 
 -- a rule of one port that keeps the port's tree information
 quiet_at : (asks : PortState → Bool) (does : PortState → PortState) (ports : List PortState) (p : ℕ)
@@ -35,33 +47,59 @@ quiet_at : (asks : PortState → Bool) (does : PortState → PortState) (ports :
     → Each IsQuiet ports (change_at p does ports)
 quiet_at asks does ports p h g = each_at IsQuiet (λ port. refl) asks does ports p h g
 
-module _ (P : Tree → Type 0) (R : Tree → PortState → PortState → Type 0) (walks : Walks P R) where
+-- neither Select nor a rule of receive or information
+abbrev pub is_plain : Rule → Bool
+is_plain rules.Select = false
+is_plain (rules.Receive rule) = false
+is_plain (rules.Information rule) = false
+is_plain _ = true
+
+pub still_after : (rule : Rule) (s : Tree) (p : ℕ) → is_plain rule ≡ true → guard rule s p ≡ true
+    → Each IsStill s.ports (ports_after rule s p)
+still_after rules.Select s p n g = let e : ⊥ = cc in absurd e
+still_after (rules.Receive rule) s p n g = let e : ⊥ = cc in absurd e
+still_after (rules.Migration rule) s p n g = still_at (migration_asks rule) (migration_does rule) s.ports p
+    (migration_still rule) g
+still_after (rules.Detection rule) s p n g = still_at (detection_asks rule) (detection_does rule) s.ports p
+    (detection_still rule) g
+still_after (rules.Information rule) s p n g = let e : ⊥ = cc in absurd e
+still_after (rules.Role rule) s p n g = role_still rule (timing_in s) s.ports p
+still_after (rules.State rule) s p n g = still_at (state_asks rule) (state_does rule) s.ports p (state_still rule) g
+still_after (rules.Topology rule) s p n g = topology_still rule (timing_in s) s.ports p
+still_after (rules.Transmit rule) s p n g =
+    still_at (transmit_asks rule (timing_in s)) (transmit_does rule (timing_in s)) s.ports p
+    (transmit_still rule (timing_in s)) g
+
+module _ (P : Tree → Type 0) (R : Tree → PortState → PortState → Type 0) (moves : Moves P R) where
   quietly : (s : Tree) (ports : List PortState) → Each IsQuiet s.ports ports → P s → P (record s { ports = ports })
-  quietly s ports h k = walks.by s ports (each_weaker IsQuiet (R s) (walks.quiet s) s.ports ports h) k
+  quietly s ports h k = moves.by s ports (each_weaker IsQuiet (R s) (moves.quiet s) s.ports ports h) k
 
-  rule_holds : (rule : Rule) (s : Tree) (p : ℕ) → guard rule s p ≡ true → P s → P (after rule s p)
-  rule_holds rules.Select s p g k = walks.chosen s p k
-  rule_holds (rules.Receive rule) s p g k = quietly s _
+  stilly : (rule : Rule) (s : Tree) (p : ℕ) → is_plain rule ≡ true → guard rule s p ≡ true → P s
+      → P (record s { ports = ports_after rule s p })
+  stilly rule s p n g k =
+      quietly s (ports_after rule s p) (each_weaker IsStill IsQuiet still_quiet s.ports _ (still_after rule s p n g)) k
+
+  other_holds : (rule : Rule) (s : Tree) (p : ℕ) → is_select rule ≡ false → guard rule s p ≡ true → P s
+      → P (after rule s p)
+  other_holds rules.Select s p n g k = let e : ⊥ = cc in absurd e
+  other_holds (rules.Receive rule) s p n g k = quietly s _
       (quiet_at (receive_asks rule) (receive_does rule) s.ports p (receive_quiet rule) g) k
-  rule_holds (rules.Migration rule) s p g k = quietly s _
-      (quiet_at (migration_asks rule) (migration_does rule) s.ports p (migration_quiet rule) g) k
-  rule_holds (rules.Detection rule) s p g k = quietly s _
-      (quiet_at (detection_asks rule) (detection_does rule) s.ports p (detection_quiet rule) g) k
-  rule_holds (rules.Information rule) s p g k =
-      walks.by s _ (each_at (R s) (λ port. walks.quiet s port port refl) (information_asks rule) (information_does rule)
-      s.ports p (walks.informed s rule) g) k
-  rule_holds (rules.Role rule) s p g k = quietly s _ (role_quiet rule (timing_in s) s.ports p) k
-  rule_holds (rules.State rule) s p g k = quietly s _ (quiet_at (state_asks rule) (state_does rule) s.ports p
-      (state_quiet rule) g) k
-  rule_holds (rules.Topology rule) s p g k = quietly s _ (topology_quiet rule (timing_in s) s.ports p) k
-  rule_holds (rules.Transmit rule) s p g k =
-      quietly s _ (quiet_at (transmit_asks rule (timing_in s)) (transmit_does rule (timing_in s)) s.ports p
-      (transmit_quiet rule (timing_in s)) g) k
+  other_holds (rules.Migration rule) s p n g k = stilly (rules.Migration rule) s p refl g k
+  other_holds (rules.Detection rule) s p n g k = stilly (rules.Detection rule) s p refl g k
+  other_holds (rules.Information rule) s p n g k =
+      moves.by s _ (each_at (R s) (λ port. moves.quiet s port port refl) (information_asks rule) (information_does rule)
+      s.ports p (moves.informed s rule) g) k
+  other_holds (rules.Role rule) s p n g k = stilly (rules.Role rule) s p refl g k
+  other_holds (rules.State rule) s p n g k = stilly (rules.State rule) s p refl g k
+  other_holds (rules.Topology rule) s p n g k = stilly (rules.Topology rule) s p refl g k
+  other_holds (rules.Transmit rule) s p n g k = stilly (rules.Transmit rule) s p refl g k
 
-  run_holds : (firings : List Firing) (s t : Tree) → Run firings s t → P s → P t
-  run_holds [] s t run k = subst P (sym run) k
-  run_holds (f ∷ earlier) s t run k = subst P (sym run.2.1)
-      (rule_holds f.rule run.0 f.place run.2.0 (run_holds earlier s run.0 run.1 k))
+  pub lasting_holds : (firings : List Firing) (s t : Tree) → Run firings s t → selects firings ≡ false → P s → P t
+  lasting_holds [] s t run n k = subst P (sym run) k
+  lasting_holds (f ∷ earlier) s t run n k =
+      let none = neither (is_select f.rule) (selects earlier) n in
+      subst P (sym run.2.1)
+      (other_holds f.rule run.0 f.place none.0 run.2.0 (lasting_holds earlier s run.0 run.1 none.1 k))
 
   changed : (does : PortState → PortState) (s : Tree) (p : ℕ) → ((port : PortState) → IsQuiet port (does port)) → P s
       → P (record s { ports = change_at p does s.ports })
@@ -70,20 +108,37 @@ module _ (P : Tree → Type 0) (R : Tree → PortState → PortState → Type 0)
   event_holds : (event : Event) (s : Tree) → P s → P (record s { ports = ports_at event s.ports })
   event_holds (events.Bpdu p message) s k = changed (with_message message) s (p - 1)
       (λ port. message_quiet (port.received_bpdu || port.received_message) message port) k
-  event_holds events.Second s k = walks.by s _ (each_map (R s) with_second (walks.second s) s.ports) k
+  event_holds events.Second s k = moves.by s _ (each_map (R s) with_second (moves.second s) s.ports) k
   event_holds (events.PortUp p) s k = changed (with_enabled true) s (p - 1) (λ port. refl) k
   event_holds (events.PortDown p) s k = changed (with_enabled false) s (p - 1) (λ port. refl) k
   event_holds (events.Mcheck p) s k = changed with_migration_check s (p - 1) (λ port. refl) k
 
-  direct_holds : (event : Event) (s : Tree) → P s → P (direct event s)
+  pub direct_holds : (event : Event) (s : Tree) → P s → P (direct event s)
   direct_holds event s k =
       event_holds event (record s { ports = map without_slot s.ports })
       (quietly s _ (each_map IsQuiet without_slot (λ port. refl) s.ports) k)
 
+module _ (P : Tree → Type 0) (R : Tree → PortState → PortState → Type 0) (walks : Walks P R) where
+  rule_holds : (rule : Rule) (s : Tree) (p : ℕ) → guard rule s p ≡ true → P s → P (after rule s p)
+  rule_holds rules.Select s p g k = walks.chosen s p k
+  rule_holds (rules.Receive rule) s p g k = other_holds P R walks.moves (rules.Receive rule) s p refl g k
+  rule_holds (rules.Migration rule) s p g k = other_holds P R walks.moves (rules.Migration rule) s p refl g k
+  rule_holds (rules.Detection rule) s p g k = other_holds P R walks.moves (rules.Detection rule) s p refl g k
+  rule_holds (rules.Information rule) s p g k = other_holds P R walks.moves (rules.Information rule) s p refl g k
+  rule_holds (rules.Role rule) s p g k = other_holds P R walks.moves (rules.Role rule) s p refl g k
+  rule_holds (rules.State rule) s p g k = other_holds P R walks.moves (rules.State rule) s p refl g k
+  rule_holds (rules.Topology rule) s p g k = other_holds P R walks.moves (rules.Topology rule) s p refl g k
+  rule_holds (rules.Transmit rule) s p g k = other_holds P R walks.moves (rules.Transmit rule) s p refl g k
+
+  run_holds : (firings : List Firing) (s t : Tree) → Run firings s t → P s → P t
+  run_holds [] s t run k = subst P (sym run) k
+  run_holds (f ∷ earlier) s t run k = subst P (sym run.2.1)
+      (rule_holds f.rule run.0 f.place run.2.0 (run_holds earlier s run.0 run.1 k))
+
   pub happens_holds : (event : Event) (limit : ℕ) (s t : Tree) (settled : Bool) (mask : ℕ)
       → Happens event limit s t settled mask → P s → P t
   happens_holds event limit s t settled mask happens k =
-      run_holds happens.firings (direct event s) t happens.run (direct_holds event s k)
+      run_holds happens.firings (direct event s) t happens.run (direct_holds P R walks.moves event s k)
 
   -- if it holds of a bridge, it holds of every bridge that is reachable from there by events
   pub comes_holds : (history : List Event) (s t : Tree) → Comes history s t → P s → P t

@@ -1,4 +1,5 @@
 pub mod Events
+pub mod Lasting
 pub mod Laws
 pub mod Machines
 pub mod RootPort

@@ -1,6 +1,7 @@
 //! Laws of every bridge that is reachable from its start by events.
 
 ghost use Rattle.rstp_run.specs.Events.{OneOutcome, RunsHappen};
+ghost use Rattle.rstp_run.specs.Lasting.{LastingIsReached, LosingKeepsTree, RolesLast, SelectionIsCurrent};
 ghost use Rattle.rstp_run.specs.Laws.{EdgeRests};
 ghost use Rattle.rstp_run.specs.RootPort.{OneRootPort};
 ghost use Rattle.rstp_run.specs.Settled.{
@@ -70,4 +71,27 @@ pub fn events_settle()
 /// At a port that is down, Edge and NotEdge don't enable each other after Discard has fired there.
 pub fn edge_rests()
     ensures { EdgeRests }
+{}
+
+/// After events at which Select never fires, each port of a settled bridge has the role that it had
+/// before them.
+pub fn roles_last()
+    ensures { RolesLast }
+{}
+
+/// A bridge is still reachable from its start by events after events at which Select never fires.
+pub fn lasting_is_reached()
+    ensures { LastingIsReached }
+{}
+
+/// In a settled bridge the root and the roles are those that selection gives for the present
+/// information of its ports.
+pub fn selection_is_current()
+    ensures { SelectionIsCurrent }
+{}
+
+/// After a port of a settled bridge went down that isn't its root port, each port that is the root
+/// port or a designated port was one before, if the bridge is settled again.
+pub fn losing_keeps_tree()
+    ensures { LosingKeepsTree }
 {}

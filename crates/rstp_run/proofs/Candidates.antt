@@ -1,0 +1,220 @@
+-- If candidates for the root leave that aren't the best one, the best one and the root stay.
+use Rattle.std.proofs.Common.{◌≡◌, ℕ, zero, suc, ◌+◌, ◌≤◌, ◌⊎◌, inl, inr, Bool, true, false, not, ◌&&◌, ◌==◌, cond}
+use Rattle.std.proofs.Common.{List}
+use Rattle.std.proofs.Common.{[], ◌∷◌, Contains, Option, Some, None, slice_get, refl, sym, ap, subst, ◌∙◌}
+use Rattle.std.proofs.Common.{arith}
+use Rattle.std.proofs.lemmas.Bool.{eqb-true}
+use Rattle.std.proofs.lemmas.Bool.Decides.{nat_tests}
+use Rattle.std.specs.List.{cons_option, enumerate_from, filter_map, list_all}
+use Rattle.std.specs.Option.{option_map_or}
+use Rattle.std.specs.Ordering.{is_lt}
+use Rattle.std.specs.Prelude.{option_and_then}
+use Rattle.rstp_state.specs.declared.port.PortState.{PortState}
+use Rattle.rstp_state.specs.declared.selection.Path.{Path}
+use Rattle.rstp_state.specs.declared.start.Settings.{Settings}
+use Rattle.rstp_state.specs.Selection.{best_path, candidates, is_told, is_through, path_at, path_cmp, path_through}
+use Rattle.rstp_state.specs.Selection.{root_along, times_beyond, IsLeastOf}
+use Rattle.rstp_state.specs.Start.{own_times}
+use Rattle.rstp_state.proofs.Paths.{least_is_best, least_of_candidates}
+use Rattle.rstp_run.proofs.Sound.{left, right}
+
+-- the relation holds between each port of one list and the port at its place in the other; the first place is n
+abbrev pub AtEach : (ℕ → PortState → PortState → Type 0) → ℕ → List PortState → List PortState → Type 0
+AtEach R n [] [] = Unit {0}
+AtEach R n [] (y ∷ ys) = ⊥
+AtEach R n (x ∷ xs) [] = ⊥
+AtEach R n (x ∷ xs) (y ∷ ys) = R n x y × AtEach R (n + 1) xs ys
+
+-- the port is the candidate that it was, with its times, or neither a candidate nor the one of this path
+abbrev pub Remains : Settings → Path → ℕ → PortState → PortState → Type 0
+Remains s path n x y =
+    ((path_at s (n, y) ≡ path_at s (n, x)) × (y.port_times ≡ x.port_times))
+    ⊎ ((path_at s (n, y) ≡ None) × (is_through path n ≡ false))
+
+no : {A : Type 0} → false ≡ true → A
+no h = let e : ⊥ = cc in absurd e
+
+both : (a b : Bool) → a ≡ true → b ≡ true → a && b ≡ true
+both true b h k = k
+both false b h k = no h
+
+itself : (n : ℕ) → (n == n) ≡ true
+itself n = grind (arith, nat_tests)
+
+some_same : (a b : ℕ) → Some a ≡ Some b → a ≡ b
+some_same a b h = cc
+
+later : (q : Path) (qs : List Path) (path : Path) → Contains qs path → Contains (q ∷ qs) path
+later q qs path (k, within, at) = (suc k, omega arith, at)
+
+place_of : (s : Settings) (n : ℕ) (x : PortState) (q : Path) → path_at s (n, x) ≡ Some q → q.place ≡ Some n
+place_of s n x q h = from (is_told s x) h
+  where
+    from : (b : Bool) → cond b (Some (path_through n x)) None ≡ Some q → q.place ≡ Some n
+    from true h = let same : path_through n x ≡ q = cc in ap (λ (p : Path). p.place) (sym same)
+    from false h = let e : ⊥ = cc in absurd e
+
+module _ (s : Settings) (path : Path) where
+  abbrev found : ℕ → List PortState → List Path
+  found n ports = filter_map (path_at s) (enumerate_from n ports)
+
+  kept_among : (o : Option Path) (qs rs : List Path) → (Contains qs path → Contains rs path)
+      → Contains (cons_option o qs) path → Contains (cons_option o rs) path
+  kept_among None qs rs rest c = rest c
+  kept_among (Some q) qs rs rest (zero, within, at) = (0, omega arith, at)
+  kept_among (Some q) qs rs rest (suc k, within, at) = later q rs path (rest (k, omega arith, at))
+
+  gone_among : (n : ℕ) (o : Option Path) (qs : List Path) → ((q : Path) → o ≡ Some q → q.place ≡ Some n)
+      → is_through path n ≡ false → Contains (cons_option o qs) path → Contains qs path
+  gone_among n None qs place off c = c
+  gone_among n (Some q) qs place off (zero, within, at) =
+      let here : path.place ≡ Some n = ap (λ (p : Path). p.place) (sym at) ∙ place q refl in
+      no (sym off ∙ ap (λ o. option_map_or (λ m. m == n) o false) here ∙ itself n)
+  gone_among n (Some q) qs place off (suc k, within, at) = (k, omega arith, at)
+
+  among : (n : ℕ) (xs ys : List PortState) → AtEach (Remains s path) n xs ys → Contains (found n xs) path
+      → Contains (found n ys) path
+  among n [] [] h c = c
+  among n [] (y ∷ ys) h c = absurd h
+  among n (x ∷ xs) [] h c = absurd h
+  among n (x ∷ xs) (y ∷ ys) h c =
+      elim h.0 as (λ _. Contains (found n (y ∷ ys)) path) [
+        | inl same ↦ subst (λ o. Contains (cons_option o (found (n + 1) ys)) path) (sym same.0)
+            (kept_among (path_at s (n, x)) (found (n + 1) xs) (found (n + 1) ys) (among (n + 1) xs ys h.1) c)
+        | inr gone ↦ subst (λ o. Contains (cons_option o (found (n + 1) ys)) path) (sym gone.0)
+            (among (n + 1) xs ys h.1
+            (gone_among n (path_at s (n, x)) (found (n + 1) xs) (place_of s n x) gone.1 c))
+      ]
+
+  kept_all : (test : Path → Bool) (o : Option Path) (qs rs : List Path)
+      → (list_all test qs ≡ true → list_all test rs ≡ true)
+      → list_all test (cons_option o qs) ≡ true → list_all test (cons_option o rs) ≡ true
+  kept_all test None qs rs rest h = rest h
+  kept_all test (Some q) qs rs rest h = both (test q) (list_all test rs) (left (test q) _ h) (rest (right (test q) _ h))
+
+  gone_all : (test : Path → Bool) (o : Option Path) (qs : List Path) → list_all test (cons_option o qs) ≡ true
+      → list_all test qs ≡ true
+  gone_all test None qs h = h
+  gone_all test (Some q) qs h = right (test q) _ h
+
+  all : (test : Path → Bool) (n : ℕ) (xs ys : List PortState) → AtEach (Remains s path) n xs ys
+      → list_all test (found n xs) ≡ true → list_all test (found n ys) ≡ true
+  all test n [] [] h c = c
+  all test n [] (y ∷ ys) h c = absurd h
+  all test n (x ∷ xs) [] h c = absurd h
+  all test n (x ∷ xs) (y ∷ ys) h c =
+      elim h.0 as (λ _. list_all test (found n (y ∷ ys)) ≡ true) [
+        | inl same ↦ subst (λ o. list_all test (cons_option o (found (n + 1) ys)) ≡ true) (sym same.0)
+            (kept_all test (path_at s (n, x)) (found (n + 1) xs) (found (n + 1) ys) (all test (n + 1) xs ys h.1) c)
+        | inr gone ↦ subst (λ o. list_all test (cons_option o (found (n + 1) ys)) ≡ true) (sym gone.0)
+            (all test (n + 1) xs ys h.1 (gone_all test (path_at s (n, x)) (found (n + 1) xs) c))
+      ]
+
+  -- a path found at a place has at least that place
+  place_above : (n : ℕ) (xs : List PortState) → Contains (found n xs) path → (k : ℕ) → path.place ≡ Some k → n ≤ k
+  place_above n [] (k, within, at) m h = absurd (omega arith)
+  place_above n (x ∷ xs) c m h = from (path_at s (n, x)) (place_of s n x) (λ d. place_above (n + 1) xs d m h) c
+    where
+      from : (o : Option Path) → ((q : Path) → o ≡ Some q → q.place ≡ Some n)
+          → (Contains (found (n + 1) xs) path → n + 1 ≤ m)
+          → Contains (cons_option o (found (n + 1) xs)) path → n ≤ m
+      from None place rest d = let more = rest d in omega arith
+      from (Some q) place rest (zero, within, at) =
+          let here : n ≡ m = some_same n m (sym (place q refl) ∙ ap (λ (p : Path). p.place) at ∙ h) in omega arith
+      from (Some q) place rest (suc k, within, at) = let more = rest (k, omega arith, at) in omega arith
+
+  told_at : (n : ℕ) (xs : List PortState) → Contains (found n xs) path → (k : ℕ) (x : PortState)
+      → path.place ≡ Some (n + k) → slice_get xs k ≡ Some x → is_told s x ≡ true
+  told_at n [] (k, within, at) m x h here = absurd (omega arith)
+  told_at n (y ∷ ys) c zero x h here =
+      let same : y ≡ x = cc in
+      ap (is_told s) (sym same) ∙ from (is_told s y) c
+    where
+      from : (b : Bool) → Contains (cons_option (cond b (Some (path_through n y)) None) (found (n + 1) ys)) path
+          → b ≡ true
+      from true d = refl
+      from false d = let more = place_above (n + 1) ys d (n + 0) h in absurd (omega arith)
+  told_at n (y ∷ ys) c (suc k) x h here =
+      let next : n + suc k ≡ n + 1 + k = omega arith in
+      let h' : path.place ≡ Some (n + 1 + k) = h ∙ ap Some next in
+      from (path_at s (n, y)) (place_of s n y) h' (λ d. told_at (n + 1) ys d k x h' here) c
+    where
+      from : (o : Option Path) → ((q : Path) → o ≡ Some q → q.place ≡ Some n) → path.place ≡ Some (n + 1 + k)
+          → (Contains (found (n + 1) ys) path → is_told s x ≡ true)
+          → Contains (cons_option o (found (n + 1) ys)) path → is_told s x ≡ true
+      from None place e rest d = rest d
+      from (Some q) place e rest (zero, within, at) =
+          let same : n ≡ n + 1 + k = some_same n (n + 1 + k) (sym (place q refl) ∙ ap (λ (p : Path). p.place) at ∙ e) in
+          absurd (omega arith)
+      from (Some q) place e rest (suc j, within, at) = rest (j, omega arith, at)
+
+  told_in : (xs : List PortState) → Contains (candidates s xs) path → (k : ℕ) (x : PortState) → path.place ≡ Some k
+      → slice_get xs k ≡ Some x → is_told s x ≡ true
+  told_in xs (zero, within, at) k x h here =
+      let e : None ≡ Some k = ap (λ (p : Path). p.place) at ∙ h in let e' : ⊥ = cc in absurd e'
+  told_in xs (suc j, within, at) k x h here =
+      let zeroth : k ≡ 0 + k = omega arith in
+      told_at 0 xs (j, omega arith, at) k x (h ∙ ap Some zeroth) here
+
+  among_candidates : (xs ys : List PortState) → AtEach (Remains s path) 0 xs ys → Contains (candidates s xs) path
+      → Contains (candidates s ys) path
+  among_candidates xs ys h (zero, within, at) = (0, omega arith, at)
+  among_candidates xs ys h (suc k, within, at) = later _ (found 0 ys) path (among 0 xs ys h (k, omega arith, at))
+
+  pub best_stays : (xs ys : List PortState) → best_path s xs ≡ path → AtEach (Remains s path) 0 xs ys
+      → best_path s ys ≡ path
+  best_stays xs ys is h =
+      let found_least = least_of_candidates s xs in
+      let P : Path → Type 0 = λ p. IsLeastOf (candidates s xs) p in
+      let least = subst P (least_is_best s xs _ found_least ∙ is) found_least in
+      let test : Path → Bool = λ other. not (is_lt (path_cmp other path)) in
+      sym (least_is_best s ys path (record {
+        among = among_candidates xs ys h least.among;
+        least = both _ (list_all test (found 0 ys)) (left _ _ least.least) (all test 0 xs ys h (right _ _ least.least));
+      }))
+
+  times_stay : (n : ℕ) (xs ys : List PortState) → AtEach (Remains s path) n xs ys → (k : ℕ)
+      → is_through path (n + k) ≡ true
+      → option_map_or (λ (port : PortState). times_beyond port.port_times) (slice_get ys k) (own_times s)
+      ≡ option_map_or (λ (port : PortState). times_beyond port.port_times) (slice_get xs k) (own_times s)
+  times_stay n [] [] h k t = refl
+  times_stay n [] (y ∷ ys) h k t = absurd h
+  times_stay n (x ∷ xs) [] h k t = absurd h
+  times_stay n (x ∷ xs) (y ∷ ys) h zero t =
+      elim h.0 [
+        | inl same ↦ ap times_beyond same.1
+        | inr gone ↦ let here : n + 0 ≡ n = omega arith in no (sym gone.1 ∙ ap (is_through path) (sym here) ∙ t)
+      ]
+  times_stay n (x ∷ xs) (y ∷ ys) h (suc k) t =
+      let next : n + 1 + k ≡ n + suc k = omega arith in
+      times_stay (n + 1) xs ys h.1 k (ap (is_through path) next ∙ t)
+
+  pub root_stays : (xs ys : List PortState) → AtEach (Remains s path) 0 xs ys
+      → root_along s ys path ≡ root_along s xs path
+  root_stays xs ys h =
+      let times = from path.place refl in
+      λ i. record { priority = path.vector; times = times i }
+    where
+      from : (o : Option ℕ) → path.place ≡ o
+          → option_map_or (λ (port : PortState). times_beyond port.port_times) (option_and_then (slice_get ys) o)
+          (own_times s)
+          ≡ option_map_or (λ (port : PortState). times_beyond port.port_times) (option_and_then (slice_get xs) o)
+          (own_times s)
+      from None e = refl
+      from (Some k) e =
+          let zeroth : 0 + k ≡ k = omega arith in
+          times_stay 0 xs ys h k (ap (λ m. is_through path m) zeroth
+          ∙ ap (λ o. option_map_or (λ at. at == k) o false) e ∙ itself k)
+
+place_is : (o : Option ℕ) (k : ℕ) → option_map_or (λ at. at == k) o false ≡ true → o ≡ Some k
+place_is None k h = no h
+place_is (Some a) k h = ap Some (eqb-true a k h)
+
+-- the best path goes through a port that received a root
+pub best_told : (s : Settings) (xs : List PortState) (k : ℕ) (x : PortState) → slice_get xs k ≡ Some x
+    → is_through (best_path s xs) k ≡ true → is_told s x ≡ true
+best_told s xs k x at t =
+    let found_least = least_of_candidates s xs in
+    let P : Path → Type 0 = λ p. IsLeastOf (candidates s xs) p in
+    let least = subst P (least_is_best s xs _ found_least) found_least in
+    told_in s (best_path s xs) xs least.among k x (place_is (best_path s xs).place k t) at
