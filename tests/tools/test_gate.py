@@ -9,6 +9,7 @@ import sys
 import tempfile
 import types
 import unittest
+from unittest import mock
 
 from test_records import TOP
 
@@ -16,6 +17,7 @@ sys.path.insert(0, os.path.join(TOP, "tools", "gate"))
 import calls
 import edits
 import graph
+import lanes
 import looks
 import project
 import rooms
@@ -181,6 +183,12 @@ class Edits(unittest.TestCase):
             it.flush()
             self.assertEqual(edits.asked_of(it.name), "laws::starts")
 
+    def test_named_function_may_have_its_crate_before_it(self):
+        for name in ("wire::refusal::number", "refusal::number", "number"):
+            with self.subTest(name=name):
+                self.assertTrue(sources.is_end_of(name, "wire::refusal::number", "wire"))
+        self.assertFalse(sources.is_end_of("l::number", "wire::refusal::number", "wire"))
+
     def test_neither_a_caller_nor_what_is_proved_has_goals(self):
         self.assertEqual(self.refusal("Table::move"), (None, {}))
         self.assertEqual(self.refusal("Orders::hold"), (None, {}))
@@ -191,6 +199,42 @@ class Edits(unittest.TestCase):
         unjudged = (3, "logic=not-proved\n"), (1, "./src/lib.rt:1:1: error: no\nlogic=not-proved\n"), (2, ""), (-9, "")
         for status, said in unjudged:
             self.assertIn("judged nothing", edits.Verdict(status, said).word)
+
+
+class Together(unittest.TestCase):
+    """Edits of different functions in one check, of which some don't compile."""
+
+    def tried(self, bodies):
+        """Tries edits of a crate that write these bodies, each into a function of its own. Returns the facts and the checks' numbers of edits."""
+        with tempfile.TemporaryDirectory() as top:
+            names = [f"f{it}" for it in range(len(bodies))]
+            write(f"{top}/crates.txt", "low:\n")
+            write(f"{top}/crates/low/src/lib.rt", "".join(f"pub fn {name}() -> u8 {{\n    {it + 10}\n}}\n" for it, name in enumerate(names)))
+            for it, body in enumerate(bodies):
+                write(f"{top}/crates/low/must-fail/{names[it]}.edit", f"file: src/lib.rt\nold:     {it + 10}\nnew:     {body}\n")
+            trial, sizes = edits.Trial(project.Project(top), "low", None, "", None), []
+
+            def check(texts, only=(), _flags=()):
+                sizes.append(len(only))
+                if "wrong" in texts["src/lib.rt"]:
+                    return edits.Verdict(1, "./src/lib.rt:2:5: error[unresolved]: no `wrong` here\n")
+                goal = "note: src/lib.rt:1:1: it is not proved that what the function ensures holds (`returns`)\n"
+                return edits.Verdict(1, "".join(f"{goal}fn low::{it}: not proved\n" for it in only) + "only=1 proved=0\n")
+
+            trial.check = check
+            return trial.all(), sizes
+
+    def test_all_compile(self):
+        found, sizes = self.tried(["200", "201", "202"])
+        self.assertEqual((found[-1], sizes), ("pass 3", [3]))
+
+    def test_one_does_not_compile(self):
+        found, sizes = self.tried([*(str(200 + it) for it in range(7)), "wrong"])
+        self.assertEqual(found[-1], "pass 7")
+        self.assertEqual([it for it in found if it.startswith("fail")], ["fail f7.edit: BAD EDIT: the check judged nothing (status 1): "
+                         "./src/lib.rt:2:5: error[unresolved]: no `wrong` here"])
+        # eight, then halves; the last is the whole check of the edit that is left
+        self.assertEqual(sorted(sizes), [0, 1, 1, 2, 2, 4, 4, 8])
 
 
 class Ends(unittest.TestCase):
@@ -242,6 +286,46 @@ class Texts(unittest.TestCase):
         taken = "fn f(take: impl Fn(u8) -> u8) -> u8 {}", "fn f() -> u8 { 0 }\nfn g(a: fn(u8) -> u8) {}"
         for text in (*taken, "fn f<R: Threads>(rt: R) {}", "// Net and Abort\n"):
             self.assertEqual(self.faults(text), [], text)
+
+
+class Pools(unittest.TestCase):
+    """How many checks of large crates run side by side."""
+
+    def test_memory_is_shared(self):
+        # MiB that are free: a proof may take 5,500 of 85 in 100 of them, another check 3,500
+        checks = {0: {"proofs": 1}, 10_000: {"proofs": 1}, 11_000: {"proofs": 1, "edits": 1}, 16_000: {"proofs": 1, "edits": 2},
+                  18_000: {"proofs": 2, "edits": 1}, 22_000: {"proofs": 2, "edits": 2}}
+        for memory, pools in checks.items():
+            with self.subTest(memory=memory):
+                self.assertEqual(graph.pools_for(memory), pools)
+
+    def test_edits_never_take_the_place_of_a_proof(self):
+        large = type("Large", (), {"reach": lambda self, name: range(graph.MANY + 1), "lines_of": lambda self, name: 1})()
+        pools = {"proofs": 2, "edits": 1}
+        self.assertEqual([graph.pool_of(large, rule, "top", pools) for rule in graph.RULES], ["proofs", "edits", None, "edits", None, None])
+        self.assertEqual(graph.pool_of(large, "edits", "top", {"proofs": 1}), "proofs")
+
+
+class Chain(unittest.TestCase):
+    """The crates whose proofs the gate waits for in the end, and the jobs of a proof."""
+
+    # NAME: the crates below it, and its lines; lowest first
+    CRATES = {"names": ([], 900), "table": (["names"], 1000), "words": (["names"], 10), "edge": (["table", "words"], 900), "page": (["words"], 1000)}
+
+    def project(self):
+        below = {name: it for name, (it, _) in self.CRATES.items()}
+        found = {"below": below, "order": list(self.CRATES), "gate": "/nowhere", "lines_of": lambda _, name: self.CRATES[name][1]}
+        return type("Chained", (), found)()
+
+    def test_chain_has_the_most_lines(self):
+        self.assertEqual(graph.longest_chain(self.project()), ["names", "table", "edge"])
+
+    def test_its_proofs_have_two_jobs_though_no_lane_is_idle(self):
+        for lanes_at_work, memory, is_in_chain, jobs in ((4, 20_000, True, 2), (4, 20_000, False, 1), (3, 20_000, False, 2), (3, 9_000, True, 1)):
+            state = {"at_work": lambda _, found=lanes_at_work: found, "free_memory": lambda found=memory: found, "lanes": lambda: 4}
+            with self.subTest(lanes_at_work=lanes_at_work, memory=memory), mock.patch.multiple(lanes, time=mock.DEFAULT, **state):
+                self.assertEqual(lanes.jobs_for(self.project(), "edge", is_in_chain), jobs)
+                self.assertEqual(lanes.jobs_for(self.project(), "words", is_in_chain), 1)
 
 
 # A kit that answers from files: $STUB/CRATE.WORD has the status in its first line, and CRATE.WORD.again is the answer to later calls.

@@ -63,7 +63,8 @@ class Verdict:
         self.said, self.goals, self.status = said, goals_of(said), status
         words = re.findall(r"^logic=(proved|not-proved)\b", said, re.M) or ["not-proved"] * bool(re.search(r"^only=", said, re.M))
         is_judged = (status, words[-1:]) in ((0, ["proved"]), (1, ["not-proved"])) or status == 0 and "only=" in said
-        if UNREAD.search(said) or not is_judged:
+        self.is_void = bool(UNREAD.search(said)) or not is_judged
+        if self.is_void:
             self.word = f"the check judged nothing (status {status})"
         else:
             self.word = "proved" if status == 0 else "not-proved"
@@ -193,7 +194,7 @@ class Trial:
             self.found += [f"weak {edit}: only names that the edit took away: {it}" for it in goals if not strong[it]]
 
     def together(self, waiting):
-        """Tries edits of different bodies in one check. Returns those that wait for another one, and those to be tried alone."""
+        """Tries edits of different bodies in one check. Returns the groups that wait for another one, and those to be tried alone."""
         texts, taken, later = {}, [], []
         for path in waiting:
             made = applied(path, self.folder, texts)
@@ -204,8 +205,13 @@ class Trial:
                 later.append(path)
         if not taken:
             return [], later
+        groups = [later] if later else []
         functions = sorted({it for edit in taken for it in edit.functions})
         verdict = self.check(self.with_refused_answers(texts, functions), functions, [] if self.is_searched else [looks.SEARCH])
+        if verdict.is_void and len(taken) > 1:
+            # one of them may not compile: halves find it in a few checks
+            half = len(taken) // 2
+            return [*groups, *([it.path for it in part] for part in (taken[:half], taken[half:]))], []
         if not self.is_searched and not looks.faults_of_search(verdict.said):
             self.found.append("searched for contracts that no call can meet: none")
         self.is_searched = True
@@ -218,8 +224,8 @@ class Trial:
                 again.append(edit.path)
             else:
                 alone.append(edit.path)
-        # if nothing was judged, another check in this company would end in the same way
-        return (later, alone + again) if len(again) == len(taken) else (later + again, alone)
+        # if none was refused or left alone, another check in this company would end in the same way
+        return (groups, alone + again) if len(again) == len(taken) else ([it for it in [later + again] if it], alone)
 
     def only_calls(self, edit, verdict):
         """Returns `True` if the check said of one of the edit's functions only that it calls another that isn't proved."""
@@ -246,6 +252,7 @@ class Trial:
         lemmas = lemmas_of(verdict.said)
         is_strong = lemmas or any(not is_lost for goals in own.values() for is_lost in goals.values())
         if verdict.word != "not-proved" or not own or not is_strong:
+            self.calls.notes.append(f"{edit}: the check of {name} alone did not refuse it, so the whole crate is checked")
             return False
         self.refuse(edit, own, lemmas)
         return True
@@ -259,8 +266,10 @@ class Trial:
                 self.found.append(f"fail {os.path.basename(path)}: BAD EDIT: it can't be applied")
             else:
                 (left if made.functions else alone).append(path)
-        while left:
-            left, others = self.together(left)
+        groups = [left] if left else []
+        while groups:
+            more, others = self.together(groups.pop())
+            groups += more
             alone += others
         for path in alone:
             self.alone(path)

@@ -1,7 +1,9 @@
 """The gate as a graph of files for ninja: which rule waits for which, and in which order they start.
 
 ninja starts what is ready in the order of its file. Proofs come first, that with the longest chain of other proofs behind it before
-all; edits, tests and looks fill what proofs leave free. A pool holds as many large crates as memory does.
+all; edits, tests and looks fill what proofs leave free. Two pools hold as many checks of large crates as memory does: one for proofs,
+one for edits and searches. When a check ends, ninja gives its place to what waits in its pool, before it looks what has become ready.
+With one pool for both, the next proof of the chain waited for an edit of some ten minutes.
 """
 import subprocess
 from concurrent.futures import FIRST_COMPLETED, ThreadPoolExecutor, wait
@@ -10,11 +12,12 @@ from calls import free_memory
 
 # in the order in which tasks that are ready start
 RULES = ("proof", "edits", "tests", "house", "layout", "texts")
-# The memory of a check of the largest crates, in MiB, as measured, and how many crates below one make it large.
-LARGE, MANY = 5500, 15
+# The memory in MiB of the largest crates' checks, as measured: of a proof with two jobs, and of another check, which has one job.
+PROOF, CHECK = 5500, 3500
+# how many crates below a crate make it large
+MANY = 15
 HEAD = """builddir = {folder}
-pool large
-  depth = {depth}
+{pools}
 rule work
   command = {command} rule $rule $crate
   description = $crate $rule
@@ -28,44 +31,70 @@ def needs_of(project, rules, rule, name):
     return [it for it in needs.get(rule, []) if it[0] in rules]
 
 
+def lines_above(project, crates):
+    """Returns for each crate the most lines of source in a chain that begins with it and leads upwards."""
+    found = {}
+    for name in reversed(crates):
+        above = [found[it] for it in crates if it in found and name in project.below[it]]
+        found[name] = project.lines_of(name) + max(above, default=0)
+    return found
+
+
 def longest_first(project, crates):
     """Returns the crates, that with the most lines of source in a chain above it first."""
-    behind = {}
-    for name in reversed(crates):
-        above = [behind[it] for it in crates if it in behind and name in project.below[it]]
-        behind[name] = project.lines_of(name) + max(above, default=0)
-    return sorted(crates, key=lambda it: -behind[it])
+    above = lines_above(project, crates)
+    return sorted(crates, key=lambda it: -above[it])
 
 
-def is_large(project, rule, name):
-    """Returns `True` if this rule takes as much memory as a large crate's check."""
-    return rule in ("proof", "edits", "house") and len(project.reach(name)) > MANY
+def longest_chain(project):
+    """Returns the chain of crates with the most lines of source, lowest first. No gate ends before the proofs of such a chain."""
+    above, chain = lines_above(project, project.order), []
+    while True:
+        ready = [it for it in project.order if not chain or chain[-1] in project.below[it]]
+        if not ready:
+            return chain
+        chain.append(max(ready, key=above.get))
 
 
-def large_at_once():
-    """Returns how many checks of large crates the free memory carries."""
-    return max(1, free_memory() * 85 // 100 // LARGE)
+def pool_of(project, rule, name, pools):
+    """Returns the pool of a rule that takes as much memory as a large crate's check, or None if the rule takes less."""
+    if rule not in ("proof", "edits", "house") or len(project.reach(name)) <= MANY:
+        return None
+    return "proofs" if rule == "proof" or "edits" not in pools else "edits"
+
+
+def pools_for(memory):
+    """Returns how many proofs and how many other checks of large crates these MiB carry: one pool if only one check fits."""
+    left = memory * 85 // 100
+    proofs = min(2, max(1, (left - CHECK) // PROOF))
+    edits = (left - proofs * PROOF) // CHECK
+    return {"proofs": proofs, "edits": edits} if edits > 0 else {"proofs": 1}
 
 
 def ninja_file(project, crates, rules, command):
     """Returns the text of a build.ninja that does these rules of these crates, each by this command."""
-    parts = [HEAD.format(depth=large_at_once(), command=command, folder=project.gate)]
+    pools = pools_for(free_memory())
+    told = "\n".join(f"pool {name}\n  depth = {depth}" for name, depth in pools.items())
+    parts = [HEAD.format(pools=told, command=command, folder=project.gate)]
     for rule in rules:
         for name in longest_first(project, crates):
             waits = " ".join([*(f"{project.gate}/{crate}.{it}" for it, crate in needs_of(project, rules, rule, name)), "always"])
-            pool = "  pool = large\n" if is_large(project, rule, name) else ""
-            parts.append(f"build {project.gate}/{name}.{rule}: work | {waits}\n  rule = {rule}\n  crate = {name}\n{pool}")
+            pool = pool_of(project, rule, name, pools)
+            line = f"  pool = {pool}\n" if pool else ""
+            parts.append(f"build {project.gate}/{name}.{rule}: work | {waits}\n  rule = {rule}\n  crate = {name}\n{line}")
     return "\n".join(parts)
 
 
 def run_without_ninja(project, crates, rules, command, jobs):
     """Does what ninja does, in the same order, where there is no ninja."""
     left = [(rule, name) for rule in rules for name in longest_first(project, crates)]
-    large, done, running = large_at_once(), set(), {}
+    pools, done, running = pools_for(free_memory()), set(), {}
 
     def can_start(step):
-        waits = not done.issuperset(needs_of(project, rules, *step))
-        return not waits and not (is_large(project, *step) and sum(is_large(project, *it) for it in running.values()) >= large)
+        if not done.issuperset(needs_of(project, rules, *step)):
+            return False
+        pool = pool_of(project, *step, pools)
+        return pool is None or sum(pool_of(project, *it, pools) == pool for it in running.values()) < pools[pool]
 
     with ThreadPoolExecutor(jobs) as pool:
         while left or running:

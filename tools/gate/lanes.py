@@ -1,4 +1,5 @@
-"""Counts the rules at work, so that a proof gets a second job only of a processor that no rule uses."""
+"""Counts the rules at work, so that a proof gets a second job of a processor that no rule uses. The proofs of the longest chain get one
+in any case: the gate waits for them in the end."""
 import contextlib
 import fcntl
 import os
@@ -43,10 +44,11 @@ def at_work(folder):
     return count
 
 
-def jobs_for(project, name):
-    """Returns how many jobs the crate's proof gets: two if it is not small, a lane is idle and memory is free, else one."""
+def jobs_for(project, name, is_in_chain):
+    """Returns how many jobs the crate's proof gets: two if it is not small, memory is free, and the gate waits for it or a lane is idle."""
     if project.lines_of(name) < SMALL or lanes() < 2:
         return 1
     # what can start beside it has started by then
     time.sleep(1)
-    return 2 if at_work(project.gate) < lanes() and free_memory() > ENOUGH else 1
+    is_wanted = is_in_chain or at_work(project.gate) < lanes()
+    return 2 if is_wanted and free_memory() > ENOUGH else 1

@@ -115,7 +115,8 @@ def found_by(project, rule, name, calls):
     if rule == "house" and is_searched(project, name):
         return ["pass 0"]
     if rule == "proof":
-        return proofs.proof(project, name, calls, lanes.jobs_for(project, name), kept_of(project, name))
+        jobs = lanes.jobs_for(project, name, name in graph.longest_chain(project))
+        return proofs.proof(project, name, calls, jobs, kept_of(project, name))
     if rule == "edits":
         proved = facts.of_kind(facts.read(project.gate, name, "proof"), "proved")
         return edits.Trial(project, name, calls, project.proof_out(name), project.proof_out, proved).all()

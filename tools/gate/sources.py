@@ -86,8 +86,8 @@ def function_at(path, text, old):
 
 
 def is_end_of(end, full, crate):
-    """Returns `True` if this is the end of the function's full name."""
-    return full == f"{crate}::{end}" or full.endswith(f"::{end}")
+    """Returns `True` if this is the function's full name, or the end of it."""
+    return full in (end, f"{crate}::{end}") or full.endswith(f"::{end}")
 
 
 def without_tests(shape):
