@@ -22,6 +22,7 @@ The word after the fence of any other block says what its text is compared with:
     text simulated  as `among`, in the reports of tests/data/two_edges.script
     text typed      each line is an argument of a command of the page
     text tested=F   each word is in the test F
+    text read=F     the test F finds the block by this fence, and compares it with outputs
     toml            its keys are those of a configuration in examples/
     toml in=F       its lines follow one another in the file F
     rust in=F       each line is in the file F

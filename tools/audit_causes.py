@@ -118,6 +118,8 @@ def of_links(view: View, network: Network) -> Iterator[Tuple[Kind, str]]:
 
 def no_routes(view: View, owners: Dict[bytes, bytes]) -> Iterator[Cause]:
     """The owners that the underlay doesn't reach."""
+    if not view.underlay:
+        return
     behind: Dict[bytes, Set[bytes]] = {}
     for mac, owner in owners.items():
         behind.setdefault(owner, set()).add(mac)
@@ -135,11 +137,10 @@ def not_valid(view: View, vni: int) -> Iterator[Cause]:
 
 
 def unadvertised(view: View, vni: int) -> List[Cause]:
-    """The stations that zebra or an access port knows here, and of which no router advertises a route."""
-    if view.zebra is None or vni not in view.kernel:
+    """The stations that zebra has as local, and of which no router advertises a route, whether an access port learnt them or not."""
+    if view.zebra is None or vni not in view.kernel or not view.links:
         return []
-    zebra = {mac for mac, place in view.zebra.get(vni, {}).items() if place == LOCAL}
-    candidates = zebra & set(view.kernel[vni].learnt)
+    candidates = {mac for mac, place in view.zebra.get(vni, {}).items() if place == LOCAL}
     if not candidates:
         return []
     own = {octets_of(link.address, "links") for link in view.links.values() if link.address.count(":") == 5}

@@ -2,6 +2,7 @@
 
 import functools
 import ipaddress
+from collections import Counter
 from typing import Dict, Iterable, Iterator, List, NamedTuple, Optional, Set, Tuple
 
 import audit_causes
@@ -17,12 +18,14 @@ KINDS = ("equal", "wrong", "missing", "extra", "foreign", "not judged")
 DIFFERING = frozenset(("wrong", "missing", "extra", "foreign"))
 CAUSES = {
     "foreign": "an entry that zebra didn't make: by hand, by another program, or learnt by the device",
+    "left": "a sticky entry that zebra doesn't name: a zebra that was killed leaves those of static MACs behind; or it was made by hand",
     "forwarding": "differs from bgpd's own best path: a fault of the forwarding plane",
     "unheard": "this router shows no route of the owner: it wasn't told, or its snapshot is of another moment",
     "rule": "bgpd's own best path is there: a difference of rule, or of what the snapshot shows",
     "unknown": "bgpd's own best path isn't known",
 }
 WHOSE = "who made the entry: zebra's have the flag extern_learn, those of static MACs sticky (bridge -d fdb show)"
+LEFT = "whether zebra was killed here, which knows nothing of the entry since then (show evpn mac vni all); or who made it"
 NOT_ZEBRAS = "who made the entry: zebra's are marked 'extern_learn' and 'proto zebra' (ip neigh show)"
 SEGMENTS = "zebra's own view of the segment (show evpn es detail), and the kernel's group (ip nexthop)"
 BY_SEGMENT, NO_EDGE = "by segment", "0.0.0.0"  # FRR 8.4.4 prints 0.0.0.0 for a MAC behind a segment, 10.3 the segment
@@ -178,7 +181,7 @@ def explained(view: View, best: Optional[Best], vni: int, verdict: Verdict, owne
     """A verdict with why its owner is the owner, where bgpd's own best path leads, the cause, and what mends it."""
     mac, kind, zebra, kernel = verdict.mac, verdict.kind, verdict.zebra, verdict.kernel
     table, owner = view.kernel.get(vni), place_of_owner(view, owned)[0]
-    is_heard = owned.owner is None or owned.owner + vni.to_bytes(3, "big") + mac in view.heard
+    is_heard = owned.owner is None or view.snapshot.shows(owned.owner + vni.to_bytes(3, "big") + mac)
     bgpd = bgpd_of(best, vni, mac, is_heard and owned.owner is not None)
     cause = cause_of(bgpd, zebra, kernel, table is None or table.is_whole, is_heard)
     reason, heir = reason_of(owned)
@@ -187,7 +190,8 @@ def explained(view: View, best: Optional[Best], vni: int, verdict: Verdict, owne
         return verdict
     is_zebras_static = table is not None and mac in table.sticky and zebra == owner not in (LOCAL, NOWHERE)
     if table is not None and mac in table.foreign and zebra in (owner, NOWHERE, UNKNOWN) and not is_zebras_static:
-        kind, cause = ("foreign" if kind == "extra" else kind), "foreign"
+        is_left = kind == "extra" and mac in table.sticky
+        kind, cause = ("foreign" if kind == "extra" else kind), ("left" if is_left else "foreign")
     mend, see = mend_of(view.networks.get(vni), mac, owner, zebra, kernel, cause)
     return verdict._replace(kind=kind, cause=cause, mend=mend, see=see)
 
@@ -218,8 +222,8 @@ def mend_of(network: Optional[Network], mac: bytes, wanted: str, zebra: str, ker
         return "", "why the route isn't heard (show bgp l2vpn evpn summary)"
     if cause == "rule":
         return "", "what weighs bgpd's paths (show running-config)"
-    if cause == "foreign":
-        return "", WHOSE
+    if cause in ("foreign", "left"):
+        return "", WHOSE if cause == "foreign" else LEFT
     if network is None or not network.bridge or kernel == UNKNOWN:
         return "", "the device of the network (ip -d link show)"
     is_remote = wanted not in (LOCAL, NOWHERE)
@@ -384,10 +388,11 @@ def routers_of(view: View, vni: int, truth: Truth) -> List[Difference]:
     """An L3VNI: the router's MAC and the next hop of each VTEP that advertises one, in zebra and in the kernel.
 
     bgpd tells zebra only those of the routes that it has chosen. So one that neither zebra nor the kernel has is missing only
-    where its VTEP alone has some prefix.
+    where its VTEP alone has some prefix, or where the kernel's own routes lead to it.
     """
     wanted = {vtep: macs for vtep, macs in truth.routers.get(vni, {}).items() if records.read_address(vtep) not in view.own}
-    needed = truth.needed.get(vni, set())
+    network = view.networks.get(vni)
+    needed = truth.needed.get(vni, set()) | (view.ways.get(network.gateway, set()) if network is not None else set())
     return [*router_macs(view, vni, wanted, needed), *next_hops(view, vni, wanted, needed)]
 
 
@@ -502,11 +507,10 @@ def others_of(view: View, vni: int, truth: Truth, wanted: Set[bytes]) -> Dict[by
 
 def sums_of(result: Result) -> Dict[str, int]:
     """How many MACs are of each kind, how many differ by which cause, and how many entries of the other two."""
-    sums = {"MACs": len(result.macs)}
-    for kind in KINDS:
-        sums[kind] = sum(verdict.kind == kind for verdict in result.macs)
-    for cause in CAUSES:
-        sums["by " + cause] = sum(verdict.cause == cause and differs(verdict) for verdict in result.macs)
+    kinds = Counter(verdict.kind for verdict in result.macs)
+    causes = Counter(verdict.cause for verdict in result.macs if verdict.kind in DIFFERING)
+    sums = {"MACs": len(result.macs), **{kind: kinds[kind] for kind in KINDS}}
+    sums.update((f"by {cause}", causes[cause]) for cause in CAUSES)
     sums["flood entries"] = len(result.floods or [])
     sums["neighbours"] = len(result.neighbours or [])
     sums["routers"] = len(result.routers or [])
@@ -523,7 +527,7 @@ def marks_of(result: Result) -> Dict[tuple, object]:
     if result.is_stopped():
         return marks
     for each in result.macs:
-        if differs(each):
+        if each.kind in DIFFERING:
             values = each.kind, each.owner, each.bgpd, each.zebra, each.kernel, *each.adverts
             marks[("mac", records.mac_text(each.mac), *values)] = each
     for entry in [*(result.floods or []), *(result.neighbours or []), *(result.routers or [])]:

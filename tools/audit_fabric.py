@@ -40,6 +40,7 @@ class Look:
     causes: Dict[str, List[Cause]] = field(default_factory=dict)
     own: Dict["Route", None] = field(default_factory=dict)
     heard: Dict["Route", None] = field(default_factory=dict)
+    reflected: Dict[bytes, records.Advert] = field(default_factory=dict)
 
     def take(self, leaf: str, view: View) -> None:
         """Takes a leaf's view; of its paths each is kept once for all leaves."""
@@ -70,10 +71,12 @@ class Report:
     entries: List[Tuple[str, int, object]]
     networks: List[Tuple[str, int]]
     leaves: int
+    unreflected: Dict[str, int] = field(default_factory=dict)
+    keeps: List[Lack] = field(default_factory=list)
 
     def differs(self) -> bool:
         """Returns whether anything differs."""
-        return bool(self.lacks or self.causes or self.macs or self.entries)
+        return bool(self.lacks or self.causes or self.macs or self.entries or self.unreflected or self.keeps)
 
 
 # ---- leaves ----------------------------------------------------------------------------------------------------------
@@ -81,7 +84,7 @@ class Report:
 
 def leaves_of(name: str) -> List[str]:
     """The leaves that a file lists, one a line; a comma between names is a list on the command line."""
-    if "," in name or not os.path.exists(name):
+    if "," in name or not os.path.isfile(name):
         found = [leaf for leaf in name.split(",") if leaf]
     else:
         with records.open_text(name) as stream:
@@ -124,6 +127,7 @@ def look(leaves: List[str], arguments: argparse.Namespace) -> Look:
             except Unreadable as unread:
                 found.silent[leaf] = str(unread)
     truths = Truths(found, arguments)
+    found.reflected = {key: advert for snapshot in truths.reflected() for key, (advert, _) in snapshot.registers.items()}
     for leaf, view in found.views.items():
         results = results_of(view, truths.of(view), set(arguments.mac))
         found.results[leaf] = [result._replace(macs=[each for each in result.macs if differs(each)]) for result in results]
@@ -138,7 +142,7 @@ class Truths:
     """What each leaf should know: of those with the same imports it is computed once."""
 
     def __init__(self, seen: Look, arguments: argparse.Namespace) -> None:
-        self.arguments = arguments
+        self.arguments, self.seen = arguments, seen
         self.known: Dict[tuple, Truth] = {}
         answering = set().union(*(view.own for view in seen.views.values()))
         self.routes = [*seen.own, *(route for route in seen.heard if route[3] not in answering)]
@@ -153,14 +157,38 @@ class Truths:
 
     def made(self, like: frr_routes.Routes) -> Truth:
         """What a leaf with these imports should know."""
-        routes = frr_routes.Routes(like.vnis, like.any_rd, like.targets.items(), True, like.imports, like.routed)
+        snapshots = self.reflected_as(like) if self.arguments.routes else [self.advertised(like)]
+        updates = (update for snapshot in snapshots for update in snapshot.updates(lambda _: 1))
+        report: Dict[Station, Owned] = report_of(self.arguments.program, updates, set(self.arguments.mac))
+        return truth_of(report, snapshots)
+
+    def advertised(self, like: frr_routes.Routes) -> frr_routes.Snapshot:
+        """What the leaves advertised themselves, as one with these imports takes it."""
+        routes = routes_like(like)
         snapshot = frr_routes.Snapshot(routes)
         for _, mac, ip, vtep, advert, targets in self.routes:
             for vni in routes.community(targets).vnis:
                 snapshot.take(frr_routes.Path("", vni, mac, ip, vtep, advert, 0, False, False, targets))
         routes.told.pop(frr_routes.FOLDED, None)
-        report: Dict[Station, Owned] = report_of(self.arguments.program, snapshot.updates(lambda _: 1), set(self.arguments.mac))
-        return truth_of(report, [snapshot])
+        return snapshot
+
+    def reflected_as(self, like: frr_routes.Routes) -> List[frr_routes.Snapshot]:
+        """What the reflectors of --routes have, as a leaf with these imports takes it."""
+        return [audit_views.reflected(path, routes_like(like)) for path in self.arguments.routes]
+
+    def reflected(self) -> List[frr_routes.Snapshot]:
+        """What the reflectors of --routes have of all networks of the fabric, by the first leaf's imports."""
+        views = list(self.seen.views.values())
+        if not self.arguments.routes or not views:
+            return []
+        like = routes_like(views[0].snapshot.routes)
+        like.vnis = {vni for view in views for vni in view.vnis}
+        return self.reflected_as(like)
+
+
+def routes_like(like: frr_routes.Routes) -> frr_routes.Routes:
+    """A reader of routes with the same networks and imports."""
+    return frr_routes.Routes(like.vnis, like.any_rd, like.targets.items(), True, like.imports, like.routed)
 
 
 def with_segments(truth: Truth, snapshot: frr_routes.Snapshot) -> Truth:
@@ -186,8 +214,9 @@ def audited(arguments: argparse.Namespace) -> Report:
     if not first.views:
         leaf, fault = next(iter(first.silent.items()))
         raise Unreadable(f"no leaf answers; {leaf}: {fault}")
-    if not arguments.run or not any(marks_of(each) for found in first.results.values() for each in found):
-        return report_of_look(first)
+    unreflected = lost_of(first)
+    if not arguments.run or not (unreflected or any(marks_of(each) for found in first.results.values() for each in found)):
+        return report_of_look(first, unreflected)
     time.sleep(arguments.again if arguments.again is not None else 5.0)
     second = look(leaves, arguments)
     moving = moved(first, second)
@@ -195,7 +224,20 @@ def audited(arguments: argparse.Namespace) -> Report:
         kept = seen_twice(first.results.get(leaf, []), results)
         second.results[leaf] = [without(result, moving) for result in kept]
         second.causes[leaf] = audit_causes.both(first.causes.get(leaf, []), second.causes[leaf])
-    return report_of_look(second)
+    both = {key: None for key in lost_of(second) if key in unreflected and (int.from_bytes(key[4:7], "big"), key[7:13]) not in moving}
+    return report_of_look(second, both)
+
+
+def lost_of(seen: Look) -> Dict[bytes, None]:
+    """The registers that a leaf advertises itself in a network that its look shows, and of which the reflectors have no route."""
+    if not seen.reflected:
+        return {}
+    found = {}
+    for view in seen.views.values():
+        for key in view.snapshot.registers:
+            if key[:4] in view.own and key not in seen.reflected:
+                found[key] = None
+    return found
 
 
 def moved(first: Look, second: Look) -> Set[Tuple[int, bytes]]:
@@ -208,6 +250,9 @@ def moved(first: Look, second: Look) -> Set[Tuple[int, bytes]]:
             for key in {*old, *new}:
                 if is_another(old.get(key), new.get(key)):
                     found.add((int.from_bytes(key[4:7], "big"), key[7:13]))
+    for key in {*first.reflected, *second.reflected}:
+        if first.reflected.get(key) != second.reflected.get(key):
+            found.add((int.from_bytes(key[4:7], "big"), key[7:13]))
     return found
 
 
@@ -240,18 +285,24 @@ def without(result: Result, moving: Set[Tuple[int, bytes]]) -> Result:
 # ---- the report --------------------------------------------------------------------------------------------------------------
 
 
-def report_of_look(seen: Look) -> Report:
+def report_of_look(seen: Look, unreflected: Iterable[bytes] = ()) -> Report:
     """Sorts what differs by what stands behind it."""
     report = Report(dict(seen.silent), [], [], {}, [], lacking(seen), len(seen.views) + len(seen.silent))
+    for key in unreflected:
+        edge = records.address_text(key[:4])
+        report.unreflected[edge] = report.unreflected.get(edge, 0) + 1
     for leaf, results in seen.results.items():
         report.causes += ((leaf, 0, cause) for cause in seen.causes[leaf])
         unheard: Dict[str, int] = {}
+        stale: Dict[str, int] = {}
         for result in results:
             for entry in marks_of(result).values():
                 if isinstance(entry, Cause):
                     report.causes.append((leaf, result.vni, entry))
                 elif isinstance(entry, Verdict) and entry.cause == "unheard":
                     unheard[entry.owner] = unheard.get(entry.owner, 0) + 1
+                elif isinstance(entry, Verdict) and entry.kind == "extra" and entry.bgpd == entry.zebra == entry.kernel:
+                    stale[entry.bgpd] = stale.get(entry.bgpd, 0) + 1
                 elif isinstance(entry, Verdict):
                     report.macs.setdefault((result.vni, entry.mac), []).append((leaf, entry))
                 else:
@@ -259,6 +310,7 @@ def report_of_look(seen: Look) -> Report:
         down = [f"{peer} is {state}" for peer, state in seen.views[leaf].sessions.items() if state != audit_causes.ESTABLISHED]
         sessions = ", ".join(down) or "each of its sessions stands"
         report.lacks += (Lack(leaf, edge, count, sessions) for edge, count in sorted(unheard.items()))
+        report.keeps += (Lack(leaf, edge, count, sessions) for edge, count in sorted(stale.items()))
     return report
 
 
@@ -282,9 +334,12 @@ def lines_of(report: Report) -> Iterator[str]:
         yield f"{leaf}: doesn't answer: {fault}"
     for leaf, vni, cause in report.causes:
         yield f"{leaf}: cause{f' {vni}' if vni else ''}: {cause.line()}"
-    for lack in report.lacks:
-        stations = "station" if lack.stations == 1 else "stations"
-        yield f"{lack.leaf}: lacks the routes of {lack.edge}: {lack.stations} {stations}; {lack.sessions}"
+    for words, lacks in (("lacks the routes of", report.lacks), ("keeps routes that are gone, of", report.keeps)):
+        for lack in lacks:
+            stations = "station" if lack.stations == 1 else "stations"
+            yield f"{lack.leaf}: {words} {lack.edge}: {lack.stations} {stations}; {lack.sessions}"
+    for edge, count in sorted(report.unreflected.items()):
+        yield f"reflector: lacks {count} route{'s' * (count != 1)} of {edge}, which {edge} advertises itself"
     for (vni, mac), verdicts in sorted(report.macs.items()):
         places: Dict[str, List[str]] = {}
         for leaf, each in verdicts:
@@ -297,7 +352,7 @@ def lines_of(report: Report) -> Iterator[str]:
     for leaf, vni in report.networks:
         yield f"{leaf}: lacks network {vni}, which all others have"
     answered = report.leaves - len(report.silent)
-    told = len(report.causes) + len(report.lacks) + len(report.macs) + len(report.entries)
+    told = sum(map(len, (report.causes, report.lacks, report.keeps, report.unreflected, report.macs, report.entries)))
     yield f"fabric: {report.leaves} leaves, {answered} answered; {told} differences"
 
 
@@ -318,6 +373,8 @@ def dict_of(report: Report) -> dict:
         "silent": report.silent,
         "causes": [{"leaf": leaf, "vni": vni or None, "text": cause.line()} for leaf, vni, cause in report.causes],
         "lacks": [lack._asdict() for lack in report.lacks],
+        "keeps": [keep._asdict() for keep in report.keeps],
+        "reflector lacks": report.unreflected,
         "macs": [
             {
                 "vni": vni,

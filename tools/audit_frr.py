@@ -3,15 +3,16 @@
 import functools
 import re
 from dataclasses import dataclass, field
-from typing import Dict, FrozenSet, Iterator, List, Mapping, NamedTuple, Optional, Set, TextIO, Tuple
+from typing import Dict, FrozenSet, Iterable, Iterator, List, Mapping, NamedTuple, Optional, Set, TextIO, Tuple
 
 import frr_routes
 import update_records as records
-from audit_kernel import LOCAL, octets_of, read_json
+from audit_kernel import LOCAL, ip_of, octets_of, read_json
 from audit_report import Said, Station, best_of
 from update_records import Unreadable
 
 SWITCHED_ON = "Enabled"
+FEW = 16  # stations of a network, of which each is sought in the text of a table
 MAC_IN_KEY = re.compile(r"\[48\]:\[([0-9a-f:]{17})\]")
 
 address_text = functools.lru_cache(maxsize=None)(records.address_text)
@@ -168,7 +169,7 @@ def read_arps(text: str, name: str) -> Dict[int, Dict[bytes, bytes]]:
     for vni, table in read_table(text, name, "show evpn arp-cache vni all json").items():
         for ip, entry in table.items() if vni.isdecimal() and isinstance(table, dict) else ():
             if isinstance(entry, dict) and entry.get("type") == "remote":
-                found.setdefault(int(vni), {})[records.read_ip(ip)] = octets_of(entry.get("mac"), name)
+                found.setdefault(int(vni), {})[ip_of(ip, name)] = octets_of(entry.get("mac"), name)
     return found
 
 
@@ -224,6 +225,12 @@ class Sought:
             for table in (vni, None):  # a network's own text doesn't name it
                 self.names.setdefault(table, set()).add(records.mac_text(mac))
 
+    def items_of(self, text: frr_routes.JsonText, vni: Optional[int]) -> Iterable[Tuple[str, object]]:
+        """Returns the items of a network's table of MACs: the wanted ones, if they are few, else all."""
+        names = self.names.get(vni, set())
+        few = text.some_items([f"[48]:[{name}]" for name in names]) if len(names) <= FEW else None
+        return text.items() if few is None else few
+
     def wants(self, vni: Optional[int], key: str) -> bool:
         """Returns whether a route's key names a wanted station."""
         named = MAC_IN_KEY.search(key)
@@ -247,7 +254,7 @@ def paths_of(
                     yield in_mac_table, path
         elif key == "macTable" and text.peek() == "{":
             sought.has_mac_tables = True
-            for mac_key, route in text.items():
+            for mac_key, route in sought.items_of(text, vni):
                 if sought.wants(vni, mac_key):
                     for path in routes.paths("", mac_key, route, name, vni):
                         yield True, path

@@ -26,9 +26,14 @@ def since_of(path: str, results: List[Result], now: int) -> Dict[str, int]:
     """Since when each difference has been seen; the file keeps those that are there now, and no others."""
     before = state_of(path)
     names = [mark_text(result.view, result.vni, mark) for result in results for mark in marks_of(result)]
-    since = {name: before[name] if isinstance(before.get(name), int) else now for name in names}
+    since = {name: second_of(before.get(name), now) for name in names}
     write_whole(path, json.dumps(since, indent=1) + "\n")
     return since
+
+
+def second_of(value: object, now: int) -> int:
+    """Returns the second that a state file has, or `now` if the value is no second of the past."""
+    return value if isinstance(value, int) and not isinstance(value, bool) and 0 <= value <= now else now
 
 
 def state_of(path: str) -> Dict[str, object]:

@@ -94,7 +94,7 @@ def octets_of(mac: object, name: str) -> bytes:
     """A MAC's octets, of a group or not."""
     octets = mac_octets(mac) if isinstance(mac, str) else None
     if octets is None:
-        raise Unreadable(f"{name}: {mac!r} is no MAC address")
+        raise Unreadable(f"{name}: an entry without a MAC address" if mac is None else f"{name}: {mac!r} is no MAC address")
     return octets
 
 
@@ -129,6 +129,14 @@ def words_of(value: object, name: str) -> List[str]:
     if isinstance(value, str):
         return [value]
     raise Unreadable(f"{name}: {str(value)[:40]!r} where a list of words is meant")
+
+
+def ip_of(value: object, name: str) -> bytes:
+    """An IP address's octets."""
+    try:
+        return read_ip(value if isinstance(value, str) else "")
+    except Unreadable:
+        raise Unreadable(f"{name}: {str(value)[:40]!r} is no IP address") from None
 
 
 def object_of(value: object) -> dict:
@@ -213,9 +221,14 @@ class Tables:
     """All forwarding entries and neighbours of a host, read once for all VNIs."""
 
     def __init__(
-        self, entries: List[dict], neighbours: Optional[List[dict]], name: str, groups: Optional[Dict[int, str]] = None
+        self,
+        entries: List[dict],
+        neighbours: Optional[List[dict]],
+        name: str,
+        groups: Optional[Dict[int, str]] = None,
+        neighbours_name: str = "",
     ) -> None:
-        self.name = name
+        self.name, self.neighbours_name = name, neighbours_name or name
         self.groups = groups or {}
         self.ports: Dict[Tuple[str, Optional[int]], Dict[bytes, str]] = {}
         self.tunnels: Dict[Tuple[str, Optional[int]], Dict[bytes, str]] = {}
@@ -230,14 +243,14 @@ class Tables:
 
     def take_entry(self, entry: dict) -> None:
         """Takes an entry of `bridge -j fdb show`."""
-        if "mac" not in entry:
-            raise Unreadable(f"{self.name}: an entry without 'mac'")
-        mac, device = octets_of(entry["mac"], self.name), str(entry.get("ifname", ""))
+        get = entry.get
+        mac, device, flags = octets_of(get("mac"), self.name), str(get("ifname", "")), get("flags")
         if mac[0] & 1:
             return
-        flags = words_of(entry.get("flags"), self.name)
+        if not isinstance(flags, list):
+            flags = words_of(flags, self.name)
         if "master" in entry and "self" not in flags:
-            is_own = "extern_learn" not in flags and "permanent" in words_of(entry.get("state"), self.name)
+            is_own = "extern_learn" not in flags and "permanent" in words_of(get("state"), self.name)
             vlan = number_of(entry, "vlan", self.name) if "vlan" in entry else None
             self.ports.setdefault((str(entry["master"]), vlan), {})[mac] = LOCAL if is_own else device
             return
@@ -249,7 +262,7 @@ class Tables:
             self.floods.setdefault(of_device, set()).add(place)
             return
         places = self.tunnels.setdefault(of_device, {})
-        if places.setdefault(mac, place) != place:
+        if places.setdefault(mac, place) is not place and places[mac] != place:
             places[mac] = "+".join(sorted({*places[mac].split("+"), place}))
         if "extern_learn" not in flags:
             self.foreign.setdefault(of_device, set()).add(mac)
@@ -258,12 +271,13 @@ class Tables:
 
     def take_neighbour(self, entry: dict) -> None:
         """Takes an entry of `ip -j neigh show`; one without a MAC says nothing."""
+        name = self.neighbours_name
         if "dst" not in entry or "dev" not in entry:
-            raise Unreadable(f"{self.name}: a neighbour without 'dst' or 'dev'")
-        if "lladdr" in entry and not any(word in GONE for word in words_of(entry.get("state"), self.name)):
+            raise Unreadable(f"{name}: a neighbour without 'dst' or 'dev'")
+        if "lladdr" in entry and not any(word in GONE for word in words_of(entry.get("state"), name)):
             is_zebras = "extern_learn" in entry or entry.get("protocol") == "zebra"
-            neighbour = Neighbour(octets_of(entry["lladdr"], self.name), is_zebras)
-            self.neighbours.setdefault(str(entry["dev"]), {})[read_ip(str(entry["dst"]))] = neighbour
+            neighbour = Neighbour(octets_of(entry["lladdr"], name), is_zebras)
+            self.neighbours.setdefault(str(entry["dev"]), {})[ip_of(entry["dst"], name)] = neighbour
 
     def of_network(self, network: Network) -> Kernel:
         """What the kernel does with a VNI."""
@@ -330,15 +344,27 @@ def groups_of(entries: List[dict], name: str) -> Dict[int, str]:
     return found
 
 
+def ways_of(entries: List[dict]) -> Dict[str, Set[str]]:
+    """The next hops that BGP's routes in the kernel use, by device, of `ip -4 -j route show table all proto bgp`."""
+    found: Dict[str, Set[str]] = {}
+    for entry in entries:
+        hops = entry.get("nexthops")
+        for hop in hops if isinstance(hops, list) else [entry]:
+            if isinstance(hop, dict) and isinstance(hop.get("gateway"), str) and isinstance(hop.get("dev"), str):
+                found.setdefault(hop["dev"], set()).add(hop["gateway"])
+    return found
+
+
 def place_text(entry: dict, name: str, groups: Dict[int, str]) -> str:
     """Where an entry of a VXLAN device leads: the edge, with the VNI and the UDP port where they aren't the device's."""
-    if entry.get("dst") is None:
+    edge = entry.get("dst")
+    if edge is None:
         group = number_of(entry, "nhid", name)
         return "" if group is None else groups.get(group, f"group {group}")
     if "vni" not in entry and "port" not in entry:
-        return str(entry["dst"])
+        return str(edge)
     more = [f" {key} {number}" for key in ("vni", "port") if (number := number_of(entry, key, name)) is not None]
-    return str(entry["dst"]) + "".join(more)
+    return str(edge) + "".join(more)
 
 
 def place_of(port: Optional[str], device: str, towards: str) -> str:

@@ -41,6 +41,8 @@ ADDRESS = functools.lru_cache(maxsize=None)(records.read_address)
 def said_of(words: List[str]) -> Optional[Said]:
     """The advert of a line 'mac VNI MAC ORIGINATOR COUNTER ..'; nothing of a withdrawn one."""
     kind, rest = words[5], words[6:] if words[5] == "withdrawn" else words[7:]
+    if not rest and kind != "withdrawn":
+        return Said(ADDRESS(words[3]), advert_of(kind, words[6]), "")
     options = dict(zip(rest[::2], rest[1::2])) if rest else {}
     if len(rest) % 2 or not {*options} <= {"ip", "label2"}:
         raise ValueError(kind)

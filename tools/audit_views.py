@@ -11,7 +11,7 @@ import signal
 import subprocess
 import tempfile
 from dataclasses import dataclass
-from typing import Callable, Dict, FrozenSet, Iterable, List, NamedTuple, Optional, Set, TextIO, Tuple
+from typing import Callable, Dict, FrozenSet, Iterable, Iterator, List, Mapping, NamedTuple, Optional, Set, TextIO, Tuple
 
 import audit_frr
 import audit_kernel
@@ -46,8 +46,8 @@ KERNEL = {
     "tunnels": ["bridge", "-j", "vlan", "tunnelshow"],
     "neigh": ["ip", "-j", "neigh", "show"],
     "groups": ["ip", "-j", "nexthop", "show"],
+    "ways": ["ip", "-4", "-j", "route", "show", "table", "all", "proto", "bgp"],
 }
-STATION_KEY = bytes(4 + 3 + 6)  # an originator, a VNI and a MAC: how a snapshot's key of a MAC begins
 
 
 class Texts(NamedTuple):
@@ -69,7 +69,6 @@ class View(NamedTuple):
     name: str
     vnis: List[int]
     snapshot: frr_routes.Snapshot
-    heard: Set[bytes]
     own: Set[bytes]
     best: Callable[[Set[Station]], Optional[audit_frr.Best]]
     zebra: Optional[Dict[int, Dict[bytes, str]]]
@@ -86,6 +85,7 @@ class View(NamedTuple):
     unknown: Tuple[int, ...] = ()
     floods: Dict[int, FrozenSet[str]] = {}
     arps: Dict[int, Dict[bytes, bytes]] = {}
+    ways: Mapping[str, Set[str]] = {}
 
 
 # ---- texts ----------------------------------------------------------------------------------------------------
@@ -261,6 +261,50 @@ def save(texts: Texts, folder: str) -> None:
                 shutil.copyfileobj(stream, out)
 
 
+# ---- a reflector's routes ---------------------------------------------------------------------------------------
+
+
+def reflected(path: str, routes: frr_routes.Routes) -> frr_routes.Snapshot:
+    """The routes that a reflector has: what it printed, or the records that `evpnd_bgp.py --watch` writes into a file all the time.
+
+    Of records each register's newest update counts. They name networks, and no route targets.
+    """
+    name = os.path.join(path, "routes.json") if os.path.isdir(path) else path
+    if not is_of_records(name):
+        with records.open_text(name) as stream:
+            return frr_routes.snapshot_of(routes, stream, name)
+    newest: Dict[records.Register, records.Update] = {}
+    for update in updates_of(name):
+        old = newest.get(records.register_of(update))
+        if old is None or records.newness_of(update) > records.newness_of(old):
+            newest[records.register_of(update)] = update
+    snapshot = frr_routes.Snapshot(routes)
+    for update in newest.values():
+        if update.advert is not None and update.vni in routes.vnis:
+            path_of = frr_routes.Path("", update.vni, update.mac, update.ip, update.originator, update.advert, 0, False, False)
+            snapshot.take(path_of)
+    return snapshot
+
+
+def is_of_records(name: str) -> bool:
+    """Whether a file begins as a record does; one that is empty so far has none."""
+    try:
+        with open(name, "rb") as stream:
+            return stream.read(len(records.MAGIC)) in (b"", records.MAGIC)
+    except OSError as fault:
+        raise Unreadable(f"{name}: {fault.strerror}") from None
+
+
+def updates_of(name: str) -> Iterator[records.Update]:
+    """The updates of a file of records, whose last record may be unfinished: its writer goes on."""
+    with open(name, "rb") as stream:
+        for number, answer in enumerate(records.read_records(stream), 1):
+            if isinstance(answer, records.Update):
+                yield answer
+            elif not isinstance(answer, records.Truncated):
+                raise Unreadable(f"{name}: record {number} spells no update")
+
+
 # ---- views ------------------------------------------------------------------------------------------------------
 
 
@@ -333,7 +377,6 @@ def view_of(texts: Texts, arguments: argparse.Namespace) -> View:
     zebra = audit_frr.read_macs(read["macs"], places["macs"], vnis) if "macs" in read else None
     own = set(snapshot.own)
     own |= {records.read_address(each.address) for each in networks.values() if each.address.count(".") == 3}
-    heard = {key[: len(STATION_KEY)] for key in snapshot.registers}
     faults = unknown_of(vnis, devices, snapshot)
     unknown = tuple(sorted(faults))
     kernel = kernels_of(texts, [*vnis, *routed], networks, devices, arguments.device or "", faults)
@@ -343,7 +386,6 @@ def view_of(texts: Texts, arguments: argparse.Namespace) -> View:
         texts.name,
         is_run,
         snapshot,
-        heard,
         own,
         best,
         zebra,
@@ -360,6 +402,7 @@ def view_of(texts: Texts, arguments: argparse.Namespace) -> View:
         unknown,
         {vni: each.floods for vni, each in (known or {}).items()},
         audit_frr.read_arps(read["arps"], places["arps"]) if "arps" in read else {},
+        audit_kernel.ways_of(audit_kernel.read_list(read.get("ways", ""), places["ways"], shlex.join(KERNEL["ways"]))),
     )
 
 
@@ -400,7 +443,7 @@ def stopped_of(
     kinds: Kinds, networks: Dict[int, Network], snapshot: frr_routes.Snapshot
 ) -> Tuple[Tuple[int, ...], Tuple[str, ...]]:
     """The networks that bgpd should run and doesn't: in a bridge, or told by others' routes; and the devices of others."""
-    told = {int.from_bytes(key[4:7], "big") for key in snapshot.registers}
+    told = {int.from_bytes(key[4:7], "big") for key in snapshot.registers} if kinds.stopped else set()
     stopped = tuple(vni for vni in kinds.stopped if networks[vni].bridge or vni in told)
     named = [f"{networks[vni].device} (VNI {vni})" for vni in kinds.stopped if vni not in stopped]
     return stopped, (*kinds.left_out, *named)
@@ -454,7 +497,9 @@ def kernels_of(
     if "neigh" in texts.whole:
         neighbours = audit_kernel.read_list(texts.whole["neigh"], texts.places["neigh"], "ip -j neigh show")
     groups = audit_kernel.read_list(texts.whole.get("groups", ""), texts.places["groups"], "ip -j nexthop show")
-    tables = audit_kernel.Tables(entries, neighbours, name, audit_kernel.groups_of(groups, texts.places["groups"]))
+    tables = audit_kernel.Tables(
+        entries, neighbours, name, audit_kernel.groups_of(groups, texts.places["groups"]), texts.places["neigh"]
+    )
     found = {}
     for vni in vnis:
         if vni in networks:

@@ -18,6 +18,7 @@
         sessions.json  vtysh -c 'show bgp l2vpn evpn summary json'
         arps.json      vtysh -c 'show evpn arp-cache vni all json'
         groups.json    ip -j nexthop show
+        ways.json      ip -4 -j route show table all proto bgp
         underlay.json  what `ip -j route get` says of each edge, or why it fails
     evpnd_audit.py save DIRECTORY          keeps what this host prints now as such a directory
     evpnd_audit.py mac VNI MAC [VIEW ..]   all that is known of one station
@@ -29,7 +30,8 @@ The routes become records (evpnd_records.py), `evpnd report` gives the owners, a
 where zebra and the kernel send it, each flood list with the inclusive multicast routes, and each ARP and ND
 entry with the routes that name an IP address. All files but routes.json and one of macs.json and fdb.json may
 be missing; what can't be compared then is said. Several views give one report, of all their routes together;
-with --routes, only the routes of that directory (a route reflector's, say) are the truth.
+with --routes, only the routes of that directory (a route reflector's, say) are the truth, or the update records in that
+file, which `evpnd_bgp.py --watch` writes all the time.
 
 Each difference is a line, with the adverts in order of preference and what mends it below, then sums. Status
 0: all agree; 1: something differs; 2: usage, or nothing that can be read; 3: nothing differs, and a VNI could
@@ -86,10 +88,7 @@ def snapshots_of(views: List[View], arguments: argparse.Namespace) -> List[frr_r
     imports = views[0].snapshot.routes.imports
     snapshots = []
     for path in arguments.routes:
-        name = os.path.join(path, "routes.json") if os.path.isdir(path) else path
-        with records.open_text(name) as stream:
-            routes = audit_views.routes_of(vnis, arguments, imports, routed)
-            snapshots.append(frr_routes.snapshot_of(routes, stream, name))
+        snapshots.append(audit_views.reflected(path, audit_views.routes_of(vnis, arguments, imports, routed)))
     return snapshots
 
 
@@ -265,8 +264,8 @@ def seconds_word(text: str) -> float:
 
 def add_look_words(words: argparse.ArgumentParser) -> None:
     """The words that say what is looked at."""
-    truth = "the routes of this directory are the truth; may stand more than once"
-    words.add_argument("--routes", action="append", default=[], metavar="DIRECTORY", help=truth)
+    truth = "the routes of this directory are the truth, or the records that evpnd_bgp.py --watch writes there; may stand more than once"
+    words.add_argument("--routes", action="append", default=[], metavar="PATH", help=truth)
     twice = "look twice where something differs, and tell what differs twice by the same values"
     words.add_argument("--again", type=seconds_word, metavar="SECONDS", help=twice)
     words.add_argument("--state", metavar="FILE", help="keep there since when each difference is seen")
@@ -305,7 +304,8 @@ def parser() -> Words:
     )
     words.add_argument("--brief", action="store_true", help="a line a difference, without why and what mends it")
     words.add_argument("--json", action="store_true", help="print JSON, every count with it")
-    words.add_argument("--nagios", action="store_true", help="print one line with figures; status 0, 2 (something differs) or 3")
+    line = "print one line with figures; status 0, 1 (a MAC isn't judged), 2 (something differs) or 3"
+    words.add_argument("--nagios", action="store_true", help=line)
     words.add_argument("--prometheus", metavar="FILE", help="write a text file for node_exporter")
     before = "with fabric: the words before each command of a leaf, as 'ssh {leaf}'; without, LIST names directories"
     words.add_argument("--run", default="", metavar="WORDS", help=before)

@@ -5,6 +5,7 @@ record can't say is left out and counted by cause.
 """
 
 import collections
+import functools
 import json
 import re
 from dataclasses import dataclass, field
@@ -12,6 +13,7 @@ from typing import Callable, Dict, Iterable, Iterator, List, Mapping, NamedTuple
 
 from update_records import Advert, Unreadable, Update, read_address, read_ip, read_mac, read_number
 
+KEYS_KEPT = 1 << 14  # keys of routes whose parts are kept
 BLANK = ("", " ", "\t", "\n", "\r")
 BLANKS = re.compile(r"[ \t\n\r]*")
 KEY = re.compile(r'[ \t\n\r]*"([^"\\]*)"[ \t\n\r]*:[ \t\n\r]*')
@@ -20,7 +22,7 @@ KEY = re.compile(r'[ \t\n\r]*"([^"\\]*)"[ \t\n\r]*:[ \t\n\r]*')
 class JsonText:
     """A JSON text that is read value by value, so that a table of a million routes never stands in memory."""
 
-    PIECE = 1 << 20
+    PIECE = 1 << 21
 
     def __init__(self, stream: TextIO, name: str) -> None:
         self.stream = stream
@@ -105,7 +107,9 @@ class JsonText:
                 return
 
     def items(self) -> Iterator[Tuple[str, object]]:
-        """The keys and values of the next object: all at once if the piece at hand has the whole object, else one by one."""
+        """The keys and values of the next object: all at once if the next pieces have the whole object, else one by one."""
+        while len(self.text) - self.place < self.PIECE and not self.ended:
+            self.more()
         try:
             table, end = self.decoder.raw_decode(self.text, self.place)
         except (json.JSONDecodeError, RecursionError):
@@ -115,7 +119,39 @@ class JsonText:
         self.place = end
         yield from table.items()
 
+    def some_items(self, parts: Iterable[str]) -> Optional[List[Tuple[str, object]]]:
+        """The keys with one of some parts, and their values, of the next object, if it is printed with a line for each key.
 
+        Then each line in it is indented at least like its first key, and only the line of its end is less so: what isn't wanted
+        is passed over as text. Nothing is taken of an object in another form, or of one that is larger than the next pieces.
+        """
+        while len(self.text) - self.place < self.PIECE and not self.ended:
+            self.more()
+        first = FIRST_LINE.match(self.text, self.place)
+        if first is None:
+            return None
+        indent = first[1]
+        end = re.compile(rf"\n {{0,{len(indent) - 1}}}\}}").search(self.text, first.end())
+        if end is None:
+            return None
+        found = []
+        for part in parts:
+            at = self.text.find(part, first.end(), end.start())
+            while at >= 0:
+                line = self.text.rfind("\n", 0, at) + 1
+                key = KEY.match(self.text, line)
+                if key is not None and key.start(1) == line + len(indent) + 1 and at < key.end(1):
+                    try:
+                        value, at = self.decoder.raw_decode(self.text, key.end())
+                    except (json.JSONDecodeError, RecursionError):
+                        return None
+                    found.append((key[1], value))
+                at = self.text.find(part, at + 1, end.start())
+        self.place = end.end()
+        return found
+
+
+FIRST_LINE = re.compile(r'\{\n( +)(?=")')
 PREFIX = re.compile(
     r"\[(?P<type>[0-9]+)\]:\[(?P<tag>[0-9]+)\]:\[(?:48\]:\[(?P<mac>[0-9a-f:]{17})\](?::\[(?:32|128)\]:\[(?P<ip>[^]]+)\])?"
     r"|(?P<rest>.*))"
@@ -127,6 +163,29 @@ COMMUNITY_ROUTER = re.compile(r"Rmac:([0-9a-f]{2}(?::[0-9a-f]{2}){5})")
 LABELS = re.compile(r"([0-9]{1,8})(?:/([0-9]{1,8}))?")
 RD_ADDRESS = re.compile(r"([0-9]+\.[0-9]+\.[0-9]+\.[0-9]+):[0-9]+")
 AUTO_RT = 1 << 28  # RFC 8365, 5.1.2.1: the type of an automatic route target with a VXLAN identifier
+
+
+class RouteKey(NamedTuple):
+    """What a route's key says: its type, its Ethernet Tag, a MAC route's MAC and IP address, else its segment, or the rest."""
+
+    kind: str
+    tag: str
+    mac: Optional[bytes]
+    ip: bytes
+    ip_text: str
+    rest: str
+    segment: str = ""
+
+
+@functools.lru_cache(maxsize=KEYS_KEPT)
+def key_of(prefix: str) -> RouteKey:
+    """What a route's key says; the leaves of a fabric show the same keys."""
+    match, segment = PREFIX.fullmatch(prefix), SEGMENT.fullmatch(prefix)
+    if match is None or segment is not None:
+        return RouteKey("", "", None, b"", "", "", segment[1] if segment else "")
+    kind, tag, mac, ip, rest = match.groups("")
+    is_of_mac = kind == "2" and mac != ""
+    return RouteKey(kind, tag, read_mac(mac) if is_of_mac else None, read_ip(ip) if is_of_mac and ip else b"", ip, rest)
 
 
 class Path(NamedTuple):
@@ -263,8 +322,7 @@ class Routes:
         groups = route.get("paths") if isinstance(route, dict) else None
         if not isinstance(groups, list):
             raise Unreadable(f"{name}: route {prefix} has no 'paths'")
-        match = PREFIX.fullmatch(prefix)
-        segment = SEGMENT.fullmatch(prefix) if prefix.startswith(("[1]", "[4]")) else None
+        key = key_of(prefix)
         found: List[Path] = []
         for group in groups:
             for path in group if isinstance(group, list) else [group]:
@@ -272,52 +330,50 @@ class Routes:
                 if not isinstance(path, dict):
                     raise Unreadable(f"{name}: route {prefix} has a path that is no object")
                 try:
-                    found += self.path(rd, match, path, vni) if segment is None else self.take_segment(segment[1], path)
+                    found += self.path(rd, key, path, vni) if not key.segment else self.take_segment(key.segment, path)
                 except (KeyError, TypeError, AttributeError, IndexError) as fault:
                     raise Unreadable(f"{name}: route {prefix} lacks a field that is needed ({fault})") from None
         return found
 
-    def path(self, rd: str, match: Optional["re.Match[str]"], path: dict, vni: Optional[int]) -> List[Path]:
+    def path(self, rd: str, key: RouteKey, path: dict, vni: Optional[int]) -> List[Path]:
         """One path for each network that imports it: most are like an earlier path of another MAC."""
-        kind, tag, mac_text, ip_text, _ = match.groups() if match is not None else ("", "", None, None, None)
-        if kind != "2" or mac_text is None:
-            return self.other_path(rd, match, path, vni)
+        if key.mac is None:
+            return self.other_path(rd, key, path, vni)
         hop, targets = path["nexthops"][0]["ip"], path.get("extendedCommunity", {}).get("string", "")
-        key = rd, hop, targets, str(path.get("VNI", "")), path.get("peerId"), path.get("local"), vni
-        alike = self.alike.get(key)
-        is_plain = tag == "0" and path.get("valid") is True and not path.get("esi")
+        kind = rd, hop, targets, path.get("VNI", ""), path.get("peerId"), path.get("local"), vni
+        alike = self.alike.get(kind)
+        is_plain = key.tag == "0" and path.get("valid") is True and not path.get("esi")
         if alike is None or not is_plain:
             counted = self.counted()
-            found = self.other_path(rd, match, path, vni)
+            found = self.other_path(rd, key, path, vni)
             if is_plain and found and self.counted() == counted:
                 like = found[0]
-                self.alike[key] = Alike(tuple(each.vni for each in found), like.vtep, like.advert, like.is_own, self.community(targets))
+                self.alike[kind] = Alike(tuple(each.vni for each in found), like.vtep, like.advert, like.is_own, self.community(targets))
             return found
         vnis, vtep, advert, is_own, said = alike
-        if said.routed and ip_text:
-            self.take_router(said, hop, ip_text, b"" if is_own else said.router)
-        mac, ip = read_mac(mac_text), read_ip(ip_text) if ip_text else b""
-        seconds, is_best = seconds_of(path) if "lastUpdate" in path else 0, is_chosen(path)
-        return [Path(rd, each, mac, ip, vtep, advert, seconds, is_best, is_own, targets) for each in vnis]
+        if said.routed and key.ip:
+            self.take_router(said, hop, key.ip_text, b"" if is_own else said.router)
+        seconds = seconds_of(path) if "lastUpdate" in path else 0
+        is_best = is_chosen(path)
+        return [Path(rd, each, key.mac, key.ip, vtep, advert, seconds, is_best, is_own, targets) for each in vnis]
 
     def counted(self) -> int:
         """How many paths were counted for whatever cause."""
         return sum(self.left_out.values()) + sum(self.told.values())
 
-    def other_path(self, rd: str, match: Optional["re.Match[str]"], path: dict, vni: Optional[int]) -> List[Path]:
+    def other_path(self, rd: str, key: RouteKey, path: dict, vni: Optional[int]) -> List[Path]:
         """One path for each network that imports it; what a record can't say is counted by its cause."""
-        kind = match["type"] if match is not None else ""
+        kind, mac = key.kind, key.mac
         targets = path.get("extendedCommunity", {}).get("string", "")
         said = self.community(targets)
         is_own = path.get("peerId") == "(unspec)" or path.get("local") is True
-        if said.routed and path.get("valid") is True and (kind == "5" or (kind == "2" and match["ip"])):
-            prefix = match["rest"] if kind == "5" else match["ip"]
+        if said.routed and path.get("valid") is True and (kind == "5" or (mac is not None and key.ip)):
+            prefix = key.rest if kind == "5" else key.ip_text
             self.take_router(said, path["nexthops"][0]["ip"], prefix, b"" if is_own else said.router)
-        if kind not in ("2", "3") or (kind == "2" and match["mac"] is None):
+        if kind not in ("2", "3") or (kind == "2" and mac is None):
             if not (kind == "5" and said.routed):
                 self.leave(NO_KIND)
             return []
-        mac = read_mac(match["mac"]) if kind == "2" else None
         shown = path.get("pmsi", {}).get("label", "") if mac is None else path.get("VNI", "")
         labels = LABELS.fullmatch(str(shown)) if shown != "" else None
         label, is_valid, esi = int(labels[1]) if labels else None, path.get("valid") is True, path.get("esi", "")
@@ -327,14 +383,13 @@ class Routes:
             self.take_invalid(vnis, hop, mac)
         is_best, seconds = is_chosen(path), seconds_of(path)
         advert = Advert() if mac is None else self.advert(said.static, said.sequence, labels[2] if labels else None)
-        ip = read_ip(match["ip"]) if match["ip"] else b""
         found = []
         for each in vnis or (None,):
-            is_plain = is_valid and each is not None and label in (None, each) and match["tag"] == "0" and not esi
-            network = each if is_plain else self.network_of(Seen(each, label, mac, match["tag"], esi, is_valid))
+            is_plain = is_valid and each is not None and label in (None, each) and key.tag == "0" and not esi
+            network = each if is_plain else self.network_of(Seen(each, label, mac, key.tag, esi, is_valid))
             vtep = None if network is None else self.next_hop(rd, hop, network, mac)
             if network is not None and vtep is not None:
-                found.append(Path(rd, network, mac, ip, vtep, advert, seconds, is_best, is_own, targets))
+                found.append(Path(rd, network, mac, key.ip, vtep, advert, seconds, is_best, is_own, targets))
         return found
 
     def networks_of(self, rd: str, said: Community, is_own: bool) -> Tuple[int, ...]:
@@ -476,6 +531,9 @@ def seconds_of(path: dict) -> int:
     return read_number(str(path["lastUpdate"]["epoch"]), 1 << 63, "time")
 
 
+STATION_KEY = bytes(4 + 3 + 6)  # an originator, a VNI and a MAC: how a snapshot's key of a MAC begins
+
+
 class Snapshot:
     """The registers that one router shows: each key's better route, with its time."""
 
@@ -483,6 +541,7 @@ class Snapshot:
         self.routes = routes
         self.paths = paths
         self.registers: Dict[bytes, Tuple[Advert, int]] = {}
+        self.addressed: Set[bytes] = set()
         self.values: Dict[Tuple[Advert, int], Tuple[Advert, int]] = {}
         self.own: set = set()
 
@@ -491,6 +550,8 @@ class Snapshot:
         key = path.vtep + path.vni.to_bytes(3, "big") + (path.mac or b"") + path.ip
         value = path.advert, path.seconds
         value = self.values.setdefault(value, value)
+        if path.ip:
+            self.addressed.add(key[: len(STATION_KEY)])
         if path.is_own:
             self.own.add(path.vtep)
         if self.paths is not None:
@@ -501,6 +562,10 @@ class Snapshot:
             if (old[0].static, old[0].sequence, old[1]) >= (value[0].static, value[0].sequence, value[1]):
                 return
         self.registers[key] = value
+
+    def shows(self, station: bytes) -> bool:
+        """Returns whether there is a route of an originator, a VNI and a MAC, with an IP address or without."""
+        return station in self.registers or station in self.addressed
 
     def updates(self, counter_of: Callable[[int], int]) -> Iterator[Update]:
         """The updates of this snapshot's registers, each with the counter that its time gives."""

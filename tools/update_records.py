@@ -188,15 +188,16 @@ def record_of(update: Update) -> bytes:
     """The version 3 record that spells an update: those that differ only in MAC and IP differ in these octets."""
     if update.mac is None:
         return spelt(update)
-    before, length, after = around_mac(update._replace(mac=bytes(6), ip=bytes(len(update.ip))))
+    originator, vni, _, ip, *rest = update
+    before, length, after = around_mac(originator, vni, len(ip), *rest)
     return before + update.mac + length + update.ip + after
 
 
 @functools.lru_cache(maxsize=1 << 12)
-def around_mac(update: Update) -> Tuple[bytes, bytes, bytes]:
-    """The octets of a MAC route's record before its MAC, the length of its IP, and the octets after its IP."""
-    record, behind = spelt(update), MAC_PLACE + 6
-    return record[:MAC_PLACE], record[behind : behind + 1], record[behind + 1 + len(update.ip) :]
+def around_mac(originator: bytes, vni: int, octets: int, advert: Optional[Advert], *numbers: int) -> Tuple[bytes, bytes, bytes]:
+    """The octets of a MAC route's record before its MAC, the length of its IP, and the octets after its IP of so many octets."""
+    record, behind = spelt(Update(originator, vni, bytes(6), bytes(octets), advert, *numbers)), MAC_PLACE + 6
+    return record[:MAC_PLACE], record[behind : behind + 1], record[behind + 1 + octets :]
 
 
 def spelt(update: Update) -> bytes:

@@ -8,7 +8,7 @@ round that doesn't agree names whose fault it is. The same seed gives the same h
 
 Status 0: each round agreed, or differed only at a leaf that contradicts its own routes, which is FRR's fault. What FRR 8.4.4
 does so: zebra is killed, and meanwhile a route ends whose entry it has made. The next zebra leaves this entry in the kernel; the
-entry of a pinned station has no mark of zebra, so the audit doesn't list it. A station spoke at a leaf and is pinned elsewhere; the
+entry of a pinned station has no mark of zebra, so the audit calls it foreign. A station spoke at a leaf and is pinned elsewhere; the
 pin ends, and zebra has the station as its own again, but doesn't tell bgpd.
 And zebra keeps a station's place if the new place's sequence number is lower, as that of a pinned station is. Such a leaf begins
 anew, so that the next rounds don't differ by it, too. A leaf is the cause of a difference only if our edges name the right owner,
@@ -42,7 +42,7 @@ START = 60  # seconds in which all have to agree at first
 AGEING = 100000  # longer than any run, in seconds
 THEIRS = "a leaf contradicts its own routes"
 LEAF_FAULT = "by its own routes, fault of"
-FAULTS = re.compile(r"(^|: )(wrong|missing|extra|flood|cause:) ")  # of the audit's lines
+FAULTS = re.compile(r"(^|: )(wrong|missing|extra|foreign|flood|cause:?) ")  # of the audit's lines
 
 Key = Tuple[int, str]
 Owners = Dict[Key, str]

@@ -88,7 +88,7 @@ def main() -> None:
         leaf = Leaf(number, leaves, macs)
         for name in ("routes", "best", "vnis", "macs", "fdb", "links"):
             with open(os.path.join(path, f"{name}.json"), "w", encoding="utf-8") as text:
-                json.dump(getattr(leaf, name), text)
+                json.dump(getattr(leaf, name), text, indent=2 if name == "best" else None)  # as FRR 10.3 prints each
 
 
 if __name__ == "__main__":

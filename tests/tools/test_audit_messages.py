@@ -1,6 +1,6 @@
 """What the audit says where it can't look: one line that names the command or the file, and the cause.
 
-The stub vtysh answers what the real one answered, of FRR 8.4.4 and 10.3 (tests/data/frr/answers, with their origin; taken by
+The stub vtysh answers what the real one answered, of FRR 7.5.1, 8.4.4, 10.3 and 10.7.1 (tests/data/frr/answers, with their origin; taken by
 tests/outside/frr/messages.py, which asks the same beside running daemons). TOOLS names another commit's tools to ask.
 """
 
@@ -15,7 +15,7 @@ TOP = os.path.dirname(os.path.dirname(os.path.dirname(os.path.abspath(__file__))
 TOOLS = os.environ.get("TOOLS", os.path.join(TOP, "tools"))
 ANSWERS = os.path.join(TOP, "tests", "data", "frr", "answers")
 VIEW = os.path.join(TOP, "tests", "data", "frr", "views", "8.4.4", "home")
-VERSIONS = ("10.3", "8.4.4")
+VERSIONS = tuple(sorted(name[: -len(".json")] for name in os.listdir(ANSWERS)))
 ROUTES = "show bgp l2vpn evpn route json"
 BINARY = bytes(range(128, 256)) * 8  # begins with an octet that no UTF-8 text begins with
 SILENT = "no daemon of FRR answers: start it"
@@ -68,8 +68,8 @@ class Named(unittest.TestCase):
 class OfFrr(Named):
     """Real answers of vtysh."""
 
-    def test_both_versions_are_there(self):
-        self.assertEqual(sorted(os.listdir(ANSWERS)), [f"{version}.json" for version in VERSIONS])
+    def test_the_versions_are_there(self):
+        self.assertEqual(VERSIONS, ("10.3", "10.7.1", "7.5.1", "8.4.4"))
 
     def asked(self, version: str, case: str, *words: str, user: int = 0) -> subprocess.CompletedProcess:
         """The audit where vtysh answers as it did in a case."""

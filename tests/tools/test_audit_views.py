@@ -1,4 +1,4 @@
-"""The audit of stored views of FRR 8.4.4 and 10.3, as tests/outside/frr/leaves.py kept them: leaves with access ports,
+"""The audit of stored views of FRR 7.5.1, 8.4.4, 10.3 and 10.7.1, as tests/outside/frr/leaves.py kept them: leaves with access ports,
 three VNIs of which one is empty, another edge's entries, flood lists, neighbours, a lost session; and what is printed."""
 
 import json
@@ -81,10 +81,10 @@ def routes_in(table: dict):
 
 @needs_program
 class AuditsLeaves(unittest.TestCase):
-    """What an operator has met, on both versions."""
+    """What an operator has met, on each version."""
 
-    def test_both_versions_are_there(self):
-        self.assertEqual(VERSIONS, ["10.3", "8.4.4"])
+    def test_the_versions_are_there(self):
+        self.assertEqual(VERSIONS, ["10.3", "10.7.1", "7.5.1", "8.4.4"])
 
     def each(self, name: str, *words: str):
         """The audit of a stored view, of each version."""
@@ -132,7 +132,8 @@ class AuditsLeaves(unittest.TestCase):
             place = next(number for number, line in enumerate(lines) if line.startswith(f"wrong 5001 {FAR} "))
             self.assertIn(f"    mend: bridge fdb replace {FAR} dev vxlan5001 dst 10.0.0.1 self extern_learn; ", lines[place + 2])
             place = next(number for number, line in enumerate(lines) if line.startswith("foreign 5001 02:00:00:00:66:66 "))
-            self.assertTrue(lines[place + 1].startswith("    see who made the entry: "), "what nobody advertises isn't touched")
+            self.assertIn("; a sticky entry that zebra doesn't name: a zebra that was killed leaves those of static MACs behind", lines[place])
+            self.assertTrue(lines[place + 1].startswith("    see whether zebra was killed here"), "what nobody advertises isn't touched")
 
     def test_an_empty_vni_hides_nothing(self):
         """VNI 5003 has no MACs; the wrong one of VNI 5001 is told all the same."""
@@ -144,9 +145,16 @@ class AuditsLeaves(unittest.TestCase):
             self.assertEqual((done.returncode, done.stdout.splitlines()[0]), (1, "flood extra 5001 10.0.0.66: no route of it"))
 
     def test_flood_entries_that_are_not_there(self):
-        for done in self.each("noflood"):
-            self.assertEqual(done.returncode, 1)
-            self.assertIn("flood missing 5001 10.0.0.2: its route is there, and the kernel doesn't flood to it", done.stdout)
+        for version in VERSIONS:
+            with self.subTest(version=version), Changed(version, "noflood") as changed:
+                if os.path.exists(os.path.join(changed.path, "bgpvnis.json")):
+                    done = run("--brief", changed.path)
+                    self.assertIn(": cause: bgpd doesn't flood by ingress replication: its flooding is switched off\n", done.stdout)
+                    self.assertEqual((done.returncode, "flood missing" in done.stdout), (1, False))
+                    changed.write("bgpvnis.json", None)
+                done = run("--brief", changed.path)
+                self.assertEqual(done.returncode, 1)
+                self.assertIn("flood missing 5001 10.0.0.2: its route is there, and the kernel doesn't flood to it", done.stdout)
 
     def test_a_wrong_neighbour(self):
         line = f"neighbour wrong 5001 {ADDRESS}: by the routes {PLANTED}, in the kernel {FAR}"
@@ -184,7 +192,9 @@ class AuditsLeaves(unittest.TestCase):
         for version in VERSIONS:
             with self.subTest(version=version):
                 lost, reflector = view(version, "lost"), view(version, "home")
-                self.assertEqual(run("--brief", lost).returncode, 0)
+                done = run("--brief", lost)
+                says_sessions = os.path.exists(os.path.join(lost, "sessions.json"))
+                self.assertEqual((done.returncode, "cause: the session with" in done.stdout), (int(says_sessions), says_sessions))
                 done = run("--brief", "--routes", reflector, lost)
                 self.assertEqual(done.returncode, 1)
                 self.assertIn(f"missing 5001 {FAR} owner 10.0.0.1 (the only advert); bgpd nowhere, zebra nowhere, kernel nowhere;", done.stdout)

@@ -23,7 +23,7 @@ from pages import blocks_in, blocks_of, commands_in_sentences, is_among, missing
 
 PATIENCE = 1200  # seconds; the first builds of both programs are included
 KNOWN = r"sh( status=[0-9]+| debian| (root|frr|proof)( status=[0-9]+| brief| meanwhile| on=[0-9.]+| (before|since)=[0-9]+)*)?"
-TEXTS = rf"text ({'|'.join(COMPARED)}|play|simulated|typed|tested=\S+)|toml( in=\S+)?|rust in=\S+"
+TEXTS = rf"text ({'|'.join(COMPARED)}|play|simulated|typed|(tested|read)=\S+)|toml( in=\S+)?|rust in=\S+"
 
 
 def is_run_here(block: Block) -> bool:
@@ -151,6 +151,11 @@ class Texts(unittest.TestCase):
             words = set(re.findall("[a-z]+", text_of(block.value("tested"))))
             shown = set(re.findall(r"(?<![0-9a-f:])[a-z]+(?![0-9a-f:])", "\n".join(block.lines)))
             self.assertEqual(shown - words, set(), block.name)
+
+    def test_read(self) -> None:
+        for block in blocks_with("text read="):
+            test = text_of(block.value("read")).replace("\\", "")
+            self.assertTrue(f"```text read={block.value('read')}" in test and os.path.basename(block.page) in test, block.name)
 
     def test_files(self) -> None:
         """A block of a file's lines, and the keys of the other configurations."""

@@ -13,6 +13,7 @@
                                                datagram the outer address, the VNI and the inner destination MAC
 """
 
+import itertools
 import json
 import select
 import socket
@@ -22,13 +23,16 @@ from typing import Dict, List, Set
 
 EXPERIMENT = "88b5"  # IEEE Std 802: the first local experimental EtherType
 VXLAN_PORT = 4789
+SO_RCVBUFFORCE = 33
 WAIT = 0.4
+SENT = 32  # datagrams to an address, each of another flow: routes may have several next hops
 QUIET = 0.12  # seconds: a frame passes bridge, VXLAN device and cable while it is sent
 
 
 def opened(device: str) -> socket.socket:
     """A raw socket of a device, for frames of every kind."""
     end = socket.socket(socket.AF_PACKET, socket.SOCK_RAW, socket.htons(3))
+    end.setsockopt(socket.SOL_SOCKET, SO_RCVBUFFORCE, 8 << 20)  # all are sent before any is received
     end.bind((device, 0))
     return end
 
@@ -79,9 +83,10 @@ def judge(uplink: str, vnis: List[str]) -> None:
         ways: Dict[str, Set[str]] = {address: set() for address in addresses}
         for vni, sent in asked:
             senders[vni].send(sent)
-        for address in addresses:
+        arrived = dict.fromkeys(addresses, 0)
+        for address, port in itertools.product(addresses, range(9, 9 + SENT)):
             try:
-                datagrams.sendto(f"evpnd, to {address}".encode(), (address, 9))
+                datagrams.sendto(f"evpnd, to {address}".encode(), (address, port))
             except OSError:
                 continue
         while there := select.select([out, *ports], [], [], QUIET)[0]:
@@ -95,8 +100,11 @@ def judge(uplink: str, vnis: List[str]) -> None:
                 for address in addresses if ready is out and is_datagram(octets) else ():
                     if octets.endswith(f"evpnd, to {address}".encode()):
                         ways[address].add(way_of(octets))
+                        arrived[address] += 1
+        for address, count in arrived.items():
+            ways[address].update([] if count == SENT else ["nowhere"])
         places = ["+".join(sorted(each - {""})) or "nowhere" for each in found]
-        print(json.dumps([places, ["+".join(sorted(ways[address])) or "nowhere" for address in addresses]]), flush=True)
+        print(json.dumps([places, ["+".join(sorted(ways[address])) for address in addresses]]), flush=True)
 
 
 def is_datagram(octets: bytes) -> bool:

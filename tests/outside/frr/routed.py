@@ -9,7 +9,10 @@ keeps each case's texts as views, which tests/tools/test_audit_routed.py reads. 
 """
 
 import argparse
+import json
 import os
+import shutil
+import signal
 import subprocess
 import sys
 import time
@@ -17,7 +20,7 @@ from typing import Callable, Dict, List, Optional, Tuple
 
 import edge as lab
 from edge import Edge, Trouble, run
-from histories import Tally
+from histories import Tally, said
 from leaves import audited
 
 L3VNI, LOW_L3VNI = 6000, 4000
@@ -238,6 +241,13 @@ def loses_ways(edge: Edge, tally: Tally) -> None:
     run("ip", "-n", edge.inside, "route", "del", "unreachable", "10.0.0.1/32")
     time.sleep(6)
     agrees(edge, tally, "", "undone")
+    run("ip", "-n", edge.inside, "route", "del", "10.0.0.0/24")
+    time.sleep(6)
+    words = "cause 5001 bgpd holds the routes of 10.0.0.1 for not valid: it doesn't reach this next hop: "
+    has_no_mend(tally, finds(edge, tally, "notvalid", words, "no route of the underlay at all: bgpd takes no route of the edges"))
+    run("ip", "-n", edge.inside, "route", "add", "10.0.0.0/24", "via", "192.168.77.2")
+    time.sleep(6)
+    agrees(edge, tally, "", "undone")
     edge.shell_lines("configure terminal", "router bgp 65000", "address-family l2vpn evpn", "no advertise-all-vni")
     finds(edge, tally, "switchedoff", "bgpd has no 'advertise-all-vni'", "no advertise-all-vni")
     edge.shell_lines("configure terminal", "router bgp 65000", "address-family l2vpn evpn", "advertise-all-vni")
@@ -248,6 +258,118 @@ def loses_ways(edge: Edge, tally: Tally) -> None:
     finds(edge, tally, "session", "the session with 192.168.77.2 is ", "a session that is down")
 
 
+def forgets(edge: Edge, tally: Tally) -> None:
+    """A station that is pinned elsewhere with a lower sequence number, which nobody advertises after that; what a killed zebra leaves."""
+    edge.tell(start_of(edge.routed or L3VNI))
+    guest = "02:00:00:00:00:ab"
+    for mac in (HOME, guest):
+        comes_home(edge, mac)
+    agrees(edge, tally, "", "two stations that came home")
+    edge.tell([f"advert 10.0.0.2 5001 {HOME} static seq 0"])
+    time.sleep(1)
+    finds(edge, tally, "pinnedelsewhere", f"wrong 5001 {HOME} owner 10.0.0.2", "one is pinned elsewhere, and zebra keeps it")
+    edge.tell([f"withdraw 10.0.0.2 5001 {HOME}"])
+    time.sleep(2)
+    words = f"local stations that nobody advertises: {HOME}: 1 station"
+    has_no_mend(tally, finds(edge, tally, "unadvertised", words, "nobody advertises it any more"))
+    edge.within("bridge", "fdb", "del", HOME, "dev", "acc5001", "master")
+    edge.within("bridge", "fdb", "del", HOME, "dev", "vxlan5001", "self")
+    time.sleep(2)
+    agrees(edge, tally, "", "it is gone")
+    edge.tell([f"advert 10.0.0.2 5001 {guest} static seq 0"])
+    time.sleep(1)
+    for line in finds(edge, tally, "", f"wrong 5001 {guest} owner 10.0.0.2", "the other one is pinned elsewhere").splitlines():
+        if line.startswith("    mend: "):
+            edge.within("sh", "-c", line[len("    mend: ") :])
+    goes(edge, tally, guest, 5001, "10.0.0.2")
+
+
+def comes_home(edge: Edge, mac: str) -> None:
+    """A station is heard here, goes to another edge, and is heard here again: its sequence number is 2."""
+    edge.heard(5001, mac)
+    time.sleep(1)
+    edge.tell([f"advert 10.0.0.2 5001 {mac} seq 1"])
+    time.sleep(1)
+    edge.heard(5001, mac)
+    time.sleep(1)
+
+
+def leaves_entries(edge: Edge, tally: Tally) -> None:
+    """zebra is killed, and a static station's route ends before the next zebra begins."""
+    edge.tell([*start_of(edge.routed or L3VNI), "advert 10.0.0.2 5001 02:00:00:00:00:55 static seq 0"])
+    time.sleep(1)
+    agrees(edge, tally, "", "a static station of another edge")
+    os.kill(process_of(edge, "zebra"), signal.SIGKILL)
+    edge.daemons["zebra"].wait()
+    os.remove(os.path.join(edge.folder, "zebra.vty"))
+    edge.speaker.stdin.write("withdraw 10.0.0.2 5001 02:00:00:00:00:55\n")
+    edge.speaker.stdin.flush()
+    time.sleep(2)
+    edge.start_daemon("zebra", "hostname edge\n")
+    time.sleep(5)
+    text = finds(edge, tally, "leftsticky", "foreign 5001 02:00:00:00:00:55 owner none", "a killed zebra has left an entry")
+    tally.see("a sticky entry that zebra doesn't name" in text, "in its own words")
+
+
+def hangs(edge: Edge, tally: Tally) -> None:
+    """bgpd is stopped, so vtysh hangs; a state file that is broken."""
+    edge.tell(start_of(edge.routed))
+    state = os.path.join(edge.folder, "state")
+    for text in ("{", "[]", "\0", '{"a": null}'):
+        with open(state, "w", encoding="utf-8") as out:
+            out.write(text)
+        status, said = audited(edge, "--state", state)
+        tally.see(status == 0, f"a state file with {text!r}: the audit goes on" + ("" if status == 0 else f"\n{said}"))
+    stopped = process_of(edge, "bgpd")
+    os.kill(stopped, signal.SIGSTOP)
+    try:
+        for words, wanted in (((), 2), (("--nagios", "--again", "0"), 3)):
+            begun = time.monotonic()
+            status, said = audited(edge, "--timeout", "2", *words)
+            took = time.monotonic() - begun
+            is_right = status == wanted and "no end within 2 s (--timeout)" in said and took < 20
+            tally.see(is_right, f"vtysh hangs: status {status} after {took:.0f} s: {said.strip()}")
+    finally:
+        os.kill(stopped, signal.SIGCONT)
+    agrees(edge, tally, "", "bgpd goes on")
+
+
+def reads_texts(edge: Edge, tally: Tally) -> None:
+    """The texts of this version with null or a number in them, and those of one network with a mistyped VNI."""
+    edge.tell(start_of(edge.routed))
+    time.sleep(1.5)
+    whole, one = os.path.join(edge.folder, "whole"), os.path.join(edge.folder, "one")
+    edge.save(whole)
+    audit = [sys.executable, os.path.join(lab.TOOLS, "evpnd_audit.py")]
+    for name, key, value, wanted in (("neigh", "state", None, 0), ("fdb", "state", None, 0), ("fdb", "flags", 7, 2)):
+        changed = os.path.join(edge.folder, f"{name}-{key}")
+        shutil.copytree(whole, changed)
+        with open(os.path.join(whole, f"{name}.json"), encoding="utf-8") as stream:
+            entries = [{**entry, key: value} for entry in json.load(stream)]
+        with open(os.path.join(changed, f"{name}.json"), "w", encoding="utf-8") as out:
+            json.dump(entries, out)
+        status, text = said(*audit, changed)
+        is_right = status == wanted and "Traceback" not in text
+        tally.see(is_right, f"{name}.json with {key} {json.dumps(value)}: status {status}" + ("" if is_right else f"\n{text}"))
+    os.mkdir(one)
+    shutil.copy(os.path.join(whole, "routes.json"), one)
+    entries = edge.within("bridge", "-j", "fdb", "show", "dev", "vxlan5001")
+    for name, text in (("macs", edge.shell("show evpn mac vni 5001 json")), ("fdb", entries)):
+        with open(os.path.join(one, f"{name}.json"), "w", encoding="utf-8") as out:
+            out.write(text)
+    status, text = said(*audit, "--vni", "5001", one)
+    tally.see(status == 0, "the texts of one network: all agree" + ("" if status == 0 else f"\n{text}"))
+    status, text = said(*audit, "--vni", "5003", one)
+    is_right = status == 2 and text.count("\n") == 1 and "VNI 5003: routes.json has no route of it" in text
+    tally.see(is_right, f"a mistyped VNI with the texts of one network: {text.strip()}")
+
+
+def process_of(edge: Edge, daemon: str) -> int:
+    """The process of a daemon, which has written it into its file."""
+    with open(os.path.join(edge.folder, f"{daemon}.pid"), encoding="ascii") as stream:
+        return int(stream.read())
+
+
 def has_segments(edge: Edge, tally: Tally) -> None:
     """MACs behind a segment of two edges: either edge is right, a third one isn't; without its edges nothing is judged."""
     edge.tell([*start_of(edge.routed), "esi advert 10.0.0.1 5001 02:00:00:00:00:21 seq 0"])
@@ -256,6 +378,12 @@ def has_segments(edge: Edge, tally: Tally) -> None:
     keep(edge, "segmentunknown")
     tally.see(status == 4 and "1 not judged" in text, f"a segment that no edge advertises isn't judged, all else is\n{text}")
     edge.tell([f"segment 10.0.0.{pe} 5001" for pe in (1, 2)] + ["esi advert 10.0.0.2 5001 02:00:00:00:00:22 seq 0"])
+    if edge.version().startswith("7."):  # it knows no multihoming, and writes no entry
+        text = finds(edge, tally, "segment", "missing 5001 02:00:00:00:00:21 owner segment 03:", "this version writes no entry of them")
+        found = edge.goes(5001, "02:00:00:00:00:21")
+        tally.see(found == "10.0.0.1+10.0.0.2+local", f"a real frame is flooded: {found}")
+        has_no_mend(tally, text)
+        return
     agrees(edge, tally, "segment", "MACs behind a segment of two edges")
     found = edge.goes(5001, "02:00:00:00:00:21")
     tally.see(found in ("10.0.0.1", "10.0.0.2"), f"a real frame goes to an edge of the segment: {found}")
@@ -269,6 +397,7 @@ CASES: Tuple[Tuple[str, int, Callable[[Edge, Tally], None]], ...] = (
     ("l3vni", L3VNI, has_l3vni), ("lowl3vni", LOW_L3VNI, has_low_l3vni), ("imports", L3VNI, imports),
     ("others", L3VNI, has_other_devices), ("entries", L3VNI, has_wrong_entries), ("causes", L3VNI, has_causes),
     ("shared", L3VNI, shares_bridge), ("segments", L3VNI, has_segments), ("ways", L3VNI, loses_ways),
+    ("forgets", 0, forgets), ("leaves", 0, leaves_entries), ("hangs", L3VNI, hangs), ("texts", L3VNI, reads_texts),
 )
 
 

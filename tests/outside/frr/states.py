@@ -100,8 +100,11 @@ class Leaf:
         """Makes the other device, the import target and the flood lists."""
         self.edge, self.marks = edge, 0
         inside = ["ip", "-n", edge.inside]
+        edge.within("sysctl", "-qw", "net.ipv4.fib_multipath_hash_policy=1")  # each flow may take another next hop
         run(*inside, "link", "add", "flannel.1", "type", "vxlan", "id", "1", "dstport", "8472", "local", edge.address, "nolearning")
         run(*inside, "link", "set", "flannel.1", "up")
+        for number in range(1, EDGES + 1):  # a way to each edge's router alone
+            run(*inside, "route", "add", probe_of(number), "via", f"10.0.0.{number}", "dev", f"br{L3VNI}", "onlink")
         edge.within("bridge", "fdb", "append", "02:00:00:00:f1:01", "dev", "flannel.1", "dst", "10.0.0.1", "self", "permanent")
         target = f"route-target import 65000:{IMPORT}"
         edge.shell_lines("configure terminal", "router bgp 65000", "address-family l2vpn evpn", "vni 5002", target)
@@ -149,23 +152,32 @@ class Leaf:
 
 
 class Judgement(NamedTuple):
-    """The MACs whose real frames go elsewhere than to their owner, and the addresses whose datagrams aren't routed to an edge of theirs."""
+    """The MACs whose real frames go elsewhere than to their owner, the addresses whose datagrams aren't routed to an edge of theirs,
+    and the edges to whose router no datagram gets."""
 
     frames: Dict[Key, str]
     datagrams: Dict[str, str]
+    edges: Set[int]
 
 
 def judged(leaf: Leaf, model: Model, keys: List[Key]) -> Judgement:
     """Sends a frame to each MAC and a datagram to each address that has a route: without an owner a frame is flooded to all edges."""
-    routed = model.routed()
-    leaf.judge.stdin.write(json.dumps([keys, list(routed)]) + "\n")
+    routed, probes = model.routed(), {probe_of(number): number for number in range(1, EDGES + 1)}
+    leaf.judge.stdin.write(json.dumps([keys, [*routed, *probes]]) + "\n")
     leaf.judge.stdin.flush()
     places, ways = json.loads(leaf.judge.stdout.readline())
     everywhere = {f"10.0.0.{edge}" for edge in range(1, EDGES + 1)}
     found = {key: "flooded" if everywhere <= {*place.split("+")} else place for key, place in zip(keys, places)}
     frames = {key: place for key, place in found.items() if place != (model.owner(key) or "flooded")}
     right = {address: {way_to(edge) for edge in edges} for address, edges in routed.items()}
-    return Judgement(frames, {address: way for address, way in zip(routed, ways) if way not in right[address]})
+    datagrams = {address: way for address, way in zip(routed, ways) if not {*way.split("+")} <= right[address]}
+    broken = {number for number, way in zip(probes.values(), ways[len(routed) :]) if way != way_to(number)}
+    return Judgement(frames, datagrams, broken)
+
+
+def probe_of(edge: int) -> str:
+    """An address whose only next hop is an edge's router."""
+    return f"203.0.113.{edge}"
 
 
 def way_to(edge: int) -> str:
@@ -201,10 +213,12 @@ def restore(leaf: Leaf, model: Model, keys: List[Key]) -> None:
 
 
 class Told(NamedTuple):
-    """What an audit tells: MACs whose frames go elsewhere, and edges that datagrams aren't routed to, each with its mend; and the rest."""
+    """What an audit tells: MACs whose frames go elsewhere, edges that datagrams aren't routed to, each with its mend; edges whose
+    router is there though no route names it; and the rest."""
 
     macs: Dict[Key, str]
     edges: Dict[int, str]
+    extras: Set[int]
     others: List[str]
 
 
@@ -214,15 +228,18 @@ def told_of(text: str) -> Told:
     zebra 8.4.4 may name a wrong edge while the kernel is right: that is told too, and no frame shows it.
     """
     said = json.loads(text)
-    told = Told({}, {}, [cause["text"] for view in said["views"] for cause in view["causes"]])
+    told = Told({}, {}, set(), [cause["text"] for view in said["views"] for cause in view["causes"]])
     for result in said["results"]:
         wrong = [each for each in result["macs"] if each["kernel"].replace("nowhere", "none") != each["owner"]]
         told.macs.update({(result["vni"], each["mac"]): each["mend"] for each in wrong})
         told.others.extend(f"{result['vni']} {cause['text']}" for cause in result["causes"])
         told.others.extend(f"{each['kind']} {result['vni']} {each['what']}" for each in result["floods"] or [])
         for each in result["routers"] or []:
+            number = int(re.split("[.:]", each["what"])[-1], 16)
             if each["kind"].endswith(("missing", "wrong")):
-                told.edges[int(re.split("[.:]", each["what"])[-1], 16)] = each["mend"]
+                told.edges[number] = each["mend"]
+            elif each["kind"].endswith("extra") and number <= EDGES:
+                told.extras.add(number)
             else:
                 told.others.append(f"{each['kind']} {result['vni']} {each['what']}")
     return told
@@ -230,7 +247,7 @@ def told_of(text: str) -> Told:
 
 NAMES = (
     "states", "differed", "told", "missed", "false", "mends", "failed mends",
-    "addresses differed", "edges told", "addresses missed", "edges false", "others", "compared",
+    "addresses differed", "edges told", "extras told", "addresses missed", "edges false", "others", "compared",
 )  # fmt: skip
 FAULTS = ("missed", "false", "failed mends", "addresses missed", "edges false", "others")
 
@@ -281,17 +298,18 @@ def played(leaf: Leaf, model: Model, keys: List[Key], state: int) -> Dict[str, i
         for key in false:
             print(leaf.audited("--vni", str(key[0]), "--mac", key[1])[1], end="", flush=True)
     counts = (1, len(before.frames), len(told.macs), len(missed), len(false), len(commands), len(failed))
-    more = (len(before.datagrams), len(told.edges), len(lost), len(needless), len(told.others), found["compared"])
+    more = (len(before.datagrams), len(told.edges), len(told.extras), len(lost), len(needless), len(told.others), found["compared"])
     return dict(zip(NAMES, counts + more))
 
 
 def compared(model: Model, told: Told, before: Judgement, after: Judgement) -> Tuple[List[str], List[int]]:
-    """The addresses that aren't routed and of whose edges none is told, and the edges that are told though their addresses are routed."""
+    """The addresses that aren't routed and of whose edges none is told, and the edges that are told though datagrams get to their
+    router, or as extra though their router isn't there."""
     routed, wrong = model.routed(), {*before.datagrams} & {*after.datagrams}
     lost = [f"{address} {before.datagrams[address]}" for address in sorted(wrong) if not routed[address] & {*told.edges}]
-    either = {*before.datagrams, *after.datagrams}
-    needless = [edge for edge in told.edges if not any(address in either and edge in edges for address, edges in routed.items())]
-    return lost, needless
+    named = {edge for edges in routed.values() for edge in edges}
+    stray = told.extras & named | told.extras & before.edges & after.edges  # a route names it, or no datagram gets there
+    return lost, sorted({*told.edges} - before.edges - after.edges | stray)
 
 
 def failed_of(after: Judgement, told: Told, model: Model) -> Set[str]:

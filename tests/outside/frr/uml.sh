@@ -4,8 +4,8 @@
 #
 #     tests/outside/frr/uml.sh PROGRAM [ROOT]
 #
-# PROGRAM is evpnd, ROOT a folder with a Debian that has FRR 10 (see leaves.py), for the single VXLAN device, which FRR 8.4.4 doesn't
-# run. The guest's root is this host's, over hostfs; its writes go to memory of its own. The guest ends by itself.
+# PROGRAM is evpnd or evpnd_report, proved or of `tools/try --fast`: a checked program doesn't run in the guest. ROOT is a folder with
+# a Debian that has FRR 10 (see leaves.py), for the single VXLAN device, which FRR 8.4.4 doesn't run. The guest's root is this host's, over hostfs; its writes go to memory of its own. The guest ends by itself.
 # The last line is 'N passed, M failed'. Not part of the gate.
 set -eu
 here=$(cd "$(dirname "$0")" && pwd)
