@@ -1,15 +1,18 @@
 #!/usr/bin/env bash
-# Times `evpnd migrate` on seeded streams of a quarter, a half and all of RECORDS records of versions 1 and 2: seconds (the middle
-# one of the runs), peak memory, and nanoseconds a record, which grow with the logarithm of the table's registers only.
+# Times `evpnd migrate` beside a plain Rust program on seeded streams of a quarter, a half and all of RECORDS records of versions
+# 1 and 2: seconds of a processor and peak memory, medians, and their ratio.
 #   bench/migrate.sh [RECORDS] [MACS] [RUNS]        (default: 1000000 100000 3)
+#   COUNT=1 bench/migrate.sh ..                     counts instructions a record by callgrind in the place of seconds, in one run
+#                                                   of each program (needs valgrind)
 # 16 originators; one record in ten is a withdrawal; of the adverts half bear one of three IP addresses of their station, so that
-# an edge's newest update about a station often replaces another address.
+# an edge's newest update about a station often replaces another address. The outputs have to agree octet for octet, notes too.
 set -eu
 cd "$(dirname "$0")/.."
 records=${1:-1000000} macs=${2:-100000} runs=${3:-3}
 work=$(mktemp -d)
 trap 'rm -rf "$work"' EXIT
 evpnd=${EVPND:-crates/evpnd/out/evpnd}
+rustc --edition 2024 -C opt-level=3 -o "$work/plain" bench/migrate/plain.rs
 
 python3 - "$work" "$records" "$macs" <<'PY'
 import random, sys
@@ -32,20 +35,48 @@ for part in (records // 4, records // 2, records):
 PY
 
 originators=$(seq -s, -f '10.0.0.%g' 1 16)
-printf '%12s %10s %10s %10s %12s\n' records seconds kilobytes ns/record written
-for part in $((records / 4)) $((records / 2)) "$records"; do
-  for _ in $(seq "$runs"); do
-    # seconds, kilobytes and octets written of one run, by an interpreter that is smaller than the measured program
-    python3 - "$work/$part.records" "$work/out" "$evpnd" migrate --originators "$originators" <<'PY'
-import os, resource, subprocess, sys, time
-stream, made, *command = sys.argv[1:]
-with open(stream, "rb") as given, open(made, "wb") as out:
-    start = time.monotonic()
-    subprocess.run(command, stdin=given, stdout=out, check=True)
-    seconds = time.monotonic() - start
-print(f"{seconds:.3f} {resource.getrusage(resource.RUSAGE_CHILDREN).ru_maxrss} {os.path.getsize(made)}")
+# the words of each program
+command_of() { if [ "$1" = ours ]; then echo "$evpnd" migrate --originators "$originators"; else echo "$work/plain" "$originators"; fi; }
+
+# measure NAME PART: seconds and kilobytes of one run, by an interpreter that is smaller than the measured program
+measure() {
+  python3 - "$work/$2.records" "$work/$1" $(command_of "$1") <<'PY'
+import resource, subprocess, sys
+given, made, *command = sys.argv[1:]
+with open(given, "rb") as i, open(made + ".out", "wb") as o, open(made + ".notes", "wb") as n:
+    subprocess.run(command, stdin=i, stdout=o, stderr=n, check=True)
+used = resource.getrusage(resource.RUSAGE_CHILDREN)
+print(f"{used.ru_utime + used.ru_stime:.3f} {used.ru_maxrss}")
 PY
-  done | sort -n | awk -v part="$part" '
-    { seconds[NR] = $1; kilobytes[NR] = $2; written[NR] = $3 }
-    END { i = int((NR + 1) / 2); printf "%12d %10.3f %10d %10.0f %12d\n", part, seconds[i], kilobytes[i], seconds[i] * 1e9 / part, written[i] }'
+}
+
+# count NAME PART: instructions of one run
+count() {
+  valgrind --tool=callgrind --callgrind-out-file=/dev/null $(command_of "$1") < "$work/$2.records" 2>&1 > /dev/null |
+    sed -n 's/.*I *refs: *//p' | tr -d ,
+}
+
+# the middle one of the numbers on standard input
+median() { sort -n | awk '{ n[NR] = $1 } END { print n[int((NR + 1) / 2)] }'; }
+
+unit=seconds
+if [ -n "${COUNT:-}" ]; then runs=1 unit=instr/record; fi
+printf '%10s %18s %10s %10s %10s %10s\n' records "ours $unit" plain ours/plain "ours KiB" plain
+for part in $((records / 4)) $((records / 2)) "$records"; do
+  rm -f "$work"/*.runs
+  for _ in $(seq "$runs"); do
+    for it in ours plain; do measure "$it" "$part" >> "$work/$it.runs"; done
+  done
+  cmp "$work/ours.out" "$work/plain.out"
+  cmp "$work/ours.notes" "$work/plain.notes"
+  for it in ours plain; do
+    if [ -n "${COUNT:-}" ]; then
+      awk -v i="$(count "$it" "$part")" -v n="$part" 'BEGIN { printf "%.0f\n", i / n }' > "$work/$it.figure"
+    else
+      cut -d' ' -f1 "$work/$it.runs" | median > "$work/$it.figure"
+    fi
+    cut -d' ' -f2 "$work/$it.runs" | median > "$work/$it.memory"
+  done
+  awk -v part="$part" -v a="$(cat "$work/ours.figure")" -v b="$(cat "$work/plain.figure")" -v k="$(cat "$work/ours.memory")" \
+    -v l="$(cat "$work/plain.memory")" 'BEGIN { printf "%10d %18s %10s %10.2f %10d %10d\n", part, a, b, a / b, k, l }'
 done

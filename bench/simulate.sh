@@ -1,14 +1,18 @@
 #!/usr/bin/env bash
-# Times `evpnd simulate` on seeded scripts for 8 edges, of a quarter, a half and all of LINES lines: seconds (the middle one
-# of the runs), peak memory, and nanoseconds a line, which stay about the same where the time is linear in the lines.
+# Times `evpnd simulate` beside a plain Rust program on seeded scripts for 8 edges, of a quarter, a half and all of LINES lines:
+# seconds of a processor and peak memory, medians, and their ratio.
 #   bench/simulate.sh [LINES] [RUNS]        (default: 1000000 3)
-# Of 20 lines about 8 are frames from 4,000 stations that move now and then, 6 deliveries, 5 announcements, 1 a second.
+#   COUNT=1 bench/simulate.sh ..            counts instructions a line by callgrind in the place of seconds, in one run of each
+#                                           program (needs valgrind)
+# Of 20 lines about 8 are frames from 4,000 stations that move now and then, 6 deliveries, 5 announcements, 1 a second. The
+# outputs have to agree octet for octet, notes too.
 set -eu
 cd "$(dirname "$0")/.."
 lines=${1:-1000000} runs=${2:-3}
 work=$(mktemp -d)
 trap 'rm -rf "$work"' EXIT
 evpnd=${EVPND:-crates/evpnd/out/evpnd}
+rustc --edition 2024 -C opt-level=3 -o "$work/plain" bench/simulate/plain.rs
 
 python3 - "$work" "$lines" <<'PY'
 import random, sys
@@ -39,20 +43,48 @@ for part in (lines // 4, lines // 2, lines):
                 out.write(f"{e} second 1\n")
 PY
 
-printf '%12s %10s %10s %10s\n' lines seconds kilobytes ns/line
-for part in $((lines / 4)) $((lines / 2)) "$lines"; do
-  for _ in $(seq "$runs"); do
-    # seconds and kilobytes of one run, by an interpreter that is smaller than the measured program
-    python3 - "$work/$part.script" "$evpnd" simulate --config "$work/edges.toml" <<'PY'
-import resource, subprocess, sys, time
-script, *command = sys.argv[1:]
-with open(script, "rb") as given, open("/dev/null", "wb") as out:
-    start = time.monotonic()
-    subprocess.run(command, stdin=given, stdout=out, check=True)
-    seconds = time.monotonic() - start
-print(f"{seconds:.3f} {resource.getrusage(resource.RUSAGE_CHILDREN).ru_maxrss}")
+# the words of each program
+command_of() { if [ "$1" = ours ]; then echo "$evpnd" simulate --config "$work/edges.toml"; else echo "$work/plain" 8; fi; }
+
+# measure NAME PART: seconds and kilobytes of one run, by an interpreter that is smaller than the measured program
+measure() {
+  python3 - "$work/$2.script" "$work/$1" $(command_of "$1") <<'PY'
+import resource, subprocess, sys
+given, made, *command = sys.argv[1:]
+with open(given, "rb") as i, open(made + ".out", "wb") as o, open(made + ".notes", "wb") as n:
+    subprocess.run(command, stdin=i, stdout=o, stderr=n, check=True)
+used = resource.getrusage(resource.RUSAGE_CHILDREN)
+print(f"{used.ru_utime + used.ru_stime:.3f} {used.ru_maxrss}")
 PY
-  done | sort -n | awk -v part="$part" '
-    { seconds[NR] = $1; kilobytes[NR] = $2 }
-    END { i = int((NR + 1) / 2); printf "%12d %10.3f %10d %10.0f\n", part, seconds[i], kilobytes[i], seconds[i] * 1e9 / part }'
+}
+
+# count NAME PART: instructions of one run
+count() {
+  valgrind --tool=callgrind --callgrind-out-file=/dev/null $(command_of "$1") < "$work/$2.script" 2>&1 > /dev/null |
+    sed -n 's/.*I *refs: *//p' | tr -d ,
+}
+
+# the middle one of the numbers on standard input
+median() { sort -n | awk '{ n[NR] = $1 } END { print n[int((NR + 1) / 2)] }'; }
+
+unit=seconds
+if [ -n "${COUNT:-}" ]; then runs=1 unit=instr/line; fi
+printf '%10s %18s %10s %10s %10s %10s\n' lines "ours $unit" plain ours/plain "ours KiB" plain
+for part in $((lines / 4)) $((lines / 2)) "$lines"; do
+  rm -f "$work"/*.runs
+  for _ in $(seq "$runs"); do
+    for it in ours plain; do measure "$it" "$part" >> "$work/$it.runs"; done
+  done
+  cmp "$work/ours.out" "$work/plain.out"
+  cmp "$work/ours.notes" "$work/plain.notes"
+  for it in ours plain; do
+    if [ -n "${COUNT:-}" ]; then
+      awk -v i="$(count "$it" "$part")" -v n="$part" 'BEGIN { printf "%.0f\n", i / n }' > "$work/$it.figure"
+    else
+      cut -d' ' -f1 "$work/$it.runs" | median > "$work/$it.figure"
+    fi
+    cut -d' ' -f2 "$work/$it.runs" | median > "$work/$it.memory"
+  done
+  awk -v part="$part" -v a="$(cat "$work/ours.figure")" -v b="$(cat "$work/plain.figure")" -v k="$(cat "$work/ours.memory")" \
+    -v l="$(cat "$work/plain.memory")" 'BEGIN { printf "%10d %18s %10s %10.2f %10d %10d\n", part, a, b, a / b, k, l }'
 done

@@ -144,7 +144,7 @@ fn newer(a: Value, b: Value) -> bool {
     if a.rank != b.rank {
         return a.rank > b.rank;
     }
-    a.sequence < b.sequence
+    a.sequence > b.sequence
 }
 
 fn owner(entries: &[Entry]) -> Option<u32> {
