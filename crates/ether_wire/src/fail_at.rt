@@ -3,6 +3,7 @@ ghost use Rattle.std.specs.Prelude.{◌≡◌, ◌≢◌, ℕ, ◌+◌, true, fa
 ghost use Rattle.ether_wire.specs.Ends.{IsOpen, Allows, Puts, Gets};
 
 use crate::ends::{Device, In, Out};
+use crate::flushing::Flushing;
 
 /// An end over another end. The call with one number, counted from 1, fails without a call of the
 /// other end; all other calls go to the other end. With the number 0 none of its calls fails in
@@ -149,5 +150,21 @@ impl<W: Out> Out for FailAt<W> {
             return Err(Device);
         }
         self.inner.flush()
+    }
+}
+
+/// The octets that it holds back are those of the other end.
+impl<W: Flushing> Flushing for FailAt<W> {
+    ghost use Rattle.ether_wire.specs.FailAt.{inner_end};
+
+    ghost held = { λ end. W.held (inner_end end) };
+
+    #[tactic(auto, using(crate::proofs::Failing::open_inner, crate::proofs::Failing::puts_beside, crate::proofs::Failing::one_more))]
+    fn flush_held(&mut self) -> Result<(), Device> {
+        if is_due(&mut self.calls, self.at) {
+            self.failures += 1;
+            return Err(Device);
+        }
+        self.inner.flush_held()
     }
 }

@@ -6,13 +6,12 @@ ghost use Rattle.ev_script.specs.Script.{command_of, line_of};
 ghost use Rattle.ev_console.specs.Answers.{Steps, ShowsTable, ShowsPort, ShowsView, ShowsEdges, Says, simulated_text, served_seen_text, AnswersCommand, AnswersWords, AnswersQuestion, AnswersLine};
 ghost use Rattle.ev_console.specs.Inner.Answers.{Does, Replies};
 
-use crate::flushing::Flushing;
 use crate::operated::{Operated, Unreached};
 use crate::printing::{
     put_bad, put_entered, put_help, put_port_seen, put_served, put_simulated, put_view_seen,
 };
 use crate::table::put_table_seen;
-use ether_wire::{Device, Out};
+use ether_wire::{Device, Flushing, Out};
 use ev_mailboxes::{Command as Step, Served};
 use ev_script::{Command, Question, parse, port_number, question_of};
 use ev_view::EdgeQuestion;

@@ -6,11 +6,10 @@ ghost use Rattle.ev_console.specs.Inner.Conversation.{TakesOctets, TakesEnd};
 
 use crate::answering::reply;
 use crate::edges::Edges;
-use crate::flushing::Flushing;
 use crate::operated::Operated;
 use crate::reached::Host;
 use arrayvec::ArrayVec;
-use ether_wire::{Device, In};
+use ether_wire::{Device, Flushing, In};
 use ev_mailboxes::Running;
 use ev_report::MOST_READS;
 use std::alloc::Global;

@@ -5,12 +5,10 @@
 mod answering;
 mod conversation;
 mod edges;
-mod flushing;
 mod operated;
 mod printing;
 mod reached;
 mod table;
 
 pub use conversation::{converse, converse_with};
-pub use flushing::Flushing;
 pub use operated::{Operated, Unreached};

@@ -10,6 +10,7 @@ use Rattle.ev_links.proofs.Behind.{behind_twice, behind_none}
 use Rattle.ev_exchange.specs.declared.announcing.Due.TheVariants.{Update, Back}
 use Rattle.ev_exchange.specs.declared.announcing.EdgeTable.{EdgeTable}
 use Rattle.ev_exchange.specs.Sending.{Sending, HasSent, HasSaid, own_of}
+use Rattle.ev_exchange.specs.Inner.Saying.{Comes}
 use Rattle.ev_exchange.specs.Saying.{Told, has_table, has_due, tables_from, whose, said_of, SaysTables, PassesOn}
 use Rattle.ev_exchange.specs.Saying.{Step, announces, says_back, told_at, said_at, told_by, sent_by, AreWhole}
 
@@ -211,3 +212,9 @@ module _ (edges : ℕ) (before now : Option (List Told)) (s t : Sending) (h : Pa
     whole = h.whole;
     ended = inr (inl (h.told, refl, shut));
   }
+
+  -- no item came, as the call for one says
+  pub passes_without : (next : Option (List Told)) → Comes now next t None → PassesOn edges before next s t
+  passes_without next (inl told) = passes_to_end next told
+  passes_without next (inr (same, shut)) = subst (λ (n : Option (List Told)). PassesOn edges before n s t) (sym same)
+      (passes_shut shut)

@@ -65,16 +65,19 @@ sent_none s start sent u shut last h = record {
 }
 
 -- the result of a call of `put`
-pub sent_put : (s : Sending) (e e' : End) (o b : Bool) (u : Fields) (octets : List ℕ) (r : Result (Unit {0}) Device)
-    → record { end = e; is_open = o } ≡ s → o ≡ true → octets ≡ spelling_of u → Puts e e' octets r → b ≡ is_ok r
+pub sent_put : (s : Sending) (e e' : End) (o b : Bool) (held held' : List ℕ) (u : Fields) (octets : List ℕ)
+    (r : Result (Unit {0}) Device) → record { end = e; is_open = o; held = held } ≡ s → o ≡ true
+    → octets ≡ spelling_of u → Puts e e' octets r → b ≡ is_ok r
     → ((rest : List ℕ) → Reads (spelling_of u ++ rest) (Ok u ∷ []) rest) → (start : End) (sent : List Fields)
-    → HasSent s start sent → HasSent (record { end = e'; is_open = b }) start (sent ++ u ∷ [])
-sent_put s e e' o b u octets (Ok done) same opened spells put is last start sent h =
-    sent_more s (record { end = e'; is_open = b }) start sent u (sym (ap (λ (x : Sending). x.is_open) same) ∙ opened)
+    → HasSent s start sent → HasSent (record { end = e'; is_open = b; held = held' }) start (sent ++ u ∷ [])
+sent_put s e e' o b held held' u octets (Ok done) same opened spells put is last start sent h =
+    sent_more s (record { end = e'; is_open = b; held = held' }) start sent u
+    (sym (ap (λ (x : Sending). x.is_open) same) ∙ opened)
     (λ _. put ∙ ap (with_text e) spells ∙ ap (λ (x : Sending). with_text x.end (spelling_of u)) same)
     (λ shut. absurd (never (sym is ∙ shut))) last h
-sent_put s e e' o b u octets (Err device) same opened spells put is last start sent h =
-    sent_more s (record { end = e'; is_open = b }) start sent u (sym (ap (λ (x : Sending). x.is_open) same) ∙ opened)
+sent_put s e e' o b held held' u octets (Err device) same opened spells put is last start sent h =
+    sent_more s (record { end = e'; is_open = b; held = held' }) start sent u
+    (sym (ap (λ (x : Sending). x.is_open) same) ∙ opened)
     (λ still. absurd (never (sym still ∙ is)))
     (λ _. put ∙ ap (λ (x : Sending). x.end.failures + 1) same) last h
 

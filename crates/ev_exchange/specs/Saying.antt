@@ -16,6 +16,11 @@ pub data Told : Type 0 where
   has_table : ℕ → Option EdgeTable → Told
   has_due : Option Due → Told
 
+-- the next item, if it has come
+abbrev pub IsReady : Option (List Told) → Option (List Told) → Option Due → Type 0
+IsReady before after None = after ≡ before
+IsReady before after (Some due) = after ≡ behind before (has_due (Some due) ∷ [])
+
 -- ---- tables
 
 -- the tables of edges, the first of which has this number

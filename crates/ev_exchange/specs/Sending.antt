@@ -10,10 +10,11 @@ use Rattle.route_wire.specs.Encode.{spelling_of}
 use Rattle.route_join.specs.Table.{Table, value_at, IsOrdered}
 use Rattle.route_join.specs.Updates.{all_updates}
 
--- the writer's end, and whether no call of it has failed
+-- the writer's end, whether no call of it has failed, and the octets that it holds back
 pub record Sending : Type 0 where
   pub end : End
   pub is_open : Bool
+  pub held : List ℕ
 
 -- ---- the updates that an edge sends
 abbrev pub is_own : ℕ → Fields → Bool

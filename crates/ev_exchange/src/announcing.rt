@@ -2,9 +2,10 @@
 //! it: the updates that the edges announce, and the originators that the other side names.
 ghost use Rattle.std.specs.Prelude.{◌≡◌, ◌∷◌, [], Option, List};
 ghost use Rattle.ev_links.specs.Coming.{behind};
-ghost use Rattle.ev_exchange.specs.Saying.{Told, has_table, has_due};
+ghost use Rattle.ev_exchange.specs.Saying.{Told, has_table, has_due, IsReady};
 
-use ether_wire::Addr;
+use crate::sender::Sender;
+use ether_wire::{Addr, Flushing};
 use route_wire::Update;
 use std::alloc::Global;
 
@@ -37,11 +38,15 @@ pub trait Announcing {
     fn table(&mut self, alloc: Global, edge: u64) -> Option<EdgeTable>
         ensures { told self.new ≡ behind (told self.old) (has_table edge result ∷ []) };
 
-    /// Waits for the next item: an update that one of them announces, or an originator that the
-    /// other side names. Returns `None` if no more come.
-    fn next(&mut self) -> Option<Due>
-        ensures { told self.new ≡ behind (told self.old) (has_due result ∷ []) };
+    /// Returns the next item, an update that one of them announces or an originator that the other
+    /// side names, if it has come. It does not wait.
+    fn ready(&mut self) -> Option<Due>
+        ensures { IsReady (told self.old) (told self.new) result };
 
-    /// Returns `true` if the next item is still to come.
-    fn is_idle(&self) -> bool;
+    /// Waits for the next item. Returns `None` if no more come. `sender` is the writer of the
+    /// connection. It may not hold octets back while this call waits, since nobody can say how long
+    /// that takes.
+    fn wait<W: Flushing>(&mut self, sender: &Sender<W>) -> Option<Due>
+        requires { sender.now.held ≡ [] }
+        ensures { told self.new ≡ behind (told self.old) (has_due result ∷ []) };
 }

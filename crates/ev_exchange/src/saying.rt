@@ -3,11 +3,12 @@
 //! the other side names.
 ghost use Rattle.std.specs.Prelude.{◌≡◌, [], None};
 ghost use Rattle.ev_exchange.specs.Sending.{HasSaid};
+ghost use Rattle.ev_exchange.specs.Inner.Saying.{Comes};
 ghost use Rattle.ev_exchange.specs.Saying.{whose, SaysTables, PassesOn, Announces};
 
 use crate::announcing::{Announcing, Due, EdgeTable};
 use crate::sender::Sender;
-use ether_wire::{Addr, Out};
+use ether_wire::{Addr, Flushing};
 use std::alloc::Global;
 use std::sync::Wait;
 
@@ -24,7 +25,7 @@ fn whose(named: &Option<Addr>, table: &EdgeTable) -> Addr
 
 /// Sends from the tables of all `edges` edges the registers of this originator, or each edge's own
 /// registers if none is named. Returns `true` if all of them were sent.
-fn say_tables<S: Announcing, W: Out>(
+fn say_tables<S: Announcing, W: Flushing>(
     alloc: Global,
     edges: u64,
     named: Option<Addr>,
@@ -46,20 +47,26 @@ fn say_tables<S: Announcing, W: Out>(
     true
 }
 
-/// Flushes the writer if there is nothing more to send at present.
-#[tactic(auto, using(crate::proofs::Sayings::said_none))]
-fn flush_idle<S: Announcing, W: Out>(from: &S, sender: &mut Sender<W>)
-    ensures { HasSaid sender.old sender.new [] }
+/// Returns the next item. If none has come yet, it passes on what the writer holds back, and waits.
+/// Returns `None` if no more items come, or if a call of the writer has failed.
+fn next_item<S: Announcing, W: Flushing>(from: &mut S, sender: &mut Sender<W>) -> Option<Due>
+    ensures comes { Comes (S.told from.old) (S.told from.new) sender.new result }
+    ensures said { HasSaid sender.old sender.new [] }
 {
-    if from.is_idle() {
-        sender.flush();
+    if let Some(due) = from.ready() {
+        return Some(due);
     }
+    sender.flush();
+    if !sender.is_open() {
+        return None;
+    }
+    from.wait(sender)
 }
 
 /// Sends each update as it is announced, and sends back the registers of each originator as it is
 /// named. Ends if no more items come, if an edge returns no table, or if a call of the writer has
 /// failed.
-fn pass_on<S: Announcing, W: Out, R: Wait>(
+fn pass_on<S: Announcing, W: Flushing, R: Wait>(
     rt: &R,
     alloc: Global,
     edges: u64,
@@ -69,11 +76,10 @@ fn pass_on<S: Announcing, W: Out, R: Wait>(
     ensures { PassesOn edges (S.told from.old) (S.told from.new) sender.old sender.new }
 {
     for _ in rt.forever() {
-        flush_idle(from, sender);
         if !sender.is_open() {
             return;
         }
-        let Some(due) = from.next() else {
+        let Some(due) = next_item(from, sender) else {
             return;
         };
         match &due {
@@ -93,7 +99,7 @@ fn pass_on<S: Announcing, W: Out, R: Wait>(
 /// originator, sends back the registers of that originator in the table of each edge. It ends if an
 /// edge returns no table, if no more items come, or if a call of the writer has failed. Before it
 /// waits for an item it flushes the writer.
-pub fn announce<S: Announcing, W: Out, R: Wait>(
+pub fn announce<S: Announcing, W: Flushing, R: Wait>(
     rt: &R,
     alloc: Global,
     edges: u64,

@@ -1,33 +1,37 @@
 //! Sends the updates of one process on a connection: those of its edges' tables when it begins, and
 //! each update that they announce since, in order.
-ghost use Rattle.std.specs.Prelude.{◌≡◌, ◌∷◌, [], false};
+ghost use Rattle.std.specs.Prelude.{◌≡◌, ◌∷◌, [], true, false};
 ghost use Rattle.ether_wire.specs.Ends.{IsOpen};
 ghost use Rattle.ev_exchange.specs.Sending.{HasSent, HasSaid, own_of};
 
-use ether_wire::{Addr, Out};
+use ether_wire::{Addr, Flushing};
 use route_wire::{Update, write};
 use std::marker::Model;
 
 /// Writes the records of updates on a connection. After a failed call it makes no further one.
 #[derive(Drop)]
-pub struct Sender<W: Out> {
+pub struct Sender<W: Flushing> {
     out: W,
     is_open: bool,
 }
 
-impl<W: Out> Model for Sender<W> {
+impl<W: Flushing> Model for Sender<W> {
     ghost use Rattle.std.specs.Prelude.{◌≡◌, true};
     ghost use Rattle.ether_wire.specs.Ends.{IsOpen};
     ghost use Rattle.ev_exchange.specs.Sending.{Sending};
 
     ghost Value = { Sending };
 
-    ghost view = { λ s. record { end = W.end s.out; is_open = s.is_open } };
+    ghost view = { λ s. record {
+      end = W.end s.out;
+      is_open = s.is_open;
+      held = W.held s.out;
+    } };
 
     ghost invariant = { λ s. s.is_open ≡ true → IsOpen (W.end s.out) };
 }
 
-impl<W: Out> Sender<W> {
+impl<W: Flushing> Sender<W> {
     /// Returns a sender that has sent nothing.
     pub fn new(out: W) -> Self
         requires { IsOpen (W.end out) }
@@ -68,13 +72,15 @@ impl<W: Out> Sender<W> {
         }
     }
 
-    /// Flushes the octets that the writer holds, if any.
+    /// Passes on the octets that the writer holds back, if any. Afterwards it holds none, or a call
+    /// has failed.
     pub fn flush(&mut self)
         ensures shut { self.old.is_open ≡ false → self.new ≡ self.old }
         ensures said { HasSaid self.old self.new [] }
+        ensures none_held { self.new.is_open ≡ true → self.new.held ≡ [] }
     {
         if self.is_open {
-            self.is_open = self.out.flush().is_ok();
+            self.is_open = self.out.flush_held().is_ok();
         }
     }
 

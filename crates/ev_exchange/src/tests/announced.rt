@@ -1,7 +1,7 @@
 //! Tests the updates that edges send on a connection that is joined to them.
 use super::{EDGE, FLOOD, KIND, are, of_another, update, with, withdrawn};
 use crate::{Announcing, Due, EdgeTable, Known, Sender, announce};
-use ether_wire::{Addr, FailAt, Page};
+use ether_wire::{Addr, FailAt, Flushing, Page};
 use route_wire::Update;
 use std::alloc::Global;
 use std::test::Fail;
@@ -49,6 +49,16 @@ impl Two {
             idle: false,
         }
     }
+
+    /// Returns what the next item makes due.
+    fn due(&mut self) -> Option<Due> {
+        let item = *self.items.get(self.asked)?;
+        self.asked += 1;
+        match item? {
+            Item::Announced(record) => Some(Due::Update(update(&record).ok()?)),
+            Item::Named(originator) => Some(Due::Back(Addr::new(originator))),
+        }
+    }
 }
 
 impl Announcing for Two {
@@ -74,17 +84,15 @@ impl Announcing for Two {
         })
     }
 
-    fn next(&mut self) -> Option<Due> {
-        let item = *self.items.get(self.asked)?;
-        self.asked += 1;
-        match item? {
-            Item::Announced(record) => Some(Due::Update(update(&record).ok()?)),
-            Item::Named(originator) => Some(Due::Back(Addr::new(originator))),
+    fn ready(&mut self) -> Option<Due> {
+        if self.idle {
+            return None;
         }
+        self.due()
     }
 
-    fn is_idle(&self) -> bool {
-        self.idle
+    fn wait<W: Flushing>(&mut self, _sender: &Sender<W>) -> Option<Due> {
+        self.due()
     }
 }
 
