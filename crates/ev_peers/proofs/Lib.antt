@@ -2,3 +2,4 @@ pub mod PassingOn
 pub mod Plans
 pub mod Contained
 pub mod Letters
+pub mod Threads

@@ -1,5 +1,6 @@
 pub mod EdgeThreads
 pub mod Giving
+pub mod Handles
 pub mod Outcome
 pub mod Passing
 pub mod Plan

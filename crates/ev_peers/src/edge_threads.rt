@@ -1,7 +1,8 @@
 //! An edge with all its workers, each on a thread of its own.
-ghost use Rattle.std.specs.Prelude.{◌≡◌, ◌+◌, ◌≤◌, length, vec_len, vec_capacity, IfOk};
+ghost use Rattle.std.specs.Prelude.{◌≡◌, ◌+◌, ◌≤◌, vec_len, vec_capacity};
 ghost use Rattle.bpdu_wire.specs.Id.{bridge_address};
 ghost use Rattle.ev_edge.specs.Config.{IsConfig};
+ghost use Rattle.ev_peers.specs.EdgeThreads.{IsRanOf};
 ghost use Rattle.ev_peers.specs.Inner.EdgeThreads.{IsReady};
 
 use crate::edge_links::EdgeLinks;
@@ -186,8 +187,8 @@ fn run_workers<
 /// the clock and the other edges' records.
 ///
 /// Only the type of a thread's result is known, and of a book that was under a lock. So no clause
-/// contains the workers' events or faults: the contract promises that each worker has its count of
-/// calls.
+/// contains the workers' events or faults: the contract promises that the outcome has the edge's
+/// number and address, and a count of calls for each worker.
 ///
 /// # Errors
 ///
@@ -209,12 +210,12 @@ pub fn edge_worker<
     requires each { blank.parts ≡ vec_len links.ports + 3 }
     requires most { vec_len links.ports ≤ 253 }
     requires config { IsConfig config }
-    ensures totals { IfOk result (λ o. length o.totals ≡ vec_len links.ports + 3) }
-    ensures dropped { IfOk result (λ o. vec_len o.dropped ≡ vec_len links.ports + 1) }
+    ensures { IsRanOf host.entry.number config.address (vec_len links.ports) result }
 {
     let (rt, alloc) = (host.rt, host.alloc);
     let count = links.ports.len() + 3;
     let bridge = bridge_of(&config);
+    let address = config.address;
     let dropped = Vec::with_capacity(alloc, links.ports.len() + 1)?;
     let (threads, shared) = planned(alloc, links, &config)?;
     let (book, mut fresh) = Book::<L>::open(alloc, blank, config, count)?;
@@ -234,6 +235,8 @@ pub fn edge_worker<
     let (edge, totals) = book.into_inner().close(passes);
     let out_of_memory = shared.out_of_memory.load(Ordering::SeqCst);
     Ok(Outcome {
+        number: host.number,
+        address,
         edge,
         totals,
         faults: faults.with_out_of_memory(out_of_memory),

@@ -3,12 +3,17 @@ ghost use Rattle.std.specs.Prelude.{◌≡◌};
 ghost use Rattle.ev_peers.specs.Inner.Outcome.{no_faults, both_faults, is_device, is_memory, with_end, with_memory, with_sent};
 
 use crate::shared_edge::Ended;
+use ether_wire::Addr;
 use ev_book::Totals;
 use ev_edge::Edge;
 
 /// The outcome of an edge whose workers have ended.
 #[derive(Drop)]
 pub struct Outcome {
+    /// The edge's number, from 1.
+    pub number: usize,
+    /// The address under which the edge spoke.
+    pub address: Addr,
     /// The edge.
     pub edge: Edge,
     /// How many calls of each worker were counted.

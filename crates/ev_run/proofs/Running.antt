@@ -2,7 +2,8 @@
 use Rattle.std.proofs.Common.{◌≡◌, inl, inr, ℕ, ◌+◌, ◌-◌, ◌<◌, ◌^◌, min, Bool, false, not, ◌||◌, nat_lt, List, [], ◌∷◌}
 use Rattle.std.proofs.Common.{◌++◌, take, length, get_or, map, reverse, append_assoc, Result, Ok, Err, is_ok, refl}
 use Rattle.std.proofs.Common.{MatchOption, sym, ap, subst, ◌∙◌, arith}
-use Rattle.std.proofs.lemmas.List.{take_more, map-append, reverse-append}
+use Rattle.std.proofs.Math.Seq.{take-length}
+use Rattle.std.proofs.lemmas.List.{append-nil, take_more, map-append, reverse-append}
 use Rattle.std.proofs.lemmas.List.Sums.{sum_by_push}
 use Rattle.std.specs.List.{sum_by, list_any}
 use Rattle.std.proofs.lemmas.List.Elements.{Contains-append_left, Contains-append_right}
@@ -11,19 +12,26 @@ use Rattle.ether_wire.specs.declared.ends.Device as device
 use Rattle.ether_wire.specs.Ends.{End, Source, Gets, Puts}
 use Rattle.ev_edge.specs.declared.config.EdgeConfig.{EdgeConfig}
 use Rattle.ev_edge.specs.Config.{IsConfig}
-use Rattle.ev_peers.specs.EdgeThreads.{EdgeSetup}
+use Rattle.ev_links.specs.Udp.{destination_of}
+use Rattle.ev_links.specs.declared.udp.UdpOut.{UdpOut}
+use Rattle.ev_peers.specs.declared.edge_links.Link.{Link}
+use Rattle.ev_peers.specs.EdgeThreads.{EdgeSetup, setup_of}
 use Rattle.ev_config.specs.declared.endpoint.Endpoint.{Endpoint}
 use Rattle.ev_config.specs.declared.whole.Config.{Config}
+use Rattle.ev_run.specs.declared.bound.PortSocket.{PortSocket}
+use Rattle.ev_run.specs.declared.bound.Sockets.{Sockets}
+use Rattle.ev_run.specs.Links.{sends_to, destinations_of, begun_of, AreSetupsOf}
+use Rattle.ev_run.specs.Inner.Sockets.{sent_to, to_remote}
 use Rattle.ev_run.specs.declared.sockets.BindError.{BindError}
 use Rattle.ev_run.specs.declared.sockets.StartError.{StartError}
 use Rattle.ev_run.specs.declared.sockets.StartError.TheVariants.{Unbindable, Unnamed, NoMemory}
-use Rattle.ev_run.specs.Sockets.{endpoints_of, all_ends, lacks_address, Hinders}
+use Rattle.ev_run.specs.Sockets.{endpoints_of, all_ends, all_remotes, lacks_address, Hinders}
 use Rattle.ev_report.specs.Ends.{Devices, devices, has_failed, Holds, Gives, Passes}
 use Rattle.ev_report.specs.declared.input.ReadError.TheVariants.{Device}
 use Rattle.ev_report.specs.Input.{ReadsWhole, Gathers}
 use Rattle.ev_report.specs.Notes.{status_of}
 use Rattle.ev_run.specs.RunEdges.{bind_error_text, Ended, reports_from, noted_text, sends_failed}
-use Rattle.ev_run.specs.Inner.RunEdges.{EachConfig, begun_of}
+use Rattle.ev_run.specs.Inner.RunEdges.{EachConfig}
 use Rattle.ev_run.specs.RunEdges.{system_text, Ran}
 use Rattle.ev_run.specs.RunEdges.{link_failed, was_out_of_memory, all_lost, IsReadOut, ReadsOut, TellsEnded}
 use Rattle.ev_run.specs.Inner.RunEdges.{PutsRest, TellsRest}
@@ -87,32 +95,68 @@ module _ (all left : List EdgeConfig) (config : EdgeConfig) (same : all ≡ left
   each_left = λ c k. each c (subst (λ (cs : List EdgeConfig). Contains cs c) (sym same)
       (Contains-append_left left (config ∷ []) c k))
 
-  -- one configuration more with which an edge begins, put after those behind it
-  pub one_begun : (start : ℕ) (setups setups' : List EdgeSetup) (setup : EdgeSetup) (begun : List EdgeConfig)
-      → setups' ≡ setups ++ setup ∷ [] → setup.config ≡ begun_of start config
-      → map (begun_of start) all ++ map (λ (s : EdgeSetup). s.config) (reverse setups) ≡ begun
-      → map (begun_of start) left ++ map (λ (s : EdgeSetup). s.config) (reverse setups') ≡ begun
-  one_begun start setups setups' setup begun pushed is so_far =
-      let of : EdgeSetup → EdgeConfig = λ s. s.config in
-      let rest = map of (reverse setups) in
-      let before = map (begun_of start) left in
-      ap (λ (l : List EdgeSetup). before ++ map of (reverse l)) pushed
-      ∙ ap (λ (l : List EdgeSetup). before ++ map of l) (reverse-append setups (setup ∷ []))
-      ∙ ap (λ (c : EdgeConfig). before ++ c ∷ rest) is
-      ∙ sym (append_assoc before (begun_of start config ∷ []) rest)
-      ∙ ap (λ (l : List EdgeConfig). l ++ rest) (sym (map-append (begun_of start) left (config ∷ [])))
-      ∙ ap (λ (l : List EdgeConfig). map (begun_of start) l ++ rest) (sym same)
+-- ---- a loop that takes the last element first
+
+module _ {A B C : Type 0} (f : A → C) (g : B → C) where
+  -- one element more, before those that were taken earlier
+  pub one_back : (before all : List A) (x : A) (made made' : List B) (y : B) (whole : List C)
+      → all ≡ before ++ x ∷ [] → made' ≡ made ++ y ∷ [] → g y ≡ f x
+      → map f all ++ map g (reverse made) ≡ whole → map f before ++ map g (reverse made') ≡ whole
+  one_back before all x made made' y whole popped pushed is so_far =
+      let rest = map g (reverse made) in
+      ap (λ (l : List B). map f before ++ map g (reverse l)) pushed
+      ∙ ap (λ (l : List B). map f before ++ map g l) (reverse-append made (y ∷ []))
+      ∙ ap (λ (z : C). map f before ++ z ∷ rest) is
+      ∙ sym (append_assoc (map f before) (f x ∷ []) rest)
+      ∙ ap (λ (l : List C). l ++ rest) (sym (map-append f before (x ∷ [])))
+      ∙ ap (λ (l : List A). map f l ++ rest) (sym popped)
       ∙ so_far
 
--- all configurations with which edges begin, in their order again
-pub all_begun : (start : ℕ) (left : List EdgeConfig) (setups setups' : List EdgeSetup) (begun : List EdgeConfig)
-    → left ≡ [] → setups' ≡ reverse setups
-    → map (begun_of start) left ++ map (λ (s : EdgeSetup). s.config) (reverse setups) ≡ begun
-    → map (λ (s : EdgeSetup). s.config) setups' ≡ begun
-all_begun start left setups setups' begun none reversed is =
-    let of : EdgeSetup → EdgeConfig = λ s. s.config in
-    ap (map of) reversed
-    ∙ ap (λ (l : List EdgeConfig). map (begun_of start) l ++ map of (reverse setups)) (sym none) ∙ is
+  -- all elements, in their order again
+  pub all_back : (left : List A) (made made' : List B) (whole : List C) → left ≡ [] → made' ≡ reverse made
+      → map f left ++ map g (reverse made) ≡ whole → map g made' ≡ whole
+  all_back left made made' whole none reversed is =
+      ap (map g) reversed ∙ ap (λ (l : List A). map f l ++ map g (reverse made)) (sym none) ∙ is
+
+-- the elements up to the one at a place, and that one
+pub upto : {A : Type 0} (all : List A) (place more : ℕ) (x : A) → more ≡ place + 1 → place < length all
+    → x ≡ get_or all place x → take more all ≡ take place all ++ x ∷ []
+upto all place more x many within is =
+    ap (λ n. take n all) many ∙ take_more all place x within ∙ ap (λ y. take place all ++ y ∷ []) (sym is)
+
+pub upto_end : {A B C : Type 0} (f : A → C) (g : B → C) (all : List A) (many : ℕ) (made : List B) → length all ≡ many
+    → made ≡ [] → map f (take many all) ++ map g (reverse made) ≡ map f all
+upto_end f g all many made is none =
+    ap (λ l. map f (take many all) ++ map g (reverse l)) none ∙ append-nil (map f (take many all))
+    ∙ ap (λ n. map f (take n all)) (sym is) ∙ ap (map f) (take-length all)
+
+pub upto_none : {A : Type 0} (all : List A) (many : ℕ) → many ≡ 0 → take many all ≡ []
+upto_none all many is = ap (λ n. take n all) is
+
+-- ---- the links of a run
+
+pub map_twice : {A B C : Type 0} (g : B → C) (f : A → B) (xs : List A) → map g (map f xs) ≡ map (λ x. g (f x)) xs
+map_twice g f [] = refl
+map_twice g f (x ∷ xs) = ap (λ l. g (f x) ∷ l) (map_twice g f xs)
+
+-- an edge over these links sends to its ports' remote endpoints
+pub to_remotes : {I : Type 0} (config : EdgeConfig) (links : List (Link I UdpOut)) (ports : List PortSocket)
+    (setup : EdgeSetup UdpOut) → setup ≡ setup_of config (map (λ (l : Link I UdpOut). l.output) links)
+    → map (λ (l : Link I UdpOut). destination_of l.output) links ≡ map to_remote ports
+    → destinations_of setup ≡ map sends_to (map (λ (p : PortSocket). p.remote) ports)
+to_remotes {I} config links ports setup is to =
+    ap destinations_of is ∙ map_twice destination_of (λ (l : Link I UdpOut). l.output) links
+    ∙ to ∙ sym (map_twice sends_to (λ (p : PortSocket). p.remote) ports)
+
+-- the setups are those of these configurations and sockets
+pub are_setups : (incarnation : ℕ) (configs : List EdgeConfig) (all : List Sockets) (setups : List (EdgeSetup UdpOut))
+    → map (λ (s : EdgeSetup UdpOut). s.config) setups ≡ map (begun_of incarnation) configs
+    → map destinations_of setups ≡ map (λ (sockets : Sockets). map sends_to (sent_to sockets)) all
+    → AreSetupsOf incarnation configs (map sent_to all) setups
+are_setups incarnation configs all setups begun to = record {
+  begun = begun;
+  sends = to ∙ sym (map_twice (map sends_to) sent_to all);
+}
 
 -- ---- the texts
 
@@ -206,14 +250,17 @@ runs_none is_asked config NoMemory input out notes notes' status hinders told =
     rw told.0 (inr (inr (inl (refused_memory out notes status told.1))))
 
 -- the edges ran with sockets that are bound to the right endpoints
-pub runs_bound : (is_asked : Bool) (config : Config) (bound : List (List Endpoint)) (before after : Devices)
-    (status : ℕ)
-    → Ran (length config.edges.items) bound before after status → bound ≡ endpoints_of config
-    → lacks_address config ≡ false → RunsEdges is_asked config before after status
-runs_bound is_asked config bound before after status ran same whole = inl (
-  whole,
-  subst (λ (ends : List (List Endpoint)). Ran (length config.edges.items) ends before after status) same ran,
-)
+pub runs_bound : (is_asked : Bool) (config : Config) (bound remotes : List (List Endpoint)) (before after : Devices)
+    (status : ℕ) → Ran is_asked config.edges.items bound remotes before after status → bound ≡ endpoints_of config
+    → remotes ≡ all_remotes config.links.items → lacks_address config ≡ false
+    → RunsEdges is_asked config before after status
+runs_bound is_asked config bound remotes before after status ran same to whole =
+    let edges = config.edges.items in
+    inl (
+      whole,
+      subst (λ (ends : List (List Endpoint)). Ran is_asked edges (endpoints_of config) ends before after status) to
+          (subst (λ (ends : List (List Endpoint)). Ran is_asked edges ends remotes before after status) same ran),
+    )
 
 -- the memory with which the edges begin was refused
 pub runs_refused : (is_asked : Bool) (config : Config) (input input' : Source) (out out' notes notes' : End)
@@ -259,20 +306,28 @@ module _ (is_asked : Bool) (config : Config) (before held after : Devices) (stat
     status_is = passed_four before held after status last p u.status_is;
   }
 
-  passed_ran : (many : ℕ) (sockets : List (List Endpoint)) → Ran many sockets before held status
-      → Ran many sockets before after last
-  passed_ran many sockets r = record {
+  passed_ran : (configs : List EdgeConfig) (sockets remotes : List (List Endpoint))
+      → Ran is_asked configs sockets remotes before held status → Ran is_asked configs sockets remotes before after last
+  passed_ran configs sockets remotes r = record {
     is_read = r.is_read;
     read = subst (λ (s : Source). ReadsOut before.input s r.is_read) (sym p.input) r.read;
+    incarnation = r.incarnation;
+    unasked = r.unasked;
+    setups = r.setups;
+    are = r.are;
     ended = r.ended;
     all = r.all;
+    each = r.each;
     alerts = r.alerts;
     table = r.table;
     told = passed_ended r.alerts r.ended (system_text r.table sockets) r.is_read r.told;
   }
 
   pub passed_runs : RunsEdges is_asked config before held status → RunsEdges is_asked config before after last
-  passed_runs (inl r) = inl (r.0, passed_ran (length config.edges.items) (endpoints_of config) r.1)
+  passed_runs (inl r) = inl (
+    r.0,
+    passed_ran config.edges.items (endpoints_of config) (all_remotes config.links.items) r.1,
+  )
   passed_runs (inr (inl h)) = inr (inl (
     p.input ∙ h.0,
     passed_out before held after status last p [] h.1,

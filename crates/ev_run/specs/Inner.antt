@@ -2,5 +2,6 @@ pub mod ControlSocket
 pub mod Lives
 pub mod RunEdges
 pub mod Serving
+pub mod Settling
 pub mod Sockets
 pub mod ThreadCheck

@@ -1,4 +1,5 @@
 pub mod Sockets
+pub mod Links
 pub mod SystemDrops
 pub mod RunEdges
 pub mod Serving

@@ -3,17 +3,22 @@ use Rattle.std.specs.Prelude.{◌≡◌, ℕ, ◌-◌, ◌^◌, min, ◌⊎◌, 
 use Rattle.std.specs.Prelude.{if◌then◌else◌, List, [], ◌++◌, length, codes, Option, Some, None}
 use Rattle.std.specs.Prelude.{Result, Ok, Err}
 use Rattle.std.specs.Fmt.{decimal}
+use Rattle.std.specs.Bool.{OnFalse}
 use Rattle.std.specs.List.{sum_by, list_any}
 use Rattle.std.specs.declared.alloc.AllocError.{AllocError}
 use Rattle.ether_wire.specs.Ends.{End, Source}
 use Rattle.ether_wire.specs.Addr.{addr_text}
 use Rattle.ev_edge.specs.Edge.{Edge, table_of}
+use Rattle.ev_edge.specs.declared.config.EdgeConfig.{EdgeConfig}
+use Rattle.ev_peers.specs.EdgeThreads.{EdgeSetup, AreRanFrom}
 use Rattle.ev_peers.specs.declared.outcome.Outcome.{Outcome}
+use Rattle.ev_links.specs.declared.udp.UdpOut.{UdpOut}
 use Rattle.ev_notices.specs.Telling.{Told, lines_of}
 use Rattle.route_join.specs.Report.{report_of}
 use Rattle.ev_config.specs.declared.whole.Config.{Config}
 use Rattle.ev_config.specs.declared.endpoint.Endpoint.{Endpoint}
-use Rattle.ev_run.specs.Sockets.{endpoints_of, all_ends, lacks_address, Hinders}
+use Rattle.ev_run.specs.Sockets.{endpoints_of, all_ends, all_remotes, lacks_address, Hinders}
+use Rattle.ev_run.specs.Links.{AreSetupsOf}
 use Rattle.ev_run.specs.SystemDrops.{dropped_at}
 use Rattle.ev_run.specs.ThreadCheck.{LacksThreads}
 use Rattle.ev_run.specs.declared.print.Dropped.{Dropped}
@@ -152,13 +157,21 @@ pub record TellsEnded (alerts : List Told) (ended : List Ended) (system : Text) 
 
 -- ---- a run
 
--- Edges ran until the input's end, and `many` of them have a result. `sockets` are the endpoints of their sockets;
--- `table` is the system's table of UDP sockets at that time, empty if it couldn't be read.
-pub record Ran (many : ℕ) (sockets : List (List Endpoint)) (before after : Devices) (status : ℕ) : Type 0 where
+-- Edges with these configurations ran until the input's end, and each has its result, edge 1 first. `sockets` are the
+-- endpoints of their sockets, and `remotes` those to which their ports send. The incarnation is that of edges whose
+-- configuration names none: 0 unless clients may query them. `table` is the system's table of UDP sockets at that time,
+-- empty if it couldn't be read.
+pub record Ran (is_asked : Bool) (configs : List EdgeConfig) (sockets remotes : List (List Endpoint))
+    (before after : Devices) (status : ℕ) : Type 0 where
   pub is_read : Bool
   pub read : ReadsOut before.input after.input is_read
+  pub incarnation : ℕ
+  pub unasked : OnFalse is_asked (incarnation ≡ 0)
+  pub setups : List (EdgeSetup UdpOut)
+  pub are : AreSetupsOf incarnation configs remotes setups
   pub ended : List Ended
-  pub all : length ended ≡ many
+  pub all : length ended ≡ length configs
+  pub each : AreRanFrom 1 setups ended
   pub alerts : List Told
   pub table : Text
   pub told : TellsEnded alerts ended (system_text table sockets) is_read before.out after.out before.notes after.notes
@@ -186,7 +199,8 @@ pub record IsStartError (config : Config) (notes notes' : End) (status : ℕ) : 
 -- edges meanwhile if `is_asked`.
 abbrev pub RunsEdges : Bool → Config → Devices → Devices → ℕ → Type 0
 RunsEdges is_asked config before after status =
-    ((lacks_address config ≡ false) × Ran (length config.edges.items) (endpoints_of config) before after status)
+    ((lacks_address config ≡ false) × Ran is_asked config.edges.items (endpoints_of config)
+    (all_remotes config.links.items) before after status)
     ⊎ (((after.input ≡ before.input) × Holds before.out after.out []
     × IsStartError config before.notes after.notes status)
     ⊎ (IsRefusedMemory before.out after.out before.notes after.notes status

@@ -1,5 +1,5 @@
 -- The endpoints of a run's sockets.
-use Rattle.std.specs.Prelude.{◌≡◌, ◌||◌, Bool, true, is_none, List, [], ◌∷◌, Contains}
+use Rattle.std.specs.Prelude.{◌≡◌, ◌||◌, Bool, true, is_none, List, [], ◌∷◌, map, Contains}
 use Rattle.std.specs.List.{filter_map, flat_map, list_any}
 use Rattle.arrayvec.specs.ArrayVec.{ArrayVec}
 use Rattle.ev_edge.specs.declared.config.EdgeConfig.{EdgeConfig}
@@ -20,6 +20,14 @@ locals_of links = filter_map (λ link. link.local) links
 -- the endpoints at which an edge receives: from its tunnels, and from its ports
 abbrev pub edge_ends : EdgeConfig → ArrayVec PortEndpoints → List Endpoint
 edge_ends edge links = tunnel_of edge ∷ locals_of links.items
+
+-- the endpoints to which ports send their frames
+abbrev pub remotes_of : List PortEndpoints → List Endpoint
+remotes_of links = filter_map (λ link. link.remote) links
+
+-- the endpoints to which the ports of each edge send, port 1 first
+abbrev pub all_remotes : List (ArrayVec PortEndpoints) → List (List Endpoint)
+all_remotes all = map (λ links. remotes_of links.items) all
 
 -- the endpoints of each of these edges, with the links of each
 abbrev pub ends_from : List EdgeConfig → List (ArrayVec PortEndpoints) → List (List Endpoint)

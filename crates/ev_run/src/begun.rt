@@ -2,7 +2,7 @@
 ghost use Rattle.std.specs.Prelude.{◌≡◌};
 ghost use Rattle.std.specs.Bool.{OnFalse};
 ghost use Rattle.ev_edge.specs.Config.{IsConfig};
-ghost use Rattle.ev_run.specs.Inner.RunEdges.{begun_of};
+ghost use Rattle.ev_run.specs.Links.{begun_of};
 
 use ev_edge::EdgeConfig;
 use std::thread;

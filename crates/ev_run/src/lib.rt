@@ -14,6 +14,7 @@ mod print_needs;
 mod records;
 mod run;
 mod serve;
+mod settling;
 mod sockets;
 mod system_drops;
 mod thread_check;

@@ -9,7 +9,7 @@ ghost use Rattle.std.specs.Option.{option_map_or};
 ghost use Rattle.ev_exchange.specs.Sending.{is_own};
 
 use crate::lives::{OwnLives, PeerLives};
-use ether_wire::{Addr, Buffered, Reader, Writer};
+use ether_wire::{Addr, Buffered, Flushing, Reader, Writer};
 use ev_exchange::{
     Announcing, Due, EdgeTable, Entrance, Known, Sender, StreamEnd, announce, has_any_of, receive,
 };
@@ -89,6 +89,22 @@ impl<R: Wait> Announced<'_, R> {
         }
         control.table(rt, alloc)?.ok()
     }
+
+    /// Waits for the next update of the connection's outbox. Returns the item that it makes due.
+    fn due(&mut self) -> Option<Due> {
+        let edges = self.connection.edges;
+        let update = self.connection.joined.next(edges.rt)?;
+        let originator = update.register().originator;
+        self.named = None;
+        if self.connection.own.has(originator) {
+            return Some(Due::Update(update));
+        }
+        // The reader has put it there: it is the first one of an edge elsewhere.
+        if edges.listed.has(originator) {
+            self.named = Some(originator);
+        }
+        Some(Due::Back(originator))
+    }
 }
 
 impl<R: Wait> Announcing for Announced<'_, R> {
@@ -107,24 +123,16 @@ impl<R: Wait> Announcing for Announced<'_, R> {
         })
     }
 
-    fn next(&mut self) -> Option<Due> {
+    fn ready(&mut self) -> Option<Due> {
         let edges = self.connection.edges;
-        let update = self.connection.joined.next(edges.rt)?;
-        let originator = update.register().originator;
-        self.named = None;
-        if self.connection.own.has(originator) {
-            return Some(Due::Update(update));
+        if self.connection.joined.is_idle(edges.rt) {
+            return None;
         }
-        // The reader has put it there: it is the first one of an edge elsewhere.
-        if edges.listed.has(originator) {
-            self.named = Some(originator);
-        }
-        Some(Due::Back(originator))
+        self.due()
     }
 
-    fn is_idle(&self) -> bool {
-        let edges = self.connection.edges;
-        self.connection.joined.is_idle(edges.rt)
+    fn wait<W: Flushing>(&mut self, _sender: &Sender<W>) -> Option<Due> {
+        self.due()
     }
 }
 

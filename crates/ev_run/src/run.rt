@@ -6,9 +6,11 @@ ghost use Rattle.ether_wire.specs.Ends.{IsOpen, Allows};
 ghost use Rattle.ev_fabric.specs.Opening.{AreConfigs};
 ghost use Rattle.ev_edge.specs.Config.{IsConfig};
 ghost use Rattle.ev_report.specs.Ends.{AreOpen, Holds, devices};
-ghost use Rattle.ev_run.specs.Inner.Sockets.{bound_at};
+ghost use Rattle.ev_peers.specs.EdgeThreads.{AreRanFrom};
+ghost use Rattle.ev_run.specs.Inner.Sockets.{bound_at, sent_to};
+ghost use Rattle.ev_run.specs.Links.{begun_of, destinations_of, sends_to};
 ghost use Rattle.ev_run.specs.RunEdges.{ReadsOut, sends_failed, link_failed, was_out_of_memory, all_lost, system_text, noted_text, Ran, start_text, RunsEdges};
-ghost use Rattle.ev_run.specs.Inner.RunEdges.{EachConfig, begun_of, PutsRest, TellsMeanwhile, TellsRest};
+ghost use Rattle.ev_run.specs.Inner.RunEdges.{EachConfig, PutsRest, TellsMeanwhile, TellsRest};
 
 use crate::begun::{begun_in, first_incarnation};
 use crate::bound::{Sockets, end_all_reads};
@@ -57,7 +59,7 @@ pub(crate) fn is_read_out<E: In>(reader: &mut E) -> bool
     false
 }
 
-/// Returns an edge over these sockets.
+/// Returns an edge over these sockets. Each of its ports sends to the port's remote endpoint.
 fn ready<'x, R: Clock>(
     rt: &'x R,
     alloc: Global,
@@ -66,7 +68,9 @@ fn ready<'x, R: Clock>(
     stop: &'x AtomicBool,
 ) -> Result<Ready<'x, R>, AllocError>
     requires { IsConfig config }
-    ensures { IfOk result (λ setup. setup.config ≡ config) }
+    ensures config { IfOk result (λ setup. setup.config ≡ config) }
+    ensures sends { IfOk result
+        (λ setup. destinations_of setup ≡ map sends_to (sent_to sockets.now)) }
 {
     Ok(Setup::new(config, links_of(rt, alloc, sockets, stop)?))
 }
@@ -95,6 +99,8 @@ fn all_ready<'x, R: Clock>(
     ensures many { IfOk result (λ setups. vec_len setups ≡ vec_len configs) }
     ensures begun { IfOk result (λ setups. map (λ setup. setup.config) setups.items
         ≡ map (begun_of incarnation) configs.items) }
+    ensures sends { IfOk result (λ setups. map destinations_of setups.items
+        ≡ map (λ sockets. map sends_to (sent_to sockets)) all.now) }
 {
     let mut configs = configs;
     let mut setups = Vec::with_capacity(alloc, configs.len())?;
@@ -250,7 +256,8 @@ fn run_reading<'x, R: Threads + Wait + Clock + Sync, E: In>(
     reader: &mut E,
 ) -> Reached
     requires { Allows (2 ^ 40) (E.end reader.old) }
-    ensures all { vec_len result.0 ≡ start.entry }
+    ensures all { vec_len result.0 ≡ length start.entry }
+    ensures each { AreRanFrom 1 start.entry result.0.items }
     ensures read { ReadsOut (E.end reader.old) (E.end reader.new) result.1 }
 {
     let (rt, alloc, service) = (host.rt, host.alloc, host.service);
@@ -294,7 +301,8 @@ fn run_bound<R: Threads + Wait + Files + Clock + Sync, E: In, W: Out, N: Out + S
     requires out { IsOpen (W.end out.old) }
     requires notes { IsOpen (N.end notes.old) }
     ensures ran { IfOk result
-        (λ status. Ran (length configs.items) (map bound_at sockets.now)
+        (λ status. Ran (is_some host.now.service) configs.items (map bound_at sockets.now)
+        (map sent_to sockets.now)
         (devices (E.end reader.old) (W.end out.old) (N.end notes.old))
         (devices (E.end reader.new) (W.end out.new) (N.end notes.new)) status) }
     ensures out { OnErr result (W.end out.new ≡ W.end out.old) }
@@ -320,7 +328,8 @@ fn run_bound<R: Threads + Wait + Files + Clock + Sync, E: In, W: Out, N: Out + S
         || -> (Reached, &mut E)
             requires { Allows (2 ^ 40) (E.end reader.now) }
             ensures same { result.1.ghost_name ≡ reader.entry.ghost_name }
-            ensures all { vec_len result.0.0 ≡ start.entry }
+            ensures all { vec_len result.0.0 ≡ length start.entry }
+            ensures each { AreRanFrom 1 start.entry result.0.0.items }
             ensures read { ReadsOut (E.end reader.entry.now) (E.end result.1.now) result.0.1 }
         {
             let reached = run_reading(host, start, &boards, sockets, &stop, &mut *reader);

@@ -2,8 +2,8 @@
 ghost use Rattle.std.specs.Prelude.{◌≡◌, ◌≤◌, ◌∷◌, [], false, vec_len, map, Some, IfOk, IfErr};
 ghost use Rattle.ether_wire.specs.Ends.{IsOpen, Puts};
 ghost use Rattle.ev_run.specs.RunEdges.{why_text, endpoint_text, bind_error_text};
-ghost use Rattle.ev_run.specs.Sockets.{tunnel_of, locals_of, endpoints_of, all_ends, lacks_end, lacks_ends, lacks_address, Hinders};
-ghost use Rattle.ev_run.specs.Inner.Sockets.{bound_at, remotes_of, sent_to};
+ghost use Rattle.ev_run.specs.Sockets.{tunnel_of, locals_of, remotes_of, endpoints_of, all_ends, all_remotes, lacks_end, lacks_ends, lacks_address, Hinders};
+ghost use Rattle.ev_run.specs.Inner.Sockets.{bound_at, sent_to};
 
 use crate::bound::{PortSocket, Sockets};
 use arrayvec::ArrayVec;
@@ -198,8 +198,8 @@ pub(crate) fn bind_all<R: Net>(
 ) -> Result<Vec<Sockets>, StartError>
     ensures all { IfOk result (λ all. vec_len all ≡ vec_len config.now.edges) }
     ensures bound { IfOk result (λ all. map bound_at all.items ≡ endpoints_of config.now) }
-    ensures remotes { IfOk result (λ all. map sent_to all.items
-        ≡ map (λ links. remotes_of links.items) config.now.links.items) }
+    ensures remotes { IfOk result
+        (λ all. map sent_to all.items ≡ all_remotes config.now.links.items) }
     ensures whole { IfOk result (λ all. lacks_address config.now ≡ false) }
     ensures hindered { IfErr result
         (λ why. Hinders (all_ends config.now) (lacks_address config.now) why) }

@@ -62,8 +62,8 @@ fn word_at(row: &[u8], place: usize) -> Option<&[u8]>
         .nth(place)
 }
 
-/// Returns `true` if a word is the socket's.
-fn names(local: &[u8], word: Option<&[u8]>) -> bool
+/// Returns `true` if a word is `local`.
+pub(crate) fn names(local: &[u8], word: Option<&[u8]>) -> bool
     ensures { result ≡ names local.now (option_map (λ word. word.now) word.entry) }
 {
     match word {
@@ -73,7 +73,7 @@ fn names(local: &[u8], word: Option<&[u8]>) -> bool
 }
 
 /// Returns the number that a word spells, or 0 if it spells none.
-fn count_of(word: Option<&[u8]>) -> u64
+pub(crate) fn count_of(word: Option<&[u8]>) -> u64
     ensures { result ≡ count_of (option_map (λ word. word.now) word.entry) }
 {
     match word {

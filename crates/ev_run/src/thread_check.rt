@@ -6,16 +6,15 @@ ghost use Rattle.ev_run.specs.ThreadCheck.{allowed_text, too_few_text, IsTooFew}
 ghost use Rattle.ev_run.specs.Inner.ThreadCheck.{TellsTooFew};
 
 use crate::needs::threads_of;
+use crate::settling::{counted_threads, settle};
 use ether_wire::{Device, Out, put_decimal};
 use ev_config::Config;
 use ev_report::status_of;
+use std::fs::Files;
 use std::sync::{Mutex, Wait};
 use std::thread;
 use std::thread::{Scope, Threads};
-use std::time::{Clock, Duration};
-
-/// The milliseconds for which the system may still count a thread that has ended.
-const SETTLING: u64 = 20;
+use std::time::Clock;
 
 /// A refusal of threads. Both numbers count the thread that runs the check.
 #[derive(Clone, Copy, Debug, PartialEq, Eq)]
@@ -79,13 +78,14 @@ fn start_in_scope<'x, R: Threads + Wait + Sync>(rt: &'x R, gate: &'x Mutex<()>, 
 }
 
 /// Returns how many threads the system starts beside this one, up to `most`. None of them runs any
-/// more when the function returns.
-fn startable<R: Threads + Wait + Clock + Sync>(rt: &R, most: u64) -> u64
+/// more when the function returns, and the system counts none of them, as far as it reports that.
+fn startable<R: Threads + Wait + Files + Clock + Sync>(rt: &R, most: u64) -> u64
     ensures { result ≤ most }
 {
+    let before = counted_threads(rt);
     let gate = Mutex::new(());
     let started = start_in_scope(rt, &gate, most);
-    thread::sleep(rt, Duration::from_millis(SETTLING));
+    settle(rt, before);
     started
 }
 
@@ -95,7 +95,7 @@ fn startable<R: Threads + Wait + Clock + Sync>(rt: &R, most: u64) -> u64
 /// # Errors
 ///
 /// `TooFewThreads` if the system refuses one.
-pub(crate) fn check_threads<R: Threads + Wait + Clock + Sync>(
+pub(crate) fn check_threads<R: Threads + Wait + Files + Clock + Sync>(
     rt: &R,
     config: &Config,
     is_asked: bool,

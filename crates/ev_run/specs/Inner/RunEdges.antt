@@ -1,5 +1,5 @@
 -- The results of a run of edges over sockets.
-use Rattle.std.specs.Prelude.{◌≡◌, ℕ, Bool, ◌==◌, if◌then◌else◌}
+use Rattle.std.specs.Prelude.{◌≡◌, ℕ, Bool}
 use Rattle.std.specs.Prelude.{List, Contains}
 use Rattle.std.specs.Prelude.{Result, Ok, Err}
 use Rattle.ether_wire.specs.declared.ends.Device as device
@@ -9,11 +9,6 @@ use Rattle.ev_edge.specs.Config.{IsConfig}
 use Rattle.ev_notices.specs.Telling.{Told, lines_of}
 use Rattle.ev_report.specs.Originators.{Text}
 use Rattle.ev_run.specs.RunEdges.{Ended, TellsEnded}
-
--- the configuration with which an edge begins: in this incarnation if it names none
-abbrev pub begun_of : ℕ → EdgeConfig → EdgeConfig
-begun_of incarnation config =
-    record config { incarnation = if config.incarnation == 0 then incarnation else config.incarnation }
 
 -- each of these configurations may be opened
 abbrev pub EachConfig : List EdgeConfig → Type 0

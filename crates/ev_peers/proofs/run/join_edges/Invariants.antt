@@ -1,10 +1,15 @@
-use Rattle.std.proofs.Common.{◌≡◌, ◌+◌, ◌≤◌, vec_len, vec_capacity}
+use Rattle.std.proofs.Common.{◌≡◌, ◌+◌, ◌≤◌, List, reverse, vec_len, vec_capacity}
+use Rattle.ev_peers.specs.EdgeThreads.{EdgeSetup}
+use Rattle.ev_peers.specs.Inner.Handles.{AreHandles}
+use Rattle.ev_peers.proofs.Threads.{Joined}
 use Rattle.ev_peers.proofs.run.join_edges.Given as goal
 
 abbrev pub invariant-loop-handle : goal.invariant-loop-handle
 invariant-loop-handle g l = record {
   all : vec_len l.ended + vec_len l.running ≡ vec_len l.fn.running;
   room : vec_len l.fn.running ≤ vec_capacity l.ended;
+  joined : (setups : List (EdgeSetup g.row.O.Denot)) → AreHandles 0 (reverse setups) l.fn.running.items
+      → Joined setups l.ended.items l.running.items;
 }
 
 abbrev pub decreases-loop-handle : goal.decreases-loop-handle

@@ -1,7 +1,7 @@
 use Rattle.std.proofs.Common.{◌≡◌, ◌+◌, ◌++◌, map, length, vec_len}
 use Rattle.std.specs.List.{list_any}
-use Rattle.ev_run.specs.Sockets.{ends_from, endpoints_of, lacks_ends, lacks_address}
-use Rattle.ev_run.specs.Inner.Sockets.{bound_at, remotes_of, sent_to}
+use Rattle.ev_run.specs.Sockets.{ends_from, endpoints_of, all_remotes, lacks_ends, lacks_address}
+use Rattle.ev_run.specs.Inner.Sockets.{bound_at, sent_to}
 use Rattle.ev_run.proofs.sockets.bind_all.Given as goal
 
 abbrev pub invariant-loop-edge : goal.invariant-loop-edge
@@ -10,7 +10,6 @@ invariant-loop-edge g l = record {
   all : vec_len l.all + length l.edge-iterator.a.rest.now ≡ vec_len l.config.edges;
   bound : map bound_at l.all.items ++ ends_from l.edge-iterator.a.rest.now l.edge-iterator.b.rest.now
       ≡ endpoints_of l.config;
-  remotes : map sent_to l.all.items ++ map (λ links. remotes_of links.items) l.edge-iterator.b.rest.now
-      ≡ map (λ links. remotes_of links.items) l.config.links.items;
+  remotes : map sent_to l.all.items ++ all_remotes l.edge-iterator.b.rest.now ≡ all_remotes l.config.links.items;
   whole : list_any (λ links. lacks_ends links.items) l.edge-iterator.b.rest.now ≡ lacks_address l.config;
 }

@@ -1,6 +1,5 @@
 use Rattle.std.proofs.Common.{◌≡◌, ◌≤◌, false, map, take, length, vec_len, vec_capacity}
-use Rattle.ev_run.specs.Sockets.{locals_of, lacks_ends}
-use Rattle.ev_run.specs.Inner.Sockets.{remotes_of}
+use Rattle.ev_run.specs.Sockets.{locals_of, remotes_of, lacks_ends}
 use Rattle.ev_run.proofs.sockets.bind_ports.Given as goal
 
 abbrev pub invariant-loop-link : goal.invariant-loop-link

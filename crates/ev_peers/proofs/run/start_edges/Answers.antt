@@ -1,0 +1,19 @@
+use Rattle.std.proofs.Common.{◌≡◌, ◌+◌, rules, length, subst}
+use Rattle.ev_peers.proofs.Threads.{one_started, all_started}
+use Rattle.ev_peers.specs.Inner.Handles.{IsHandle}
+use Rattle.ev_peers.proofs.run.start_edges.Goals as goal
+
+pub loop-setup-preserved : goal.loop-setup-preserved
+loop-setup-preserved g c =
+    let number : c.pop.new.self.len + 1 ≡ length c.pop.new.self.items + 1 = search rules in
+    record {
+      all = search rules;
+      room = search rules;
+      handles = one_started c.args.setups.items c.pop.new.self.items c.loop-setup.setups.items c.in-Some.setup
+          c.loop-setup.running.items _ c.start_edge-handle.result c.in-Some.ensures.items (search rules)
+          (search rules) c.loop-setup.invariant.handles;
+    }
+
+pub returns-clause-handles : goal.returns-clause-handles
+returns-clause-handles g c = all_started c.args.setups.items c.loop-setup.setups.items c.loop-setup.running.items
+    (search rules) c.loop-setup.invariant.handles
