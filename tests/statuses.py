@@ -18,7 +18,8 @@ from typing import Dict, List, NamedTuple
 TOP = os.path.dirname(os.path.dirname(os.path.abspath(__file__)))
 TABLE = os.path.join(TOP, "tests", "statuses.txt")
 PROGRAM = os.path.abspath(os.environ.get("EVPND") or f"{TOP}/crates/evpnd/out/evpnd")
-SECONDS = 10
+# for how many seconds a run is waited for: many, so that a busy machine makes no failure
+SECONDS = 60
 FAULT = r"((edge|peer) [0-9]+(, port [0-9]+)?: )?{} is .*, (allowed|which) .*"
 SUMMARY = "% ok: [0-9]+ edges?, [0-9]+ ports?, [0-9]+ VNIs?"
 ESCAPE = re.compile(r"\\(?:x([0-9a-f]{2})|r)")

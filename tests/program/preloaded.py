@@ -71,6 +71,6 @@ class Preloaded(unittest.TestCase):
         told = os.path.join(self.folder, "told")
         names = [f"{name}={value}" for name, value in settings.items()]
         shell = ["bash", "-c", 'exec 3> "$0"; exec env "$@"', told, f"LD_PRELOAD={self.library}", *names, PROGRAM, *words]
-        done = subprocess.run(shell, input=given, capture_output=True, timeout=60, check=False)
+        done = subprocess.run(shell, input=given, capture_output=True, timeout=180, check=False)
         with open(told, encoding="utf-8") as stream:
             return Done(done.returncode, done.stdout, done.stderr), [int(number) for number in stream.read().split()]

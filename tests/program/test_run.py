@@ -15,7 +15,7 @@ import tempfile
 import time
 import unittest
 from concurrent.futures import ThreadPoolExecutor
-from itertools import chain
+from itertools import chain, count
 from typing import Callable, Dict, List, NamedTuple, Optional, Tuple
 
 from preloaded import BY_RATTLE, Preloaded
@@ -27,6 +27,10 @@ HOST = f"127.{os.getpid() >> 8 & 127 | 64}.{os.getpid() & 255}."
 ONE, TWO, STRANGER = HOST + "1", HOST + "2", HOST + "3"
 VNI = 5001
 TUNNELS = 4789
+# for how many seconds a test waits for what has to come: it fails only then, so that a busy or slow machine makes no failure
+PATIENCE = 60
+# numbers for texts of frames and for users, none twice
+numbers = count(1)
 
 
 def station(number: int) -> bytes:
@@ -56,6 +60,16 @@ def free_port() -> int:
         return it.getsockname()[1]
 
 
+def is_reached(holds: Callable[[], bool], seconds: float = PATIENCE) -> bool:
+    """Whether something holds within this time."""
+    end = time.monotonic() + seconds
+    while not holds():
+        if time.monotonic() > end:
+            return False
+        time.sleep(0.05)
+    return True
+
+
 class Cable:
     """The end of a port's cable: what it sends comes to the port, what the port sends comes to it."""
 
@@ -73,7 +87,7 @@ class Cable:
         """Sends a frame to the port."""
         self.here.sendto(octets, (self.address, self.port))
 
-    def receive(self, seconds: float = 5) -> bytes:
+    def receive(self, seconds: float = PATIENCE) -> bytes:
         """The next frame of the port within this time, none if there is none. BPDUs are passed over."""
         end = time.monotonic() + seconds
         while (left := end - time.monotonic()) > 0:
@@ -85,6 +99,22 @@ class Cable:
             if octets[:6] != BRIDGES:
                 return octets
         return b""
+
+
+def carry(source: Cable, to: Cable, octets: bytes) -> bool:
+    """Whether a frame comes out at another cable as it was, perhaps behind others; sent again while the edges aren't ready.
+
+    Each time another frame of the same addresses is sent behind it. They overtake none, so when that one has come, nothing that was sent
+    before is still on its way."""
+    is_carried, end = False, time.monotonic() + PATIENCE
+    while not is_carried and time.monotonic() < end:
+        last = frame(octets[:6], octets[6:12], b"behind it %d" % next(numbers))
+        source.send(octets)
+        source.send(last)
+        while (came := to.receive(0.5)) not in (last, b""):
+            is_carried = is_carried or came == octets
+        is_carried = is_carried and came == last
+    return is_carried
 
 
 def edge(address: str, number: int, *cables: Cable, keys: str = "") -> str:
@@ -124,7 +154,7 @@ class Running:
         with open(f"/proc/{self.program.pid}/status", encoding="ascii") as it:
             return next(int(line.split()[1]) for line in it if line.startswith("VmRSS:"))
 
-    def note(self, seconds: float, lines: int = 1) -> str:
+    def note(self, seconds: float = PATIENCE, lines: int = 1) -> str:
         """The next lines that it notes while it runs: as many as these, or fewer where no further one comes within this time."""
         notes, text = self.program.stderr.fileno(), b""
         while text.count(b"\n") < lines and select.select([notes], [], [], seconds)[0]:
@@ -133,7 +163,7 @@ class Running:
 
     def end(self) -> tuple:
         """Its status, its report and its notes when its input has ended."""
-        out, notes = self.program.communicate(timeout=20)
+        out, notes = self.program.communicate(timeout=PATIENCE)
         self.folder.cleanup()
         return self.program.returncode, out.decode(), notes.decode()
 
@@ -177,17 +207,8 @@ class TwoCables(unittest.TestCase):
         self.addCleanup(self.running.kill)
 
     def is_carried(self, source: Cable, to: Cable, octets: bytes) -> None:
-        """A frame comes out at another cable as it was, perhaps behind others; sent again while the edges aren't ready."""
-        came = b""
-        for _ in range(50):
-            source.send(octets)
-            while (came := to.receive(0.2)) not in (octets, b""):
-                pass
-            if came:
-                break
-        self.assertEqual(came, octets)
-        while to.receive(0.1):
-            pass
+        """A frame comes out at another cable as it was, and nothing that was sent here is on its way any more (`carry`)."""
+        self.assertTrue(carry(source, to, octets), octets)
 
 
 @needs_program
@@ -256,9 +277,10 @@ class TwoEdges(TwoCables):
                 self.is_carried(cable, other, frame(BROADCAST, station(10), b"here I am"))
 
     def test_duplicate_is_told_at_once(self) -> None:
-        """A station that moves to and fro is told while the edges run, within a second of its fifth move, and once."""
+        """A station that moves to and fro is told while the edges run, and once. That takes less than a second; a busy machine has a
+        minute."""
         self.moves_to_and_fro()
-        note = self.running.note(1)
+        note = self.running.note()
         self.assertRegex(note, rf"^edge [12]: duplicate {VNI} 02:00:00:00:00:0a on port 1\n$")
         self.assertIsNone(self.running.program.poll())
         status, _, rest = self.running.end()
@@ -313,8 +335,8 @@ class TwoEdges(TwoCables):
         self.assertNotEqual(came, b"")
         status, report, notes = self.running.end()
         self.assertEqual(status, 0)
-        # a busy machine may have no room for some of them
-        self.assertRegex(notes, r"^(edge [12] (tunnel|port 1): \d+ datagrams dropped by the system\n)*$")
+        # on a busy machine the system, or a line to a link, may have no room for some of them
+        self.assertRegex(notes, r"^(edge [12] (tunnel|port 1): \d+ (frames dropped: no room|datagrams dropped by the system)\n)*$")
         self.assertEqual(report, reports(FLOODS + learnt(1, ONE, 2) + learnt(2, TWO, 2)))
 
 
@@ -335,12 +357,8 @@ class FullSockets(TwoCables):
 
     def lost(self, port: int) -> int:
         """How many datagrams the system has dropped at a socket, told when nothing waits there any more."""
-        for _ in range(100):
-            row = row_of(ONE, port)
-            if row.waiting == 0:
-                return row.dropped
-            time.sleep(0.05)
-        raise AssertionError(f"{row} at {port}")
+        self.assertTrue(is_reached(lambda: row_of(ONE, port).waiting == 0), port)
+        return row_of(ONE, port).dropped
 
     def filled(self, keys: str, subcommand: str) -> str:
         """Runs the edge, and overfills the sockets. Returns the lines about them at the end: none about port 2."""
@@ -405,9 +423,9 @@ class FullTable(TwoCables):
         """An alert of the same kind and station is told once, and before the next one, or at the end, how many more there were."""
         self.fill()
         self.speak(2, 2, 2)
-        self.assertEqual(self.running.note(5), self.line(2))
+        self.assertEqual(self.running.note(), self.line(2))
         self.speak(2, 3, 2)
-        self.assertEqual(self.running.note(5, 2), "edge 1: 3 more alerts were held back\n" + self.line(3))
+        self.assertEqual(self.running.note(lines=2), "edge 1: 3 more alerts were held back\n" + self.line(3))
         status, report, rest = self.running.end()
         self.assertEqual((status, rest), (0, "edge 1: 1 more alerts were held back\n"))
         self.assertEqual(report, f"edge 1\nflood {VNI} {ONE} 1 up\n" + learnt(1, ONE, 2))
@@ -416,7 +434,7 @@ class FullTable(TwoCables):
         """Of 20 stations 16 are told at once, and at the end how many more there were."""
         self.fill()
         self.speak(*range(2, 22))
-        self.assertEqual(self.running.note(5, 16), "".join(self.line(number) for number in range(2, 18)))
+        self.assertEqual(self.running.note(lines=16), "".join(self.line(number) for number in range(2, 18)))
         self.assertEqual(self.running.note(0.5), "")
         status, _, rest = self.running.end()
         self.assertEqual((status, rest), (0, "edge 1: 4 more alerts were held back\n"))
@@ -434,14 +452,14 @@ class FullTable(TwoCables):
         os.close(full)
         self.speak(2, 2, 3, 2)
         self.running.program.stdin.close()
-        time.sleep(3)
+        time.sleep(2)
         self.assertIsNone(self.running.program.poll())
         told = b""
         while octets := os.read(notes, 65535):
             told += octets
         self.assertEqual(told[filled:].decode(), self.line(2) + "edge 1: 1 more alerts were held back\n" + self.line(3)
                          + "edge 1: 1 more alerts were held back\n")
-        self.assertEqual(self.running.program.wait(20), 0)
+        self.assertEqual(self.running.program.wait(PATIENCE), 0)
         self.assertEqual(self.running.program.stdout.read().decode(), f"edge 1\nflood {VNI} {ONE} 1 up\n" + learnt(1, ONE, 2))
         self.running.program.stdout.close()
 
@@ -480,13 +498,22 @@ class Beginning(unittest.TestCase):
         self.assertEqual(done.returncode, 0)
         lines = done.stdout.splitlines()
         self.assertEqual(lines[0], "ok: 2 edges, 3 ports, 1 VNI")
-        threads, sockets, memory = lines[1].split()[0], lines[2].split()[0], lines[3].split()[1]
-        time.sleep(1)
+        threads, sockets, memory = int(lines[1].split()[0]), int(lines[2].split()[0]), int(lines[3].split()[1])
         folder = f"/proc/{running.program.pid}"
-        self.assertEqual(int(threads), len(os.listdir(f"{folder}/task")))
-        self.assertEqual(int(sockets), sum(os.readlink(f"{folder}/fd/{it}").startswith("socket:") for it in os.listdir(f"{folder}/fd")))
-        self.assertLess(running.resident() / 1024, 2 * int(memory))
-        self.assertGreater(running.resident() / 1024, int(memory) / 2)
+
+        def takes() -> Tuple[int, int, bool]:
+            """How many threads and sockets it has, and whether its memory is about that."""
+            links = [os.readlink(f"{folder}/fd/{it}") for it in os.listdir(f"{folder}/fd")]
+            is_about = memory / 2 < running.resident() / 1024 < 2 * memory
+            return len(os.listdir(f"{folder}/task")), sum(it.startswith("socket:") for it in links), is_about
+
+        # each port sends a BPDU when it comes up: all threads of the run start about then, and none of those that were tried before is left
+        for it in cables:
+            it.here.settimeout(PATIENCE)
+            self.assertEqual(it.here.recv(65535)[:6], BRIDGES)
+        is_reached(lambda: takes() == (threads, sockets, True))
+        time.sleep(0.5)
+        self.assertEqual(takes(), (threads, sockets, True))
         self.assertEqual(running.end()[0], 0)
         for it in cables:
             it.here.close()
@@ -510,7 +537,7 @@ class Beginning(unittest.TestCase):
 
     def limited(self, threads: int, words: List[str], text: str) -> subprocess.Popen:
         """The program as a user of its own, whom the system allows this many threads. Only root can start it."""
-        user = 1_000_000 + os.getpid() % 1_000_000
+        user = 1_000_000 + 1000 * os.getpid() + next(numbers) % 1000
         folder = tempfile.TemporaryDirectory()
         self.addCleanup(folder.cleanup)
         os.chmod(folder.name, 0o755)
@@ -540,7 +567,7 @@ class Beginning(unittest.TestCase):
             for allowed in (1, 2, needed // 2, needed - 1):
                 with self.subTest(subcommand=subcommand, allowed=allowed), self.limited(allowed, [subcommand], text) as program:
                     try:
-                        self.assertEqual(program.wait(5), 3)
+                        self.assertEqual(program.wait(PATIENCE), 3)
                         self.assertEqual(
                             program.communicate(),
                             ("", f"can't start {needed} threads: the system allows {allowed}; raise ulimit -u or TasksMax, or free memory\n"),
@@ -548,15 +575,15 @@ class Beginning(unittest.TestCase):
                     finally:
                         program.kill()
                 with self.subTest(check=subcommand, allowed=allowed), self.limited(allowed, ["check", f"--{subcommand}"], text) as program:
-                    self.assertEqual(program.communicate(timeout=20), ("", f"{needed} threads, allowed are {allowed}\n"))
+                    self.assertEqual(program.communicate(timeout=PATIENCE), ("", f"{needed} threads, allowed are {allowed}\n"))
                     self.assertEqual(program.returncode, 2)
             with self.subTest(check=subcommand), self.limited(needed, ["check", f"--{subcommand}"], text) as program:
-                self.assertEqual((program.communicate(timeout=20)[1], program.returncode), ("", 0))
+                self.assertEqual((program.communicate(timeout=PATIENCE)[1], program.returncode), ("", 0))
             # exactly as many as it needs: it runs, ten times, since the system counts a thread for a moment after its end
             for turn in range(10):
                 with self.subTest(subcommand=subcommand, turn=turn), self.limited(needed, [subcommand], text) as program:
                     time.sleep(0.3)
-                    self.assertEqual((program.communicate(timeout=20)[1], program.returncode), ("", 0))
+                    self.assertEqual((program.communicate(timeout=PATIENCE)[1], program.returncode), ("", 0))
         one.here.close()
         two.here.close()
 
@@ -615,9 +642,9 @@ class RefusedGrowth(Preloaded):
         return subprocess.Popen([*shell, "run", "--config", config], **pipes), told
 
     def ended(self, program: subprocess.Popen, told: str) -> Kept:
-        """Its end, for which it has a minute."""
+        """Its end, for which it has five minutes, since many run beside each other."""
         try:
-            out, notes = program.communicate(timeout=60)
+            out, notes = program.communicate(timeout=5 * PATIENCE)
         finally:
             program.kill()
         with open(told, encoding="utf-8") as it:
@@ -633,20 +660,23 @@ class RefusedGrowth(Preloaded):
                 it.here.close()
 
     def busy(self, number: int) -> Kept:
-        """A run with a station at each cable, with this allocation refused. Frames are sent until they came, for two seconds at most, and
-        then the input ends."""
+        """A run with a station at each cable, with this allocation refused. Frames are sent until they came twice, and then the input ends.
+        Once the run has noted that memory was refused, they have two seconds more."""
         one, two = cables = self.cables(number)
         program, told = self.begin(number, self.config(number, cables))
         frames = [frame(BROADCAST, station(1), b"who is there"), frame(station(1), station(2), b"station 2 is")]
-        end = time.monotonic() + 2
+        end, is_noted = time.monotonic() + PATIENCE, False
         carried, strange = True, []
-        for source, to, octets in ((one, two, frames[0]), (two, one, frames[1])):
+        # the second one comes after the records that the first one led to are sent
+        for source, to, octets in 2 * [(one, two, frames[0]), (two, one, frames[1])]:
             came = b""
             while came != octets and program.poll() is None and time.monotonic() < end:
                 source.send(octets)
                 came = to.receive(0.05)
                 if came not in (b"", *frames):
                     strange.append(came)
+                if not is_noted and select.select([program.stderr], [], [], 0)[0]:
+                    end, is_noted = min(end, time.monotonic() + 2), True
             carried = carried and came == octets
         if carried:
             # for the last record

@@ -14,11 +14,11 @@ import sys
 import tempfile
 import time
 import unittest
-from typing import List, Optional
+from typing import List
 
-from test_audit import needs_program
+from test_audit import PROGRAM, needs_program
 from test_records import TOP
-from test_run import BROADCAST, FLOODS, HOST, VNI, Cable, Running, edge, first_life, frame, learnt, station
+from test_run import BROADCAST, FLOODS, HOST, PATIENCE, VNI, Cable, Running, carry, edge, first_life, frame, is_reached, learnt, station
 from update_records import Answer, Update, line_of, read_records, record_of, update_of_line
 
 # addresses of these tests' own, beside those of test_run.py
@@ -31,7 +31,7 @@ MAC = "02:00:00:00:00:01"
 class Client:
     """A connection to a control socket."""
 
-    def __init__(self, path: str, seconds: float = 10) -> None:
+    def __init__(self, path: str, seconds: float = PATIENCE) -> None:
         self.socket = socket.socket(socket.AF_UNIX, socket.SOCK_STREAM)
         self.socket.settimeout(seconds)
         try:
@@ -101,11 +101,8 @@ class Served(unittest.TestCase):
     def begin(self) -> None:
         """Runs it, and waits until both edges have heard of each other."""
         self.running = self.started()
-        for _ in range(100):
-            if self.is_ready():
-                return
-            time.sleep(0.05)
-        self.fail(self.running.end())
+        if not is_reached(self.is_ready):
+            self.fail(self.running.end())
 
     def is_ready(self) -> bool:
         """Whether somebody listens at the path, and each edge reports what both said at first."""
@@ -130,39 +127,34 @@ class Served(unittest.TestCase):
 
     def seated(self) -> Client:
         """A client that asks and was answered; again where those that have just gone still have their seats."""
-        for _ in range(100):
+        end = time.monotonic() + PATIENCE
+        while time.monotonic() < end:
             client = self.console()
             try:
                 client.ask("help")
                 return client
             except (AssertionError, OSError):
                 time.sleep(0.05)
-        raise AssertionError("busy for five seconds")
+        raise AssertionError("busy all the time")
 
     def seated_records(self) -> Client:
         """A client that exchanges records and reads nothing; again where those that have just gone still have their seats."""
-        for _ in range(100):
+        end = time.monotonic() + PATIENCE
+        while time.monotonic() < end:
             client = self.client().send(b"records\n")
             with contextlib.suppress(OSError):
                 if client.socket.recv(44, socket.MSG_WAITALL | socket.MSG_PEEK)[:2] == b"EV":
                     return client
             time.sleep(0.05)
-        raise AssertionError("busy for five seconds")
+        raise AssertionError("busy all the time")
 
     def hears_station(self) -> None:
         """Station 1 speaks at edge 1, and is heard at edge 2's cable."""
-        octets = frame(BROADCAST, station(1), b"who is there")
-        for _ in range(50):
-            self.one.send(octets)
-            if self.two.receive(0.2) == octets:
-                break
-        else:
-            self.fail("no frame came")
-        while self.two.receive(0.1):
-            pass
+        self.assertTrue(carry(self.one, self.two, frame(BROADCAST, station(1), b"who is there")))
 
-    def ends_well(self, report: str = FLOODS, seconds: float = 2.5) -> None:
-        """Its input ends, and the run with it within this time, with this report of both edges. The clock of an edge looks once a second."""
+    def ends_well(self, report: str = FLOODS, seconds: float = 8) -> None:
+        """Its input ends, and the run with it within this time, with this report of both edges. The clock of an edge looks once a second: a
+        busy machine has eight times as long, but less than the ten seconds after which a client is cut off."""
         begun = time.monotonic()
         status, out, notes = self.running.end()
         self.assertLess(time.monotonic() - begun, seconds)
@@ -189,24 +181,16 @@ class Asked(Served):
         console = self.console()
         self.assertEqual(console.ask("2 report"), FLOODS)
         self.hears_station()
-        for _ in range(50):
-            told = console.ask("2 report")
-            if told != FLOODS:
-                break
-            time.sleep(0.05)
-        self.assertEqual(told, FLOODS + learnt(1, ONE, 2))
+        is_reached(lambda: console.ask("2 report") != FLOODS)
+        self.assertEqual(console.ask("2 report"), FLOODS + learnt(1, ONE, 2))
         self.ends_well(FLOODS + learnt(1, ONE, 2))
 
     def test_port(self) -> None:
         """A port that passes frames at once, and one that there isn't."""
         console = self.console()
         # (a thread of the edge brings the port up soon after the start)
-        for _ in range(50):
-            told = console.ask("1 port 1")
-            if "disabled" not in told:
-                break
-            time.sleep(0.05)
-        self.assertEqual(told, "1 port 1 designated forwarding passes\n")
+        is_reached(lambda: "disabled" not in console.ask("1 port 1"))
+        self.assertEqual(console.ask("1 port 1"), "1 port 1 designated forwarding passes\n")
         self.assertEqual(console.ask("1 port 2"), "1 refused edge 16\n")
         self.assertEqual(console.ask("3 port 1"), "3 refused fabric 18\n")
         self.ends_well()
@@ -239,7 +223,7 @@ class Asked(Served):
         )
         for words, status, out, notes in tried:
             tool = [sys.executable, os.path.join(TOP, "tools", "evpndctl"), "--control", self.path, *words]
-            done = subprocess.run(tool, capture_output=True, encoding="utf-8", timeout=20, check=False)
+            done = subprocess.run(tool, capture_output=True, encoding="utf-8", timeout=PATIENCE, check=False)
             self.assertEqual((done.returncode, first_life(done.stdout), done.stderr), (status, out, notes))
         self.ends_well()
 
@@ -253,7 +237,7 @@ class Asked(Served):
             console.ask(f"1 unpin {VNI} {MAC}")
             went = tool.stdout.readline()
             tool.send_signal(signal.SIGINT)
-            rest, notes = tool.communicate(timeout=20)
+            rest, notes = tool.communicate(timeout=PATIENCE)
         self.assertRegex(came, rf"^[0-9:]+ (new|known) {VNI} {MAC} at {re.escape(ONE)} port 1 pinned\n$")
         self.assertRegex(went, rf"^[0-9:]+ gone {VNI} {MAC} from {re.escape(ONE)} port 1 pinned\n$")
         self.assertEqual((tool.returncode, rest, notes), (0, "", ""))
@@ -316,9 +300,9 @@ class Clients(Served):
         self.ends_well()
 
     @staticmethod
-    def flood(client: Client) -> None:
-        """Asks until there is no room for more."""
-        client.socket.settimeout(0.5)
+    def flood(client: Client, seconds: float = 0.5) -> None:
+        """Asks until there has been no room for more for this time."""
+        client.socket.settimeout(seconds)
         try:
             while True:
                 client.send(b"1 report\n" * 1000)
@@ -329,12 +313,12 @@ class Clients(Served):
         """It waits alone: another one is answered, and frames go on. After ten seconds it is cut off."""
         begun = time.monotonic()
         deaf = self.console()
-        self.flood(deaf)
+        self.flood(deaf, 3)
         self.assertEqual(self.console().ask("1 report"), FLOODS)
         self.hears_station()
         poll = select.poll()
         poll.register(deaf.socket, 0)  # only for a connection that has ended
-        self.assertNotEqual(poll.poll(20_000), [])
+        self.assertNotEqual(poll.poll(1000 * PATIENCE), [])
         self.assertGreater(time.monotonic() - begun, 9)
         self.assertEqual(self.console().ask("1 port 1"), "1 port 1 designated forwarding passes\n")
         self.ends_well(FLOODS + learnt(1, ONE, 2))
@@ -342,25 +326,25 @@ class Clients(Served):
     def test_silent_client_is_cut_off(self) -> None:
         """One that says nothing keeps its seat for ten seconds."""
         begun = time.monotonic()
-        silent = Client(self.path, 20)
+        silent = Client(self.path)
         self.addCleanup(silent.close)
         self.assertEqual(silent.rest(), b"")
         self.assertGreater(time.monotonic() - begun, 9)
         self.ends_well()
 
-    def threads_down_to(self, wanted: Optional[int]) -> int:
-        """How many threads the program has, once they are as few as wanted or after ten seconds: on a busy machine those of
-        clients that are gone end late."""
-        for _ in range(100):
-            count = len(os.listdir(f"/proc/{self.running.program.pid}/task"))
-            if wanted is None or count <= wanted:
-                break
-            time.sleep(0.1)
-        return count
+    def threads(self) -> int:
+        """How many threads the program has."""
+        return len(os.listdir(f"/proc/{self.running.program.pid}/task"))
+
+    def threads_of_check(self) -> int:
+        """How many it has without clients: as many as `check` says, and one that accepts clients."""
+        words = [PROGRAM, "check", "--serve", "--config", os.path.join(self.running.folder.name, "edges.toml")]
+        done = subprocess.run(words, capture_output=True, encoding="utf-8", timeout=PATIENCE, check=False)
+        return int(done.stdout.splitlines()[1].split()[0]) + 1
 
     def test_many_clients(self) -> None:
         """3,000 one after the other, some of which break off: neither memory nor threads grow with them."""
-        sizes, threads = [], []
+        sizes, threads = [], self.threads_of_check()
         for turn in range(3000):
             client = Client(self.path)
             if turn % 3 == 0:
@@ -372,27 +356,26 @@ class Clients(Served):
                 last = self.seated()
                 self.assertEqual(last.ask("1 report"), FLOODS)
                 last.close()
-                time.sleep(0.5)
+                # on a busy machine those of clients that are gone end late
+                self.assertTrue(is_reached(lambda: self.threads() == threads), (self.threads(), threads))
                 sizes.append(self.running.resident())
-                threads.append(self.threads_down_to(threads[0] if threads else None))
         self.assertLess(sizes[-1], sizes[0] + 1024, f"kilobytes after each 1,000: {sizes}")
-        self.assertEqual(threads, threads[:1] * 3)
         self.ends_well()
 
 
 @needs_program
 class Idle(Served):
-    """Clients that send nothing for longer than the configured second."""
+    """Clients that send nothing for longer than the configured three seconds."""
 
     def text(self) -> str:
         """The configuration, with the key."""
-        return "idle = 1\n" + super().text()
+        return "idle = 3\n" + super().text()
 
     def test_silent_console_is_ended(self) -> None:
         """It receives a line. One that sends lines is served for longer, and so is a silent connection of records."""
         self.begin()
         silent, records, asks = self.seated(), self.seated_records(), self.seated()
-        for _ in range(4):
+        for _ in range(8):
             time.sleep(0.5)
             self.assertEqual(asks.ask("1 report"), FLOODS)
         self.assertEqual(silent.rest(), b"error: no line came in time\n")
@@ -451,12 +434,10 @@ class Records(Joined):
         """A withdrawal of edge 2's flood list, of a later life, is taken at edge 1, and not at edge 2: that one says anew what it is."""
         client = self.joined()
         client.send(record_of(update_of_line(f"withdraw {TWO} {VNI} flood counter 9 incarnation 1")))
-        for _ in range(100):
-            report = self.console().ask("1 report")
-            if report != FLOODS:
-                break
-            time.sleep(0.05)
-        self.assertNotIn(f"flood {VNI} {TWO} 1 up\n", report)
+        # (a console that has just gone may still have its seat, so one client asks each time)
+        console = self.console()
+        is_reached(lambda: console.ask("1 report") != FLOODS)
+        self.assertNotIn(f"flood {VNI} {TWO} 1 up\n", console.ask("1 report"))
 
     def test_refused_records_are_told_once_a_kind(self) -> None:
         """Behind them records are taken; a fault ends the connection alone, and is told, too."""
@@ -492,7 +473,8 @@ class Begun(Served):
 
     def incarnations(self) -> List[int]:
         """Those of the flood lists that edge 1 reports, once it has heard of both edges."""
-        for _ in range(100):
+        end = time.monotonic() + PATIENCE
+        while time.monotonic() < end:
             with contextlib.suppress(OSError, AssertionError):
                 told = re.findall(r"^flood \S+ \S+ ([0-9]+)\.1 up$", self.console().ask("1 report"), re.MULTILINE)
                 if len(told) == 2:
@@ -527,11 +509,11 @@ class SentBack(Joined):
         """The record's line, without its incarnation, of a station of the edge elsewhere, once both edges have taken it from a client."""
         update = update_of_line(f"advert {ELSEWHERE} {VNI} 02:00:00:00:00:1{number} seq 0 counter {number}")
         client.send(record_of(update._replace(incarnation=incarnation)))
-        for _ in range(100):
-            if all(f"02:00:00:00:00:1{number} {ELSEWHERE} " in self.console().ask(f"{edge} report") for edge in (1, 2)):
-                return line_of(update)
-            time.sleep(0.05)
-        return self.fail("not taken")
+        console = self.seated()
+        has_taken = lambda edge: f"02:00:00:00:00:1{number} {ELSEWHERE} " in console.ask(f"{edge} report")  # noqa: E731
+        self.assertTrue(is_reached(lambda: has_taken(1) and has_taken(2)), "not taken")
+        console.close()
+        return line_of(update)
 
     def test_registers_of_a_named_edge_are_sent_back(self) -> None:
         """What each edge holds of it, once a connection, before later announcements; nothing of any other edge."""
@@ -560,7 +542,7 @@ class Deaf(Joined):
         poll.register(deaf.socket, 0)  # only for a connection that has ended
         begun = time.monotonic()
         told, number = b"", 0
-        while not poll.poll(0) and time.monotonic() - begun < 40:
+        while not poll.poll(0) and time.monotonic() - begun < 10 * PATIENCE:
             number += 1
             self.one.send(frame(BROADCAST, bytes([2, 1]) + number.to_bytes(4, "big"), b""))
             told = self.taken(hears, told)

@@ -378,7 +378,7 @@ class Simulations(unittest.TestCase):
                     stream.write(config)
                 with self.subTest(name=name):
                     done = subprocess.run(
-                        [PROGRAM, subcommand, "--config", path], input=script, capture_output=True, timeout=60, check=False
+                        [PROGRAM, subcommand, "--config", path], input=script, capture_output=True, timeout=180, check=False
                     )
                     told = done.stderr.decode().split("\n", 1)
                     self.assertEqual((done.returncode, told[0]), (status, notes.rstrip("\n")))
@@ -400,7 +400,7 @@ class Simulations(unittest.TestCase):
         """The session in the tutorial's animated picture is what the program prints."""
         with open(os.path.join(EXAMPLES, "sites.script"), "rb") as script:
             words = [PROGRAM, "play", "--config", os.path.join(EXAMPLES, "sites.toml")]
-            done = subprocess.run(words, stdin=script, capture_output=True, timeout=60, check=True)
+            done = subprocess.run(words, stdin=script, capture_output=True, timeout=180, check=True)
         with open(os.path.join(TOP, "docs", "move.txt"), encoding="utf-8") as session:
             self.assertEqual(done.stdout.decode(), session.read().split("\n", 1)[1])
 

@@ -68,8 +68,8 @@ def leaf_flood(**fields: object) -> Route:
     return Route(3, "10.0.0.100:2", ip="10.0.0.100", **{**usual, **fields})
 
 
-def reached(holds, seconds: float = 10.0) -> bool:
-    """Whether something holds within some seconds."""
+def reached(holds, seconds: float = 60.0) -> bool:
+    """Whether something holds within some seconds: many, so that a busy machine makes no failure."""
     end = time.monotonic() + seconds
     while not holds() and time.monotonic() < end:
         time.sleep(0.01)
@@ -851,7 +851,7 @@ class Joins(unittest.TestCase):
 
     def lost_routes(self) -> tuple:
         """A daemon has ended, with two routes of a neighbour that no limit of time withdraws in this test."""
-        self.set("KEEP", 60)
+        self.set("KEEP", 600)
         gateway = self.gateway()
         self.stand.events.put(Event("a", leaf_route()))
         self.stand.events.put(Event("a", leaf_route(OTHER)))
@@ -887,9 +887,9 @@ class Joins(unittest.TestCase):
 
     def test_a_neighbour_that_sends_no_end_of_rib_has_sent_all_when_it_is_silent(self):
         _, both = self.lost_routes()
-        self.set("QUIET", 1.5)
+        self.set("QUIET", 3)
         self.stand.held = [("a", leaf_route())]
-        for received in range(10):
+        for received in range(20):
             self.stand.neighbours = [Session("a", True, received)]
             time.sleep(0.2)
         self.assertEqual(self.records(), list(both))

@@ -176,7 +176,7 @@ class Evpndctl(unittest.TestCase):
     def run_tool(self, *words: str, typed: bytes = b"", **there: str) -> Tuple[int, str, str]:
         """Its status, and what it printed and noted."""
         named = {key: value for key, value in os.environ.items() if key != "EVPND_CONTROL"}
-        done = subprocess.run([sys.executable, TOOL, *words], input=typed, capture_output=True, timeout=20, check=False, env={**named, **there})
+        done = subprocess.run([sys.executable, TOOL, *words], input=typed, capture_output=True, timeout=60, check=False, env={**named, **there})
         return done.returncode, done.stdout.decode(), done.stderr.decode()
 
     def ask(self, *words: str, typed: bytes = b"") -> Tuple[int, str, str]:
@@ -330,7 +330,7 @@ class Evpndctl(unittest.TestCase):
         with subprocess.Popen(words, stdout=subprocess.PIPE, stderr=subprocess.PIPE, encoding="utf-8") as tool:
             told = [tool.stdout.readline() for _ in range(lines)]
             tool.send_signal(signal.SIGINT)
-            rest, notes = tool.communicate(timeout=20)
+            rest, notes = tool.communicate(timeout=60)
         self.assertEqual((tool.returncode, rest, notes), (0, "", ""))
         for line in told:
             self.assertRegex(line, "^[0-2][0-9]:[0-5][0-9]:[0-6][0-9] ")
@@ -421,7 +421,7 @@ class Evpndctl(unittest.TestCase):
                 with subprocess.Popen(words, stdin=subprocess.PIPE, stdout=subprocess.PIPE, stderr=subprocess.PIPE) as tool:
                     self.assertEqual(tool.stdout.read(), answer if answer == RECORD else b"")
                     self.assertRegex(tool.stderr.read().decode(), f"^evpndctl: {re.escape(self.path)}: {why}.*\n$")
-                    self.assertEqual(tool.wait(20), 2)
+                    self.assertEqual(tool.wait(60), 2)
                 server.end()
                 os.unlink(self.path)
 
@@ -430,7 +430,7 @@ class Evpndctl(unittest.TestCase):
         script = 'source "$1"; shift; COMP_WORDS=("$@"); COMP_CWORD=$(($# - 1)); _evpndctl; printf "%s\\n" "${COMPREPLY[@]}"'
         there = {**os.environ, "EVPND_CONTROL": self.path}
         bash = ["bash", "-c", script, "bash", COMPLETION, TOOL, *words]
-        return subprocess.run(bash, capture_output=True, encoding="utf-8", check=True, timeout=20, env=there).stdout.split()
+        return subprocess.run(bash, capture_output=True, encoding="utf-8", check=True, timeout=60, env=there).stdout.split()
 
     def test_completion(self) -> None:
         """The first word is an edge, or one of those that name none; the second what an edge does."""

@@ -117,8 +117,11 @@ class FirstLines(unittest.TestCase):
     def test_lines_that_were_printed_come_first(self) -> None:
         with open(STORED, encoding="ascii") as stored:
             before = json.load(stored)
-        self.assertEqual(sorted(before), sorted(case.name for case in cases()))
-        for case in cases():
+        # an example that is newer than that program has no stored lines; test_simulations compares its output
+        newer = {f"simulate: {name}" for name in os.listdir(EXAMPLES) if name.endswith(".script")} - set(before)
+        compared = [case for case in cases() if case.name not in newer]
+        self.assertEqual(sorted(before), sorted(case.name for case in compared))
+        for case in compared:
             with self.subTest(case=case.name):
                 status, out, notes = printed(PROGRAM, case)
                 self.assertEqual([status, out, notes[: len(before[case.name][2])]], before[case.name])

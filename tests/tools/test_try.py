@@ -21,7 +21,10 @@ echo "rt $*" >> "$ASKED"
 if [ -n "$HIDES" ]; then built=$HIDES; mkdir -p "$built"; else built=$(mktemp -d); fi
 trap 'rm -rf "$built"' EXIT
 cc -x c -o "$built/program" "$(ls src/*.rt | head -n 1)" || { echo 'error: run=none' >&2; exit 1; }
-[ "$2" = -- ] || sleep 0.3
+if [ "$2" != -- ] && [ -z "$HIDES" ]; then
+  # the program of a kit runs for a while: here until tools/try has given the file a second name, for a minute at most
+  for _ in $(seq 600); do [ "$(stat -c %h "$built/program")" = 1 ] || break; sleep 0.1; done
+fi
 shift; shift
 "$built/program" "$@"
 """
