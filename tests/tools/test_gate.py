@@ -219,7 +219,9 @@ class Together(unittest.TestCase):
                 if "wrong" in texts["src/lib.rt"]:
                     return edits.Verdict(1, "./src/lib.rt:2:5: error[unresolved]: no `wrong` here\n")
                 goal = "note: src/lib.rt:1:1: it is not proved that what the function ensures holds (`returns`)\n"
-                return edits.Verdict(1, "".join(f"{goal}fn low::{it}: not proved\n" for it in only) + "only=1 proved=0\n")
+                callers = re.findall(r"fn (\w+)\(\) -> u8 \{\n    calls", texts["src/lib.rt"]) if len(only) > 1 else []
+                told = (f"fn low::{it}: not proved; it calls another\n" if it in callers else f"{goal}fn low::{it}: not proved\n" for it in only)
+                return edits.Verdict(1, "".join(told) + "only=1 proved=0\n")
 
             trial.check = check
             return trial.all(), sizes
@@ -227,6 +229,10 @@ class Together(unittest.TestCase):
     def test_all_compile(self):
         found, sizes = self.tried(["200", "201", "202"])
         self.assertEqual((found[-1], sizes), ("pass 3", [3]))
+
+    def test_callers_of_each_other_are_tried_by_themselves(self):
+        found, sizes = self.tried(["calls(1)", "calls(0)"])
+        self.assertEqual((found[-1], sizes), ("pass 2", [2, 1, 1]))
 
     def test_one_does_not_compile(self):
         found, sizes = self.tried([*(str(200 + it) for it in range(7)), "wrong"])

@@ -7,8 +7,8 @@ A function is proved from the contracts of those that it calls, never from their
 functions don't disturb each other, and one check tries them together. It checks these functions alone (`--only`). An edit counts as
 refused if the check refuses the function that it changes, for a goal of its own. A function that only calls one that isn't proved is
 tried again in other company. A check with `--only` may pass an edit that a whole check refuses, and never the other way round. So each edit
-that isn't refused like this is tried alone and whole: an edit outside a body, one whose function has no clear name, one that isn't
-read or is proved.
+that isn't refused like this is tried alone: first in a check of the functions that it changes, then in one of the whole crate. These are
+edits outside a body, those whose function has no clear name, those that aren't read or are proved, and callers of each other.
 
 An edit of a definition may name a function whose contract stands on it, by a line `only: NAME`, which the kit doesn't read. It is
 tried alone, and that function is all that its first check proves.
@@ -158,7 +158,7 @@ class Trial:
     def __init__(self, project, name, calls, kept, libraries, proved=()):
         self.project, self.name, self.calls = project, name, calls
         self.kept, self.libraries, self.proved = kept, libraries, proved
-        self.folder, self.found, self.is_searched = project.folder(name), [], False
+        self.folder, self.found, self.is_searched, self.singly = project.folder(name), [], False, set()
 
     def check(self, texts, only=(), flags=()):
         """Checks a copy of the crate with these texts, over a copy of the kept work: a check keeps what it made of wrong bodies."""
@@ -215,11 +215,11 @@ class Trial:
         if not self.is_searched and not looks.faults_of_search(verdict.said):
             self.found.append("searched for contracts that no call can meet: none")
         self.is_searched = True
+        self.singly |= {edit.path for edit in taken if len(taken) == 1}
         again, alone = [], []
         for edit in taken:
-            goals = dict(verdict.refusal(it, self.name) for it in edit.functions)
-            if verdict.word == "not-proved" and None not in goals and all(goals.values()):
-                self.refuse(edit, goals)
+            if self.is_refused_in(edit, verdict):
+                pass
             elif verdict.word == "not-proved" and len(taken) > 1 and self.only_calls(edit, verdict):
                 again.append(edit.path)
             else:
@@ -232,11 +232,23 @@ class Trial:
         heads = re.findall(r"^fn (\S+): not proved.*; it calls ", verdict.said, re.M)
         return any(is_end_of(end, it, self.name) for end in edit.functions for it in heads)
 
+    def is_refused_in(self, edit, verdict):
+        """Returns `True` if a check refused each function that the edit changes, for goals of its own."""
+        goals = dict(verdict.refusal(it, self.name) for it in edit.functions)
+        if verdict.word != "not-proved" or None in goals or not all(goals.values()):
+            return False
+        self.refuse(edit, goals)
+        return True
+
     def alone(self, path):
-        """Tries one edit in a check of its own: of the function that it names, and if that doesn't refuse it, of the whole crate."""
+        """Tries one edit alone: first checks the functions that it names or changes, and the whole crate if these do not refuse it."""
         edit, name = applied(path, self.folder, {}), asked_of(path)
         if name and self.is_refused_by(edit, name):
             return
+        if edit.functions and path not in self.singly:
+            functions = sorted(edit.functions)
+            if self.is_refused_in(edit, self.check(self.with_refused_answers(edit.texts, functions), functions)):
+                return
         verdict = self.check(edit.texts)
         if verdict.word == "not-proved":
             self.refuse(edit, {full: goals for full, goals in verdict.goals.items() if goals}, lemmas_of(verdict.said))
