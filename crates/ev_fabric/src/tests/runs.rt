@@ -111,10 +111,7 @@ fn all_agree(fabric: &mut Fabric) -> bool {
 }
 
 fn edge_at(fabric: &Fabric, e: u8) -> Option<&Edge> {
-    if e == 0 || usize::from(e) > fabric.edges() {
-        return None;
-    }
-    Some(fabric.edge(usize::from(e)))
+    fabric.edge(usize::from(e))
 }
 
 // The update isn't edge e's, or is of an earlier incarnation than the edge's flood advert, which is
