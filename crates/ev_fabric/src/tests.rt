@@ -16,6 +16,7 @@ use std::test::Fail;
 
 mod memory;
 mod runs;
+mod sessions;
 
 // Edges accept updates from 10.0.0.1, 10.0.0.2 and 10.0.0.3.
 fn originators() -> ArrayVec<Addr, 64>

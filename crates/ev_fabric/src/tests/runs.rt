@@ -58,7 +58,7 @@ fn third() -> EdgeConfig
     config(Addr::new(0x0a00_0003), BridgeId::new(0x8000_02aa_0000_0003))
 }
 
-fn all(alloc: Global) -> Result<Vec<EdgeConfig>, AllocError>
+pub(super) fn all(alloc: Global) -> Result<Vec<EdgeConfig>, AllocError>
     ensures { IfOk result (λ configs. AreConfigs configs.items) }
 {
     let mut configs = Vec::new(alloc);
