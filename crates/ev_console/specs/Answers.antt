@@ -15,7 +15,7 @@ use Rattle.ev_mailboxes.specs.declared.request.Command.TheVariants as steps
 use Rattle.ev_script.specs.declared.script.question.Question.{Question}
 use Rattle.ev_script.specs.declared.script.question.Question.TheVariants.{Help, Edges, OfEdge}
 use Rattle.ev_script.specs.Script.{Command, up, down, mcheck, second, frame, tunnel, pin, unpin, thaw, announce}
-use Rattle.ev_script.specs.Script.{deliver, port, report, restart, line_of, question_of}
+use Rattle.ev_script.specs.Script.{deliver, port, report, restart, away, back, line_of, question_of}
 use Rattle.ev_script.specs.Simulation.{port_number}
 use Rattle.ev_script.specs.Faults.{why_of, why_text}
 use Rattle.ev_script.specs.Printing.{words_text, number_text, reply_text, refusal_text, port_text}
@@ -116,6 +116,8 @@ AnswersCommand e (tunnel from octets) = Says simulated_text
 AnswersCommand e announce = Says simulated_text
 AnswersCommand e (deliver k) = Says simulated_text
 AnswersCommand e (restart n) = Says simulated_text
+AnswersCommand e (away a) = Says simulated_text
+AnswersCommand e (back a) = Says simulated_text
 
 -- `bad: WHY`
 abbrev pub bad_text : List ℕ → List ℕ

@@ -163,6 +163,8 @@ fn perform<O: Operated, W: Out>(
         Command::Announce => refuse(operated, out),
         Command::Deliver(_) => refuse(operated, out),
         Command::Restart(_) => refuse(operated, out),
+        Command::Away(_) => refuse(operated, out),
+        Command::Back(_) => refuse(operated, out),
     }
 }
 

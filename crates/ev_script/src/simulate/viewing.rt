@@ -28,6 +28,8 @@ E thaw VNI MAC\n\
 E announce\n\
 E deliver K\n\
 E restart N\n\
+E away ADDR\n\
+E back ADDR\n\
 E port P\n\
 E report\n\
 E owner VNI MAC\n\
