@@ -385,7 +385,7 @@ def leaves_entries(edge: Edge, tally: Tally) -> None:
     edge.speaker.stdin.flush()
     time.sleep(2)
     edge.start_daemon("zebra", "hostname edge\n")
-    time.sleep(5)
+    edge.wait_for(lambda: "5001" in edge.shell("show evpn vni json"), "bgpd's connection to the next zebra")  # 8.4.4: 10 s
     text = finds(edge, tally, "leftsticky", "foreign 5001 02:00:00:00:00:55 owner none", "a killed zebra has left an entry")
     tally.see("a sticky entry that zebra doesn't name" in text, "in its own words")
 
