@@ -2,6 +2,7 @@
 
 import tests_path  # noqa: F401
 import os
+import socket
 import subprocess
 import sys
 import tempfile
@@ -29,10 +30,10 @@ class Joined(TwoCables):
         self.addCleanup(self.part)
         self.programs = [self.serve(0, ONE, self.one, TWO), self.serve(1, TWO, self.two, ONE)]
 
-    def serve(self, place: int, address: str, cable: Cable, other: str, incarnation: Optional[int] = 1) -> Running:
+    def serve(self, place: int, address: str, cable: Cable, other: str, incarnation: Optional[int] = 1, hold: int = 90) -> Running:
         """A program with one edge that knows of the other one, until it answers."""
         keys = "" if incarnation is None else f"incarnation = {incarnation}\n"
-        text = f'control = "{self.paths[place]}"\n' + edge(address, place + 1, cable, keys=keys)
+        text = f'control = "{self.paths[place]}"\npeer_hold = {hold}\n' + edge(address, place + 1, cable, keys=keys)
         return self.started(place, f'{text}[[peer]]\naddress = "{other}"\n')
 
     def started(self, place: int, text: str) -> Running:
@@ -43,11 +44,14 @@ class Joined(TwoCables):
             self.fail(running.end())
         return running
 
+    def asked(self, place: int, *words: str) -> str:
+        """What an edge answers; nothing where it doesn't answer."""
+        asked = [*TOOL, self.paths[place], "1", *words]
+        return subprocess.run(asked, capture_output=True, encoding="utf-8", check=False, timeout=PATIENCE).stdout
+
     def report(self, place: int) -> str:
         """What an edge reports; nothing where it doesn't answer."""
-        asked = [*TOOL, self.paths[place], "1", "report"]
-        done = subprocess.run(asked, capture_output=True, encoding="utf-8", check=False, timeout=PATIENCE)
-        return first_life(done.stdout)
+        return first_life(self.asked(place, "report"))
 
     def join(self) -> None:
         """Joins both."""
@@ -157,6 +161,35 @@ class Joined(TwoCables):
         there = f"records of {TWO}: older than those of its earlier life; raise its incarnation there\n"
         here = f"records of {TWO}: a peer holds newer ones of its earlier life; raise its incarnation here\n"
         self.assertEqual([running.note() for running in self.programs], [there, here])
+
+    def test_edge_that_is_gone_gets_no_frame(self) -> None:
+        """Once it has had no session for `peer_hold` seconds, and until it is back."""
+        self.programs[0].kill()
+        self.programs[0] = self.serve(0, ONE, self.one, TWO, incarnation=2, hold=1)
+        self.join()
+        self.is_carried(self.two, self.one, frame(BROADCAST, station(2), b"here"))
+        self.assertTrue(is_reached(lambda: f"owner 5001 02:00:00:00:00:02 {TWO}" in self.report(0)))
+        self.assertEqual(self.asked(0, "peers"), f"1 peer {TWO} up\n")
+        self.part()
+        self.programs[1].kill()
+        self.assertTrue(is_reached(lambda: self.asked(0, "peers") == f"1 peer {TWO} away\n"))
+        with socket.socket(socket.AF_INET, socket.SOCK_DGRAM) as tunnel:
+            tunnel.bind((TWO, 4789))
+            tunnel.settimeout(0.5)
+            for destination in (station(2), BROADCAST):
+                self.one.send(frame(destination, station(1), b"who is there"))
+                with self.assertRaises(TimeoutError):
+                    tunnel.recv(9216)
+            # (by hand, so that the same frame shows that it would have come)
+            self.assertEqual(self.asked(0, "back", TWO), "")
+            self.one.send(frame(station(2), station(1), b"who is there"))
+            tunnel.settimeout(PATIENCE)
+            self.assertTrue(tunnel.recv(9216).endswith(b"who is there"))
+        self.asked(0, "away", TWO)
+        self.programs[1] = self.serve(1, TWO, self.two, ONE, incarnation=2)
+        self.join()
+        self.assertTrue(is_reached(lambda: self.asked(0, "peers") == f"1 peer {TWO} up\n"))
+        self.is_carried(self.two, self.one, frame(BROADCAST, station(2), b"here"))
 
     def test_peer_that_is_not_listed_is_told_once(self) -> None:
         """Nothing of it is taken; its name is told at the first connection, and not at the second."""

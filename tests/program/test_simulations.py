@@ -231,7 +231,7 @@ GOOD = [
 HELP = lines(
     "E up P", "E down P", "E mcheck P", "E second N", "E frame P HEX", "E tunnel ADDR HEX", "E pin VNI MAC P", "E unpin VNI MAC",
     "E thaw VNI MAC", "E announce", "E deliver K", "E restart N", "E away ADDR", "E back ADDR", "E port P",
-    "E report", "E owner VNI MAC", "E counts", "E stations [VNI]", "edges", "help",
+    "E report", "E owner VNI MAC", "E counts", "E stations [VNI]", "E peers", "edges", "help",
 )
 
 # an edge of three ports and three networks, one of which no port is of
@@ -243,7 +243,7 @@ THREE_PORTS = (
 EDGES = lines("1 edge 10.0.0.1 ports 1:5001 networks 5001", "2 edge 10.0.0.9 ports 1:5001,2:100,3:5001 networks 70,100,5001")
 
 # questions, which are no lines of a simulation
-QUESTIONS = ["help", "edges", "1 owner " + STATION, "1 counts", "1 stations", "1 stations 5001"]
+QUESTIONS = ["help", "edges", "1 owner " + STATION, "1 counts", "1 stations", "1 stations 5001", "1 peers"]
 
 # lines that are neither a query nor a command
 NO_QUESTIONS = [
@@ -251,7 +251,7 @@ NO_QUESTIONS = [
     "owner " + STATION, "1 owner", "1 owner ", "1 owner 5001", "01 owner " + STATION, "1 Owner " + STATION, f"1 owner {STATION} ",
     "1 owner " + STATION.upper(), "1 owner 16777216 02:00:00:00:00:0a", f"1 owner {STATION} 1", f"1  owner {STATION}",
     "counts", "1 counts ", "1 counts 5001", "1 Counts", "1 count", "stations", "1 stations ", "1 stations 05001", "1 stations 16777216",
-    "1 stations 5001 ", "1 stations 5001 1", "1 station",
+    "1 stations 5001 ", "1 stations 5001 1", "1 station", "peers", "1 peers ", "1 peers 1", "1 peer", "1 Peers",
 ]
 
 

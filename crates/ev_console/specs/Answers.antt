@@ -108,6 +108,8 @@ AnswersCommand e (mcheck p) = Steps e (steps.Mcheck (port_number p))
 AnswersCommand e (pin s p) = Steps e (steps.Pin s (port_number p))
 AnswersCommand e (unpin s) = Steps e (steps.Unpin s)
 AnswersCommand e (thaw s) = Steps e (steps.Thaw s)
+AnswersCommand e (away a) = Steps e (steps.Away a)
+AnswersCommand e (back a) = Steps e (steps.Back a)
 AnswersCommand e (port p) = ShowsPort e (port_number p)
 AnswersCommand e report = ShowsTable e
 AnswersCommand e (second n) = Says simulated_text
@@ -116,8 +118,6 @@ AnswersCommand e (tunnel from octets) = Says simulated_text
 AnswersCommand e announce = Says simulated_text
 AnswersCommand e (deliver k) = Says simulated_text
 AnswersCommand e (restart n) = Says simulated_text
-AnswersCommand e (away a) = Says simulated_text
-AnswersCommand e (back a) = Says simulated_text
 
 -- `bad: WHY`
 abbrev pub bad_text : List ℕ → List ℕ
@@ -132,9 +132,10 @@ AnswersWords line (Some found) = AnswersCommand found.0 found.1
 abbrev pub help_text : List ℕ
 help_text =
     codes "E up P\n" ++ codes "E down P\n" ++ codes "E mcheck P\n" ++ codes "E pin VNI MAC P\n"
-    ++ codes "E unpin VNI MAC\n" ++ codes "E thaw VNI MAC\n" ++ codes "E port P\n" ++ codes "E report\n"
-    ++ codes "E owner VNI MAC\n" ++ codes "E counts\n" ++ codes "E stations [VNI]\n" ++ codes "edges\n"
-    ++ codes "help\n"
+    ++ codes "E unpin VNI MAC\n" ++ codes "E thaw VNI MAC\n" ++ codes "E away ADDR\n" ++ codes "E back ADDR\n"
+    ++ codes "E port P\n" ++ codes "E report\n"
+    ++ codes "E owner VNI MAC\n" ++ codes "E counts\n" ++ codes "E stations [VNI]\n" ++ codes "E peers\n"
+    ++ codes "edges\n" ++ codes "help\n"
 
 abbrev pub ShowsView : ℕ → EdgeQuestion → List Asked → List ℕ → Type 0
 ShowsView e q = λ asked text.

@@ -1,4 +1,4 @@
--- No frame goes to an edge that is away, and what it owned is flooded.
+-- No frame goes to an edge that is away, and a frame for its stations is flooded.
 use Rattle.std.proofs.Common.{◌≡◌, ℕ, Bool, true, false, cond, eqb, Option, Some, None, Result, Ok, Err, List, []}
 use Rattle.std.proofs.Common.{Contains, refl, sym, ap, subst, ◌∙◌, arith}
 use Rattle.std.specs.Option.{ForSome}
@@ -51,7 +51,7 @@ sent_up : (b : Bool) (e : Edge) (vni destination : ℕ) (from : Source) (d : Dec
 sent_up true e vni destination from d h = decided_up e vni destination from d h
 sent_up false e vni destination from d h = λ o there. nothing_in o (subst (λ (l : List ℕ). Contains l o) h.1 there)
 
--- learning changes nothing in who is away
+-- learning keeps the edges that are away
 pub learnt_away : (e : Edge) (s : Station) (port : ℕ) (told : Option Alert) (e' : Edge) (b : Bool)
     → LearnsIf b e s port told e' → e'.away ≡ e.away
 learnt_away e s port told e' b h =
@@ -126,9 +126,9 @@ gives_none e e' (events.Away a) result h =
 gives_none e e' (events.Back a) result h =
     none result (by_mark (is_listed (table_of e) a) e _ result e' h) (Up e)
 
--- ---- what it owned
+-- ---- stations of an edge that is away
 
--- a destination that isn't learnt and has no owner is unknown
+-- a destination without an entry and without an owner is unknown
 unknown_local : (destination own : ℕ) (from : Source) (members passing : ℕ)
     → local_of (place_of destination None None own) from (record { members = members; passing = passing })
     ≡ open_ports from (record { members = members; passing = passing })
@@ -154,11 +154,11 @@ floods e vni destination o from d owned gone i =
     let nobody : up_owner e.away (owner (table_of e) vni destination) ≡ None =
     owner_away e.away (owner (table_of e) vni destination) o owned gone in
     let local : d.local ≡ local_of (place_of destination (port_of e vni destination) None (address_of e)) from
-        (record { members = i.members; passing = i.passing }) =
+    (record { members = i.members; passing = i.passing }) =
     i.local ∙ ap (λ (x : Option ℕ). local_of (place_of destination (port_of e vni destination) x (address_of e)) from
     (record { members = i.members; passing = i.passing })) nobody in
     let remote : d.remote.items ≡ remote_of (place_of destination (port_of e vni destination) None (address_of e)) from
-        (up_edges e.away (flood_of (table_of e) vni)) (address_of e) =
+    (up_edges e.away (flood_of (table_of e) vni)) (address_of e) =
     i.remote ∙ ap (λ (x : Option ℕ). remote_of (place_of destination (port_of e vni destination) x (address_of e)) from
     (up_edges e.away (flood_of (table_of e) vni)) (address_of e)) nobody in
     record {

@@ -60,7 +60,7 @@ filter_twice p q (x ∷ os) = go (filter_twice p q os) (p x) (q x) refl
 
 -- ---- in the order of the list
 
--- what a test leaves of a list are those of the list that it leaves
+-- a list that a test left has those of the first list that pass it
 kept_listed : (p : ℕ → Bool) (os : List ℕ) → filter p os ≡ filter (is_away (filter p os)) os
 kept_listed p os = filter_agree p (is_away (filter p os)) os (λ o there. agree o there (p o) refl)
   where

@@ -1,5 +1,5 @@
--- Edges that are away: their sessions have been down for too long. RFC 7432 and RFC 8365 have no such edges: it is a
--- rule of this project that an edge gives them no frame.
+-- Edges that are away: their sessions have been down for too long. That an edge gives them no frame is a rule of this
+-- project, and not of RFC 7432 or RFC 8365.
 use Rattle.std.specs.Prelude.{ℕ, ◌==◌, ◌||◌, not, List, filter}
 use Rattle.ev_tunnel.specs.Decision.{is_away}
 

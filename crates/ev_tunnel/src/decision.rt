@@ -151,12 +151,7 @@ fn put_flood(
 }
 
 /// Replaces a list by the edges that get a frame with a destination at this place.
-fn put_remote(
-    place: &Place,
-    from: Source,
-    others: Others<'_>,
-    remote: &mut ArrayVec<Addr, 64>,
-)
+fn put_remote(place: &Place, from: Source, others: Others<'_>, remote: &mut ArrayVec<Addr, 64>)
     ensures { remote.new.items ≡ remote_of place.now from
         (up_edges others.entry.away.now.items
         (flood_of others.entry.table.now others.entry.vni)) others.entry.own }

@@ -203,7 +203,13 @@ fn broadcast_goes_to_no_edge_that_is_away(rt: HostRuntime) -> Result<(), Fail> {
     let table = flooded(rt.alloc())?;
     assert!(rt; goes(&decided_without(3, broadcast(), &table), 4, &[addr(2)]));
     assert!(rt; goes(&decided_without(2, broadcast(), &table), 4, &[addr(3)]));
-    assert!(rt; goes(&decided_without(4, broadcast(), &table), 4, &[addr(2), addr(3)]));
+    assert!(rt;
+        goes(
+            &decided_without(4, broadcast(), &table),
+            4,
+            &[addr(2), addr(3)]
+        )
+    );
     Ok(())
 }
 

@@ -35,6 +35,7 @@ E report\n\
 E owner VNI MAC\n\
 E counts\n\
 E stations [VNI]\n\
+E peers\n\
 edges\n\
 help\n",
     )
