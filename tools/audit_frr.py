@@ -105,7 +105,9 @@ def read_table(text: str, name: str, command: str) -> dict:
 
 def read_vnis(text: str, name: str, may_be_empty: bool = False) -> Dict[int, Vni]:
     """The VNIs of `show evpn vni json`, each with its VXLAN device."""
-    table = {} if may_be_empty and not text.strip() else read_json(text, name)
+    if not text.strip() and not may_be_empty:  # seen with 8.4.4, which a bgpd reconnects to after 10 s; 10.3 prints {}
+        raise Unreadable(f"{name}: empty; zebra prints nothing while bgpd isn't connected to it, as after a start of zebra: audit again in a minute")
+    table = read_json(text, name) if text.strip() else {}
     if not isinstance(table, dict):
         raise Unreadable(f"{name}: not what 'show evpn vni json' prints")
     entries = [entry for entry in table.values() if isinstance(entry, dict) and isinstance(entry.get("vni"), int)]

@@ -2,6 +2,7 @@
 
 import tests_path  # noqa: F401
 import os
+import socket
 import subprocess
 import sys
 import tempfile
@@ -43,11 +44,14 @@ class Joined(TwoCables):
             self.fail(running.end())
         return running
 
+    def asked(self, place: int, *words: str) -> str:
+        """What an edge answers; nothing where it doesn't answer."""
+        asked = [*TOOL, self.paths[place], "1", *words]
+        return subprocess.run(asked, capture_output=True, encoding="utf-8", check=False, timeout=PATIENCE).stdout
+
     def report(self, place: int) -> str:
         """What an edge reports; nothing where it doesn't answer."""
-        asked = [*TOOL, self.paths[place], "1", "report"]
-        done = subprocess.run(asked, capture_output=True, encoding="utf-8", check=False, timeout=PATIENCE)
-        return first_life(done.stdout)
+        return first_life(self.asked(place, "report"))
 
     def join(self) -> None:
         """Joins both."""
@@ -157,6 +161,30 @@ class Joined(TwoCables):
         there = f"records of {TWO}: older than those of its earlier life; raise its incarnation there\n"
         here = f"records of {TWO}: a peer holds newer ones of its earlier life; raise its incarnation here\n"
         self.assertEqual([running.note() for running in self.programs], [there, here])
+
+    def test_peer_that_was_removed_gets_no_frame(self) -> None:
+        """Neither one for its station nor a flooded one, until it is added again; the report stays as it is."""
+        self.join()
+        self.is_carried(self.two, self.one, frame(BROADCAST, station(2), b"here"))
+        self.both_report(FLOODS + learnt(2, TWO, 2))
+        self.assertEqual(self.asked(0, "peers"), f"1 peer {TWO} up\n")
+        self.part()
+        self.programs[1].kill()
+        self.assertEqual(self.asked(0, "peer", "remove", TWO), "")
+        self.assertEqual(self.asked(0, "peers"), f"1 peer {TWO} away\n")
+        with socket.socket(socket.AF_INET, socket.SOCK_DGRAM) as tunnel:
+            tunnel.bind((TWO, 4789))
+            tunnel.settimeout(0.5)
+            for destination in (station(2), BROADCAST):
+                self.one.send(frame(destination, station(1), b"who is there"))
+                with self.assertRaises(TimeoutError):
+                    tunnel.recv(9216)
+            self.assertEqual(self.asked(0, "peer", "add", TWO), "")
+            self.one.send(frame(station(2), station(1), b"who is there"))
+            tunnel.settimeout(PATIENCE)
+            self.assertIn(b"who is there", tunnel.recv(9216))
+        self.assertEqual(self.asked(0, "peer", "add", STRANGER), "1 refused edge 12\n")
+        self.assertIn(f"owner 5001 02:00:00:00:00:02 {TWO}", self.report(0))
 
     def test_peer_that_is_not_listed_is_told_once(self) -> None:
         """Nothing of it is taken; its name is told at the first connection, and not at the second."""

@@ -167,6 +167,23 @@ WORKED = {
             f"owner {STATION} 10.0.0.1",
         ),
     ),
+    "frames pass by an edge that is away, and the report stays": (
+        TWO + edge(3),
+        lines(
+            "1 up 1", "2 announce", "3 announce", "1 deliver 1", "1 deliver 2", "1 " + HEARD, "1 away 10.0.0.3", "1 " + HEARD,
+            "3 up 1", "3 frame 1 ffffffffffff02000000000b0800", "3 announce", "1 deliver 3", "1 frame 1 02000000000b02000000000a0800",
+            "1 away 10.0.0.2", "1 frame 1 02000000000b02000000000a0800", "1 back 10.0.0.2", "1 report", "1 back 10.0.0.3",
+            "1 frame 1 02000000000b02000000000a0800", "1 " + HEARD, "1 away 10.0.0.9", "1 back 10.0.0.9", "4 away 10.0.0.1",
+        ),
+        at(1, "3c") + lines("2 pool 1", "3 pool 2", "1 newer", "1 newer", "1 local - remote 10.0.0.2,10.0.0.3", "1 local - remote 10.0.0.2")
+        + at(3, "3c") + lines("3 local - remote -", "3 pool 3", "1 newer", "1 local - remote 10.0.0.2", "1 local - remote -")
+        + FLOODS + lines(
+            "flood 5001 10.0.0.3 1 up", f"mac {STATION} 10.0.0.1 2 dynamic 0", f"owner {STATION} 10.0.0.1",
+            "mac 5001 02:00:00:00:00:0b 10.0.0.3 2 dynamic 0", "owner 5001 02:00:00:00:00:0b 10.0.0.3",
+            "1 local - remote 10.0.0.3", "1 local - remote 10.0.0.2,10.0.0.3", "1 refused edge 12", "1 refused edge 12",
+            "4 refused fabric 18",
+        ),
+    ),
     "nothing": (ONE, "", ""),
     "a last line without a line feed": (ONE, "1 report\n1 report", 2 * lines("flood 5001 10.0.0.1 1 up")),
     "a line of 20,000 octets": (
@@ -198,6 +215,7 @@ BAD = [
     "1 thaw", "1 thaw 5001", "1 thaw 5001 02:00:00:00:00:0a 1", "1 thaw 05001 02:00:00:00:00:0a",
     "1 announce 1", "1 announce ", "1 deliver", "1 deliver 01", "1 deliver 1 1", "1 deliver 1000000000000000000",
     "1 port", "1 port 01", "1 port 1 1", "1 restart", "1 restart 01", "1 restart 1 1", "1 restart 4294967296", "# a comment",
+    "1 away", "1 away ", "1 away 1", "1 away 10.0.0.256", "1 away 10.0.0.2 ", "1 back", "1 back 10.0.0", "1 back 10.0.0.2 1",
     "10 frame 1 " + 19_990 // 2 * "00",
 ]
 
@@ -205,14 +223,15 @@ BAD = [
 GOOD = [
     "1 up 999999999999999999", "999999999999999999 report", "1 pin 16777215 02:00:00:00:00:0a 0", "1 restart 4294967295",
     "1 second 100000", "1 unpin 0 ff:ff:ff:ff:ff:ff", "1 thaw 0 00:00:00:00:00:00", "1 tunnel 255.255.255.255 00", "1 deliver 0", "0 port 0",
+    "1 away 255.255.255.255", "1 back 0.0.0.0",
 ]
 
 
 # the lines that docs/script.md has, one a line
 HELP = lines(
     "E up P", "E down P", "E mcheck P", "E second N", "E frame P HEX", "E tunnel ADDR HEX", "E pin VNI MAC P", "E unpin VNI MAC",
-    "E thaw VNI MAC", "E announce", "E deliver K", "E restart N", "E port P", "E report", "E owner VNI MAC", "E counts",
-    "E stations [VNI]", "edges", "help",
+    "E thaw VNI MAC", "E announce", "E deliver K", "E restart N", "E away ADDR", "E back ADDR", "E port P",
+    "E report", "E owner VNI MAC", "E counts", "E stations [VNI]", "E peers", "edges", "help",
 )
 
 # an edge of three ports and three networks, one of which no port is of
@@ -224,7 +243,7 @@ THREE_PORTS = (
 EDGES = lines("1 edge 10.0.0.1 ports 1:5001 networks 5001", "2 edge 10.0.0.9 ports 1:5001,2:100,3:5001 networks 70,100,5001")
 
 # questions, which are no lines of a simulation
-QUESTIONS = ["help", "edges", "1 owner " + STATION, "1 counts", "1 stations", "1 stations 5001"]
+QUESTIONS = ["help", "edges", "1 owner " + STATION, "1 counts", "1 stations", "1 stations 5001", "1 peers"]
 
 # lines that are neither a query nor a command
 NO_QUESTIONS = [
@@ -232,7 +251,7 @@ NO_QUESTIONS = [
     "owner " + STATION, "1 owner", "1 owner ", "1 owner 5001", "01 owner " + STATION, "1 Owner " + STATION, f"1 owner {STATION} ",
     "1 owner " + STATION.upper(), "1 owner 16777216 02:00:00:00:00:0a", f"1 owner {STATION} 1", f"1  owner {STATION}",
     "counts", "1 counts ", "1 counts 5001", "1 Counts", "1 count", "stations", "1 stations ", "1 stations 05001", "1 stations 16777216",
-    "1 stations 5001 ", "1 stations 5001 1", "1 station",
+    "1 stations 5001 ", "1 stations 5001 1", "1 station", "peers", "1 peers ", "1 peers 1", "1 peer", "1 Peers",
 ]
 
 

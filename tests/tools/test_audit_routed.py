@@ -138,6 +138,33 @@ class Routed(unittest.TestCase):
         for name, place in (("othervni", "10.0.0.1 vni 77"), ("otherport", "10.0.0.1 port 4790"), ("otheredge", "10.0.0.2")):
             self.finds(name, f"zebra 10.0.0.1, kernel {place}; after", mend=mend)
 
+    def test_neighbours(self):
+        """One was lost while zebra was stopped (the kernel asks for its MAC), one is wrong, no route names one; each mend is as it was run."""
+        mend = f"ip neigh replace {FAR_IP} lladdr {FAR} dev br5001 nud noarp extern_learn protocol zebra"
+        for version in VERSIONS:
+            asked = [entry for entry in text_of(view(version, "neighbourmissing"), "neigh.json") if entry["dst"] == FAR_IP]
+            self.assertEqual([entry.get("lladdr") for entry in asked], [None])
+        self.finds("neighbourmissing", f"neighbour missing 5001 {FAR_IP}: by the routes {FAR}, in the kernel nowhere\n", mend=mend)
+        self.finds("neighbour", f"neighbour wrong 5001 {FAR_IP}: by the routes {FAR}, in the kernel {OTHER}\n", mend=mend)
+        line = f"neighbour extra 5001 198.18.1.99: by the routes nowhere, in the kernel {OTHER}\n"
+        self.finds("neighbourextra", line, mend="ip neigh del 198.18.1.99 dev br5001")
+
+    def test_entries_that_are_lost(self):
+        """zebra has them, so the mends that routed.py ran in its case `lost` are printed."""
+        words = f"bridge fdb replace {FAR} dev vxlan5001"
+        for version in VERSIONS:
+            with self.subTest(version=version), Changed(view(version, "l3vni")) as changed:
+                for name, key, lost in (("fdb", "mac", FAR), ("neigh", "dst", "10.0.0.1")):
+                    changed.write(f"{name}.json", [entry for entry in text_of(changed.path, f"{name}.json") if entry[key] != lost])
+                done = run(changed.path)
+                self.assertEqual(done.returncode, 1)
+                lines = [line for line in done.stdout.splitlines() if ": VNI " not in line and not line.startswith("    1. ")]
+                begins = f"missing 5001 {FAR} owner 10.0.0.1 (the only advert); bgpd 10.0.0.1, zebra 10.0.0.1, kernel nowhere; "
+                self.assertEqual((len(lines), lines[0].startswith(begins)), (4, True), done.stdout)
+                self.assertEqual(lines[1], f"    mend: {words} dst 10.0.0.1 self extern_learn; {words} master extern_learn")
+                self.assertEqual(lines[2], f"next hop missing 6000 10.0.0.1: by the routes {ROUTER}, found zebra {ROUTER}, kernel nowhere")
+                self.assertEqual(lines[3], f"    mend: ip neigh replace 10.0.0.1 lladdr {ROUTER} dev br6000 nud noarp extern_learn protocol zebra")
+
     def test_causes_each_with_its_stations(self):
         """One line a cause, and none a MAC."""
         for name, text in (

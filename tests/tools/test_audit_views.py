@@ -503,7 +503,7 @@ class SaysWhatFails(unittest.TestCase):
             ("echo 'bgpd is not running'; exit 0\n", "bgpd is not running"),
             ("echo 'Exiting: failed to connect to any daemons.' >&2; exit 1\n", "no daemon of FRR answers"),
             ("echo 'what' >&2; exit 4\n", "status 4: what"),
-            ("exit 0\n", "show evpn vni json': empty"),
+            ("exit 0\n", "show evpn vni json': empty; zebra prints nothing while bgpd isn't connected to it, .*: audit again in a minute"),
         ]
         for script, cause in cases:
             with self.subTest(script=script):

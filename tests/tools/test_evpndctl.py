@@ -45,6 +45,8 @@ OBJECTS = {
     "E pin VNI MAC P": (f"1 pin 5001 {STATION} 1", "1 alert 6\n", [{"line": "alert", "edge": 1, "number": 6}]),
     "E unpin VNI MAC": (f"1 unpin 5001 {STATION}", "", []),
     "E thaw VNI MAC": (f"2 thaw 5001 {STATION}", "2 ended\n", [{"line": "ended", "edge": 2}]),
+    "E away ADDR": ("1 away 10.0.0.2", "", []),
+    "E back ADDR": ("1 back 10.0.0.9", "1 refused edge 12\n", [{"line": "refused", "edge": 1, "part": "edge", "number": 12}]),
     "E port P": (
         "1 port 1",
         "1 port 1 designated learning blocks\n",
@@ -97,6 +99,14 @@ OBJECTS = {
             {"line": "station", "edge": 1, "vni": 5001, "mac": STATION, "port": 1, "age": 3, "pinned": False, "frozen": False},
             {"line": "station", "edge": 1, "vni": 5001, "mac": OTHER, "port": 2, "age": None, "pinned": True, "frozen": False},
             {"line": "station", "edge": 1, "vni": 5002, "mac": STATION, "port": None, "age": None, "pinned": False, "frozen": True},
+        ],
+    ),
+    "E peers": (
+        "1 peers",
+        "1 peer 10.0.0.2 up\n1 peer 10.0.0.9 away\n",
+        [
+            {"line": "peer", "edge": 1, "address": "10.0.0.2", "state": "up"},
+            {"line": "peer", "edge": 1, "address": "10.0.0.9", "state": "away"},
         ],
     ),
     "edges": (
@@ -193,6 +203,17 @@ class Evpndctl(unittest.TestCase):
     def test_empty_answer(self) -> None:
         self.server({"1 thaw 5001 02:00:00:00:00:01": b"\n"})
         self.assertEqual(self.ask("1", "thaw", "5001", "02:00:00:00:00:01"), (0, "", ""))
+
+    def test_peers_are_added_and_removed(self) -> None:
+        """By the lines of the console."""
+        server = self.server({"1 away 10.0.0.2": b"\n", "2 back 10.0.0.2": b"2 refused edge 12\n\n"})
+        self.assertEqual(self.ask("1", "peer", "remove", "10.0.0.2"), (0, "", ""))
+        self.assertEqual(
+            self.ask("2", "peer", "add", "10.0.0.2"),
+            (1, "2 refused edge 12\n", "evpndctl: edge 2 lists no edge 10.0.0.2 (edge 12)\n"),
+        )
+        lines = [heard[1] for heard in server.heard if len(heard) > 1]
+        self.assertEqual(lines[:2], [b"1 away 10.0.0.2\n", b"2 back 10.0.0.2\n"])
 
     def test_refusals(self) -> None:
         """What an edge refuses, one that has ended and a line that is none are printed as any answer; the status tells of them."""

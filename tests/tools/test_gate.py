@@ -334,6 +334,11 @@ class Chain(unittest.TestCase):
                 self.assertEqual(lanes.jobs_for(self.project(), "words", is_in_chain), 1)
 
 
+    def test_other_rules_give_way_to_them(self):
+        found = [lanes.niceness_of(rule, is_in_chain) for rule, is_in_chain in (("proof", True), ("proof", False), ("edits", True), ("tests", False))]
+        self.assertEqual(found, [0, 5, 10, 10])
+
+
 # A kit that answers from files: $STUB/CRATE.WORD has the status in its first line, and CRATE.WORD.again is the answer to later calls.
 STUB = """#!/bin/bash
 case $1 in version) echo stub; exit;; doc) echo /nowhere/it.md; exit;; fmt) exit 0;; esac

@@ -1,5 +1,5 @@
 """Counts the rules at work, so that a proof gets a second job of a processor that no rule uses. The proofs of the longest chain get one
-in any case: the gate waits for them in the end."""
+in any case, and all other rules give way to them: the gate waits for that chain in the end."""
 import contextlib
 import fcntl
 import os
@@ -11,6 +11,8 @@ from calls import free_memory, processors
 SMALL = 800
 # MiB that have to be free for a second job
 ENOUGH = 11_000
+# the niceness of a proof beside the longest chain, and of any other rule
+OTHER_PROOF, OTHER_RULE = 5, 10
 
 
 def lanes():
@@ -42,6 +44,13 @@ def at_work(folder):
             except BlockingIOError:
                 count += 1
     return count
+
+
+def niceness_of(rule, is_in_chain):
+    """Returns the niceness of a rule: 0 for a proof of the longest chain. Proofs come before rules that no proof waits for."""
+    if rule != "proof":
+        return OTHER_RULE
+    return 0 if is_in_chain else OTHER_PROOF
 
 
 def jobs_for(project, name, is_in_chain):

@@ -205,7 +205,10 @@ def main(words):
         return 0
     project = Project(os.getcwd())
     if words[:1] == ["rule"]:
-        return work(project, *words[1:]) if len(words) == 3 and words[1] in graph.RULES and words[2] in project.lines else 2
+        if len(words) != 3 or words[1] not in graph.RULES or words[2] not in project.lines:
+            return 2
+        os.nice(lanes.niceness_of(words[1], words[2] in graph.longest_chain(project)))
+        return work(project, *words[1:])
     verb, *names = words if words[:1] and words[0] in ("graph", "sum", "tests") else ["run", *words]
     unknown = [it for it in names if it not in project.lines]
     if unknown:

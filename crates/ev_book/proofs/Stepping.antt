@@ -1,5 +1,5 @@
 -- One step of an edge, and the journal that grows by it.
-use Rattle.std.proofs.Common.{◌≡◌, ◌+◌, ◌≤◌, Bool, true, false, cond, length, Option, Some, None, IfSome, Result, Ok}
+use Rattle.std.proofs.Common.{◌≡◌, ℕ, ◌+◌, ◌≤◌, Bool, true, false, cond, length, Option, Some, None, IfSome, Result, Ok}
 use Rattle.std.proofs.Common.{Err, List, [], ◌∷◌, ◌++◌, refl, ap, sym, subst, ◌∙◌, arith}
 use Rattle.std.proofs.lemmas.List.Elements.{Contains-append_right, Contains-append_left, Contains-push}
 use Rattle.std.proofs.lemmas.Bool.{false≢true}
@@ -7,7 +7,7 @@ use Rattle.std.proofs.lemmas.List.{length-map}
 use Rattle.std.specs.FinMap.{empty}
 use Rattle.route_wire.specs.declared.update.Register.{Register}
 use Rattle.route_wire.specs.Fields.{Fields}
-use Rattle.route_join.specs.Table.{Table, value_at, IsTableOf}
+use Rattle.route_join.specs.Table.{Table, value_at, is_listed, IsTableOf}
 use Rattle.route_join.proofs.Tables.{update_told}
 use Rattle.route_join.proofs.Edits.{new_table}
 use Rattle.route_join.proofs.Joins.{none_taken, all_taken}
@@ -24,7 +24,7 @@ use Rattle.ev_edge.specs.Edge.{Edge, table_of}
 use Rattle.ev_edge.specs.declared.arrival.Arrival.{Arrival}
 use Rattle.ev_edge.specs.declared.arrival.Arrival.TheVariants.{Dropped, Message, Data}
 use Rattle.ev_edge.specs.Arrival.{tunnel_arrival}
-use Rattle.ev_edge.specs.Steps.{Steps, TunnelSteps}
+use Rattle.ev_edge.specs.Steps.{Steps, TunnelSteps, Marks}
 use Rattle.ev_edge.specs.Changes.{Changes, accepted, brought, heard}
 use Rattle.ev_edge.proofs.Changing.{heard_counter}
 use Rattle.ev_book.specs.Mark.{Holds, mark_of}
@@ -63,6 +63,8 @@ brings_one (events.PortUp port) = omega arith
 brings_one (events.PortDown port) = omega arith
 brings_one (events.Mcheck port) = omega arith
 brings_one events.Announce = omega arith
+brings_one (events.Away a) = omega arith
+brings_one (events.Back a) = omega arith
 
 brings_none : (event : Event) → may_write event ≡ false → length (brought event) ≡ 0
 brings_none (events.Frame port octets) silent = refl
@@ -76,6 +78,8 @@ brings_none (events.PortUp port) silent = refl
 brings_none (events.PortDown port) silent = refl
 brings_none (events.Mcheck port) silent = refl
 brings_none events.Announce silent = refl
+brings_none (events.Away a) silent = refl
+brings_none (events.Back a) silent = refl
 
 tunnel_counter : (arrival : Result Arrival edges.Refusal) (e : Edge) (result : Result Reply edges.Refusal) (e' : Edge)
     → TunnelSteps arrival e result e' → e'.routes.speaker.counter ≡ e.routes.speaker.counter
@@ -84,6 +88,11 @@ tunnel_counter (Ok Dropped) e result e' h = ap (λ (x : Edge). x.routes.speaker.
 tunnel_counter (Ok (Message b)) e result e' h = absurd h
 tunnel_counter (Ok (Data vni destination source)) e (Ok reply) e' h = ap (λ (x : Edge). x.routes.speaker.counter) h.2
 tunnel_counter (Ok (Data vni destination source)) e (Err r) e' h = absurd h
+
+mark_counter : (b : Bool) (e : Edge) (away : List ℕ) (result : Result Reply edges.Refusal) (e' : Edge)
+    → Marks b e away result e' → e'.routes.speaker.counter ≡ e.routes.speaker.counter
+mark_counter true e away result e' h = ap (λ (x : Edge). x.routes.speaker.counter) h.1
+mark_counter false e away result e' h = ap (λ (x : Edge). x.routes.speaker.counter) h.1
 
 -- an event that may not write leaves the counter, and brings nothing
 silent_counter : (e : Edge) (event : Event) (result : Result Reply edges.Refusal) (e' : Edge) → may_write event ≡ false
@@ -100,6 +109,8 @@ silent_counter e (events.PortUp port) result e' silent h = absurd (false≢true 
 silent_counter e (events.PortDown port) result e' silent h = absurd (false≢true (sym silent))
 silent_counter e (events.Mcheck port) result e' silent h = absurd (false≢true (sym silent))
 silent_counter e events.Announce result e' silent h = ap (λ (x : Edge). x.routes.speaker.counter) h.1
+silent_counter e (events.Away a) result e' silent h = mark_counter (is_listed (table_of e) a) e _ result e' h
+silent_counter e (events.Back a) result e' silent h = mark_counter (is_listed (table_of e) a) e _ result e' h
 
 -- the event's updates fit into the reserved room
 pub fits_brought : (event : Event) (routes : LocalRoutes) → length (brought event) ≤ most_written event routes
@@ -166,6 +177,8 @@ touched_there e events.Second reply e' journal own steps table = tt
 touched_there e (events.PortUp port) reply e' journal own steps table = tt
 touched_there e (events.PortDown port) reply e' journal own steps table = tt
 touched_there e (events.Mcheck port) reply e' journal own steps table = tt
+touched_there e (events.Away a) reply e' journal own steps table = tt
+touched_there e (events.Back a) reply e' journal own steps table = tt
 
 pub touched_by_there : (e : Edge) (event : Event) (result : Result Reply edges.Refusal) (e' : Edge)
     (journal own : List Fields) → Steps e event result e'

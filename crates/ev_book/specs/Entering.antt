@@ -38,6 +38,8 @@ touched events.Second reply = None
 touched (events.PortUp port) reply = None
 touched (events.PortDown port) reply = None
 touched (events.Mcheck port) reply = None
+touched (events.Away a) reply = None
+touched (events.Back a) reply = None
 
 -- a refused call has none
 abbrev pub touched_by : {R : Type 0} → Event → Result Reply R → Option Fields
@@ -55,8 +57,8 @@ called p m = record { number = p.number; count = p.count + 1; mark = m }
 
 -- ---- the updates that an event can write
 
--- whether the edge may take or say an update at it: not at a frame from a tunnel, the end of a window or an
--- announcement
+-- whether the edge may take or say an update at it: not at a frame from a tunnel, the end of a window, an announcement,
+-- or another edge that goes away or is back
 abbrev pub may_write : Event → Bool
 may_write (events.Frame port octets) = true
 may_write (events.TunnelFrame from octets) = false
@@ -69,6 +71,8 @@ may_write (events.PortUp port) = true
 may_write (events.PortDown port) = true
 may_write (events.Mcheck port) = true
 may_write events.Announce = false
+may_write (events.Away a) = false
+may_write (events.Back a) = false
 
 -- ---- one call
 

@@ -103,6 +103,7 @@ fn may_write(event: &Event<'_>) -> bool
 {
     match event {
         Event::TunnelFrame(..) | Event::Thaw(_) | Event::Announce => false,
+        Event::Away(_) | Event::Back(_) => false,
         _ => true,
     }
 }

@@ -15,7 +15,7 @@ use Rattle.ev_mailboxes.specs.declared.request.Command.TheVariants as steps
 use Rattle.ev_script.specs.declared.script.question.Question.{Question}
 use Rattle.ev_script.specs.declared.script.question.Question.TheVariants.{Help, Edges, OfEdge}
 use Rattle.ev_script.specs.Script.{Command, up, down, mcheck, second, frame, tunnel, pin, unpin, thaw, announce}
-use Rattle.ev_script.specs.Script.{deliver, port, report, restart, line_of, question_of}
+use Rattle.ev_script.specs.Script.{deliver, port, report, restart, away, back, line_of, question_of}
 use Rattle.ev_script.specs.Simulation.{port_number}
 use Rattle.ev_script.specs.Faults.{why_of, why_text}
 use Rattle.ev_script.specs.Printing.{words_text, number_text, reply_text, refusal_text, port_text}
@@ -108,6 +108,8 @@ AnswersCommand e (mcheck p) = Steps e (steps.Mcheck (port_number p))
 AnswersCommand e (pin s p) = Steps e (steps.Pin s (port_number p))
 AnswersCommand e (unpin s) = Steps e (steps.Unpin s)
 AnswersCommand e (thaw s) = Steps e (steps.Thaw s)
+AnswersCommand e (away a) = Steps e (steps.Away a)
+AnswersCommand e (back a) = Steps e (steps.Back a)
 AnswersCommand e (port p) = ShowsPort e (port_number p)
 AnswersCommand e report = ShowsTable e
 AnswersCommand e (second n) = Says simulated_text
@@ -130,9 +132,10 @@ AnswersWords line (Some found) = AnswersCommand found.0 found.1
 abbrev pub help_text : List ℕ
 help_text =
     codes "E up P\n" ++ codes "E down P\n" ++ codes "E mcheck P\n" ++ codes "E pin VNI MAC P\n"
-    ++ codes "E unpin VNI MAC\n" ++ codes "E thaw VNI MAC\n" ++ codes "E port P\n" ++ codes "E report\n"
-    ++ codes "E owner VNI MAC\n" ++ codes "E counts\n" ++ codes "E stations [VNI]\n" ++ codes "edges\n"
-    ++ codes "help\n"
+    ++ codes "E unpin VNI MAC\n" ++ codes "E thaw VNI MAC\n" ++ codes "E away ADDR\n" ++ codes "E back ADDR\n"
+    ++ codes "E port P\n" ++ codes "E report\n"
+    ++ codes "E owner VNI MAC\n" ++ codes "E counts\n" ++ codes "E stations [VNI]\n" ++ codes "E peers\n"
+    ++ codes "edges\n" ++ codes "help\n"
 
 abbrev pub ShowsView : ℕ → EdgeQuestion → List Asked → List ℕ → Type 0
 ShowsView e q = λ asked text.

@@ -155,6 +155,8 @@ fn perform<O: Operated, W: Out>(
         }
         Command::Unpin(station) => enter(operated, edge, &Step::Unpin(*station), out),
         Command::Thaw(station) => enter(operated, edge, &Step::Thaw(*station), out),
+        Command::Away(other) => enter(operated, edge, &Step::Away(*other), out),
+        Command::Back(other) => enter(operated, edge, &Step::Back(*other), out),
         Command::Port(port) => show_port(operated, edge, port_number(*port), out),
         Command::Report => show_table(alloc, operated, edge, out),
         Command::Second(_) => refuse(operated, out),

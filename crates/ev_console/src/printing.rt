@@ -151,11 +151,14 @@ E mcheck P\n\
 E pin VNI MAC P\n\
 E unpin VNI MAC\n\
 E thaw VNI MAC\n\
+E away ADDR\n\
+E back ADDR\n\
 E port P\n\
 E report\n\
 E owner VNI MAC\n\
 E counts\n\
 E stations [VNI]\n\
+E peers\n\
 edges\n\
 help\n",
     )

@@ -10,7 +10,7 @@ use Rattle.route_wire.specs.declared.update.Content.{Content}
 use Rattle.route_wire.specs.declared.update.Content.TheVariants.{Withdrawn}
 use Rattle.route_wire.specs.declared.update.Value.{Value}
 use Rattle.route_wire.specs.Fields.{Fields}
-use Rattle.route_join.specs.Table.{with_updates}
+use Rattle.route_join.specs.Table.{with_updates, is_listed}
 use Rattle.route_join.proofs.Merging.{updates_append}
 use Rattle.mac_arena.specs.declared.station.Station.{Station}
 use Rattle.mac_arena.specs.Learning.{entry_at, is_pinned}
@@ -40,13 +40,13 @@ use Rattle.ev_edge.specs.declared.refusal.EdgeRefusal.{EdgeRefusal}
 use Rattle.ev_edge.specs.declared.refusal.Refusal.{Refusal}
 use Rattle.ev_edge.specs.declared.reply.Reply.{Reply}
 use Rattle.ev_edge.specs.Config.{IsConfig}
-use Rattle.ev_edge.specs.Edge.{Edge, IsGoodEdge, address_of}
+use Rattle.ev_edge.specs.Edge.{Edge, IsGoodEdge, table_of, address_of}
 use Rattle.ev_edge.specs.Opening.{IsOpening, start_of}
 use Rattle.ev_edge.specs.Pinning.{DoesPin, pin_case, refused_pin, after_unpin}
 use Rattle.ev_edge.specs.Bridging.{aged, next_second}
 use Rattle.ev_edge.specs.Arrival.{frame_arrival, tunnel_arrival}
 use Rattle.ev_edge.specs.Steps.{Steps, LearnsIf, FrameSteps, TunnelSteps, Bridges, BridgesAt, Seconds, Takes}
-use Rattle.ev_edge.specs.Steps.{TakesOther, TakesOwn, Pins}
+use Rattle.ev_edge.specs.Steps.{TakesOther, TakesOwn, Pins, Marks}
 use Rattle.ev_edge.specs.Changes.{Changes, accepted, heard, heard_in}
 use Rattle.ev_edge.proofs.Cases.{learnt_by, or_refused}
 
@@ -221,6 +221,8 @@ heard_same part hears announces (events.PortUp port) (Ok reply) v = refl
 heard_same part hears announces (events.PortDown port) (Ok reply) v = refl
 heard_same part hears announces (events.Mcheck port) (Ok reply) v = refl
 heard_same part hears announces events.Announce (Ok reply) v = announces v
+heard_same part hears announces (events.Away a) (Ok reply) v = refl
+heard_same part hears announces (events.Back a) (Ok reply) v = refl
 
 heard_address : (event : Event) (result : Result Reply Refusal) (v : Speaker) → (heard event result v).address
     ≡ v.address
@@ -248,6 +250,8 @@ heard_table (events.PortUp port) (Ok reply) v = refl
 heard_table (events.PortDown port) (Ok reply) v = refl
 heard_table (events.Mcheck port) (Ok reply) v = refl
 heard_table events.Announce (Ok reply) v = refl
+heard_table (events.Away a) (Ok reply) v = refl
+heard_table (events.Back a) (Ok reply) v = refl
 
 length_map : (us : List Fields) → length (registers_in us) ≡ length us
 length_map [] = refl
@@ -311,6 +315,11 @@ take_change e u result e' good false t h = other_change e u result e' good (λ s
 announced_behind : (v : Speaker) → KeepsNumbers v → IsBehind (after_announcing v)
 announced_behind v h = record { past = h.past; counted = h.counted }
 
+marks_speaker : (e : Edge) (away : List ℕ) (result : Result Reply Refusal) (e' : Edge) (b : Bool)
+    → Marks b e away result e' → e'.routes.speaker ≡ e.routes.speaker
+marks_speaker e away result e' true h = ap (λ (x : Edge). x.routes.speaker) h.1
+marks_speaker e away result e' false h = ap (λ (x : Edge). x.routes.speaker) h.1
+
 pub steps_change : (e : Edge) (event : Event) (result : Result Reply Refusal) (e' : Edge) → IsGoodEdge e
     → Steps e event result e' → Changes e event result e'
 steps_change e (events.Frame port octets) result e' good h =
@@ -340,6 +349,10 @@ steps_change e events.Announce result e' good h =
     subst (λ r. Changes e events.Announce r e') (sym h.0)
     (changed e events.Announce (Ok _) e' (nothing_said (after_announcing e.routes.speaker) e e'
     (ap (λ (x : Edge). x.routes.speaker) h.1)) (announced_behind e.routes.speaker good.routes.numbers))
+steps_change e (events.Away a) result e' good h = quiet e (events.Away a) result e' (λ v. refl) good
+    (nothing_said e.routes.speaker e e' (marks_speaker e _ result e' (is_listed (table_of e) a) h))
+steps_change e (events.Back a) result e' good h = quiet e (events.Back a) result e' (λ v. refl) good
+    (nothing_said e.routes.speaker e e' (marks_speaker e _ result e' (is_listed (table_of e) a) h))
 
 -- ---- the opening
 

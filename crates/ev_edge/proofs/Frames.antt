@@ -23,6 +23,7 @@ use Rattle.ev_tunnel.specs.declared.decision.Decision.{Decision}
 use Rattle.ev_tunnel.specs.declared.decision.Source.{Source}
 use Rattle.ev_tunnel.specs.declared.decision.Source.TheVariants.{Port, Tunnel}
 use Rattle.ev_tunnel.specs.Place.{place_of}
+use Rattle.ev_tunnel.specs.Decision.{up_owner}
 use Rattle.ev_tunnel.proofs.DecisionLemmas.{local_passes, member_is, never_back}
 use Rattle.ev_mobility.specs.declared.alert.Alert.{Alert}
 use Rattle.ev_claims.specs.Speaker.{is_at}
@@ -45,11 +46,11 @@ use Rattle.ev_edge.proofs.Places.{set_port}
 
 -- ---- nowhere
 
-none : (result : Result Reply Refusal) → decision_in result ≡ None → (P : Decision → Type 0)
+pub none : (result : Result Reply Refusal) → decision_in result ≡ None → (P : Decision → Type 0)
     → ForSome (decision_in result) P
 none result is P d at = absurd (let no : None ≡ Some d = sym is ∙ at in cc)
 
-bridged : (event : tree.Event) (e : Edge) (result : Result Reply Refusal) (e' : Edge) → Bridges event e result e'
+pub bridged : (event : tree.Event) (e : Edge) (result : Result Reply Refusal) (e' : Edge) → Bridges event e result e'
     → decision_in result ≡ None
 bridged event e (Ok reply) e' h = ap (λ (r : Reply). r.decision) h.reply_is
 bridged event e (Err r) e' h = refl
@@ -80,9 +81,11 @@ decided : (e : Edge) (vni destination : ℕ) (from : Source) (d : Decision) → 
     → IsDecision e vni destination from d → (p : ℕ) → IsPort p → has_port d.local p ≡ true
     → (vni_at e.routes.ports p ≡ Some vni) × Passes e.tree p
 decided e vni destination from d keeps i p port there =
-    let both = local_passes (place_of destination (port_of e vni destination) (owner (table_of e) vni destination)
-    (address_of e)) from (record { members = i.members; passing = i.passing }) i.passing_fit
-    (member_is destination (port_of e vni destination) (owner (table_of e) vni destination) (address_of e) i.members
+    let both = local_passes (place_of destination (port_of e vni destination)
+    (up_owner e.away (owner (table_of e) vni destination)) (address_of e)) from
+    (record { members = i.members; passing = i.passing }) i.passing_fit
+    (member_is destination (port_of e vni destination) (up_owner e.away (owner (table_of e) vni destination))
+    (address_of e) i.members
     (λ q at. i.are_members q ∙ member (entry_at e.routes.learned s) refl q at)) p port
     (ap (λ n. has_port n p) (sym i.local) ∙ there) in
     (at_true (vni_at e.routes.ports p) vni (sym (i.are_members p) ∙ both.0), ((i.are_passing p).0 both.1).1)
@@ -103,7 +106,8 @@ not_back : (e : Edge) (vni destination port : ℕ) (d : Decision) → IsPort por
     → IsDecision e vni destination (Port port) d → has_port d.local port ≡ false
 not_back e vni destination port d is i =
     ap (λ n. has_port n port) i.local
-    ∙ never_back (place_of destination (port_of e vni destination) (owner (table_of e) vni destination) (address_of e))
+    ∙ never_back (place_of destination (port_of e vni destination)
+    (up_owner e.away (owner (table_of e) vni destination)) (address_of e))
     port (record { members = i.members; passing = i.passing }) i.members_fit i.passing_fit is
 
 -- ---- from an access port

@@ -1,20 +1,24 @@
 -- An edge stays good when its local routes change.
 use Rattle.std.proofs.Common.{◌≡◌, ℕ, ◌+◌, ◌≤◌, ◌^◌, Bool, true, false, cond, Result, Ok, Err, List, [], ◌∷◌, length}
 use Rattle.std.proofs.Common.{refl, sym, ap, subst, ◌∙◌, arith}
-use Rattle.std.specs.Prelude.{OnOk, OnErr, nat_le, ◌==◌, ◌-◌}
+use Rattle.std.specs.Prelude.{OnOk, OnErr, nat_le, ◌==◌, ◌-◌, filter}
 use Rattle.std.proofs.lemmas.Bool.Decides.{nat_tests}
 use Rattle.ether_wire.specs.Addr.{is_group}
 use Rattle.route_wire.specs.declared.update.Key.{Key}
 use Rattle.route_wire.specs.declared.update.Key.TheVariants.{Flood, Mac}
 use Rattle.route_wire.specs.Fields.{Fields}
+use Rattle.route_join.proofs.Merging.{same_listeners}
 use Rattle.mac_arena.specs.declared.station.Station.{Station}
 use Rattle.mac_arena.proofs.Looking.{learn_entry, pin_entry}
 use Rattle.mac_arena.proofs.Values.{latest_learn, latest_pin, latest_later, chains_learn, chains_pin}
 use Rattle.mac_arena.specs.Learning.{learnt_of}
 use Rattle.ev_claims.specs.LocalRoutes.{LocalRoutes, after_removals, after_removal, after_update, after_losing}
-use Rattle.ev_claims.specs.LocalRoutes.{after_take}
+use Rattle.ev_claims.specs.LocalRoutes.{after_take, after_own}
+use Rattle.ev_claims.specs.Speaker.{is_returning, after_originating, after_importing}
+use Rattle.route_wire.specs.declared.update.Content.TheVariants.{Withdrawn}
+use Rattle.ev_tunnel.specs.Decision.{is_away}
 use Rattle.ev_claims.specs.LocalRoutes.{after_refresh, after_shift, after_announcement, is_lost}
-use Rattle.ev_edge.specs.Edge.{Edge, IsEdge}
+use Rattle.ev_edge.specs.Edge.{Edge, IsEdge, AreListed, table_of}
 use Rattle.std.specs.FinMap.{FinMap}
 use Rattle.mac_arena.specs.Station.{station_cmp}
 use Rattle.ev_mobility.specs.declared.window.Window.{Window}
@@ -49,10 +53,50 @@ taken_ports c u = go u.register.key
     go (Flood v) = refl
     go (Mac v m ip) = pick (record { vni = v; mac = m }) (is_lost (after_update c u) (record { vni = v; mac = m }))
 
+-- ---- the same originators
+
+-- the same originators are listed
+abbrev pub ListsAs : LocalRoutes → LocalRoutes → Type 0
+ListsAs c d = c.speaker.table.originators ≡ d.speaker.table.originators
+
+pub removals_list : (c : LocalRoutes) (ss : List Station) → ListsAs (after_removals c ss) c
+removals_list c [] = refl
+removals_list c (s ∷ ss) = removals_list (after_removal c s) ss
+
+pub update_lists : (c : LocalRoutes) (u : Fields) → ListsAs (after_update c u) c
+update_lists c u = same_listeners c.speaker.table u
+
+pub taken_list : (c : LocalRoutes) (u : Fields) → ListsAs (after_take c u) c
+taken_list c u = go u.register.key ∙ update_lists c u
+  where
+    pick : (s : Station) (b : Bool) → ListsAs (cond b (after_removal (after_update c u) s) (after_update c u))
+        (after_update c u)
+    pick s true = refl
+    pick s false = refl
+
+    go : (k : Key) → ListsAs (after_losing (after_update c u) k) (after_update c u)
+    go (Flood v) = refl
+    go (Mac v m ip) = pick (record { vni = v; mac = m }) (is_lost (after_update c u) (record { vni = v; mac = m }))
+
+pub own_list : (c : LocalRoutes) (u : Fields) → ListsAs (after_own c u) c
+own_list c u = go (is_returning c.speaker u)
+  where
+    go : (b : Bool) → ListsAs (record c {
+      speaker = cond b (after_originating (after_importing c.speaker u) u.register.key Withdrawn)
+          (after_importing c.speaker u);
+    }) c
+    go true = update_lists c u
+    go false = update_lists c u
+
+-- so those that are away are listed still
+pub listed_still : (e : Edge) (c : LocalRoutes) → AreListed e.away (table_of e) → ListsAs c e.routes
+    → AreListed e.away c.speaker.table
+listed_still e c listed same = listed ∙ ap (filter (is_away e.away)) (sym same)
+
 -- ---- other local routes
 pub kept : (e : Edge) (passing : ℕ) (c d : LocalRoutes) → IsEdge e passing → d ≡ c → Holds c e.clock
-    → c.ports ≡ e.routes.ports → IsEdge (record e { routes = d }) passing
-kept e passing c d h is holds ports = subst (λ x. IsEdge (record e { routes = x }) passing) (sym is) (record {
+    → c.ports ≡ e.routes.ports → ListsAs c e.routes → IsEdge (record e { routes = d }) passing
+kept e passing c d h is holds ports same = subst (λ x. IsEdge (record e { routes = x }) passing) (sym is) (record {
   keeps = record {
     owns = holds.owns;
     latest = holds.latest;
@@ -61,16 +105,18 @@ kept e passing c d h is holds ports = subst (λ x. IsEdge (record e { routes = x
     buckets = holds.buckets;
     ports = h.keeps.ports ∙ sym (ap length ports);
     early = h.keeps.early;
+    away = listed_still e c h.keeps.away same;
   };
   exact = h.exact;
 })
 
 pub either : {X E : Type 0} (e : Edge) (passing : ℕ) (c d : LocalRoutes) (r : Result X E) → IsEdge e passing
     → OnOk r (d ≡ c)
-    → OnErr r (d ≡ e.routes) → Holds c e.clock → c.ports ≡ e.routes.ports
+    → OnErr r (d ≡ e.routes) → Holds c e.clock → c.ports ≡ e.routes.ports → ListsAs c e.routes
     → IsEdge (record e { routes = d }) passing
-either e passing c d (Ok x) h ok err holds ports = kept e passing c d h ok holds ports
-either e passing c d (Err x) h ok err holds ports = kept e passing e.routes d h err (holds_of e passing h) refl
+either e passing c d (Ok x) h ok err holds ports same = kept e passing c d h ok holds ports same
+either e passing c d (Err x) h ok err holds ports same =
+    kept e passing e.routes d h err (holds_of e passing h) refl refl
 
 pub refresh_holds : (c : LocalRoutes) (s : Station) (port second : ℕ) → is_group s.mac ≡ false → Holds c second
     → Holds (after_refresh c s port second) second
@@ -117,6 +163,24 @@ other_windows e passing windows h = record {
     buckets = h.keeps.buckets;
     ports = h.keeps.ports;
     early = h.keeps.early;
+    away = h.keeps.away;
+  };
+  exact = h.exact;
+}
+
+-- other edges are away
+pub other_away : (e : Edge) (passing : ℕ) (away : List ℕ) → IsEdge e passing → AreListed away (table_of e)
+    → IsEdge (record e { away = away }) passing
+other_away e passing away h listed = record {
+  keeps = record {
+    owns = h.keeps.owns;
+    latest = h.keeps.latest;
+    individual = h.keeps.individual;
+    served = h.keeps.served;
+    buckets = h.keeps.buckets;
+    ports = h.keeps.ports;
+    early = h.keeps.early;
+    away = listed;
   };
   exact = h.exact;
 }
@@ -124,9 +188,9 @@ other_windows e passing windows h = record {
 -- ---- the bridge goes on
 pub bridged : (e : Edge) (was passing clock : ℕ) (tree : Tree) (c d : LocalRoutes) → IsEdge e was
     → length tree.ports ≡ length e.tree.ports → ArePassing tree passing → clock ≤ 2 ^ 63 → d ≡ c → Holds c clock
-    → c.ports ≡ e.routes.ports
+    → c.ports ≡ e.routes.ports → ListsAs c e.routes
     → IsEdge (record e { tree = tree; clock = clock; routes = d }) passing
-bridged e was passing clock tree c d h size exact early is holds ports =
+bridged e was passing clock tree c d h size exact early is holds ports same =
     subst (λ x. IsEdge (record e { tree = tree; clock = clock; routes = x }) passing) (sym is) (record {
       keeps = record {
         owns = holds.owns;
@@ -136,6 +200,7 @@ bridged e was passing clock tree c d h size exact early is holds ports =
         buckets = holds.buckets;
         ports = size ∙ h.keeps.ports ∙ sym (ap length ports);
         early = early;
+        away = listed_still e c h.keeps.away same;
       };
       exact = exact;
     })
@@ -171,4 +236,11 @@ aged_ports c ageing clock = go (nat_le ageing clock)
   where
     go : (b : Bool) → (cond b (after_ageing c (clock - ageing)) c).ports ≡ c.ports
     go true = removals_ports c (due_in c.learned (clock - ageing))
+    go false = refl
+
+pub aged_list : (c : LocalRoutes) (ageing clock : ℕ) → ListsAs (aged c ageing clock) c
+aged_list c ageing clock = go (nat_le ageing clock)
+  where
+    go : (b : Bool) → ListsAs (cond b (after_ageing c (clock - ageing)) c) c
+    go true = removals_list c (due_in c.learned (clock - ageing))
     go false = refl

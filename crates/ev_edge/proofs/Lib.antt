@@ -1,3 +1,6 @@
+pub mod Marking
+pub mod Giving
+pub mod Alike
 pub mod Cases
 pub mod Owning
 pub mod Passing

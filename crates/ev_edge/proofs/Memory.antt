@@ -11,7 +11,7 @@ use Rattle.vxlan_wire.specs.Vxlan.{instance_of}
 use Rattle.vxlan_wire.specs.declared.vxlan.VxlanRefusal as vxlan
 use Rattle.route_wire.specs.declared.update.Value.{Value}
 use Rattle.route_wire.specs.Fields.{Fields}
-use Rattle.route_join.specs.Table.{value_at}
+use Rattle.route_join.specs.Table.{value_at, is_listed}
 use Rattle.rstp_run.specs.declared.event.Event as tree
 use Rattle.ev_mobility.specs.declared.alert.Alert.TheVariants.{LostStatic, NoMemory as Unroomed}
 use Rattle.ev_claims.specs.LocalRoutes.{vni_at, loses_pinned}
@@ -27,7 +27,7 @@ use Rattle.ether_wire.specs.Addr.{is_reserved}
 use Rattle.ev_edge.specs.Arrival.{holds_bpdu, message_in, reserved_arrival, data_in, arrival_at}
 use Rattle.ev_edge.specs.Arrival.{arrival_on, is_up, serves, inner_arrival, datagram_arrival, is_other}
 use Rattle.ev_edge.specs.Steps.{Steps, FrameSteps, TunnelSteps, Bridges, BridgesAt, Seconds, Takes, TakesOther}
-use Rattle.ev_edge.specs.Steps.{lost_alert}
+use Rattle.ev_edge.specs.Steps.{lost_alert, Marks}
 use Rattle.ev_edge.specs.Laws.{is_data, takes_none, TellsNoMemory}
 
 -- ---- answers
@@ -142,6 +142,11 @@ taken : (e : Edge) (u : Fields) (result : Result Reply Refusal) (e' : Edge) (b :
 taken e u result e' true idle h = absurd (let bad : false ≡ true = idle in cc)
 taken e u result e' false there h = others e u result e' there h
 
+marked : (e : Edge) (away : List ℕ) (result : Result Reply Refusal) (e' : Edge) (b : Bool) → Marks b e away result e'
+    → TellsNoMemory result → ⊥
+marked e away result e' true h = silent result _ h.0 refl
+marked e away result e' false h = refused result _ h.0 (λ same. cc)
+
 pub tells_none : (e : Edge) (event : Event) (result : Result Reply Refusal) (e' : Edge) → takes_none e event ≡ true
     → Steps e event result e' → TellsNoMemory result → ⊥
 tells_none e (events.Frame port octets) result e' idle h =
@@ -156,3 +161,5 @@ tells_none e (events.PortUp port) result e' idle h = bridged_at (vni_at e.routes
 tells_none e (events.PortDown port) result e' idle h = bridged_at (vni_at e.routes.ports port) _ e result e' h
 tells_none e (events.Mcheck port) result e' idle h = bridged_at (vni_at e.routes.ports port) _ e result e' h
 tells_none e events.Announce result e' idle h = silent result _ h.0 refl
+tells_none e (events.Away a) result e' idle h = marked e _ result e' (is_listed (table_of e) a) h
+tells_none e (events.Back a) result e' idle h = marked e _ result e' (is_listed (table_of e) a) h

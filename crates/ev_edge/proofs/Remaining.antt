@@ -15,6 +15,7 @@ use Rattle.bpdu_wire.specs.Reading.{reading}
 use Rattle.bpdu_wire.specs.declared.bpdu.Bpdu.{Bpdu}
 use Rattle.bpdu_wire.specs.declared.refusal.BpduRefusal as bpdu
 use Rattle.route_wire.specs.Fields.{Fields}
+use Rattle.route_join.specs.Table.{is_listed}
 use Rattle.mac_arena.specs.declared.station.Station.{Station}
 use Rattle.mac_arena.specs.declared.station.Entry.{Entry}
 use Rattle.mac_arena.specs.Station.{station_cmp}
@@ -46,14 +47,17 @@ use Rattle.ev_edge.specs.declared.reply.Reply.{Reply}
 use Rattle.ev_edge.specs.Arrival.{frame_arrival, tunnel_arrival, arrival_on, arrival_at, reserved_arrival, message_in}
 use Rattle.ether_wire.specs.Addr.{is_reserved}
 use Rattle.ev_edge.specs.Arrival.{data_in, holds_bpdu, is_up}
-use Rattle.ev_edge.specs.Bridging.{next_second}
-use Rattle.ev_edge.specs.Edge.{Edge, IsGoodEdge, table_of, address_of}
+use Rattle.ev_edge.specs.Away.{with_away, with_back}
+use Rattle.ev_edge.specs.Bridging.{next_second, aged}
+use Rattle.ev_edge.specs.Edge.{Edge, IsGoodEdge, AreListed, table_of, address_of}
 use Rattle.ev_edge.specs.Learning.{is_spent}
 use Rattle.ev_edge.specs.Pinning.{is_static, unpinned_case, pin_case_at, pin_case, refused_pin, DoesPin, after_unpin}
 use Rattle.ev_edge.specs.Steps.{Steps, LearnsIf, FrameSteps, TunnelSteps, Bridges, BridgesAt, Seconds, Takes}
-use Rattle.ev_edge.specs.Steps.{Pins}
+use Rattle.ev_edge.specs.Steps.{Pins, Marks}
+use Rattle.ev_edge.proofs.Marking.{away_listed, back_listed}
 use Rattle.ev_edge.proofs.Cases.{IsNew, learnt_by, or_refused}
 use Rattle.ev_edge.proofs.Keeping.{removals_ports, taken_ports, second_early, aged_ports}
+use Rattle.ev_edge.proofs.Keeping.{ListsAs, removals_list, taken_list, own_list, aged_list, listed_still}
 use Rattle.ev_edge.proofs.Winning.{pin_fits, pinned_alone}
 use Rattle.ev_edge.proofs.Staying.{Keeps, keeps_of, good_by, advert_keeps, refresh_keeps, pin_keeps, shift_keeps}
 use Rattle.ev_edge.proofs.Staying.{removal_keeps, flush_keeps, aged_keeps, later_keeps, other_keeps, own_keeps}
@@ -64,13 +68,22 @@ same_good e e' is h = subst IsGoodEdge (sym is) h
 
 -- other local routes, of the same ports
 routes_good : (e e' : Edge) (c : LocalRoutes) → IsGoodEdge e → Keeps c e.clock → c.ports ≡ e.routes.ports
-    → e' ≡ record e { routes = c } → IsGoodEdge e'
-routes_good e e' c h k ports is = subst IsGoodEdge (sym is)
-    (good_by (record e { routes = c }) k (h.keeps.ports ∙ sym (ap length ports)) h.keeps.early)
+    → ListsAs c e.routes → e' ≡ record e { routes = c } → IsGoodEdge e'
+routes_good e e' c h k ports same is = subst IsGoodEdge (sym is)
+    (good_by (record e { routes = c }) k (h.keeps.ports ∙ sym (ap length ports)) h.keeps.early
+    (listed_still e c h.keeps.away same))
 
 windows_good : (e : Edge) (windows : FinMap station_cmp Window) → IsGoodEdge e
     → IsGoodEdge (record e { windows = windows })
 windows_good e windows h = good_by (record e { windows = windows }) (keeps_of e h) h.keeps.ports h.keeps.early
+    h.keeps.away
+
+-- other edges are away
+marks_good : (e : Edge) (away : List ℕ) (result : Result Reply Refusal) (e' : Edge) → IsGoodEdge e
+    → AreListed away (table_of e) → (b : Bool) → Marks b e away result e' → IsGoodEdge e'
+marks_good e away result e' h listed true d = subst IsGoodEdge (sym d.1)
+    (good_by (record e { away = away }) (keeps_of e h) h.keeps.ports h.keeps.early listed)
+marks_good e away result e' h listed false d = same_good e e' d.1 h
 
 number_left : (c : LocalRoutes) → is_spent c ≡ false → c.speaker.counter < 2 ^ 63
 number_left c few = grind (arith, nat_tests)
@@ -82,14 +95,14 @@ advert_good : (e : Edge) (s : Station) (port n : ℕ) (windows : FinMap station_
     → IsGoodEdge (record e { routes = after_advert e.routes s port e.clock n; windows = windows })
 advert_good e s port n windows h behind single new = good_by _
     (advert_keeps e.routes s port e.clock n (keeps_of e h) new.none new.room (number_left e.routes new.few) behind
-    single new.next) h.keeps.ports h.keeps.early
+    single new.next) h.keeps.ports h.keeps.early h.keeps.away
 
 learns_good : (e : Edge) (s : Station) (port : ℕ) (told : Option Alert) (e' : Edge) → IsGoodEdge e
     → vni_at e.routes.ports port ≡ Some s.vni → (learns group : Bool) → is_group s.mac ≡ group
     → LearnsIf (learns && not group) e s port told e' → IsGoodEdge e'
 learns_good e s port told e' h behind true false single d = learnt_by IsGoodEdge e s port told e' h
     (λ heard. routes_good e _ (after_refresh e.routes s port e.clock) h
-    (refresh_keeps e.routes s port e.clock (keeps_of e h) heard.known heard.loose behind single) refl refl)
+    (refresh_keeps e.routes s port e.clock (keeps_of e h) heard.known heard.loose behind single) refl refl refl)
     (windows_good e _ h) (advert_good e s port 0 e.windows h behind single)
     (λ n. advert_good e s port n _ h behind single) true d
 learns_good e s port told e' h behind true true single d = same_good e e' d.1 h
@@ -120,7 +133,9 @@ bridges_good event e (Ok reply) e' h d =
     subst IsGoodEdge (sym d.after)
     (good_by _ (flush_keeps e.routes d.flush e.clock (keeps_of e h))
     (goes_length event e.tree e'.tree d.goes.happens.firings d.goes.happens.run ∙ h.keeps.ports
-    ∙ sym (ap length (removals_ports e.routes (flushed_in e.routes.learned d.flush)))) h.keeps.early)
+    ∙ sym (ap length (removals_ports e.routes (flushed_in e.routes.learned d.flush)))) h.keeps.early
+    (listed_still e (after_flush e.routes d.flush) h.keeps.away
+    (removals_list e.routes (flushed_in e.routes.learned d.flush))))
 bridges_good event e (Err r) e' h d = absurd d
 
 bridges_at_good : (vni : Option ℕ) (event : tree.Event) (e : Edge) (result : Result Reply Refusal) (e' : Edge)
@@ -139,7 +154,10 @@ seconds_good e (Ok reply) e' h d =
     (flush_keeps e.routes d.flush e.clock (keeps_of e h))))
     (goes_length tree_events.Second e.tree e'.tree d.goes.happens.firings d.goes.happens.run ∙ h.keeps.ports
     ∙ sym (ap length (aged_ports (after_flush e.routes d.flush) e.ageing (next_second e.clock)
-    ∙ removals_ports e.routes (flushed_in e.routes.learned d.flush)))) times.1)
+    ∙ removals_ports e.routes (flushed_in e.routes.learned d.flush)))) times.1
+    (listed_still e (aged (after_flush e.routes d.flush) e.ageing (next_second e.clock)) h.keeps.away
+    (aged_list (after_flush e.routes d.flush) e.ageing (next_second e.clock)
+    ∙ removals_list e.routes (flushed_in e.routes.learned d.flush))))
 
 -- ---- frames
 
@@ -202,10 +220,12 @@ tunnel_good (Ok (Data vni destination source)) e (Err r) e' h d = absurd d
 takes_good : (e : Edge) (u : Fields) (result : Result Reply Refusal) (e' : Edge) → IsGoodEdge e → (b : Bool)
     → eqb u.register.originator (address_of e) ≡ b → Takes b e u result e' → IsGoodEdge e'
 takes_good e u (Ok reply) e' h true t d = routes_good e e' (after_own e.routes u) h
-    (own_keeps e.routes u e.clock (grind (arith, nat_tests)) d.0 d.1 (keeps_of e h)) refl d.3
+    (own_keeps e.routes u e.clock (grind (arith, nat_tests)) d.0 d.1 (keeps_of e h)) refl
+    (own_list e.routes u) d.3
 takes_good e u (Err r) e' h true t d = same_good e e' d.1 h
 takes_good e u (Ok reply) e' h false t d = routes_good e e' (after_take e.routes u) h
-    (other_keeps e.routes u e.clock (λ same. grind (arith, nat_tests)) (keeps_of e h)) (taken_ports e.routes u) d.2
+    (other_keeps e.routes u e.clock (λ same. grind (arith, nat_tests)) (keeps_of e h)) (taken_ports e.routes u)
+    (taken_list e.routes u) d.2
 takes_good e u (Err r) e' h false t d = same_good e e' d.1 h
 
 -- a newly pinned station finds a number, and a place
@@ -273,7 +293,7 @@ does_pin_good e s port told e' h free Keep is d = same_good e e' d.1 h
 does_pin_good e s port told e' h free Shift is d =
     let fits = pin_fits e s port free in
     routes_good e e' (after_shift e.routes s port) h (shift_keeps e.routes s port e.clock (keeps_of e h)
-    (shifts_pinned e s port (entry_at e.routes.learned s) is) fits.0 fits.1) refl d.1
+    (shifts_pinned e s port (entry_at e.routes.learned s) is) fits.0 fits.1) refl refl d.1
 does_pin_good e s port told e' h free (Deny alert) is d = same_good e e' d.1 h
 does_pin_good e s port told e' h free Pin is d =
     let fits = pin_fits e s port free in
@@ -281,7 +301,7 @@ does_pin_good e s port told e' h free Pin is d =
     let alone = pinned_alone e s port (entry_at e.routes.learned s) is in
     or_refused IsGoodEdge h
     (routes_good e _ (after_pin e.routes s port) h (pin_keeps e.routes s port e.clock (keeps_of e h) f.room
-    (number_left e.routes f.few) fits.0 fits.1 alone) refl refl) d
+    (number_left e.routes f.few) fits.0 fits.1 alone) refl refl refl) d
 
 pins_good : (e : Edge) (s : Station) (port : ℕ) (result : Result Reply Refusal) (e' : Edge) → IsGoodEdge e
     → (refused : Option EdgeRefusal) → refused_pin e s port ≡ refused → Pins refused e s port result e' → IsGoodEdge e'
@@ -299,7 +319,7 @@ unpin_good e s h = go (is_pinned (entry_at e.routes.learned s)) refl
     go : (b : Bool) → is_pinned (entry_at e.routes.learned s) ≡ b
         → IsGoodEdge (cond b (record e { routes = after_removal e.routes s }) e)
     go true is = routes_good e _ (after_removal e.routes s) h
-        (removal_keeps e.routes s e.clock (keeps_of e h) (known (entry_at e.routes.learned s) is)) refl refl
+        (removal_keeps e.routes s e.clock (keeps_of e h) (known (entry_at e.routes.learned s) is)) refl refl refl
     go false is = h
 
 -- ---- all events
@@ -320,4 +340,8 @@ steps_good e (events.PortUp port) result e' h d = bridges_at_good (vni_at e.rout
 steps_good e (events.PortDown port) result e' h d = bridges_at_good (vni_at e.routes.ports port) _ e result e' h d
 steps_good e (events.Mcheck port) result e' h d = bridges_at_good (vni_at e.routes.ports port) _ e result e' h d
 steps_good e events.Announce result e' h d = routes_good e e' (after_announcement e.routes) h
-    (announced_keeps e.routes e.clock (keeps_of e h)) refl d.1
+    (announced_keeps e.routes e.clock (keeps_of e h)) refl refl d.1
+steps_good e (events.Away a) result e' h d = marks_good e (with_away (table_of e).originators e.away a) result e' h
+    (away_listed (table_of e).originators e.away a) (is_listed (table_of e) a) d
+steps_good e (events.Back a) result e' h d = marks_good e (with_back e.away a) result e' h
+    (back_listed (table_of e).originators e.away a h.keeps.away) (is_listed (table_of e) a) d

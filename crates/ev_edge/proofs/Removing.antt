@@ -1,12 +1,13 @@
 -- Which stations go at an event.
 use Rattle.std.proofs.Common.{◌≡◌, inl, inr, ℕ, ◌+◌, ◌-◌, ◌≤◌, Bool, true, false, cond, eqb}
-use Rattle.std.proofs.Common.{Option, Some, None, Result, Ok, Err, [], ◌∷◌, refl, sym, ap, subst}
+use Rattle.std.proofs.Common.{Option, Some, None, Result, Ok, Err, List, [], ◌∷◌, refl, sym, ap, subst}
 use Rattle.std.proofs.Common.{◌∙◌, arith}
 use Rattle.std.specs.Prelude.{◌↔◌, ◌&&◌, ◌||◌, not, nat_le, is_some, IsSome}
 use Rattle.std.proofs.lemmas.Bool.Decides.{nat_tests}
 use Rattle.route_wire.specs.declared.update.Key.{Key}
 use Rattle.route_wire.specs.declared.update.Key.TheVariants.{Flood, Mac}
 use Rattle.route_wire.specs.Fields.{Fields}
+use Rattle.route_join.specs.Table.{is_listed}
 use Rattle.mac_arena.specs.declared.station.Station.{Station}
 use Rattle.mac_arena.specs.declared.station.Entry.{Entry}
 use Rattle.mac_arena.specs.declared.table.Learnt.{Learnt}
@@ -37,7 +38,7 @@ use Rattle.ev_edge.specs.declared.pinning.PinCase.TheVariants as pins
 use Rattle.ev_edge.specs.declared.refusal.EdgeRefusal.{EdgeRefusal}
 use Rattle.ev_edge.specs.declared.refusal.Refusal.{Refusal}
 use Rattle.ev_edge.specs.declared.reply.Reply.{Reply}
-use Rattle.ev_edge.specs.Edge.{Edge, IsGoodEdge, address_of}
+use Rattle.ev_edge.specs.Edge.{Edge, IsGoodEdge, table_of, address_of}
 use Rattle.ev_edge.specs.Arrival.{frame_arrival, tunnel_arrival}
 use Rattle.ev_edge.specs.Bridging.{aged, next_second}
 use Rattle.ev_edge.specs.Learning.{refreshed, learnt as after_learning}
@@ -46,7 +47,7 @@ use Rattle.ev_edge.specs.Removed.{GoExactly, nobody, is_flushed, is_old, goes_in
 use Rattle.ev_edge.specs.Removed.{goes_by_unpin, FlushRemoves, SecondRemoves}
 use Rattle.ev_edge.specs.Removed.{FrameRemoves, RemovesBy, Removed}
 use Rattle.ev_edge.specs.Steps.{Steps, FrameSteps, TunnelSteps, Bridges, BridgesAt, Seconds}
-use Rattle.ev_edge.specs.Steps.{Takes, Pins, LearnsIf}
+use Rattle.ev_edge.specs.Steps.{Takes, Pins, Marks, LearnsIf}
 use Rattle.ev_edge.proofs.Cases.{learnt_by, or_refused}
 
 -- ---- one entry
@@ -315,6 +316,11 @@ no_port : (vni : Option ℕ) (event : tree.Event) (e : Edge) (r : Refusal) (e' :
 no_port None event e r e' h = same e e' h.1
 no_port (Some vni) event e r e' h = absurd h
 
+by_mark : (b : Bool) (e : Edge) (away : List ℕ) (result : Result Reply Refusal) (e' : Edge) → Marks b e away result e'
+    → GoExactly e e' nobody
+by_mark true e away result e' h = same_table e e' (ap (λ (x : Edge). x.routes.learned) h.1)
+by_mark false e away result e' h = same e e' h.1
+
 taken : (event : Event) (e : Edge) (reply : Reply) (e' : Edge) → IsGoodEdge e → Steps e event (Ok reply) e'
     → RemovesBy event e reply e'
 taken (events.Frame port octets) e reply e' good h = by_frame (frame_arrival e port octets.now) e port reply e' good h
@@ -333,6 +339,8 @@ taken (events.PortDown port) e reply e' good h = by_port (vni_at e.routes.ports 
 taken (events.Mcheck port) e reply e' good h = by_port (vni_at e.routes.ports port) (tree_events.Mcheck port) e reply e'
     good h
 taken events.Announce e reply e' good h = same_table e e' (ap (λ (x : Edge). x.routes.learned) h.1)
+taken (events.Away a) e reply e' good h = by_mark (is_listed (table_of e) a) e _ (Ok reply) e' h
+taken (events.Back a) e reply e' good h = by_mark (is_listed (table_of e) a) e _ (Ok reply) e' h
 
 refused : (event : Event) (e : Edge) (r : Refusal) (e' : Edge) → Steps e event (Err r) e' → GoExactly e e' nobody
 refused (events.Frame port octets) e r e' h = no_frame (frame_arrival e port octets.now) e port r e' h
@@ -346,6 +354,8 @@ refused (events.PortUp port) e r e' h = no_port (vni_at e.routes.ports port) (tr
 refused (events.PortDown port) e r e' h = no_port (vni_at e.routes.ports port) (tree_events.PortDown port) e r e' h
 refused (events.Mcheck port) e r e' h = no_port (vni_at e.routes.ports port) (tree_events.Mcheck port) e r e' h
 refused events.Announce e r e' h = let f : ⊥ = (let bad = h.0 in cc) in absurd f
+refused (events.Away a) e r e' h = by_mark (is_listed (table_of e) a) e _ (Err r) e' h
+refused (events.Back a) e r e' h = by_mark (is_listed (table_of e) a) e _ (Err r) e' h
 
 -- so it is at each event
 pub removed : (e : Edge) (event : Event) (result : Result Reply Refusal) (e' : Edge) → IsGoodEdge e

@@ -12,7 +12,7 @@ use Rattle.ev_claims.specs.LocalRoutes.{LocalRoutes, after_own}
 use Rattle.ev_edge.specs.Edge.{Edge, IsEdge, table_of}
 use Rattle.ev_edge.specs.Steps.{TakesOwn, nothing}
 use Rattle.ev_edge.specs.Inner.Steps.{own_result}
-use Rattle.ev_edge.proofs.Keeping.{kept, holds_of}
+use Rattle.ev_edge.proofs.Keeping.{kept, holds_of, own_list}
 use Rattle.ev_edge.proofs.Returning.{own_holds}
 
 never : (b : Bool) (P : Type 0) → P ↔ (b ≡ true) → (P → ⊥) → b ≡ false
@@ -47,5 +47,6 @@ pub own_kept : (e : Edge) (passing : ℕ) (u : Fields) (d : LocalRoutes) (r : Re
     → IsEdge (record e { routes = d }) passing
 own_kept e passing u d (Ok t) h numbers own ok ahead err =
     kept e passing (after_own e.routes u) d h ok (own_holds e.routes u e.clock numbers own (never _ _ ahead (λ p. cc))
-    (holds_of e passing h)) refl
-own_kept e passing u d (Err x) h numbers own ok ahead err = kept e passing e.routes d h err (holds_of e passing h) refl
+    (holds_of e passing h)) refl (own_list e.routes u)
+own_kept e passing u d (Err x) h numbers own ok ahead err =
+    kept e passing e.routes d h err (holds_of e passing h) refl refl

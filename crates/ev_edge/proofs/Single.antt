@@ -86,3 +86,5 @@ module _ (law : OneOutcome) where
   one_outcome e a b (events.Unpin s) x y is h k = absurd (let no : ⊥ = cc in no)
   one_outcome e a b (events.Thaw s) x y is h k = absurd (let no : ⊥ = cc in no)
   one_outcome e a b events.Announce x y is h k = absurd (let no : ⊥ = cc in no)
+  one_outcome e a b (events.Away o) x y is h k = absurd (let no : ⊥ = cc in no)
+  one_outcome e a b (events.Back o) x y is h k = absurd (let no : ⊥ = cc in no)

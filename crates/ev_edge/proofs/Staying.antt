@@ -41,7 +41,7 @@ use Rattle.ev_claims.proofs.Learnt.{removal_there}
 use Rattle.ev_claims.proofs.Lists.{based}
 use Rattle.ev_claims.proofs.Changed.{ports_climb, flushed_once, due_once}
 use Rattle.ev_claims.proofs.Leaving.{flush_known, age_known}
-use Rattle.ev_edge.specs.Edge.{Edge, IsGoodEdge}
+use Rattle.ev_edge.specs.Edge.{Edge, IsGoodEdge, AreListed, table_of}
 use Rattle.ev_edge.proofs.Owning.{Holds, removal_holds, taken_holds}
 use Rattle.ev_edge.proofs.Keeping.{refresh_holds, shift_holds, later_holds}
 use Rattle.ev_edge.proofs.Places.{there_port}
@@ -74,8 +74,8 @@ keeps_of e h = record {
 }
 
 pub good_by : (e : Edge) → Keeps e.routes e.clock → length e.tree.ports ≡ length e.routes.ports → e.clock ≤ 2 ^ 63
-    → IsGoodEdge e
-good_by e k ports early = record {
+    → AreListed e.away (table_of e) → IsGoodEdge e
+good_by e k ports early away = record {
   routes = record { routes = k.routes; numbers = k.numbers; lists = k.lists };
   keeps = record {
     owns = k.holds.owns;
@@ -85,6 +85,7 @@ good_by e k ports early = record {
     buckets = k.holds.buckets;
     ports = ports;
     early = early;
+    away = away;
   };
 }
 

@@ -26,6 +26,8 @@ brought (events.PortUp port) = []
 brought (events.PortDown port) = []
 brought (events.Mcheck port) = []
 brought events.Announce = []
+brought (events.Away a) = []
+brought (events.Back a) = []
 
 -- it is accepted unless it is refused; one that the table knew already is accepted, too
 abbrev pub accepted : Event → Result Reply Refusal → List Fields
@@ -45,6 +47,8 @@ heard_in (events.PortUp port) v = v
 heard_in (events.PortDown port) v = v
 heard_in (events.Mcheck port) v = v
 heard_in events.Announce v = after_announcing v
+heard_in (events.Away a) v = v
+heard_in (events.Back a) v = v
 
 abbrev pub heard : Event → Result Reply Refusal → Speaker → Speaker
 heard event (Ok reply) v = heard_in event v

@@ -1,5 +1,5 @@
 -- An edge, and when it is good.
-use Rattle.std.specs.Prelude.{◌≡◌, ℕ, ◌<◌, ◌≤◌, ◌^◌, ◌↔◌, true, false, IsSome, Contains, length}
+use Rattle.std.specs.Prelude.{◌≡◌, ℕ, ◌<◌, ◌≤◌, ◌^◌, ◌↔◌, true, false, IsSome, Contains, length, List, filter}
 use Rattle.std.specs.FinMap.{FinMap}
 use Rattle.ether_wire.specs.Addr.{is_group}
 use Rattle.ether_wire.specs.Ports.{has_port}
@@ -8,6 +8,7 @@ use Rattle.route_join.specs.Owner.{IsOwner}
 use Rattle.mac_arena.specs.declared.station.Station.{Station}
 use Rattle.mac_arena.specs.Station.{station_cmp}
 use Rattle.mac_arena.specs.Learning.{Learning, entry_at, IsLatest}
+use Rattle.ev_tunnel.specs.Decision.{is_away}
 use Rattle.rstp_run.specs.Rules.{Tree}
 use Rattle.rstp_run.specs.Events.{IsPort, Passes}
 use Rattle.ev_mobility.specs.declared.window.Window.{Window}
@@ -15,22 +16,24 @@ use Rattle.ev_mobility.specs.Moves.{Moves}
 use Rattle.ev_claims.specs.Speaker.{own_advert}
 use Rattle.ev_claims.specs.LocalRoutes.{LocalRoutes, AreGood, key_of}
 
--- The local routes, the second, how many seconds an entry lives, the bridge, and the windows of the stations that have
--- moved. Ports are numbered from 1.
+-- The local routes, the second, how many seconds an entry lives, the bridge, the windows of the stations that have
+-- moved, and the other edges that are away: the edge gives them no frame. Ports are numbered from 1.
 pub record Edge : Type 0 where
   pub routes : LocalRoutes
   pub clock : ℕ
   pub ageing : ℕ
   pub tree : Tree
   pub windows : FinMap station_cmp Window
+  pub away : List ℕ
 
-abbrev pub edge_of : LocalRoutes → ℕ → ℕ → Tree → Moves → Edge
-edge_of routes clock ageing tree moves = record {
+abbrev pub edge_of : LocalRoutes → ℕ → ℕ → Tree → Moves → List ℕ → Edge
+edge_of routes clock ageing tree moves away = record {
   routes = routes;
   clock = clock;
   ageing = ageing;
   tree = tree;
   windows = moves.windows;
+  away = away;
 }
 
 abbrev pub table_of : Edge → Table
@@ -51,8 +54,13 @@ AreIndividual t = (s : Station) → IsSome (entry_at t s) → is_group s.mac ≡
 abbrev pub ServesPorts : LocalRoutes → Type 0
 ServesPorts c = (v : ℕ) → Contains c.ports v → Contains c.vnis v
 
+-- the edges that are away are those of the listed originators, in their order
+abbrev pub AreListed : List ℕ → Table → Type 0
+AreListed away t = away ≡ filter (is_away away) t.originators
+
 -- The edge owns what it advertises, no station's last second is later than now, and no group address is learnt; it
--- serves the VNIs of its ports; its learning table has a bucket; and its bridge has its ports.
+-- serves the VNIs of its ports; its learning table has a bucket; its bridge has its ports; and the edges that are away
+-- are listed ones, in the order of the list.
 pub record KeepsEdge (e : Edge) : Type 0 where
   pub owns : (s : Station) → OwnsAt e.routes s
   pub latest : IsLatest e.routes.learned e.clock
@@ -61,6 +69,7 @@ pub record KeepsEdge (e : Edge) : Type 0 where
   pub buckets : 0 < length e.routes.learned.chains
   pub ports : length e.tree.ports ≡ length e.routes.ports
   pub early : e.clock ≤ 2 ^ 63
+  pub away : AreListed e.away (table_of e)
 
 -- the good edge: also its routes and its stations match each other, and the lists name the learning map
 pub record IsGoodEdge (e : Edge) : Type 0 where

@@ -92,6 +92,8 @@ takes_none e (events.PortUp port) = true
 takes_none e (events.PortDown port) = true
 takes_none e (events.Mcheck port) = true
 takes_none e events.Announce = true
+takes_none e (events.Away a) = true
+takes_none e (events.Back a) = true
 
 -- the answer reports refused memory, as a refusal or as an alert
 abbrev pub TellsNoMemory : Result Reply Refusal → Type 0
@@ -149,6 +151,8 @@ is_of_bridge e (events.Pin s port) = false
 is_of_bridge e (events.Unpin s) = false
 is_of_bridge e (events.Thaw s) = false
 is_of_bridge e events.Announce = false
+is_of_bridge e (events.Away a) = false
+is_of_bridge e (events.Back a) = false
 
 -- two steps of an edge by the same event of the bridge have the same answer and the same edge afterwards
 abbrev pub BridgeHasOneOutcome : Type 0

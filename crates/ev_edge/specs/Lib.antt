@@ -1,4 +1,5 @@
 pub mod Edge
+pub mod Away
 pub mod Config
 pub mod Arrival
 pub mod Learning
@@ -8,6 +9,7 @@ pub mod Sending
 pub mod Steps
 pub mod Changes
 pub mod Laws
+pub mod AwayLaws
 pub mod Opening
 pub mod Refusal
 pub mod Removed

@@ -1,5 +1,5 @@
 -- An edge when it is opened.
-use Rattle.std.specs.Prelude.{◌≡◌}
+use Rattle.std.specs.Prelude.{◌≡◌, []}
 use Rattle.std.specs.FinMap.{empty}
 use Rattle.rstp_run.specs.Events.{start}
 use Rattle.ev_claims.specs.declared.opening.Start.{Start}
@@ -23,10 +23,11 @@ start_of c = record {
 
 -- Nothing is learnt, and it is second 0. The edge advertises the flood list of each VNI, the lowest first, numbered
 -- from
--- 1 and pending in this order. No station has moved, and the bridge is as it starts.
+-- 1 and pending in this order. No station has moved, the bridge is as it starts, and no edge is away.
 pub record IsOpening (c : EdgeConfig) (e : Edge) : Type 0 where
   pub routes : routes.IsOpening (start_of c) e.routes
   pub clock : e.clock ≡ 0
   pub ageing : e.ageing ≡ c.ageing
   pub tree : e.tree ≡ start c.tree (settings_of c.ports.items)
   pub windows : e.windows ≡ empty
+  pub away : e.away ≡ []

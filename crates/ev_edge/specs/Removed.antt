@@ -94,6 +94,8 @@ RemovesBy (events.PortUp port) e reply e' = FlushRemoves (tree_events.PortUp por
 RemovesBy (events.PortDown port) e reply e' = FlushRemoves (tree_events.PortDown port) e reply e'
 RemovesBy (events.Mcheck port) e reply e' = FlushRemoves (tree_events.Mcheck port) e reply e'
 RemovesBy events.Announce e reply e' = GoExactly e e' nobody
+RemovesBy (events.Away a) e reply e' = GoExactly e e' nobody
+RemovesBy (events.Back a) e reply e' = GoExactly e e' nobody
 
 -- a refused event removes no station
 abbrev pub Removed : Event → Edge → Result Reply Refusal → Edge → Type 0

@@ -1,6 +1,6 @@
 -- The effect of an event on an edge, and its answer: a table by event and answer.
 use Rattle.std.specs.Prelude.{◌≡◌, ◌⊎◌, ◌↔◌, ℕ, ◌==◌, ◌&&◌, Bool, true, false, not, IsTrue, Option, Some, None, Result}
-use Rattle.std.specs.Prelude.{Ok, Err, [], if◌then◌else◌}
+use Rattle.std.specs.Prelude.{Ok, Err, List, [], if◌then◌else◌}
 use Rattle.ether_wire.specs.Addr.{is_group}
 use Rattle.route_wire.specs.Fields.{Fields}
 use Rattle.route_join.specs.Table.{is_listed, value_at}
@@ -27,6 +27,7 @@ use Rattle.ev_edge.specs.declared.refusal.EdgeRefusal.{EdgeRefusal}
 use Rattle.ev_edge.specs.declared.refusal.EdgeRefusal.TheVariants.{UnknownOriginator, OwnNameAhead, NoMemory}
 use Rattle.ev_edge.specs.declared.refusal.EdgeRefusal.TheVariants.{NoSuchPort, OwnSpent}
 use Rattle.ev_edge.specs.Edge.{Edge, table_of, address_of}
+use Rattle.ev_edge.specs.Away.{with_away, with_back}
 use Rattle.ev_edge.specs.Arrival.{frame_arrival, tunnel_arrival}
 use Rattle.ev_edge.specs.Learning.{Learning}
 use Rattle.ev_edge.specs.Pinning.{Pinning, refused_pin, after_unpin, after_thawing}
@@ -170,6 +171,13 @@ Pins (Some r) e s port result e' = (result ≡ Err (OfEdge r)) × (e' ≡ e)
 Pins None e s port (Ok reply) e' = Pinning e s port reply.alert e' × (reply ≡ alone reply.alert)
 Pins None e s port (Err r) e' = ⊥
 
+-- ---- edges that go away and come back
+
+-- only the edges that are away change, if the edge that the event names is listed; else nothing does
+abbrev pub Marks : Bool → Edge → List ℕ → Result Reply Refusal → Edge → Type 0
+Marks true e away result e' = (result ≡ Ok nothing) × (e' ≡ record e { away = away })
+Marks false e away result e' = (result ≡ Err (OfEdge UnknownOriginator)) × (e' ≡ e)
+
 -- ---- all events
 
 abbrev pub Steps : Edge → Event → Result Reply Refusal → Edge → Type 0
@@ -187,3 +195,6 @@ Steps e (events.Mcheck port) result e' = BridgesAt (vni_at e.routes.ports port) 
 Steps e events.Announce result e' =
     (result ≡ Ok (record nothing { announced = announced e.routes.speaker }))
     × (e' ≡ record e { routes = after_announcement e.routes })
+Steps e (events.Away a) result e' =
+    Marks (is_listed (table_of e) a) e (with_away (table_of e).originators e.away a) result e'
+Steps e (events.Back a) result e' = Marks (is_listed (table_of e) a) e (with_back e.away a) result e'

@@ -15,7 +15,8 @@ use crate::config::{EdgeConfig, PortConfig, set_settings, vnis_of};
 use crate::event::Event;
 use crate::refusal::Refusal;
 use crate::reply::Reply;
-use ether_wire::{Device, NO_PORTS, Out};
+use arrayvec::ArrayVec;
+use ether_wire::{Addr, Device, NO_PORTS, Out};
 use ev_claims::{LocalRoutes, Start};
 use ev_mobility::Moves;
 use mac_arena::Station;
@@ -38,6 +39,8 @@ pub struct Edge {
     pub(crate) moves: Moves,
     // The ports that pass.
     pub(crate) passing: u64,
+    // The other edges that are away.
+    pub(crate) away: ArrayVec<Addr, 64>,
 }
 
 impl Model for Edge {
@@ -49,15 +52,16 @@ impl Model for Edge {
 
     ghost coded = { Prim.hlevel (codes, code) };
 
-    ghost view = { λ e. edge_of e.routes e.clock e.ageing e.bridge e.moves };
+    ghost view = { λ e. edge_of e.routes e.clock e.ageing e.bridge e.moves
+        e.away.items };
 
     ghost invariant = { λ e. IsEdge
-        (edge_of e.routes e.clock e.ageing e.bridge e.moves) e.passing };
+        (edge_of e.routes e.clock e.ageing e.bridge e.moves e.away.items) e.passing };
 }
 
 impl Edge {
     /// Returns an edge that has taken and learnt nothing, at second 0. It advertises the flood list
-    /// of each of its VNIs, the lowest first. All ports are down.
+    /// of each of its VNIs, the lowest first. All ports are down, and no edge is away.
     ///
     /// # Errors
     ///
@@ -90,6 +94,7 @@ impl Edge {
             bridge,
             moves: Moves::new(alloc),
             passing: NO_PORTS,
+            away: ArrayVec::new(),
         })
     }
 
@@ -143,6 +148,8 @@ impl Edge {
                 self.announce(reply);
                 Ok(())
             }
+            Event::Away(edge) => self.goes_away(*edge, reply),
+            Event::Back(edge) => self.comes_back(*edge, reply),
         }
     }
 
@@ -221,6 +228,13 @@ impl Edge {
         ensures none { IfNone result (IsNoOwnAt self.now.routes.speaker counter) }
     {
         self.routes.own_at(counter)
+    }
+
+    /// Returns the other edges that are away, in the order of the listed originators.
+    pub fn away(&self) -> &[Addr]
+        ensures { result.now ≡ self.now.away }
+    {
+        self.away.as_slice()
     }
 
     /// Whether an own register waits to be announced.

@@ -29,4 +29,8 @@ pub enum Event<'a> {
     Mcheck(u8),
     /// The next pending own update is to be announced.
     Announce,
+    /// The other edge is away: no frame goes to it until it is back.
+    Away(Addr),
+    /// The other edge is back.
+    Back(Addr),
 }

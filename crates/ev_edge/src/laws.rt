@@ -9,6 +9,8 @@ ghost use Rattle.ev_edge.specs.Laws.{decision_in, IsReserved, HoldsReserved, Sta
 ghost use Rattle.ev_edge.specs.Laws.{ChangesItsOwn, LeavesByMembers, LeavesNoTunnelByOne};
 ghost use Rattle.ev_edge.specs.Laws.{OwnsItsAdverts, TakesNoMemory, BridgeHasOneOutcome};
 ghost use Rattle.ev_edge.specs.Removed.{StepsRemove};
+ghost use Rattle.ev_edge.specs.AwayLaws.{GivesNoneAway, FloodsForAway, ComesBack};
+ghost use Rattle.ev_edge.specs.AwayLaws.{DependsNotOnAway, MarksOnlyAway, AsIfNeverAway};
 
 use crate::config::EdgeConfig;
 use crate::edge::Edge;
@@ -85,8 +87,8 @@ pub fn advertises_its_own()
 {}
 
 /// Seconds, ports that come up or go down, frames from tunnels, BPDUs, unpinning, thawing,
-/// announcing, and taking another edge's update of an existing register never report refused
-/// memory.
+/// announcing, other edges that go away or come back, and taking another edge's update of an
+/// existing register never report refused memory.
 pub fn takes_no_memory()
     ensures { TakesNoMemory }
 {}
@@ -107,3 +109,38 @@ pub fn bridge_has_one_outcome()
 {
     one_outcome();
 }
+
+/// No decision of an edge names an edge that is away.
+pub fn gives_none_away()
+    ensures { GivesNoneAway }
+{}
+
+/// The decision for a destination whose owner is away is that for a destination that no edge owns:
+/// if the destination isn't learnt, the frame is flooded.
+pub fn floods_for_away()
+    ensures { FloodsForAway }
+{}
+
+/// An edge that goes away and comes back leads to the edge that was there, if it wasn't away
+/// before.
+pub fn comes_back()
+    ensures { ComesBack }
+{}
+
+/// Which edges are away changes only by the events `Away` and `Back`. At any other event an edge
+/// does what it would do with all edges up: the answers differ in the decision at most, and the
+/// edges afterwards only in who is away.
+pub fn depends_not_on_away()
+    ensures { DependsNotOnAway }
+{}
+
+/// An edge that goes away or comes back changes nothing but who is away.
+pub fn marks_only_away()
+    ensures { MarksOnlyAway }
+{}
+
+/// If no edge is away at the beginning of a run and at its end, the same run without the edges that
+/// went away and came back leads to the same edge, with the same answers but for decisions.
+pub fn as_if_never_away()
+    ensures { AsIfNeverAway }
+{}

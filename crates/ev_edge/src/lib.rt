@@ -3,6 +3,7 @@
 #![tactic(auto)]
 
 mod arrival;
+mod away;
 mod bridging;
 mod config;
 mod display;
@@ -23,7 +24,8 @@ pub use config::{EdgeConfig, PortConfig};
 pub use edge::Edge;
 pub use event::Event;
 pub use laws::{
-    advertises_its_own, bridge_has_one_outcome, leaves_by_members_that_pass,
+    advertises_its_own, as_if_never_away, bridge_has_one_outcome, comes_back, depends_not_on_away,
+    floods_for_away, gives_none_away, leaves_by_members_that_pass, marks_only_away,
     never_from_tunnel_to_tunnel, opening_originates, own_changes, reserved_goes_nowhere,
     reserved_in_tunnel_goes_nowhere, stays_good, steps_remove, takes_no_memory,
 };

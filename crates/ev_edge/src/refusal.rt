@@ -10,7 +10,8 @@ use std::fmt::{Display, Error, Formatter, Write};
 pub enum EdgeRefusal {
     /// A group address can't be pinned.
     BadMac,
-    /// Its originator is not listed, or a tunnel's datagram has the edge's own address.
+    /// Its originator is not listed, or a tunnel's datagram has the edge's own address, or the edge
+    /// that goes away or is back is not listed.
     UnknownOriginator,
     /// It has the edge's own name, no earlier incarnation, and is newer than the edge's own update.
     OwnNameAhead,

@@ -134,7 +134,7 @@ impl Edge {
         }
     }
 
-    /// Decides where a frame of a network goes.
+    /// Decides where a frame of a network goes: to no edge that is away.
     fn decide(&self, vni: Vni, destination: Mac, from: Source, decision: &mut Decision)
         requires { IsFrom from }
         ensures { IsDecision self.now vni destination from decision.new }
@@ -146,6 +146,7 @@ impl Edge {
             learnt: self.port_of(vni, destination),
             table: self.routes.table(),
             own: self.routes.address(),
+            away: &self.away,
         };
         decide_into(forwarding, self.routes.members(vni), self.passing, decision);
     }

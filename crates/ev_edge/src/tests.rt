@@ -11,6 +11,7 @@ use route_wire::{Advert, Content, Key, Register, Update, Value};
 use rstp_state::start::{PortSettings, Settings};
 use std::alloc::{AllocError, Global};
 
+mod away;
 mod frames;
 mod learning;
 mod lines;

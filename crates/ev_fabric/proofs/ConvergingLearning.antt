@@ -6,6 +6,7 @@ use Rattle.std.specs.FinMap.{FinMap}
 use Rattle.ether_wire.specs.Addr.{is_group}
 use Rattle.route_wire.specs.declared.update.Content.{Content}
 use Rattle.route_join.specs.Owner.{advert_in}
+use Rattle.route_join.specs.Table.{is_listed}
 use Rattle.mac_arena.specs.declared.station.Station.{Station}
 use Rattle.mac_arena.specs.declared.station.Entry.{Entry}
 use Rattle.mac_arena.specs.declared.table.Learnt.TheVariants.{New}
@@ -37,11 +38,11 @@ use Rattle.ev_edge.specs.Arrival.{frame_arrival, tunnel_arrival}
 use Rattle.ev_edge.specs.Bridging.{aged, next_second}
 use Rattle.ev_edge.specs.Learning.{is_spent, refreshed}
 use Rattle.ev_edge.specs.Pinning.{DoesPin, pin_case, pin_case_at, unpinned_case, is_static, refused_pin, after_unpin}
-use Rattle.ev_edge.specs.Steps.{Steps, FrameSteps, TunnelSteps, Bridges, BridgesAt, Seconds, LearnsIf, Pins}
+use Rattle.ev_edge.specs.Steps.{Steps, FrameSteps, TunnelSteps, Bridges, BridgesAt, Seconds, LearnsIf, Pins, Marks}
 use Rattle.ev_edge.proofs.Cases.{IsHeard, learnt_by}
 use Rattle.ev_fabric.specs.declared.step.LocalEvent.{LocalEvent}
 use Rattle.ev_fabric.specs.declared.step.LocalEvent.TheVariants.{Frame, TunnelFrame, Pin, Unpin, Thaw, Second, PortUp}
-use Rattle.ev_fabric.specs.declared.step.LocalEvent.TheVariants.{PortDown, Mcheck}
+use Rattle.ev_fabric.specs.declared.step.LocalEvent.TheVariants.{PortDown, Mcheck, Away, Back}
 use Rattle.ev_fabric.specs.Local.{event_of}
 
 -- it advertises the station under the next number, and none of its other own registers changes
@@ -201,6 +202,10 @@ module _ (b : Edge) (s : Station) (c : Edge) (unknown : entry_at b.routes.learne
   by_pin None q port (Ok reply) h = pinned q port (pin_case b q port) refl reply.alert h.0
   by_pin None q port (Err r) h = absurd h
 
+  marked : (x : Bool) (away : List ℕ) (answer : Result Reply edge.Refusal) → Marks x b away answer c → LearnsIt b s c
+  marked true away answer h = without _ h.1 unknown
+  marked false away answer h = same h.1
+
   pub learns_anew : (event : LocalEvent) (answer : Result Reply edge.Refusal) → Steps b (event_of event) answer c
       → LearnsIt b s c
   learns_anew (Frame port octets) answer h = by_frame (frame_arrival b port octets.now) port answer h
@@ -212,3 +217,5 @@ module _ (b : Edge) (s : Station) (c : Edge) (unknown : entry_at b.routes.learne
   learns_anew (PortUp port) answer h = bridged_at (vni_at b.routes.ports port) (tree_events.PortUp port) answer h
   learns_anew (PortDown port) answer h = bridged_at (vni_at b.routes.ports port) (tree_events.PortDown port) answer h
   learns_anew (Mcheck port) answer h = bridged_at (vni_at b.routes.ports port) (tree_events.Mcheck port) answer h
+  learns_anew (Away o) answer h = marked (is_listed (table_of b) o) _ answer h
+  learns_anew (Back o) answer h = marked (is_listed (table_of b) o) _ answer h

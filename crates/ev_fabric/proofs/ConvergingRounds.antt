@@ -127,7 +127,7 @@ took old new i a b u kept at same is c at_c =
     subst (λ (e : Edge). is_newest e.routes.speaker u ≡ false) c_is (heard_has a.routes u (kept.keeps i a at).numbers)
 
 -- after an answered delivery the edge has taken the update
-answered : (a b : Edge) (u : Fields) (reply : Reply) → Steps a (events.Take u) (Ok reply) b
+pub answered : (a b : Edge) (u : Fields) (reply : Reply) → Steps a (events.Take u) (Ok reply) b
     → b ≡ record a { routes = heard a.routes u }
 answered a b u reply h = choose (u.register.originator == address_of a) refl h
   where

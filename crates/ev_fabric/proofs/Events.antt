@@ -8,6 +8,7 @@ use Rattle.route_wire.specs.declared.update.Key.{Key}
 use Rattle.route_wire.specs.declared.update.Key.TheVariants.{Flood, Mac}
 use Rattle.route_wire.specs.declared.update.Content.TheVariants.{Withdrawn}
 use Rattle.route_wire.specs.Fields.{Fields}
+use Rattle.route_join.specs.Table.{is_listed}
 use Rattle.mac_arena.specs.declared.station.Station.{Station}
 use Rattle.mac_arena.specs.Learning.{entry_at, is_pinned}
 use Rattle.ev_mobility.specs.declared.alert.Alert.{Alert}
@@ -27,15 +28,15 @@ use Rattle.ev_edge.specs.declared.reply.Reply.{Reply}
 use Rattle.ev_edge.specs.declared.refusal.Refusal.{Refusal}
 use Rattle.ev_edge.specs.declared.refusal.EdgeRefusal.{EdgeRefusal}
 use Rattle.ev_edge.specs.declared.event.Event.TheVariants as events
-use Rattle.ev_edge.specs.Edge.{Edge, address_of}
+use Rattle.ev_edge.specs.Edge.{Edge, table_of, address_of}
 use Rattle.ev_edge.specs.Arrival.{frame_arrival, tunnel_arrival}
 use Rattle.ev_edge.specs.Pinning.{DoesPin, pin_case, refused_pin, after_unpin}
 use Rattle.ev_edge.specs.Bridging.{aged, next_second}
 use Rattle.ev_edge.specs.Steps.{LearnsIf, Bridges, BridgesAt, Seconds, FrameSteps, TunnelSteps, TakesOwn, TakesOther}
-use Rattle.ev_edge.specs.Steps.{Takes, Pins, Steps}
+use Rattle.ev_edge.specs.Steps.{Takes, Pins, Marks, Steps}
 use Rattle.ev_fabric.specs.declared.step.LocalEvent.{LocalEvent}
 use Rattle.ev_fabric.specs.declared.step.LocalEvent.TheVariants.{Frame, TunnelFrame, Pin, Unpin, Thaw, Second, PortUp}
-use Rattle.ev_fabric.specs.declared.step.LocalEvent.TheVariants.{PortDown, Mcheck}
+use Rattle.ev_fabric.specs.declared.step.LocalEvent.TheVariants.{PortDown, Mcheck, Away, Back}
 use Rattle.ev_fabric.specs.Local.{event_of}
 use Rattle.ev_edge.proofs.Cases.{learnt_by, or_refused}
 use Rattle.ev_fabric.specs.Sound.{IsTold}
@@ -131,6 +132,11 @@ unpin_talks e s = go (is_pinned (entry_at e.routes.learned s))
     go true = Says e.routes.speaker (key_of s) Withdrawn refl Quiet
     go false = Quiet
 
+marks_talk : (b : Bool) (e : Edge) (away : List ℕ) (result : Result Reply Refusal) (e' : Edge)
+    → Marks b e away result e' → Goes e e'
+marks_talk true e away result e' h = subst (Goes e) (sym h.1) Quiet
+marks_talk false e away result e' h = stays e e' h.1
+
 -- ---- all events from outside
 pub local_talks : (e : Edge) (event : LocalEvent) (result : Result Reply Refusal) (e' : Edge)
     → Steps e (event_of event) result e' → Goes e e'
@@ -146,6 +152,8 @@ local_talks e (PortDown port) result e' h = bridges_at_talk (vni_at e.routes.por
     result e' h
 local_talks e (Mcheck port) result e' h = bridges_at_talk (vni_at e.routes.ports port) (tree_events.Mcheck port) e
     result e' h
+local_talks e (Away a) result e' h = marks_talk (is_listed (table_of e) a) e _ result e' h
+local_talks e (Back a) result e' h = marks_talk (is_listed (table_of e) a) e _ result e' h
 
 -- ---- an update
 losing_talks : (c : LocalRoutes) (k : Key) → Talks c.speaker (after_losing c k).speaker

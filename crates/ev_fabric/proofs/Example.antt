@@ -150,6 +150,7 @@ edge_of tree address = record {
   ageing = 300;
   tree = start tree (settings_of (port_of ∷ port_of ∷ []));
   windows = empty;
+  away = [];
 }
 
 abbrev pub fabric_of : Settings → Fabric
@@ -176,6 +177,7 @@ opens tree address = record {
   ageing = refl;
   tree = refl;
   windows = refl;
+  away = refl;
 }
 
 -- ---- they are good

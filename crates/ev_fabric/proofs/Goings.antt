@@ -56,7 +56,7 @@ fabric_itself f = record {
 unchanged : (old new : Fabric) → new ≡ old → IsLaterFabric old new
 unchanged old new is = subst (IsLaterFabric old) (sym is) (fabric_itself old)
 
-one_there : (f : Fabric) (i : ℕ) (a x : Edge) → IsEdge f i a → IsEdge f i x → a ≡ x
+pub one_there : (f : Fabric) (i : ℕ) (a x : Edge) → IsEdge f i a → IsEdge f i x → a ≡ x
 one_there f i a x p q = cc
 
 -- one edge becomes another one, and the pool may grow
@@ -156,7 +156,7 @@ step_later old new (Restart e n) result h s =
 
 -- ---- lists of steps
 
-fabric_further : (f g k : Fabric) → IsLaterFabric f g → IsLaterFabric g k → IsLaterFabric f k
+pub fabric_further : (f g k : Fabric) → IsLaterFabric f g → IsLaterFabric g k → IsLaterFabric f k
 fabric_further f g k x y = record {
   count = y.count ∙ x.count;
   edges = λ i a at. let b = x.edges i a at in let c = y.edges i b.0 b.1 in (c.0, c.1, edge_further a b.0 c.0 b.2 c.2);
@@ -179,7 +179,8 @@ no_answer : (reply : Reply) → ◌≡◌ {A = Result Reply FabricRefusal} (Ok r
 no_answer reply q = cc
 
 -- the edge that was opened again is there, in its new incarnation
-opened_there : (old mid : Fabric) (e n : ℕ) (reply : Reply) → IsSound old → FabricSteps old (Restart e n) (Ok reply) mid
+pub opened_there : (old mid : Fabric) (e n : ℕ) (reply : Reply) → IsSound old
+    → FabricSteps old (Restart e n) (Ok reply) mid
     → (a : Edge) × (nth mid.edges e ≡ Some a) × (incarnation_of a ≡ n)
 opened_there old mid e n reply h s =
     at_edge ((a : Edge) × (nth mid.edges e ≡ Some a) × (incarnation_of a ≡ n)) old mid (Ok reply)

@@ -91,8 +91,8 @@ arrives_there o from vni destination source octets small listed other served inn
     ∙ inner
 
 pub station_from_port_to_port : StationFromPortToPort
-station_from_port_to_port f s h agree i j o a b at_o at_a apart says small event port reply frame steps = (
-  station_frames_go f s h agree i j o a b at_o at_a apart says event port reply frame steps,
+station_from_port_to_port f s h agree i j o a b at_o at_a apart says up small event port reply frame steps = (
+  station_frames_go f s h agree i j o a b at_o at_a apart says up event port reply frame steps,
   record {
     entry = x.0;
     behind = x.1;

@@ -27,7 +27,8 @@ use Rattle.ev_mobility.specs.declared.window.Window.{Window}
 use Rattle.ev_tunnel.specs.declared.decision.Decision.{Decision}
 use Rattle.ev_tunnel.specs.declared.decision.Source.{Source}
 use Rattle.ev_tunnel.specs.declared.decision.Source.TheVariants.{Port, Tunnel}
-use Rattle.ev_tunnel.specs.Decision.{local_for, remote_for}
+use Rattle.ev_tunnel.specs.Decision.{is_up, up_owner, local_up, remote_up}
+use Rattle.ev_tunnel.proofs.DecisionLemmas.{owner_up}
 use Rattle.ev_claims.specs.Speaker.{own_advert}
 use Rattle.ev_claims.specs.LocalRoutes.{key_of, vni_at, moving, after_advert}
 use Rattle.ev_edge.specs.declared.arrival.Arrival.TheVariants.{Data}
@@ -56,12 +57,13 @@ use Rattle.ev_fabric.proofs.Stations.{agree_on_each, station_one, station_owner}
 pub record LeavesBe (a b : Edge) (s : Station) : Type 0 where
   pub address : address_of b ≡ address_of a
   pub tree : b.tree ≡ a.tree
+  pub away : b.away ≡ a.away
   pub entry : entry_at b.routes.learned s ≡ entry_at a.routes.learned s
   pub adverts : (o : ℕ) (ip : Option Ip) → advert_at (table_of b) o (Mac s.vni s.mac ip)
       ≡ advert_at (table_of a) o (Mac s.vni s.mac ip)
 
 leaves_itself : (a : Edge) (s : Station) → LeavesBe a a s
-leaves_itself a s = record { address = refl; tree = refl; entry = refl; adverts = λ o ip. refl }
+leaves_itself a s = record { address = refl; tree = refl; away = refl; entry = refl; adverts = λ o ip. refl }
 
 same_leaves : (a b : Edge) (s : Station) → b ≡ a → LeavesBe a b s
 same_leaves a b s is = subst (λ x. LeavesBe a x s) (sym is) (leaves_itself a s)
@@ -70,6 +72,7 @@ entry_leaves : (e : Edge) (q : Station) (port : ℕ) (s : Station) → s ≢ q �
 entry_leaves e q port s ne = record {
   address = refl;
   tree = refl;
+  away = refl;
   entry = (learn_entry e.routes.learned q port e.clock (learnt_of e.routes.learned q port)).others s ne;
   adverts = λ o ip. refl;
 }
@@ -79,6 +82,7 @@ advert_leaves : (e : Edge) (q : Station) (port n : ℕ) (windows : FinMap statio
 advert_leaves e q port n windows s ne = record {
   address = refl;
   tree = refl;
+  away = refl;
   entry = (learn_entry e.routes.learned q port e.clock New).others s ne;
   adverts = λ o ip. said_other e.routes.speaker (key_of q) (moving n) (Mac s.vni s.mac ip) o (other_key s q ip None ne);
 }
@@ -86,7 +90,8 @@ advert_leaves e q port n windows s ne = record {
 learns_leave : (b : Bool) (e : Edge) (q : Station) (port : ℕ) (told : Option Alert) (e' : Edge) (s : Station) → s ≢ q
     → LearnsIf b e q port told e' → LeavesBe e e' s
 learns_leave b e q port told e' s ne h = learnt_by (λ x. LeavesBe e x s) e q port told e' (leaves_itself e s)
-    (λ heard. entry_leaves e q port s ne) (record { address = refl; tree = refl; entry = refl; adverts = λ o ip. refl })
+    (λ heard. entry_leaves e q port s ne)
+    (record { address = refl; tree = refl; away = refl; entry = refl; adverts = λ o ip. refl })
     (λ new. advert_leaves e q port 0 e.windows s ne) (λ n new. advert_leaves e q port n _ s ne) b h
 
 -- ---- the effects of a frame
@@ -117,6 +122,8 @@ frame_step a (events.PortUp p) result b port octets is h = cc
 frame_step a (events.PortDown p) result b port octets is h = cc
 frame_step a (events.Mcheck p) result b port octets is h = cc
 frame_step a events.Announce result b port octets is h = cc
+frame_step a (events.Away o) result b port octets is h = cc
+frame_step a (events.Back o) result b port octets is h = cc
 
 pub tunnel_step : (a : Edge) (event : Event) (result : Result Reply Refusal) (b : Edge) (from : ℕ)
     (octets : List ℕ)
@@ -137,6 +144,8 @@ tunnel_step a (events.PortUp p) result b from octets is h = cc
 tunnel_step a (events.PortDown p) result b from octets is h = cc
 tunnel_step a (events.Mcheck p) result b from octets is h = cc
 tunnel_step a events.Announce result b from octets is h = cc
+tunnel_step a (events.Away o) result b from octets is h = cc
+tunnel_step a (events.Back o) result b from octets is h = cc
 
 -- a frame for the station: its source is learnt, and it is sent
 pub record IsSent (a b : Edge) (s : Station) (from : Source) (reply : Reply) : Type 0 where
@@ -209,23 +218,24 @@ no_entry a s h none = go (entry_at a.routes.learned s) refl (own_advert a.routes
         ap (option_map (λ (x : Advert). x.is_static)) q in
         absurd (let bad : Some x.pinned ≡ None = sym left ∙ k ∙ right in cc)
 
-pub elsewhere_local : (t : Table) (vni m own o members passing port : ℕ) (entry : Option ℕ) → is_group m ≡ false
-    → entry ≡ None → owner t vni m ≡ Some o → (o == own) ≡ false
-    → local_for t vni m entry own (Port port) members passing ≡ 0
-elsewhere_local t vni m own o members passing port entry group none is ne = rw (group, none, is, ne) refl
+pub elsewhere_local : (away : List ℕ) (t : Table) (vni m own o members passing port : ℕ) (entry : Option ℕ)
+    → is_group m ≡ false → entry ≡ None → up_owner away (owner t vni m) ≡ Some o → (o == own) ≡ false
+    → local_up away t vni m entry own (Port port) members passing ≡ 0
+elsewhere_local away t vni m own o members passing port entry group none is ne = rw (group, none, is, ne) refl
 
-pub elsewhere_remote : (t : Table) (vni m own o port : ℕ) (entry : Option ℕ) → is_group m ≡ false → entry ≡ None
-    → owner t vni m ≡ Some o → (o == own) ≡ false → remote_for t vni m entry own (Port port) ≡ o ∷ []
-elsewhere_remote t vni m own o port entry group none is ne = rw (group, none, is, ne) refl
+pub elsewhere_remote : (away : List ℕ) (t : Table) (vni m own o port : ℕ) (entry : Option ℕ) → is_group m ≡ false
+    → entry ≡ None → up_owner away (owner t vni m) ≡ Some o → (o == own) ≡ false
+    → remote_up away t vni m entry own (Port port) ≡ o ∷ []
+elsewhere_remote away t vni m own o port entry group none is ne = rw (group, none, is, ne) refl
 
 pub station_frames_go : StationFramesGo
-station_frames_go f s h agree i j o a b at_o at_a apart says event port reply frame steps =
+station_frames_go f s h agree i j o a b at_o at_a apart says up event port reply frame steps =
     record {
       decision = x.decision;
       there = x.there;
-      local = x.is.local ∙ elsewhere_local (table_of b) s.vni s.mac (address_of b) (address_of o) x.is.members
-          x.is.passing port (port_of b s.vni s.mac) single none owned far;
-      remote = x.is.remote ∙ elsewhere_remote (table_of b) s.vni s.mac (address_of b) (address_of o) port
+      local = x.is.local ∙ elsewhere_local b.away (table_of b) s.vni s.mac (address_of b) (address_of o)
+          x.is.members x.is.passing port (port_of b s.vni s.mac) single none owned far;
+      remote = x.is.remote ∙ elsewhere_remote b.away (table_of b) s.vni s.mac (address_of b) (address_of o) port
           (port_of b s.vni s.mac) single none owned far;
     }
   where
@@ -239,10 +249,12 @@ station_frames_go f s h agree i j o a b at_o at_a apart says event port reply fr
     none = ap (option_map (λ (y : Entry). y.port)) (x.leaves.entry
         ∙ no_entry a s (h.good j a at_a) (λ y. apart (station_one f s h agree i j o a at_o at_a says y)))
 
-    owned : owner (table_of b) s.vni s.mac ≡ Some (address_of o)
-    owned = owner_found (table_of b) s.vni s.mac (address_of o)
+    owned : up_owner b.away (owner (table_of b) s.vni s.mac) ≡ Some (address_of o)
+    owned = owner_up b.away (owner (table_of b) s.vni s.mac) (address_of o)
+        (owner_found (table_of b) s.vni s.mac (address_of o)
         (owner_along (table_of a) (table_of b) s.vni s.mac (address_of o) (λ p ip. sym (x.leaves.adverts p ip))
-        (station_owner f s h agree i j o a at_o at_a says))
+        (station_owner f s h agree i j o a at_o at_a says)))
+        (subst (λ (l : List ℕ). is_up l (address_of o) ≡ true) (sym x.leaves.away) up)
 
     far : (address_of o == address_of b) ≡ false
     far = let differs : address_of o ≢ address_of b = (λ q. apart (h.apart i j o a at_o at_a (q ∙ x.leaves.address))) in
@@ -254,18 +266,20 @@ frames_go f h agree i j o a b s = station_frames_go f s h ((agree_on_each f agre
 
 -- ---- at the edge itself
 
-home_local : (t : Table) (vni m own members passing port q : ℕ) (entry : Option ℕ) → is_group m ≡ false → entry ≡ Some q
-    → local_for t vni m entry own (Port port) members passing
+home_local : (away : List ℕ) (t : Table) (vni m own members passing port q : ℕ) (entry : Option ℕ)
+    → is_group m ≡ false → entry ≡ Some q
+    → local_up away t vni m entry own (Port port) members passing
     ≡ cond (has_port passing q && not (port == q)) (with_port 0 q) 0
-home_local t vni m own members passing port q entry group some = rw (group, some) refl
+home_local away t vni m own members passing port q entry group some = rw (group, some) refl
 
-home_remote : (t : Table) (vni m own port q : ℕ) (entry : Option ℕ) → is_group m ≡ false → entry ≡ Some q
-    → remote_for t vni m entry own (Port port) ≡ []
-home_remote t vni m own port q entry group some = rw (group, some) refl
+home_remote : (away : List ℕ) (t : Table) (vni m own port q : ℕ) (entry : Option ℕ) → is_group m ≡ false
+    → entry ≡ Some q → remote_up away t vni m entry own (Port port) ≡ []
+home_remote away t vni m own port q entry group some = rw (group, some) refl
 
-tunnel_local : (t : Table) (vni m own members passing q : ℕ) (entry : Option ℕ) → is_group m ≡ false → entry ≡ Some q
-    → local_for t vni m entry own Tunnel members passing ≡ cond (has_port passing q && true) (with_port 0 q) 0
-tunnel_local t vni m own members passing q entry group some = rw (group, some) refl
+tunnel_local : (away : List ℕ) (t : Table) (vni m own members passing q : ℕ) (entry : Option ℕ) → is_group m ≡ false
+    → entry ≡ Some q
+    → local_up away t vni m entry own Tunnel members passing ≡ cond (has_port passing q && true) (with_port 0 q) 0
+tunnel_local away t vni m own members passing q entry group some = rw (group, some) refl
 
 -- one port, or none
 alone : (c : Bool) (q p : ℕ) → IsPort q → (has_port (cond c (with_port 0 q) 0) p ≡ true) ↔ ((p ≡ q) × (c ≡ true))
@@ -297,7 +311,8 @@ frames_come_out o b s good says event port reply frame steps = (
     decision = x.decision;
     there = x.there;
     local = local;
-    remote = x.is.remote ∙ home_remote (table_of b) s.vni s.mac (address_of b) port e.0.port (port_of b s.vni s.mac)
+    remote = x.is.remote ∙ home_remote b.away (table_of b) s.vni s.mac (address_of b) port
+        e.0.port (port_of b s.vni s.mac)
         (individual o s good says) some;
   },
 )
@@ -321,7 +336,8 @@ frames_come_out o b s good says event port reply frame steps = (
     local : (p : ℕ) → (has_port x.decision.local p ≡ true)
         ↔ ((p ≡ e.0.port) × (Passes o.tree e.0.port × (e.0.port ≢ port)))
     local p =
-        let is = x.is.local ∙ home_local (table_of b) s.vni s.mac (address_of b) x.is.members x.is.passing port e.0.port
+        let is = x.is.local ∙ home_local b.away (table_of b) s.vni s.mac (address_of b) x.is.members x.is.passing
+        port e.0.port
         (port_of b s.vni s.mac) (individual o s good says) some in
         let a = alone (has_port x.is.passing e.0.port && not (port == e.0.port)) e.0.port p
         (record { least = t.least; most = t.few }) in (
@@ -363,7 +379,8 @@ tunnel_frames_come_out o b s good says event reply frame steps =
 
     local : (p : ℕ) → (has_port x.decision.local p ≡ true) ↔ ((p ≡ e.0.port) × Passes o.tree e.0.port)
     local p =
-        let is = x.is.local ∙ tunnel_local (table_of b) s.vni s.mac (address_of b) x.is.members x.is.passing e.0.port
+        let is = x.is.local ∙ tunnel_local b.away (table_of b) s.vni s.mac (address_of b) x.is.members
+        x.is.passing e.0.port
         (port_of b s.vni s.mac) (individual o s good says) some in
         let passes = x.is.are_passing e.0.port in
         let a = alone (has_port x.is.passing e.0.port && true) e.0.port p

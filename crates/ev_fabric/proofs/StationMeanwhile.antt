@@ -22,7 +22,8 @@ use Rattle.route_join.proofs.Owners.{owner_is}
 use Rattle.mac_arena.specs.declared.station.Station.{Station}
 use Rattle.mac_arena.specs.declared.station.Entry.{Entry}
 use Rattle.ev_tunnel.specs.declared.decision.Source.TheVariants.{Port}
-use Rattle.ev_tunnel.specs.Decision.{open_ports, others_of, local_for, remote_for}
+use Rattle.ev_tunnel.specs.Decision.{is_up, up_owner, up_edges, open_ports, others_of, local_up, remote_up}
+use Rattle.ev_tunnel.proofs.DecisionLemmas.{owner_up, owner_away}
 use Rattle.ev_claims.specs.Speaker.{own_advert}
 use Rattle.ev_claims.specs.LocalRoutes.{key_of}
 use Rattle.ev_edge.specs.declared.event.Event.{Event}
@@ -189,19 +190,21 @@ module _ (old : Fabric) (i j : ℕ) (s : Station) (mid : Fabric) (sound : IsSoun
 -- ---- frames
 
 -- a station that isn't learnt and has no other owner is unknown
-unknown_local : (t : Table) (vni m own members passing port : ℕ) (entry : Option ℕ) → is_group m ≡ false
-    → entry ≡ None → (x : Option ℕ) → owner t vni m ≡ x → ((o : ℕ) → x ≡ Some o → (o == own) ≡ true)
-    → local_for t vni m entry own (Port port) members passing
+unknown_local : (away : List ℕ) (t : Table) (vni m own members passing port : ℕ) (entry : Option ℕ)
+    → is_group m ≡ false → entry ≡ None → (x : Option ℕ) → up_owner away (owner t vni m) ≡ x
+    → ((o : ℕ) → x ≡ Some o → (o == own) ≡ true)
+    → local_up away t vni m entry own (Port port) members passing
     ≡ open_ports (Port port) (record { members = members; passing = passing })
-unknown_local t vni m own members passing port entry group none None is mine = rw (group, none, is) refl
-unknown_local t vni m own members passing port entry group none (Some o) is mine = let same = mine o refl in
+unknown_local away t vni m own members passing port entry group none None is mine = rw (group, none, is) refl
+unknown_local away t vni m own members passing port entry group none (Some o) is mine = let same = mine o refl in
     rw (group, none, is, same) refl
 
-unknown_remote : (t : Table) (vni m own port : ℕ) (entry : Option ℕ) → is_group m ≡ false → entry ≡ None
-    → (x : Option ℕ) → owner t vni m ≡ x → ((o : ℕ) → x ≡ Some o → (o == own) ≡ true)
-    → remote_for t vni m entry own (Port port) ≡ others_of own (flood_of t vni)
-unknown_remote t vni m own port entry group none None is mine = rw (group, none, is) refl
-unknown_remote t vni m own port entry group none (Some o) is mine = let same = mine o refl in
+unknown_remote : (away : List ℕ) (t : Table) (vni m own port : ℕ) (entry : Option ℕ) → is_group m ≡ false
+    → entry ≡ None → (x : Option ℕ) → up_owner away (owner t vni m) ≡ x
+    → ((o : ℕ) → x ≡ Some o → (o == own) ≡ true)
+    → remote_up away t vni m entry own (Port port) ≡ others_of own (up_edges away (flood_of t vni))
+unknown_remote away t vni m own port entry group none None is mine = rw (group, none, is) refl
+unknown_remote away t vni m own port entry group none (Some o) is mine = let same = mine o refl in
     rw (group, none, is, same) refl
 
 -- a frame of which this is known
@@ -241,7 +244,7 @@ module _ (i j : ℕ) (s : Station) (old mid new : Fabric) (steps : List Step) (s
       unlearnt = ap (option_map (λ (y : Entry). y.port)) (sent.leaves.entry
           ∙ no_entry a s (end.1.good x a at) quiet)
 
-      flooded : (o : Option ℕ) → owner (table_of b) s.vni s.mac ≡ o
+      flooded : (o : Option ℕ) → up_owner b.away (owner (table_of b) s.vni s.mac) ≡ o
           → ((p : ℕ) → o ≡ Some p → (p == address_of b) ≡ true) → Goes
       flooded o is mine = inr (inr (inr (record {
         decision = sent.decision;
@@ -250,40 +253,48 @@ module _ (i j : ℕ) (s : Station) (old mid new : Fabric) (steps : List Step) (s
         are_members = sent.is.are_members;
         passing = sent.is.passing;
         are_passing = sent.is.are_passing;
-        local = sent.is.local ∙ unknown_local (table_of b) s.vni s.mac (address_of b) sent.is.members sent.is.passing
-            port (port_of b s.vni s.mac) single unlearnt o is mine;
-        remote = sent.is.remote ∙ unknown_remote (table_of b) s.vni s.mac (address_of b) port
+        local = sent.is.local ∙ unknown_local b.away (table_of b) s.vni s.mac (address_of b) sent.is.members
+            sent.is.passing port (port_of b s.vni s.mac) single unlearnt o is mine;
+        remote = sent.is.remote ∙ unknown_remote b.away (table_of b) s.vni s.mac (address_of b) port
             (port_of b s.vni s.mac) single unlearnt o is mine;
       })))
 
-      to_one : (o : ℕ) → owner (table_of b) s.vni s.mac ≡ Some o → (o == address_of b) ≡ false → GoesTo o reply
+      to_one : (o : ℕ) → up_owner b.away (owner (table_of b) s.vni s.mac) ≡ Some o → (o == address_of b) ≡ false
+          → GoesTo o reply
       to_one o is far = record {
         decision = sent.decision;
         there = sent.there;
-        local = sent.is.local ∙ elsewhere_local (table_of b) s.vni s.mac (address_of b) o sent.is.members
-            sent.is.passing port (port_of b s.vni s.mac) single unlearnt is far;
-        remote = sent.is.remote ∙ elsewhere_remote (table_of b) s.vni s.mac (address_of b) o port
+        local = sent.is.local ∙ elsewhere_local b.away (table_of b) s.vni s.mac (address_of b) o
+            sent.is.members sent.is.passing port (port_of b s.vni s.mac) single unlearnt is far;
+        remote = sent.is.remote ∙ elsewhere_remote b.away (table_of b) s.vni s.mac (address_of b) o port
             (port_of b s.vni s.mac) single unlearnt is far;
       }
 
       owned : (o : Option ℕ) → owner (table_of b) s.vni s.mac ≡ o
           → MatchOption (owner (table_of b) s.vni s.mac) (IsUnowned (table_of b) s.vni s.mac)
           (IsOwner (table_of b) s.vni s.mac) → Goes
-      owned None is h = flooded None is (λ p never. cc)
-      owned (Some o) is h = pick (o == address_of b) refl
+      owned None is h = flooded None (ap (up_owner b.away) is) (λ p never. cc)
+      owned (Some o) is h = reached (is_up b.away o) refl
           (subst (λ z. MatchOption z (IsUnowned (table_of b) s.vni s.mac) (IsOwner (table_of b) s.vni s.mac)) is h)
         where
-          pick : (q : Bool) → (o == address_of b) ≡ q → IsOwner (table_of b) s.vni s.mac o → Goes
-          pick true mine h = flooded (Some o) is (λ p same. let equal : o ≡ p = cc in
+          pick : up_owner b.away (owner (table_of b) s.vni s.mac) ≡ Some o → (q : Bool) → (o == address_of b) ≡ q
+              → IsOwner (table_of b) s.vni s.mac o → Goes
+          pick there true mine h = flooded (Some o) there (λ p same. let equal : o ≡ p = cc in
               ap (λ n. n == address_of b) (sym equal) ∙ mine)
-          pick false far h =
+          pick there false far h =
               let other : o ≢ address_of a = (λ same. let mine : o ≡ address_of b = same ∙ sym sent.leaves.address in
               grind (arith, nat_tests)) in
               elim (of_two old i j s mid sound m new end.1 know end.0 x a at o other h.ip h.advert
               (sym (sent.leaves.adverts o h.ip) ∙ h.own)) [
-                | inl from ↦ inr (inl (subst (λ n. GoesTo n reply) from (to_one o is far)))
-                | inr to ↦ inr (inr (inl (subst (λ n. GoesTo n reply) to (to_one o is far))))
+                | inl from ↦ inr (inl (subst (λ n. GoesTo n reply) from (to_one o there far)))
+                | inr to ↦ inr (inr (inl (subst (λ n. GoesTo n reply) to (to_one o there far))))
               ]
+
+          -- the owner, unless it is away
+          reached : (up : Bool) → is_up b.away o ≡ up → IsOwner (table_of b) s.vni s.mac o → Goes
+          reached true up h = pick (owner_up b.away (owner (table_of b) s.vni s.mac) o is up) (o == address_of b) refl h
+          reached false gone h = flooded None (owner_away b.away (owner (table_of b) s.vni s.mac) o is gone)
+              (λ p never. cc)
 
   goes : (y : Option Advert) → own_advert a.routes.speaker (key_of s) ≡ y → Goes
   goes (Some y) is =

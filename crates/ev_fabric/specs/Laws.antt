@@ -16,6 +16,7 @@ use Rattle.mac_arena.specs.Learning.{entry_at}
 use Rattle.rstp_run.specs.Events.{Passes}
 use Rattle.ev_tunnel.specs.declared.decision.Decision.{Decision}
 use Rattle.ev_tunnel.specs.Datagram.{datagram_of}
+use Rattle.ev_tunnel.specs.Decision.{is_up}
 use Rattle.ev_claims.specs.LocalRoutes.{vni_at}
 use Rattle.ev_edge.specs.declared.arrival.Arrival.TheVariants.{Data}
 use Rattle.ev_edge.specs.declared.config.EdgeConfig.{EdgeConfig}
@@ -120,6 +121,8 @@ frame_in (events.PortUp port) = None
 frame_in (events.PortDown port) = None
 frame_in (events.Mcheck port) = None
 frame_in events.Announce = None
+frame_in (events.Away a) = None
+frame_in (events.Back a) = None
 
 -- the octets of a datagram and the edge that it comes from
 abbrev pub tunnel_frame_in : Event → Option (ℕ × List ℕ)
@@ -134,6 +137,8 @@ tunnel_frame_in (events.PortUp port) = None
 tunnel_frame_in (events.PortDown port) = None
 tunnel_frame_in (events.Mcheck port) = None
 tunnel_frame_in events.Announce = None
+tunnel_frame_in (events.Away a) = None
+tunnel_frame_in (events.Back a) = None
 
 -- The event is a frame for the station in its VNI: it comes from another source address at a port that passes.
 pub record IsFrameFor (a : Edge) (event : Event) (port : ℕ) (s : Station) : Type 0 where
@@ -166,10 +171,10 @@ pub record GoesOut (q : ℕ) (May : Type 0) (reply : Reply) : Type 0 where
   pub local : (p : ℕ) → (has_port decision.local p ≡ true) ↔ ((p ≡ q) × May)
   pub remote : decision.remote.items ≡ []
 
--- if all agree, a frame for a station that another edge advertises goes to that edge only
+-- if all agree, a frame for a station that another edge advertises goes to that edge only, unless that edge is away
 abbrev pub FramesGo : Type 0
 FramesGo = (f : Fabric) → IsSound f → AllAgree f → (i j : ℕ) (o a b : Edge) (s : Station) → IsEdge f i o → IsEdge f j a
-    → i ≢ j → Advertises o s
+    → i ≢ j → Advertises o s → is_up a.away (address_of o) ≡ true
     → (event : Event) (port : ℕ) (reply : Reply) → IsFrameFor a event port s → Steps a event (Ok reply) b
     → GoesTo (address_of o) reply
 
@@ -194,13 +199,13 @@ pub record ComesOut (o : Edge) (from : ℕ) (datagram : List ℕ) (s : Station) 
       → tunnel_frame_in event ≡ Some (from, datagram) → Steps o event result after
       → (reply : Reply) × (result ≡ Ok reply) × GoesOut entry.port (Passes o.tree entry.port) reply
 
--- From port to port, if all agree: a frame at a port of edge a for a station that edge o advertises goes to o only; and
--- the datagram of its VNI and octets, entered at o, comes out at the station's port. The VNI has three octets, as each
--- VNI has by its type.
+-- From port to port, if all agree, and the edge o isn't away at the edge a: a frame at a port of a for a station that o
+-- advertises goes to o only; and the datagram of its VNI and octets, entered at o, comes out at the station's port. The
+-- VNI has three octets, as each VNI has by its type.
 abbrev pub FromPortToPort : Type 0
 FromPortToPort =
     (f : Fabric) → IsSound f → AllAgree f → (i j : ℕ) (o a b : Edge) (s : Station) → IsEdge f i o → IsEdge f j a → i ≢ j
-    → Advertises o s
+    → Advertises o s → is_up a.away (address_of o) ≡ true
     → s.vni < 2 ^ 24 → (event : Event) (port : ℕ) (reply : Reply) → (frame : IsFrameFor a event port s)
     → Steps a event (Ok reply) b
     → GoesTo (address_of o) reply × ComesOut o (address_of a) (datagram_of s.vni frame.octets) s

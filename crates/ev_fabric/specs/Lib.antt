@@ -14,5 +14,6 @@ pub mod Station
 pub mod Rounds
 pub mod Meanwhile
 pub mod Later
+pub mod Sessions
 pub mod Witnesses
 pub mod Inner

@@ -3,7 +3,7 @@ use Rattle.ev_edge.specs.declared.event.Event.{Event}
 use Rattle.ev_edge.specs.declared.event.Event.TheVariants as events
 use Rattle.ev_fabric.specs.declared.step.LocalEvent.{LocalEvent}
 use Rattle.ev_fabric.specs.declared.step.LocalEvent.TheVariants.{Frame, TunnelFrame, Pin, Unpin, Thaw, Second, PortUp}
-use Rattle.ev_fabric.specs.declared.step.LocalEvent.TheVariants.{PortDown, Mcheck}
+use Rattle.ev_fabric.specs.declared.step.LocalEvent.TheVariants.{PortDown, Mcheck, Away, Back}
 
 -- this event as an event of an edge
 abbrev pub event_of : LocalEvent → Event
@@ -16,3 +16,5 @@ event_of Second = events.Second
 event_of (PortUp port) = events.PortUp port
 event_of (PortDown port) = events.PortDown port
 event_of (Mcheck port) = events.Mcheck port
+event_of (Away a) = events.Away a
+event_of (Back a) = events.Back a

@@ -6,7 +6,7 @@ use Rattle.mac_arena.specs.declared.station.Station.{Station}
 use Rattle.mac_arena.specs.declared.station.Entry.{Entry}
 use Rattle.ev_tunnel.specs.declared.decision.Decision.{Decision}
 use Rattle.ev_tunnel.specs.declared.decision.Source.TheVariants.{Port}
-use Rattle.ev_tunnel.specs.Decision.{open_ports, others_of}
+use Rattle.ev_tunnel.specs.Decision.{open_ports, others_of, up_edges}
 use Rattle.ev_claims.specs.LocalRoutes.{is_member}
 use Rattle.ev_edge.specs.declared.event.Event.{Event}
 use Rattle.ev_edge.specs.declared.reply.Reply.{Reply}
@@ -20,7 +20,7 @@ use Rattle.ev_fabric.specs.Laws.{IsBehindPort, IsFrameFor, GoesTo, GoesOut}
 use Rattle.ev_fabric.specs.Station.{StationComes, RunsBeside, NoneRestarts}
 
 -- The frame is sent like one for an unknown station: to each port of the VNI that passes, except its own, and to each
--- other edge that advertises the VNI's flood list.
+-- other edge that advertises the VNI's flood list and isn't away.
 pub record IsFlooded (e : Edge) (s : Station) (port : ℕ) (reply : Reply) : Type 0 where
   pub decision : Decision
   pub there : reply.decision ≡ Some decision
@@ -29,7 +29,7 @@ pub record IsFlooded (e : Edge) (s : Station) (port : ℕ) (reply : Reply) : Typ
   pub passing : ℕ
   pub are_passing : ArePassing e.tree passing
   pub local : decision.local ≡ open_ports (Port port) (record { members = members; passing = passing })
-  pub remote : decision.remote.items ≡ others_of (address_of e) (flood_of (table_of e) s.vni)
+  pub remote : decision.remote.items ≡ others_of (address_of e) (up_edges e.away (flood_of (table_of e) s.vni))
 
 -- the frame goes to the port on which the edge has learnt the station itself
 abbrev pub GoesHome : Edge → Station → ℕ → Reply → Type 0

@@ -16,6 +16,7 @@ use Rattle.mac_arena.specs.declared.station.Station.{Station}
 use Rattle.mac_arena.specs.declared.station.Entry.{Entry}
 use Rattle.mac_arena.specs.Learning.{entry_at}
 use Rattle.ev_tunnel.specs.Datagram.{datagram_of}
+use Rattle.ev_tunnel.specs.Decision.{is_up}
 use Rattle.ev_claims.specs.Speaker.{Speaker, own, own_advert}
 use Rattle.ev_claims.specs.LocalRoutes.{key_of}
 use Rattle.ev_edge.specs.declared.config.EdgeConfig.{EdgeConfig}
@@ -109,21 +110,23 @@ pub record IsAgreedStation (f : Fabric) (s : Station) : Type 0 where
 abbrev pub AgreedStation : Type 0
 AgreedStation = (f : Fabric) (s : Station) → IsSound f → AgreesOn f s → IsAgreedStation f s
 
--- if all agree on a station, a frame for it goes from another edge to the one that advertises it, and only there
+-- if all agree on a station, a frame for it goes from another edge to the one that advertises it, and only there,
+-- unless that one is away at this edge
 abbrev pub StationFramesGo : Type 0
 StationFramesGo = (f : Fabric) (s : Station) → IsSound f → AgreesOn f s → (i j : ℕ) (o a b : Edge) → IsEdge f i o
-    → IsEdge f j a → i ≢ j → Advertises o s
+    → IsEdge f j a → i ≢ j → Advertises o s → is_up a.away (address_of o) ≡ true
     → (event : Event) (port : ℕ) (reply : Reply) → IsFrameFor a event port s → Steps a event (Ok reply) b
     → GoesTo (address_of o) reply
 
--- From port to port, in any other traffic of the fabric: a frame at a port of edge a, for a station that edge o
--- advertises, goes to o only; and the datagram of its VNI and octets, entered at o, comes out at the station's port.
--- The VNI has three octets, as each VNI has by its type.
+-- From port to port, in any other traffic of the fabric, if the edge o isn't away at the edge a: a frame at a port of
+-- a, for a station that o advertises, goes to o only; and the datagram of its VNI and octets, entered at o, comes out
+-- at the station's port. The VNI has three octets, as each VNI has by its type.
 abbrev pub StationFromPortToPort : Type 0
 StationFromPortToPort =
     (f : Fabric) (s : Station) → IsSound f → AgreesOn f s → (i j : ℕ) (o a b : Edge) → IsEdge f i o → IsEdge f j a
     → i ≢ j
-    → Advertises o s → s.vni < 2 ^ 24 → (event : Event) (port : ℕ) (reply : Reply) → (frame : IsFrameFor a event port s)
+    → Advertises o s → is_up a.away (address_of o) ≡ true
+    → s.vni < 2 ^ 24 → (event : Event) (port : ℕ) (reply : Reply) → (frame : IsFrameFor a event port s)
     → Steps a event (Ok reply) b
     → GoesTo (address_of o) reply × ComesOut o (address_of a) (datagram_of s.vni frame.octets) s
 

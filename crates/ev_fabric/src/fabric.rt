@@ -1,5 +1,5 @@
 //! Edges and the pool of the updates that they have announced, and each step of them.
-ghost use Rattle.std.specs.Prelude.{◌≡◌, ◌<◌, ◌≤◌, true, IfOk, IsSome, OnOk, OnErr, length, vec_len, vec_capacity};
+ghost use Rattle.std.specs.Prelude.{◌≡◌, ◌<◌, ◌≤◌, true, IfOk, IsSome, OnOk, OnErr, length, option_map, vec_len, vec_capacity};
 ghost use Rattle.ev_edge.specs.Steps.{nothing};
 ghost use Rattle.ev_fabric.specs.declared.step.Step.TheVariants.{Local, Announce, Deliver, Restart};
 ghost use Rattle.ev_fabric.specs.Fabric.{nth};
@@ -175,13 +175,14 @@ impl Fabric {
         self.edges.len()
     }
 
-    /// Returns the edge of this number.
-    pub fn edge(&self, e: usize) -> &Edge
-        requires some { 0 < e }
-        requires there { e ≤ length self.now.edges }
-        ensures { nth self.now.edges e ≡ Some result.now }
+    /// Returns the edge of this number, counted from 1, if it exists.
+    pub fn edge(&self, e: usize) -> Option<&Edge>
+        ensures { option_map (λ edge. edge.now) result ≡ nth self.now.edges e }
     {
-        &self.edges[e - 1]
+        if e == 0 {
+            return None;
+        }
+        self.edges.get(e - 1)
     }
 
     /// Returns the announced updates, the first one first.

@@ -27,6 +27,10 @@ pub enum LocalEvent<'a> {
     PortDown(u8),
     /// The administrator requests that the port detect its protocol again.
     Mcheck(u8),
+    /// Another edge is away: no frame goes to it until it is back.
+    Away(Addr),
+    /// Another edge is back.
+    Back(Addr),
 }
 
 /// A step of a fabric. Edges and updates are numbered from 1.
@@ -56,5 +60,7 @@ pub(crate) fn event_of<'a>(local: &LocalEvent<'a>) -> Event<'a>
         LocalEvent::PortUp(port) => Event::PortUp(*port),
         LocalEvent::PortDown(port) => Event::PortDown(*port),
         LocalEvent::Mcheck(port) => Event::Mcheck(*port),
+        LocalEvent::Away(edge) => Event::Away(*edge),
+        LocalEvent::Back(edge) => Event::Back(*edge),
     }
 }

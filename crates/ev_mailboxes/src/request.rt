@@ -21,6 +21,10 @@ pub enum Command {
     Unpin(Station),
     /// Thaws the station.
     Thaw(Station),
+    /// Gives another edge no frame until it is back.
+    Away(Addr),
+    /// Gives the other edge frames again.
+    Back(Addr),
     /// Finds out the port's protocol again.
     Mcheck(u8),
     /// Brings the port up.

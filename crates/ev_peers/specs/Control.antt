@@ -36,6 +36,8 @@ abbrev pub event_of : Command → Event
 event_of (commands.Pin s port) = events.Pin s port
 event_of (commands.Unpin s) = events.Unpin s
 event_of (commands.Thaw s) = events.Thaw s
+event_of (commands.Away a) = events.Away a
+event_of (commands.Back a) = events.Back a
 event_of (commands.Mcheck port) = events.Mcheck port
 event_of (commands.PortUp port) = events.PortUp port
 event_of (commands.PortDown port) = events.PortDown port

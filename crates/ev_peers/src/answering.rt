@@ -41,6 +41,8 @@ fn event_of(command: &Command) -> Event<'static>
         Command::Pin(station, port) => Event::Pin(*station, *port),
         Command::Unpin(station) => Event::Unpin(*station),
         Command::Thaw(station) => Event::Thaw(*station),
+        Command::Away(edge) => Event::Away(*edge),
+        Command::Back(edge) => Event::Back(*edge),
         Command::Mcheck(port) => Event::Mcheck(*port),
         Command::PortUp(port) => Event::PortUp(*port),
         Command::PortDown(port) => Event::PortDown(*port),

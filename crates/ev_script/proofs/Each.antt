@@ -1,8 +1,8 @@
 -- The texts of the elements of a list, in order.
 use Rattle.std.proofs.Common.{◌≡◌, ℕ, ◌+◌, ◌<◌, List, [], ◌∷◌, ◌++◌, take, length, get_or, append-nil}
-use Rattle.std.proofs.Common.{zero, suc, Some, None, refl, ap, subst, ◌∙◌, arith}
+use Rattle.std.proofs.Common.{suc, Some, None, inl, inr, sym, ap, subst, ◌∙◌, arith}
 use Rattle.std.proofs.lemmas.List.{take_more}
-use Rattle.std.proofs.lemmas.Option.{get_or_from_slice_get, slice_get_past}
+use Rattle.std.proofs.lemmas.Option.{get_or_from_slice_get, slice_get_cases}
 use Rattle.std.specs.List.{flat_map}
 use Rattle.std.proofs.lemmas.Grind.{flat_map-append}
 use Rattle.ev_fabric.specs.Fabric.{nth}
@@ -21,7 +21,9 @@ pub one_behind : {X : Type 0} (text : X → List ℕ) (all : List X) (place : �
 one_behind text all place d within = ap (flat_map text) (take_more all place d within)
     ∙ one_more text (take place all) (get_or all place d)
 
--- there is no element after the last one
-pub none_past : {X : Type 0} (xs : List X) (n : ℕ) → length xs < n → nth xs n ≡ None
-none_past xs zero past = refl
-none_past xs (suc i) past = slice_get_past xs i (omega (arith, past))
+-- there is an element at each place below the length
+pub some_within : {X : Type 0} (xs : List X) (i n : ℕ) → n ≡ suc i → i < length xs → nth xs n ≡ None → ⊥
+some_within xs i n is within none = elim (slice_get_cases xs i).1 [
+  | inl there ↦ (let no : None ≡ Some there.0 = sym (subst (λ m. nth xs m ≡ None) is none) ∙ there.2 in cc)
+  | inr past ↦ (let no : ⊥ = omega (arith, within, past.0) in no)
+]

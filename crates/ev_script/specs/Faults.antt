@@ -11,7 +11,7 @@ use Rattle.ev_script.specs.declared.script.fault.LineFault.TheVariants.{Remark, 
 use Rattle.ev_script.specs.declared.script.command.Verb.{Verb}
 use Rattle.ev_script.specs.declared.script.command.Verb.TheVariants.{Up, Down, Mcheck, Second, Frame, Tunnel, Pin}
 use Rattle.ev_script.specs.declared.script.command.Verb.TheVariants.{Unpin, Thaw, Announce, Deliver, Port, Report}
-use Rattle.ev_script.specs.declared.script.command.Verb.TheVariants.{Restart}
+use Rattle.ev_script.specs.declared.script.command.Verb.TheVariants.{Restart, Away, Back}
 use Rattle.ev_script.specs.Script.{number, verbs, verb_in, line_of, is_remark, Follows}
 
 -- ---- why a line is no command
@@ -69,6 +69,8 @@ form_of Deliver = codes ": expected E deliver K\n"
 form_of Port = codes ": expected E port P\n"
 form_of Report = codes ": expected E report\n"
 form_of Restart = codes ": expected E restart N, N from 0 to 4294967295\n"
+form_of Away = codes ": expected E away ADDR\n"
+form_of Back = codes ": expected E back ADDR\n"
 
 abbrev pub why_text : LineFault → List ℕ
 why_text Remark = codes ": an empty line or a remark, which only evpnd play skips\n"
@@ -76,7 +78,7 @@ why_text Return = codes ": a carriage return: a line ends with a line feed alone
 why_text Long = codes ": longer than 20000 octets\n"
 why_text NoEdge = codes ": expected the number of an edge, a space and a command\n"
 why_text NoVerb =
-    codes ": expected up, down, mcheck, second, frame, tunnel, pin, unpin, thaw, announce, deliver, port, report or restart behind the edge\n"
+    codes ": expected up, down, mcheck, second, frame, tunnel, pin, unpin, thaw, announce, deliver, port, report, restart, away or back behind the edge\n"
 why_text (Misspelt verb) = form_of verb
 
 -- `NAME:N: WHY`

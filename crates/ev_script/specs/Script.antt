@@ -9,11 +9,11 @@ use Rattle.mac_arena.specs.declared.station.Station.{Station}
 use Rattle.ev_script.specs.declared.script.command.Verb.{Verb}
 use Rattle.ev_script.specs.declared.script.command.Verb.TheVariants.{Up, Down, Mcheck, Second, Frame, Tunnel, Pin}
 use Rattle.ev_script.specs.declared.script.command.Verb.TheVariants.{Unpin, Thaw, Announce, Deliver, Port, Report}
-use Rattle.ev_script.specs.declared.script.command.Verb.TheVariants.{Restart}
+use Rattle.ev_script.specs.declared.script.command.Verb.TheVariants.{Restart, Away, Back}
 use Rattle.ev_script.specs.declared.script.question.Question.{Question}
 use Rattle.ev_script.specs.declared.script.question.Question.TheVariants.{Help, Edges, OfEdge}
 use Rattle.ev_view.specs.declared.view.EdgeQuestion.{EdgeQuestion}
-use Rattle.ev_view.specs.declared.view.EdgeQuestion.TheVariants.{Owner, Counts, Stations}
+use Rattle.ev_view.specs.declared.view.EdgeQuestion.TheVariants.{Owner, Counts, Stations, Peers}
 use Rattle.ev_script.specs.declared.script.mode.Mode.{Mode}
 use Rattle.ev_script.specs.declared.script.mode.Mode.TheVariants.{Simulate, Play}
 use Rattle.ev_script.specs.declared.script.command.Command as read
@@ -35,6 +35,8 @@ pub data Command : Type 0 where
   port : ℕ → Command
   report : Command
   restart : ℕ → Command
+  away : ℕ → Command
+  back : ℕ → Command
 
 -- ---- hexadecimal digits
 
@@ -91,7 +93,7 @@ abbrev pub later_verbs : List (List ℕ × Verb)
 later_verbs =
     (codes "unpin", Unpin) ∷ (codes "thaw", Thaw) ∷ (codes "announce", Announce) ∷ (codes "deliver", Deliver)
     ∷ (codes "port", Port)
-    ∷ (codes "report", Report) ∷ (codes "restart", Restart) ∷ []
+    ∷ (codes "report", Report) ∷ (codes "restart", Restart) ∷ (codes "away", Away) ∷ (codes "back", Back) ∷ []
 
 abbrev pub verbs : List (List ℕ × Verb)
 verbs =
@@ -139,6 +141,8 @@ command_with Thaw s = option_map thaw (station s)
 command_with Deliver s = option_map deliver (number s)
 command_with Port s = option_map port (number s)
 command_with Restart s = option_map restart (incarnation s)
+command_with Away s = option_map away (addr_of_text s)
+command_with Back s = option_map back (addr_of_text s)
 command_with Announce s = None
 command_with Report s = None
 
@@ -177,6 +181,8 @@ command_of (found.Deliver k) = deliver k
 command_of (found.Port p) = port p
 command_of found.Report = report
 command_of (found.Restart n) = restart n
+command_of (found.Away a) = away a
+command_of (found.Back a) = back a
 
 -- ---- lines
 
@@ -218,7 +224,8 @@ skips Play line = is_remark line
 abbrev pub question_alone : List ℕ → Option EdgeQuestion
 question_alone s =
     if bytes_eq s (codes "counts") then Some Counts
-    else if bytes_eq s (codes "stations") then Some (Stations None) else None
+    else if bytes_eq s (codes "stations") then Some (Stations None)
+    else if bytes_eq s (codes "peers") then Some Peers else None
 
 -- a query about one edge: a verb with the text after it and a space
 abbrev pub question_with : List ℕ → List ℕ → Option EdgeQuestion

@@ -34,7 +34,8 @@ use Rattle.ev_report.specs.Silence.{IsSilent, IsRefusedMemory}
 use Rattle.ev_script.specs.declared.script.mode.Mode.{Mode}
 use Rattle.ev_script.specs.declared.script.question.Question.{Question}
 use Rattle.ev_script.specs.Script.{Command, Item, item_of, up, down, mcheck, second, frame, tunnel, pin, unpin, thaw}
-use Rattle.ev_script.specs.Script.{announce, deliver, port, report, restart, asked_in, cut_line, Follows, Ends}
+use Rattle.ev_script.specs.Script.{announce, deliver, port, report, restart, away, back, asked_in, cut_line, Follows}
+use Rattle.ev_script.specs.Script.{Ends}
 use Rattle.ev_script.specs.Printing.{shown_text, step_text, second_text, announcement_text, refusal_text, port_text}
 use Rattle.ev_script.specs.Views.{view_text}
 use Rattle.ev_script.specs.Faults.{why_of, fault_text}
@@ -71,6 +72,8 @@ Asked e (deliver k) made = IsOne (steps.Deliver e k) made
 Asked e (port p) made = made ≡ []
 Asked e report made = made ≡ []
 Asked e (restart n) made = IsOne (steps.Restart e n) made
+Asked e (away a) made = IsOne (steps.Local e (events.Away a)) made
+Asked e (back a) made = IsOne (steps.Local e (events.Back a)) made
 
 -- the steps that a line requests
 abbrev pub AskedItem : Item → List Made → Type 0
@@ -143,6 +146,8 @@ AnswersCommand e (deliver k) made f text = text ≡ steps_text e made
 AnswersCommand e (port p) made f text = ShowsPortOf e (port_number p) (nth f.edges e) text
 AnswersCommand e report made f text = text ≡ report_text e (nth f.edges e)
 AnswersCommand e (restart n) made f text = text ≡ steps_text e made
+AnswersCommand e (away a) made f text = text ≡ steps_text e made
+AnswersCommand e (back a) made f text = text ≡ steps_text e made
 
 -- a query's line, if it is shown, and the answer to it; nothing for a line that is skipped
 abbrev pub query_text : Mode → List ℕ → Fabric → Option Question → List ℕ

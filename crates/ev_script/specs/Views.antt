@@ -12,9 +12,10 @@ abbrev pub help_text : List ℕ
 help_text =
     codes "E up P\n" ++ codes "E down P\n" ++ codes "E mcheck P\n" ++ codes "E second N\n" ++ codes "E frame P HEX\n"
     ++ codes "E tunnel ADDR HEX\n" ++ codes "E pin VNI MAC P\n" ++ codes "E unpin VNI MAC\n" ++ codes "E thaw VNI MAC\n"
-    ++ codes "E announce\n" ++ codes "E deliver K\n" ++ codes "E restart N\n" ++ codes "E port P\n"
+    ++ codes "E announce\n" ++ codes "E deliver K\n" ++ codes "E restart N\n" ++ codes "E away ADDR\n"
+    ++ codes "E back ADDR\n" ++ codes "E port P\n"
     ++ codes "E report\n" ++ codes "E owner VNI MAC\n" ++ codes "E counts\n" ++ codes "E stations [VNI]\n"
-    ++ codes "edges\n" ++ codes "help\n"
+    ++ codes "E peers\n" ++ codes "edges\n" ++ codes "help\n"
 
 -- ---- the edges
 

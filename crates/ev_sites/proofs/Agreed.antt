@@ -274,7 +274,7 @@ module _ (lists : SettledByLists) (happens : RunsHappen) where
       → GoesTo here given × ComesOut first_edge there (datagram_of 5001 letter) guest
   carried starts every_run law =
       law agreed sound agrees 0 1 first_edge second_edge second_edge guest refl refl (λ e. omega (arith, e)) advertised
-      (lit< tt) (events.Frame 1 (lent letter)) 1 given is_frame goes
+      refl (lit< tt) (events.Frame 1 (lent letter)) 1 given is_frame goes
     where
       sound : IsSound agreed
       sound =

@@ -14,7 +14,7 @@ use Rattle.rstp_net.proofs.Ring.{root_bridge, second_bridge, third_bridge, AreRi
 use Rattle.rstp_net.proofs.Round.{ring_of}
 use Rattle.ev_tunnel.specs.declared.decision.Decision.{Decision}
 use Rattle.ev_tunnel.specs.declared.decision.Source.TheVariants.{Port, Tunnel}
-use Rattle.ev_tunnel.specs.Decision.{open_ports, others_of, remote_for}
+use Rattle.ev_tunnel.specs.Decision.{open_ports, others_of, up_edges, remote_up}
 use Rattle.ev_tunnel.specs.Datagram.{datagram_of}
 use Rattle.ev_edge.specs.declared.arrival.Arrival.TheVariants.{Data}
 use Rattle.ev_edge.specs.Arrival.{frame_arrival, tunnel_arrival}
@@ -191,9 +191,10 @@ module _ (lists : SettledByLists) (happens : RunsHappen) where
   point site bridge = record { site = site; spot = record { bridge = bridge; place = 0 } }
 
   goes_there : Contains
-      (remote_for (table_of first_told) 5001 everyone (port_of first_told 5001 everyone) (address_of first_told)
+      (remote_up [] (table_of first_told) 5001 everyone (port_of first_told 5001 everyone) (address_of first_told)
       (Port 1)) there
-  goes_there = subst (λ l. Contains (others_of here l) there) (sym (floods heard_both 5001)) (zero, lit< tt, refl)
+  goes_there = subst (λ l. Contains (others_of here (up_edges [] l)) there) (sym (floods heard_both 5001))
+      (zero, lit< tt, refl)
 
   pub sites_of_a_fabric : SitesOfAFabric
   sites_of_a_fabric = record {

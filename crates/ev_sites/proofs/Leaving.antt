@@ -16,7 +16,7 @@ use Rattle.route_join.specs.Owner.{owner}
 use Rattle.ev_tunnel.specs.declared.decision.Decision.{Decision}
 use Rattle.ev_tunnel.specs.declared.decision.Source.{Source}
 use Rattle.ev_tunnel.specs.declared.decision.Source.TheVariants.{Port, Tunnel}
-use Rattle.ev_tunnel.specs.Decision.{is_from, local_of, port_alone}
+use Rattle.ev_tunnel.specs.Decision.{is_from, local_of, port_alone, up_owner}
 use Rattle.ev_tunnel.specs.Place.{place_of, learnt_place, owned_place}
 use Rattle.ev_tunnel.proofs.DecisionLemmas.{at_port, local_passes, member_is, never_back}
 use Rattle.ether_wire.specs.Addr.{is_group}
@@ -81,7 +81,8 @@ decided : (e : Edge) (vni destination : ℕ) (from : Source) (d : Decision) → 
     → (q : ℕ) → IsPort q → has_port d.local q ≡ true → Passes e.tree q
 decided e vni destination from d i q port there =
     ((i.are_passing q).0
-    (passes_in destination (port_of e vni destination) (owner (table_of e) vni destination) (address_of e) from
+    (passes_in destination (port_of e vni destination) (up_owner e.away (owner (table_of e) vni destination))
+    (address_of e) from
     i.members i.passing q i.passing_fit port
     (ap (λ n. has_port n q) (sym i.local) ∙ there))).1
 
@@ -102,7 +103,8 @@ not_own e vni destination port d some passes i =
     let in_set : has_port i.passing port ≡ true =
     (i.are_passing port).1 ((some, omega (arith, within, some)), passes) in
     ap (λ n. has_port n port) i.local
-    ∙ never_back (place_of destination (port_of e vni destination) (owner (table_of e) vni destination) (address_of e))
+    ∙ never_back (place_of destination (port_of e vni destination)
+    (up_owner e.away (owner (table_of e) vni destination)) (address_of e))
     port (record { members = i.members; passing = i.passing }) i.members_fit i.passing_fit
     (is_port i.passing port i.passing_fit in_set)
 

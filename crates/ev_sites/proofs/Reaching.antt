@@ -8,6 +8,7 @@ use Rattle.ether_wire.specs.Addr.{is_group}
 use Rattle.mac_arena.specs.declared.station.Station.{Station}
 use Rattle.mac_arena.specs.Learning.{entry_at, is_pinned}
 use Rattle.route_wire.specs.Fields.{Fields}
+use Rattle.route_join.specs.Table.{is_listed}
 use Rattle.rstp_state.specs.declared.start.PortSettings.{PortSettings}
 use Rattle.rstp_state.specs.declared.start.Settings.{Settings}
 use Rattle.rstp_run.specs.declared.event.Event as tree
@@ -32,10 +33,11 @@ use Rattle.ev_edge.specs.declared.reply.Reply.{Reply}
 use Rattle.ev_edge.specs.Arrival.{frame_arrival, tunnel_arrival}
 use Rattle.ev_edge.specs.Bridging.{BridgeGoes}
 use Rattle.ev_edge.specs.Config.{settings_of}
-use Rattle.ev_edge.specs.Edge.{Edge, address_of}
+use Rattle.ev_edge.specs.Edge.{Edge, table_of, address_of}
 use Rattle.ev_edge.specs.Opening.{IsOpening}
 use Rattle.ev_edge.specs.Pinning.{DoesPin, pin_case, refused_pin, after_unpin}
 use Rattle.ev_edge.specs.Steps.{Steps, LearnsIf, FrameSteps, TunnelSteps, Bridges, BridgesAt, Seconds, Takes, Pins}
+use Rattle.ev_edge.specs.Steps.{Marks}
 use Rattle.ev_edge.proofs.Cases.{learnt_by, or_refused}
 use Rattle.ev_fabric.specs.declared.refusal.FabricRefusal.{FabricRefusal}
 use Rattle.ev_fabric.specs.declared.refusal.FabricRefusal.TheVariants.{NoSuchEdge, NoSuchUpdate}
@@ -135,6 +137,11 @@ unpin_tree a s =
     elim (is_pinned (entry_at a.routes.learned s)) as (λ x.
     (cond x (record a { routes = after_removal a.routes s }) a).tree ≡ a.tree) [ true ↦ refl | false ↦ refl ]
 
+marks_go : (x : Bool) (a : Edge) (away : List ℕ) (result : Result Reply edge.Refusal) (b : Edge)
+    → Marks x a away result b → Goes a b
+marks_go true a away result b h = same_tree a b (ap (λ (x : Edge). x.tree) h.1)
+marks_go false a away result b h = stays a b h.1
+
 steps_go : (a : Edge) (event : Event) (result : Result Reply edge.Refusal) (b : Edge) → Steps a event result b
     → Goes a b
 steps_go a (events.Frame port octets) result b h = frame_goes (frame_arrival a port octets.now) a port result b h
@@ -148,6 +155,8 @@ steps_go a (events.PortUp port) result b h = bridges_at_go (vni_at a.routes.port
 steps_go a (events.PortDown port) result b h = bridges_at_go (vni_at a.routes.ports port) _ a result b h
 steps_go a (events.Mcheck port) result b h = bridges_at_go (vni_at a.routes.ports port) _ a result b h
 steps_go a events.Announce result b h = same_tree a b (ap (λ (x : Edge). x.tree) h.1)
+steps_go a (events.Away o) result b h = marks_go (is_listed (table_of a) o) a _ result b h
+steps_go a (events.Back o) result b h = marks_go (is_listed (table_of a) o) a _ result b h
 
 -- ---- a fabric
 

@@ -23,7 +23,7 @@ use Rattle.rstp_net.proofs.Ring.{settings_of, two_ports, root_bridge, root_settl
 use Rattle.ev_tunnel.specs.declared.decision.Decision.{Decision}
 use Rattle.ev_tunnel.specs.declared.decision.Source.{Source}
 use Rattle.ev_tunnel.specs.declared.decision.Source.TheVariants.{Port}
-use Rattle.ev_tunnel.specs.Decision.{local_for, remote_for}
+use Rattle.ev_tunnel.specs.Decision.{local_up, remote_up}
 use Rattle.ev_mobility.specs.declared.window.Window.{Window}
 use Rattle.ev_claims.specs.Speaker.{Speaker}
 use Rattle.ev_claims.specs.LocalRoutes.{LocalRoutes, after_removals, is_member}
@@ -138,7 +138,14 @@ abbrev pub Windows : Type 0
 Windows = FinMap station_cmp Window
 
 abbrev pub edge_with : LocalRoutes → Tree → Windows → Edge
-edge_with routes tree windows = record { routes = routes; clock = 0; ageing = 300; tree = tree; windows = windows }
+edge_with routes tree windows = record {
+  routes = routes;
+  clock = 0;
+  ageing = 300;
+  tree = tree;
+  windows = windows;
+  away = [];
+}
 
 abbrev pub fabric_with : Edge → Edge → List Fields → Fabric
 fabric_with a b pool = record { edges = a ∷ b ∷ []; configs = configs_of root_settings; pool = pool }
@@ -168,9 +175,11 @@ steps_up = Local 1 (PortUp 1) ∷ Local 1 (PortUp 2) ∷ Local 2 (PortUp 1) ∷ 
 
 abbrev pub decided : Edge → ℕ → Source → Decision
 decided e destination from = record {
-  local =
-      local_for (table_of e) 5001 destination (port_of e 5001 destination) (address_of e) from both_ports both_ports;
-  remote = record { items = remote_for (table_of e) 5001 destination (port_of e 5001 destination) (address_of e) from };
+  local = local_up e.away (table_of e) 5001 destination (port_of e 5001 destination) (address_of e) from both_ports
+      both_ports;
+  remote = record {
+    items = remote_up e.away (table_of e) 5001 destination (port_of e 5001 destination) (address_of e) from;
+  };
 }
 
 abbrev pub sending : Decision → Reply

@@ -8,7 +8,8 @@ use Rattle.std.proofs.lemmas.List.Kept.{IsStrictlyIncreasing-filter}
 use Rattle.std.specs.Option.{ForSome}
 use Rattle.ether_wire.specs.Addr.{is_group}
 use Rattle.route_join.specs.Table.{Table}
-use Rattle.route_join.specs.Flood.{IsFloodList}
+use Rattle.route_join.specs.Owner.{owner}
+use Rattle.route_join.specs.Flood.{IsFloodList, flood_of}
 use Rattle.ev_tunnel.specs.declared.decision.Source.{Source}
 use Rattle.ev_tunnel.specs.declared.decision.Source.TheVariants.{Port, Tunnel}
 use Rattle.ev_tunnel.specs.declared.place.Place.{Place}
@@ -19,6 +20,7 @@ use Rattle.ether_wire.proofs.PortLemmas.{is_port, Contains-filter, in_filter}
 use Rattle.ev_tunnel.specs.declared.decision.Ports.{Ports}
 use Rattle.ev_tunnel.specs.Place.{place_of, learnt_place, owned_place}
 use Rattle.ev_tunnel.specs.Decision.{is_from, open_ports, port_alone, local_of, others_of, remote_of}
+use Rattle.ev_tunnel.specs.Decision.{is_up, up_owner, up_edges, local_for, remote_for, local_up, remote_up}
 use Rattle.ev_tunnel.specs.Inner.Decision.{IsPlace}
 use Rattle.ev_tunnel.specs.Laws.{IsOneCopy, ArePassing, AreOthers}
 
@@ -216,3 +218,67 @@ others_advertise t vni own flood list =
         λ is. Contains-filter other flood o ((list.exact o).1 is.1) (grind (arith, nat_tests)),
       );
     }
+
+-- ---- edges that are away
+
+nobody_owner : (o : Option ℕ) → up_owner [] o ≡ o
+nobody_owner None = refl
+nobody_owner (Some o) = refl
+
+nobody_edges : (edges : List ℕ) → up_edges [] edges ≡ edges
+nobody_edges [] = refl
+nobody_edges (o ∷ edges) = ap (λ (xs : List ℕ). o ∷ xs) (nobody_edges edges)
+
+-- if no edge is away, the decision is that of the table
+pub local_nobody : (away : List ℕ) (t : Table) (vni destination : ℕ) (entry : Option ℕ) (own : ℕ) (from : Source)
+    (members passing : ℕ) → away ≡ []
+    → local_up away t vni destination entry own from members passing
+    ≡ local_for t vni destination entry own from members passing
+local_nobody away t vni destination entry own from members passing none =
+    ap (λ (a : List ℕ). local_up a t vni destination entry own from members passing) none
+    ∙ ap (λ (o : Option ℕ). local_of (place_of destination entry o own) from
+    (record { members = members; passing = passing })) (nobody_owner (owner t vni destination))
+
+pub remote_nobody : (away : List ℕ) (t : Table) (vni destination : ℕ) (entry : Option ℕ) (own : ℕ) (from : Source)
+    → away ≡ [] → remote_up away t vni destination entry own from ≡ remote_for t vni destination entry own from
+remote_nobody away t vni destination entry own from none =
+    ap (λ (a : List ℕ). remote_up a t vni destination entry own from) none
+    ∙ (λ i. remote_of (place_of destination entry (nobody_owner (owner t vni destination) i) own) from
+    (nobody_edges (flood_of t vni) i) own)
+
+-- an owner that is up owns what it owned, and one that is away owns nothing
+pub owner_up : (away : List ℕ) (owned : Option ℕ) (o : ℕ) → owned ≡ Some o → is_up away o ≡ true
+    → up_owner away owned ≡ Some o
+owner_up away owned o is up = ap (up_owner away) is ∙ ap (λ (b : Bool). cond b (Some o) None) up
+
+pub owner_away : (away : List ℕ) (owned : Option ℕ) (o : ℕ) → owned ≡ Some o → is_up away o ≡ false
+    → up_owner away owned ≡ None
+owner_away away owned o is gone = ap (up_owner away) is ∙ ap (λ (b : Bool). cond b (Some o) None) gone
+
+owned_up : (away : List ℕ) (owned : Option ℕ) (e : ℕ) → up_owner away owned ≡ Some e → is_up away e ≡ true
+owned_up away None e is = absurd (let no : None ≡ Some e = is in cc)
+owned_up away (Some o) e is = go (is_up away o) refl is
+  where
+    go : (b : Bool) → is_up away o ≡ b → cond b (Some o) None ≡ Some e → is_up away e ≡ true
+    go true up p = let same : o ≡ e = cc in subst (λ x. is_up away x ≡ true) same up
+    go false gone p = absurd (let no : None ≡ Some e = p in cc)
+
+-- an edge that gets a frame is up
+pub given_up : (away : List ℕ) (entry owned : Option ℕ) (place : Place) (from : Source) (flood : List ℕ) (own o : ℕ)
+    → IsWhere entry (up_owner away owned) place → Contains (remote_of place from (up_edges away flood) own) o
+    → is_up away o ≡ true
+given_up away entry owned place Tunnel flood own o is there = none_of o there
+given_up away entry owned Everywhere (Port p) flood own o is there =
+    let other : ℕ → Bool = λ edge. not (edge == own) in
+    let in_up = in_filter other (up_edges away flood) o there in
+    let was = in_filter (is_up away) flood o in_up.0 in
+    was.1
+given_up away entry owned (AtPort q) (Port p) flood own o is there = none_of o there
+given_up away entry owned (AtEdge e) (Port p) flood own o is there =
+    subst (λ x. is_up away x ≡ true) (one_of e o there) (owned_up away owned e is)
+
+pub remote_is_up : (away : List ℕ) (t : Table) (vni destination : ℕ) (entry : Option ℕ) (own : ℕ) (from : Source)
+    (o : ℕ) → Contains (remote_up away t vni destination entry own from) o → is_up away o ≡ true
+remote_is_up away t vni destination entry own from o there =
+    given_up away entry (owner t vni destination) (place_of destination entry (up_owner away (owner t vni destination))
+    own) from (flood_of t vni) own o (where_is destination entry (up_owner away (owner t vni destination)) own) there

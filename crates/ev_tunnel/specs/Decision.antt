@@ -1,6 +1,9 @@
 -- The forwarding decision (RFC 7432, section 11, and RFC 8365, section 5, for flooding by ingress replication and for
--- split horizon: a frame from a tunnel goes into no tunnel).
-use Rattle.std.specs.Prelude.{ℕ, ◌==◌, ◌&&◌, not, Bool, false, if◌then◌else◌, List, [], ◌∷◌, filter, Option}
+-- split horizon: a frame from a tunnel goes into no tunnel). The RFCs have no edges that are away: that a frame goes to
+-- no edge of a given list is a rule of this project.
+use Rattle.std.specs.Prelude.{ℕ, eqb, ◌==◌, ◌&&◌, not, Bool, false, if◌then◌else◌, List, [], ◌∷◌, filter, Option}
+use Rattle.std.specs.Prelude.{Some, None}
+use Rattle.std.specs.List.{list_any}
 use Rattle.ether_wire.specs.Ports.{IsPort, has_port, no_ports, with_port, without_port, common_ports}
 use Rattle.ev_tunnel.specs.declared.decision.Ports.{Ports}
 use Rattle.ev_tunnel.specs.declared.decision.Source.{Source}
@@ -58,3 +61,32 @@ local_for t vni destination entry own from members passing =
 abbrev pub remote_for : Table → ℕ → ℕ → Option ℕ → ℕ → Source → List ℕ
 remote_for t vni destination entry own from =
     remote_of (place_of destination entry (owner t vni destination) own) from (flood_of t vni) own
+
+-- ---- edges that are away
+
+abbrev pub is_away : List ℕ → ℕ → Bool
+is_away away edge = list_any (λ a. eqb a edge) away
+
+abbrev pub is_up : List ℕ → ℕ → Bool
+is_up away edge = not (is_away away edge)
+
+-- the owner, unless it is away
+abbrev pub up_owner : List ℕ → Option ℕ → Option ℕ
+up_owner away None = None
+up_owner away (Some edge) = if is_up away edge then Some edge else None
+
+-- the edges that are not away
+abbrev pub up_edges : List ℕ → List ℕ → List ℕ
+up_edges away edges = filter (is_up away) edges
+
+-- `local_for` and `remote_for` if these edges are away: an owner that is away owns nothing, and no frame is flooded to
+-- it
+abbrev pub local_up : List ℕ → Table → ℕ → ℕ → Option ℕ → ℕ → Source → ℕ → ℕ → ℕ
+local_up away t vni destination entry own from members passing =
+    local_of (place_of destination entry (up_owner away (owner t vni destination)) own) from
+    (record { members = members; passing = passing })
+
+abbrev pub remote_up : List ℕ → Table → ℕ → ℕ → Option ℕ → ℕ → Source → List ℕ
+remote_up away t vni destination entry own from =
+    remote_of (place_of destination entry (up_owner away (owner t vni destination)) own) from
+    (up_edges away (flood_of t vni)) own

@@ -5,10 +5,11 @@ ghost use Rattle.route_join.specs.Owner.{owner};
 ghost use Rattle.route_join.specs.Flood.{flood_of};
 ghost use Rattle.ether_wire.specs.Ports.{IsPort};
 ghost use Rattle.ev_tunnel.specs.Place.{place_of};
-ghost use Rattle.ev_tunnel.specs.Decision.{IsFrom, is_from, open_ports, port_alone, local_of, others_of, remote_of, local_for, remote_for};
+ghost use Rattle.ev_tunnel.specs.Decision.{IsFrom, is_from, open_ports, port_alone, local_of, others_of, remote_of};
+ghost use Rattle.ev_tunnel.specs.Decision.{up_edges, local_for, remote_for, local_up, remote_up};
 ghost use Rattle.ev_tunnel.specs.Inner.Decision.{IsPlace};
 
-use crate::place::{Place, place_of};
+use crate::place::{Place, is_up, place_of};
 use arrayvec::ArrayVec;
 use ether_wire::{Addr, Mac, NO_PORTS, Vni, common_ports, has_port, with_port, without_port};
 use route_join::Table;
@@ -55,6 +56,21 @@ pub struct Forwarding<'a> {
     pub table: &'a Table,
     /// This edge.
     pub own: Addr,
+    /// The edges that are away: no frame goes to them.
+    pub away: &'a ArrayVec<Addr, 64>,
+}
+
+/// The edges that may get a flooded frame.
+#[derive(Clone, Copy)]
+struct Others<'a> {
+    /// The frame's VNI.
+    vni: Vni,
+    /// The routes.
+    table: &'a Table,
+    /// This edge.
+    own: Addr,
+    /// The edges that are away.
+    away: &'a ArrayVec<Addr, 64>,
 }
 
 /// Returns `true` if the frame came from this port.
@@ -111,27 +127,41 @@ fn leave_out(own: Addr, edges: &mut ArrayVec<Addr, 64>)
     edges.retain(|edge| *edge != own);
 }
 
+/// Removes the edges that are away from a list of edges.
+fn leave_out_away(away: &ArrayVec<Addr, 64>, edges: &mut ArrayVec<Addr, 64>)
+    ensures { edges.new.items ≡ up_edges away.now.items edges.old.items }
+{
+    edges.retain(|edge| is_up(away, *edge));
+}
+
 /// Replaces a list by the edges to which a frame is flooded.
-fn put_flood(vni: Vni, table: &Table, own: Addr, remote: &mut ArrayVec<Addr, 64>)
-    ensures { remote.new.items ≡ others_of own (flood_of table.now vni) }
+fn put_flood(
+    vni: Vni,
+    table: &Table,
+    own: Addr,
+    away: &ArrayVec<Addr, 64>,
+    remote: &mut ArrayVec<Addr, 64>,
+)
+    ensures { remote.new.items
+        ≡ others_of own (up_edges away.now.items (flood_of table.now vni)) }
 {
     table.flood_into(vni, remote);
+    leave_out_away(away, remote);
     leave_out(own, remote);
 }
 
 /// Replaces a list by the edges that get a frame with a destination at this place.
-fn put_remote(
-    place: &Place,
-    from: Source,
-    vni: Vni,
-    table: &Table,
-    own: Addr,
-    remote: &mut ArrayVec<Addr, 64>,
-)
-    ensures { remote.new.items ≡ remote_of place.now from (flood_of table.now vni) own }
+fn put_remote(place: &Place, from: Source, others: Others<'_>, remote: &mut ArrayVec<Addr, 64>)
+    ensures { remote.new.items ≡ remote_of place.now from
+        (up_edges others.entry.away.now.items
+        (flood_of others.entry.table.now others.entry.vni)) others.entry.own }
 {
+    let vni = others.vni;
+    let table = others.table;
+    let own = others.own;
+    let away = others.away;
     match (from, place) {
-        (Source::Port(_), Place::Everywhere) => put_flood(vni, table, own, remote),
+        (Source::Port(_), Place::Everywhere) => put_flood(vni, table, own, away, remote),
         (Source::Port(_), Place::AtEdge(edge)) => {
             remote.clear();
             remote.push(*edge);
@@ -168,6 +198,7 @@ pub fn decide(
         local: NO_PORTS,
         remote: ArrayVec::new(),
     };
+    let nobody = ArrayVec::new();
     let forwarding = Forwarding {
         destination,
         vni,
@@ -175,23 +206,25 @@ pub fn decide(
         learnt: entry,
         table,
         own,
+        away: &nobody,
     };
     decide_into(forwarding, members, passing, &mut decision);
     decision
 }
 
-/// Decides the same and overwrites another decision: a caller that reuses one decision avoids
-/// copies of a whole list of edges.
+/// Decides the same, but gives no frame to the edges that are away: an address that such an edge
+/// owns is unknown, and no frame is flooded to such an edge. It overwrites another decision: a
+/// caller that reuses one decision avoids copies of a whole list of edges.
 pub fn decide_into(frame: Forwarding<'_>, members: u64, passing: u64, decision: &mut Decision)
     requires from { IsFrom frame.from }
     requires entry { ForSome frame.learnt IsPort }
     ensures local { decision.new.local
-        ≡ local_for frame.entry.table.now frame.entry.vni frame.entry.destination
-        frame.entry.learnt frame.entry.own frame.entry.from members
+        ≡ local_up frame.entry.away.now.items frame.entry.table.now frame.entry.vni
+        frame.entry.destination frame.entry.learnt frame.entry.own frame.entry.from members
         passing }
     ensures remote { decision.new.remote.items
-        ≡ remote_for frame.entry.table.now frame.entry.vni frame.entry.destination
-        frame.entry.learnt frame.entry.own frame.entry.from }
+        ≡ remote_up frame.entry.away.now.items frame.entry.table.now frame.entry.vni
+        frame.entry.destination frame.entry.learnt frame.entry.own frame.entry.from }
 {
     let place = place_of(
         frame.destination,
@@ -199,14 +232,14 @@ pub fn decide_into(frame: Forwarding<'_>, members: u64, passing: u64, decision: 
         frame.learnt,
         frame.table,
         frame.own,
+        frame.away,
     );
     decision.local = local_of(&place, frame.from, Ports { members, passing });
-    put_remote(
-        &place,
-        frame.from,
-        frame.vni,
-        frame.table,
-        frame.own,
-        &mut decision.remote,
-    );
+    let others = Others {
+        vni: frame.vni,
+        table: frame.table,
+        own: frame.own,
+        away: frame.away,
+    };
+    put_remote(&place, frame.from, others, &mut decision.remote);
 }

@@ -6,10 +6,10 @@ ghost use Rattle.ev_tunnel.specs.declared.decision.Source.TheVariants.{Port, Tun
 ghost use Rattle.ev_tunnel.specs.declared.place.Place.TheVariants.{Everywhere};
 ghost use Rattle.ether_wire.specs.Ports.{IsPort, has_port};
 ghost use Rattle.ev_tunnel.specs.Place.{place_of};
-ghost use Rattle.ev_tunnel.specs.Decision.{local_for, remote_for};
+ghost use Rattle.ev_tunnel.specs.Decision.{is_up, local_for, remote_for, remote_up};
 ghost use Rattle.ev_tunnel.specs.Laws.{IsOneCopy, ArePassing, AreOthers};
 
-use crate::decision::Source;
+use crate::decision::{Forwarding, Source};
 use ether_wire::{Addr, Mac, Vni};
 use route_join::Table;
 
@@ -22,6 +22,14 @@ pub fn never_from_tunnel_to_tunnel(
     own: Addr,
 )
     ensures { remote_for table.now vni destination entry own Tunnel ≡ [] }
+{}
+
+/// No frame goes to an edge that is away.
+pub fn never_to_an_edge_that_is_away(frame: Forwarding<'_>)
+    ensures { (o : ℕ) → Contains
+        (remote_up frame.entry.away.now.items frame.entry.table.now frame.entry.vni
+        frame.entry.destination frame.entry.learnt frame.entry.own frame.entry.from) o
+        → is_up frame.entry.away.now.items o ≡ true }
 {}
 
 /// A frame never goes back out of the port that it came from.

@@ -2,7 +2,9 @@
 ghost use Rattle.std.specs.Prelude.{◌≡◌};
 ghost use Rattle.route_join.specs.Owner.{owner};
 ghost use Rattle.ev_tunnel.specs.Place.{place_of};
+ghost use Rattle.ev_tunnel.specs.Decision.{is_up, up_owner};
 
+use arrayvec::ArrayVec;
 use ether_wire::{Addr, Mac, Vni};
 use route_join::Table;
 
@@ -17,16 +19,25 @@ pub(crate) enum Place {
     AtEdge(Addr),
 }
 
+/// Returns `true` if the edge isn't one of those that are away.
+pub(crate) fn is_up(away: &ArrayVec<Addr, 64>, edge: Addr) -> bool
+    ensures { result ≡ is_up away.now.items edge }
+{
+    !away.as_slice().contains(&edge)
+}
+
 /// Returns the place of a destination: a group address is everywhere, a learnt one at its port, and
-/// one that another edge owns at that edge; any other is unknown.
+/// one that another edge owns at that edge, unless that edge is away; any other is unknown.
 pub(crate) fn place_of(
     destination: Mac,
     vni: Vni,
     entry: Option<u8>,
     table: &Table,
     own: Addr,
+    away: &ArrayVec<Addr, 64>,
 ) -> Place
-    ensures { result ≡ place_of destination entry (owner table.now vni destination) own }
+    ensures { result ≡ place_of destination entry
+        (up_owner away.now.items (owner table.now vni destination)) own }
 {
     if destination.is_group() {
         return Place::Everywhere;
@@ -35,7 +46,7 @@ pub(crate) fn place_of(
         return Place::AtPort(port);
     }
     match table.owner(vni, destination) {
-        Some(edge) if edge != own => Place::AtEdge(edge),
+        Some(edge) if edge != own && is_up(away, edge) => Place::AtEdge(edge),
         _ => Place::Everywhere,
     }
 }

@@ -5,9 +5,9 @@ ghost use Rattle.ether_wire.specs.Ports.{IsPort};
 ghost use Rattle.ev_tunnel.specs.Decision.{IsFrom};
 ghost use Rattle.std.specs.Option.{ForSome};
 
-use crate::{Decision, Source, decide, unwrap_datagram, wrap};
+use crate::{Decision, Forwarding, Source, decide, decide_into, unwrap_datagram, wrap};
 use arrayvec::ArrayVec;
-use ether_wire::{Addr, Mac, Vni};
+use ether_wire::{Addr, Mac, NO_PORTS, Vni};
 use route_join::Table;
 use route_wire::{Advert, Content, Key, Register, Update, Value};
 use std::alloc::Global;
@@ -174,6 +174,51 @@ fn address_of_another_edge_goes_there_alone(rt: HostRuntime) -> Result<(), Fail>
         )
     );
     assert!(rt; goes(&decided(host(), Source::Tunnel, None, &table), 0, &[]));
+    Ok(())
+}
+
+// The decision at edge 10.0.0.1 on a frame at port 1 while 10.0.0.N is away.
+fn decided_without(n: u8, destination: Mac, table: &Table) -> Decision {
+    let mut away = ArrayVec::new();
+    away.push(addr(n));
+    let mut decision = Decision {
+        local: NO_PORTS,
+        remote: ArrayVec::new(),
+    };
+    let forwarding = Forwarding {
+        destination,
+        vni: vni(),
+        from: Source::Port(1),
+        learnt: None,
+        table,
+        own: addr(1),
+        away: &away,
+    };
+    decide_into(forwarding, 7, 5, &mut decision);
+    decision
+}
+
+#[test]
+fn broadcast_goes_to_no_edge_that_is_away(rt: HostRuntime) -> Result<(), Fail> {
+    let table = flooded(rt.alloc())?;
+    assert!(rt; goes(&decided_without(3, broadcast(), &table), 4, &[addr(2)]));
+    assert!(rt; goes(&decided_without(2, broadcast(), &table), 4, &[addr(3)]));
+    assert!(rt;
+        goes(
+            &decided_without(4, broadcast(), &table),
+            4,
+            &[addr(2), addr(3)]
+        )
+    );
+    Ok(())
+}
+
+#[test]
+fn address_of_an_edge_that_is_away_is_flooded(rt: HostRuntime) -> Result<(), Fail> {
+    let mut table = flooded(rt.alloc())?;
+    table.take(&host_at(3))?;
+    assert!(rt; goes(&decided_without(3, host(), &table), 4, &[addr(2)]));
+    assert!(rt; goes(&decided_without(2, host(), &table), 0, &[addr(3)]));
     Ok(())
 }
 

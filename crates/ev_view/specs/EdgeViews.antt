@@ -3,10 +3,11 @@ use Rattle.std.specs.Prelude.{ℕ, ◌+◌, ◌==◌, if◌then◌else◌, List,
 use Rattle.ether_wire.specs.Addr.{addr_text}
 use Rattle.ev_edge.specs.Edge.{Edge, address_of, table_of}
 use Rattle.ev_view.specs.declared.view.EdgeQuestion.{EdgeQuestion}
-use Rattle.ev_view.specs.declared.view.EdgeQuestion.TheVariants.{Owner, Counts, Stations}
+use Rattle.ev_view.specs.declared.view.EdgeQuestion.TheVariants.{Owner, Counts, Stations, Peers}
 use Rattle.ev_view.specs.Owners.{owner_text}
 use Rattle.ev_view.specs.Counts.{counts_text}
 use Rattle.ev_view.specs.Stations.{stations_text}
+use Rattle.ev_view.specs.Peers.{peers_text}
 
 -- the texts of these, each with its number, which begins at this one
 abbrev pub each_from : {A B : Type 0} → (ℕ → A → List B) → ℕ → List A → List B
@@ -47,3 +48,4 @@ abbrev pub edge_view_text : ℕ → Edge → EdgeQuestion → List ℕ
 edge_view_text number e (Owner s) = owner_text number (table_of e) s.vni s.mac
 edge_view_text number e Counts = counts_text number e
 edge_view_text number e (Stations vni) = stations_text number e vni
+edge_view_text number e Peers = peers_text number e

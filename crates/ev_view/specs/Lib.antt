@@ -1,5 +1,6 @@
 pub mod Owners
 pub mod Stations
 pub mod Counts
+pub mod Peers
 pub mod EdgeViews
 pub mod Inner

@@ -1,11 +1,12 @@
 //! The answers to queries of one edge: its line, the owner of a station with the reasons, its
-//! counts, the stations that it has learnt.
+//! counts, the stations that it has learnt, the other edges that it lists.
 #![tactic(auto)]
 
 mod counts;
 mod edge_line;
 mod laws;
 mod owner;
+mod peers;
 mod sheet;
 mod stations;
 mod view;

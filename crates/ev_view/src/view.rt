@@ -5,6 +5,7 @@ ghost use Rattle.ev_view.specs.EdgeViews.{edge_view_text};
 
 use crate::counts::put_counts;
 use crate::owner::put_owner;
+use crate::peers::put_peers;
 use crate::sheet::Sheet;
 use crate::stations::put_stations;
 use ether_wire::{Device, Out, Vni};
@@ -21,6 +22,8 @@ pub enum EdgeQuestion {
     Counts,
     /// The stations that it has learnt, of one VNI or of all.
     Stations(Option<Vni>),
+    /// The other edges that it lists, and whether they are away.
+    Peers,
 }
 
 /// Writes the answer to a query of this edge, which has this number.
@@ -48,6 +51,7 @@ pub fn put_edge_view<W: Out>(
         ),
         EdgeQuestion::Counts => put_counts(out, number, edge),
         EdgeQuestion::Stations(vni) => put_stations(out, number, edge, vni),
+        EdgeQuestion::Peers => put_peers(out, number, edge),
     }
 }
 

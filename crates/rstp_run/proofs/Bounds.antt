@@ -29,7 +29,7 @@ selecting-le port =
 abbrev pub most : ℕ → ℕ
 most n = 24 * n * n + 122 * n + 168
 
-acting-le : (n : ℕ) (timing : Timing) (port : PortState) → acting n timing port ≤ most n
+pub acting-le : (n : ℕ) (timing : Timing) (port : PortState) → acting n timing port ≤ most n
 acting-le n timing port =
     let a1 = if_so-le 1 port.flush in
     let a2 = if_so-le 2 port.propagate_topology_change in
@@ -92,7 +92,7 @@ acting-le n timing port =
       e7,
     )
 
-total-le : (f : PortState → ℕ) (c : ℕ) → ((port : PortState) → f port ≤ c) → (ports : List PortState)
+pub total-le : (f : PortState → ℕ) (c : ℕ) → ((port : PortState) → f port ≤ c) → (ports : List PortState)
     → total f ports ≤ length ports * c
 total-le f c bound [] = omega arith
 total-le f c bound (x ∷ xs) =

@@ -153,7 +153,7 @@ selection_kept s ports k = record {
 
 -- ---- the walk
 
-kept_walks : Walks (λ s. IsKept s.ports) (λ s. Keeps)
+pub kept_walks : Walks (λ s. IsKept s.ports) (λ s. Keeps)
 kept_walks = record {
   moves = record {
     by = λ s ports h k. kept_by s.ports ports h k;

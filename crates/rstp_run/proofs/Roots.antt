@@ -39,7 +39,7 @@ none_asks (x ∷ xs) zero port h at = let same : x ≡ port = cc in
 none_asks (x ∷ xs) (suc p) port h at = none_asks xs p port (neither x.reselect (list_any wants_selection xs) h).1 at
 
 -- the first port exists, and its test is whether any port requests selection
-first_asked : (ports : List PortState) (p : ℕ) (port : PortState) (b : Bool) → slice_get ports p ≡ Some port
+pub first_asked : (ports : List PortState) (p : ℕ) (port : PortState) (b : Bool) → slice_get ports p ≡ Some port
     → test_at 0 (λ x. b) ports ≡ false → b ≡ false
 first_asked [] p port b at h = cc
 first_asked (x ∷ xs) p port b at h = h
@@ -87,11 +87,14 @@ module _ (s : Tree) (kept : IsKept s.ports) (settled : IsSettled s) (p : ℕ) (p
   pub is_off : (rule : Rule) → asks rule s p port ≡ false
   is_off rule = sym (ap (λ o. option_map_or (asks rule s p) o false) at) ∙ settled rule p
 
+  pub unasked : port.reselect ≡ false
+  unasked =
+      none_asks s.ports p port
+      (first_asked s.ports p port (list_any wants_selection s.ports) at (settled rules.Select 0)) at
+
   pub is_selected : port.selected ≡ true
   is_selected =
-      let unasked = first_asked s.ports p port (list_any wants_selection s.ports) at (settled rules.Select 0) in
-      selected_then port.selected port.reselect (sound_at s.ports p port at kept.sound).0
-      (none_asks s.ports p port unasked at)
+      selected_then port.selected port.reselect (sound_at s.ports p port at kept.sound).0 unasked
 
   pub may : may_act port ≡ true
   may =

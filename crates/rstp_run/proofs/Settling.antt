@@ -21,7 +21,7 @@ use Rattle.rstp_run.specs.Events.{direct, ports_at}
 use Rattle.rstp_run.specs.Machines.{migration_does}
 use Rattle.rstp_run.specs.Rules.{Tree, guard, after}
 use Rattle.rstp_run.specs.Settled.{EventsSettle, enough_firings}
-use Rattle.rstp_run.specs.Sweep.{Going, main_order, sending_order, tries, tries_all, swept}
+use Rattle.rstp_run.specs.Sweep.{Going, fired, main_order, sending_order, tries, tries_all, swept}
 use Rattle.rstp_run.proofs.Bounds.{measure, measure-falls, measure-bound}
 use Rattle.rstp_run.proofs.Falls.{IsAfterDiscard}
 use Rattle.rstp_run.proofs.Ordered.{tries-full, tries-on, tries_all-append}
@@ -45,25 +45,6 @@ apart (rules.Role rule) s p h = tt
 apart (rules.State rule) s p h = tt
 apart (rules.Topology rule) s p h = tt
 apart (rules.Transmit rule) s p h = tt
-
--- ---- the measure and the firings so far come to no more than m
-
-abbrev Within : ℕ → Going → Type 0
-Within m g = (measure g.tree + length g.firings ≤ m) × (1 ≤ g.tree.settings.hello)
-
-tries-within : (m : ℕ) (rule : Rule) (p limit : ℕ) (g : Going) → IsAfterDiscard rule g.tree p → Within m g
-    → Within m (tries rule p limit g)
-tries-within m rule p limit g rest h =
-    tries-cases (Within m) rule p limit g
-    (λ below on. (let less = measure-falls rule g.tree p h.1 rest on in omega (arith, less, h.0), h.1)) h
-
-all-within : (m : ℕ) (rules : List Rule) (p limit : ℕ) (g : Going) → list_any is_edge rules ≡ false → Within m g
-    → Within m (tries_all rules p limit g)
-all-within m [] p limit g none h = h
-all-within m (rule ∷ rules) p limit g none h =
-    let parts = or_parts (is_edge rule) (list_any is_edge rules) none in
-    all-within m rules p limit (tries rule p limit g) parts.1
-    (tries-within m rule p limit g (apart rule g.tree p parts.0) h)
 
 -- ---- Discard comes before Edge, and the rules between them don't enable it
 
@@ -172,34 +153,57 @@ before_edge = rules.Select ∷ rules.Receive receive_rule.Discard ∷ after_disc
 abbrev after_edge : List Rule
 after_edge = drop 9 main_order
 
-edge-within : (m p limit : ℕ) (g : Going) → IsOffAt p limit g → Within m g
-    → Within m (tries (rules.Detection detection_rule.Edge) p limit g)
-edge-within m p limit g (inl full) h =
-    subst (Within m) (sym (tries-full (rules.Detection detection_rule.Edge) p limit g full)) h
-edge-within m p limit g (inr off) h = tries-within m (rules.Detection detection_rule.Edge) p limit g off h
-
-parts-within : (m p limit : ℕ) (g : Going) → Within m g
-    → Within m (tries_all (before_edge ++ (rules.Detection detection_rule.Edge ∷ after_edge)) p limit g)
-parts-within m p limit g h =
-    let mid : Going = tries_all before_edge p limit g in
-    let off : IsOffAt p limit mid = off-all after_discard p limit
-    (tries (rules.Receive receive_rule.Discard) p limit (tries rules.Select p limit g)) refl
-    (off-discard p limit (tries rules.Select p limit g)) in
-    let first : Within m mid = all-within m before_edge p limit g refl h in
-    subst (Within m) (sym (tries_all-append before_edge (rules.Detection detection_rule.Edge ∷ after_edge) p limit g))
-    (all-within m after_edge p limit (tries (rules.Detection detection_rule.Edge) p limit mid) refl
-    (edge-within m p limit mid off first))
-
 main_parts : before_edge ++ (rules.Detection detection_rule.Edge ∷ after_edge) ≡ main_order
 main_parts = refl
 
-main-within : (m p limit : ℕ) (g : Going) → Within m g → Within m (tries_all main_order p limit g)
-main-within m p limit g h =
-    subst (λ list. Within m (tries_all list p limit g)) main_parts (parts-within m p limit g h)
+-- ---- an invariant of each firing, if Edge fires only at a port at which Discard isn't enabled
+
+module _ (W : Going → Type 0) (steps : (rule : Rule) (p : ℕ) (g : Going) → IsAfterDiscard rule g.tree p
+    → guard rule g.tree p ≡ true → W g → W (fired rule p g)) where
+  tries_holds : (rule : Rule) (p limit : ℕ) (g : Going) → IsAfterDiscard rule g.tree p → W g
+      → W (tries rule p limit g)
+  tries_holds rule p limit g rest h = tries-cases W rule p limit g (λ below on. steps rule p g rest on h) h
+
+  all_holds : (rules : List Rule) (p limit : ℕ) (g : Going) → list_any is_edge rules ≡ false → W g
+      → W (tries_all rules p limit g)
+  all_holds [] p limit g none h = h
+  all_holds (rule ∷ rules) p limit g none h =
+      let parts = or_parts (is_edge rule) (list_any is_edge rules) none in
+      all_holds rules p limit (tries rule p limit g) parts.1
+      (tries_holds rule p limit g (apart rule g.tree p parts.0) h)
+
+  edge_holds : (p limit : ℕ) (g : Going) → IsOffAt p limit g → W g
+      → W (tries (rules.Detection detection_rule.Edge) p limit g)
+  edge_holds p limit g (inl full) h =
+      subst W (sym (tries-full (rules.Detection detection_rule.Edge) p limit g full)) h
+  edge_holds p limit g (inr off) h = tries_holds (rules.Detection detection_rule.Edge) p limit g off h
+
+  parts_hold : (p limit : ℕ) (g : Going) → W g
+      → W (tries_all (before_edge ++ (rules.Detection detection_rule.Edge ∷ after_edge)) p limit g)
+  parts_hold p limit g h =
+      let mid : Going = tries_all before_edge p limit g in
+      let off : IsOffAt p limit mid = off-all after_discard p limit
+      (tries (rules.Receive receive_rule.Discard) p limit (tries rules.Select p limit g)) refl
+      (off-discard p limit (tries rules.Select p limit g)) in
+      let first : W mid = all_holds before_edge p limit g refl h in
+      subst W (sym (tries_all-append before_edge (rules.Detection detection_rule.Edge ∷ after_edge) p limit g))
+      (all_holds after_edge p limit (tries (rules.Detection detection_rule.Edge) p limit mid) refl
+      (edge_holds p limit mid off first))
+
+  main_holds : (p limit : ℕ) (g : Going) → W g → W (tries_all main_order p limit g)
+  main_holds p limit g h = subst (λ list. W (tries_all list p limit g)) main_parts (parts_hold p limit g h)
+
+  pub sweep-holds : (limit : ℕ) (s : Tree) → W (record { tree = s; firings = [] }) → W (swept limit s)
+  sweep-holds limit s h =
+      swept-keeps W limit (λ p g. main_holds p limit g) (λ p g. all_holds sending_order p limit g refl) s h
 
 -- ---- the whole sweep
 
-length-direct : (event : Event) (ports : List PortState) → length (ports_at event ports) ≡ length ports
+-- the measure and the firings so far come to no more than m
+abbrev Within : ℕ → Going → Type 0
+Within m g = (measure g.tree + length g.firings ≤ m) × (1 ≤ g.tree.settings.hello)
+
+pub length-direct : (event : Event) (ports : List PortState) → length (ports_at event ports) ≡ length ports
 length-direct (events.Bpdu p message) ports = length-change_at _ _ ports
 length-direct events.Second ports = length-map ports with_second
 length-direct (events.PortUp p) ports = length-change_at _ _ ports
@@ -208,8 +212,9 @@ length-direct (events.Mcheck p) ports = length-change_at _ _ ports
 
 swept-within : (limit : ℕ) (s : Tree) → 1 ≤ s.settings.hello → Within (measure s) (swept limit s)
 swept-within limit s some =
-    swept-keeps (Within (measure s)) limit (λ p g. main-within (measure s) p limit g)
-    (λ p g. all-within (measure s) sending_order p limit g refl) s (omega arith, some)
+    sweep-holds (Within (measure s))
+    (λ rule p g rest on h. (let less = measure-falls rule g.tree p h.1 rest on in omega (arith, less, h.0), h.1))
+    limit s (omega arith, some)
 
 pub events_settle : EventsSettle
 events_settle event limit s t settled mask some enough h = go settled h.unsettled

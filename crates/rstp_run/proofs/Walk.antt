@@ -119,7 +119,7 @@ module _ (P : Tree → Type 0) (R : Tree → PortState → PortState → Type 0)
       (quietly s _ (each_map IsQuiet without_slot (λ port. refl) s.ports) k)
 
 module _ (P : Tree → Type 0) (R : Tree → PortState → PortState → Type 0) (walks : Walks P R) where
-  rule_holds : (rule : Rule) (s : Tree) (p : ℕ) → guard rule s p ≡ true → P s → P (after rule s p)
+  pub rule_holds : (rule : Rule) (s : Tree) (p : ℕ) → guard rule s p ≡ true → P s → P (after rule s p)
   rule_holds rules.Select s p g k = walks.chosen s p k
   rule_holds (rules.Receive rule) s p g k = other_holds P R walks.moves (rules.Receive rule) s p refl g k
   rule_holds (rules.Migration rule) s p g k = other_holds P R walks.moves (rules.Migration rule) s p refl g k

@@ -17,7 +17,7 @@ if-keeps : (P : Going → Type 0) (b : Bool) (x y : Going) → P x → P y → P
 if-keeps P true x y h k = h
 if-keeps P false x y h k = k
 
-until-keeps : (P : Going → Type 0) (f : Going → Going) → ((g : Going) → P g → P (f g)) → (n : ℕ) (g : Going) → P g
+pub until-keeps : (P : Going → Type 0) (f : Going → Going) → ((g : Going) → P g → P (f g)) → (n : ℕ) (g : Going) → P g
     → P (until_idle n f g)
 until-keeps P f keeps zero g h = h
 until-keeps P f keeps (suc n) g h =
@@ -33,7 +33,7 @@ module _ (P : Going → Type 0) (limit : ℕ) (rules : List Rule)
   pass-keeps : (g : Going) → P g → P (pass rules limit g)
   pass-keeps g h = below-keeps (length g.tree.ports) g h
 
-  passes-keeps : (g : Going) → P g → P (passes rules limit g)
+  pub passes-keeps : (g : Going) → P g → P (passes rules limit g)
   passes-keeps g h = until-keeps P (pass rules limit) pass-keeps limit g h
 
 module _ (P : Going → Type 0) (limit : ℕ) (main : (p : ℕ) (g : Going) → P g → P (tries_all main_order p limit g))
@@ -102,7 +102,7 @@ below-grows limit rules n g =
     (all-keeps (λ x. length g.firings ≤ length x.firings) limit (tries-grows limit (length g.firings)) rules) n g
     (omega arith)
 
-pass-grows : (limit m : ℕ) (rules : List Rule) (g : Going) → m ≤ length g.firings
+pub pass-grows : (limit m : ℕ) (rules : List Rule) (g : Going) → m ≤ length g.firings
     → m ≤ length (pass rules limit g).firings
 pass-grows limit m rules g h =
     pass-keeps (λ x. m ≤ length x.firings) limit rules
@@ -158,7 +158,7 @@ below-idle rules (suc n) limit g below idle =
     let here = all-idle rules n limit g below (subst Q (tries_below-off rules n limit g before) idle) in
     λ p within. below_more (λ q. AreOffAt rules q g.tree) n before here p (omega (arith, within))
 
-pass-idle : (rules : List Rule) (limit : ℕ) (g : Going) → length g.firings < limit → IsIdleBy (pass rules limit) g
+pub pass-idle : (rules : List Rule) (limit : ℕ) (g : Going) → length g.firings < limit → IsIdleBy (pass rules limit) g
     → AreOff rules g.tree
 pass-idle rules limit g below idle = below-idle rules (length g.tree.ports) limit g below idle
 

@@ -37,7 +37,7 @@ place_within rule s p holds =
           let f : ⊥ = cc in absurd f)
     ]
 
-run_length : (firings : List Firing) (s t : Tree) → Run firings s t → length t.ports ≡ length s.ports
+pub run_length : (firings : List Firing) (s t : Tree) → Run firings s t → length t.ports ≡ length s.ports
 run_length [] s t same = ap (λ (v : Tree). length v.ports) same
 run_length (f ∷ earlier) s t (mid, run, fires) =
     ap (λ (v : Tree). length v.ports) fires.1 ∙ length-ports_after f.rule mid f.place ∙ run_length earlier s mid run

@@ -1,4 +1,5 @@
 pub mod Events
+pub mod Firings
 pub mod Lasting
 pub mod Laws
 pub mod Machines

@@ -1,6 +1,7 @@
 //! Laws of every bridge that is reachable from its start by events.
 
 ghost use Rattle.rstp_run.specs.Events.{OneOutcome, RunsHappen};
+ghost use Rattle.rstp_run.specs.Firings.{EventsAreShort, SelectsTwice, StaysSettled};
 ghost use Rattle.rstp_run.specs.Lasting.{LastingIsReached, LosingKeepsTree, RolesLast, SelectionIsCurrent};
 ghost use Rattle.rstp_run.specs.Laws.{EdgeRests};
 ghost use Rattle.rstp_run.specs.RootPort.{OneRootPort};
@@ -66,6 +67,24 @@ pub fn one_outcome()
 /// the number of ports, and the Hello time isn't 0. So no rules of the table fire in a circle.
 pub fn events_settle()
     ensures { EventsSettle }
+{}
+
+/// At an event of a settled bridge that is reachable from its start by events, Select fires at most
+/// twice.
+pub fn selects_twice()
+    ensures { SelectsTwice }
+{}
+
+/// An event of a settled bridge that is reachable from its start by events has at most
+/// `most_firings` firings, if the Hello time isn't 0.
+pub fn events_are_short()
+    ensures { EventsAreShort }
+{}
+
+/// A bridge is settled after each event from its start on, if each may have more than
+/// `most_firings` firings, and the Hello time isn't 0.
+pub fn stays_settled()
+    ensures { StaysSettled }
 {}
 
 /// At a port that is down, Edge and NotEdge don't enable each other after Discard has fired there.

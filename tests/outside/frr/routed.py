@@ -62,11 +62,17 @@ def finds(edge: Edge, tally: Tally, name: str, words: str, what: str) -> str:
     return text
 
 
-def mends(edge: Edge, tally: Tally, text: str) -> None:
-    """Runs what the audit says that mends, and sees that it did; what has no mend has to say what to look at."""
+def run_mends(edge: Edge, text: str) -> List[str]:
+    """Runs each command that the audit prints as a mend, as printed; returns the commands."""
     commands = [line.strip()[len("mend: ") :] for line in text.splitlines() if line.strip().startswith("mend: ")]
     for command in commands:
         edge.within("sh", "-c", command)
+    return commands
+
+
+def mends(edge: Edge, tally: Tally, text: str) -> None:
+    """Runs what the audit says that mends, and sees that it did; what has no mend has to say what to look at."""
+    commands = run_mends(edge, text)
     status, after = audited(edge)
     tally.see(bool(commands) and status == 0, f"mended by: {'; '.join(commands)}" + ("" if status == 0 else f"\n{after}"))
 
@@ -84,10 +90,15 @@ def goes(edge: Edge, tally: Tally, mac: str, vni: int, place: str) -> None:
 
 def routes(edge: Edge, tally: Tally, vni: int, where: str = "") -> None:
     """Sees that routed datagrams leave to the right edge, with the L3VNI and the router's MAC."""
+    datagrams(edge, tally, FAR_IP, where or f"10.0.0.1 vni {vni} {ROUTER}")
+
+
+def datagrams(edge: Edge, tally: Tally, address: str, wanted: str) -> None:
+    """Sees where datagrams to an address go by the kernel's routes and neighbours."""
     program = os.path.join(lab.HERE, "frames.py")
-    found = edge.within(sys.executable, program, "routed", FAR_IP, "up0").strip()
-    wanted = where or f"10.0.0.1 vni {vni} {ROUTER}"
-    tally.see(found == wanted, f"a routed datagram to {FAR_IP} leaves to {wanted}" + ("" if found == wanted else f", not {found}"))
+    found = edge.within(sys.executable, program, "routed", address, "up0").strip()
+    leaves = wanted if wanted == "nowhere" else f"out to {wanted}"
+    tally.see(found == wanted, f"a datagram to {address} goes {leaves}" + ("" if found == wanted else f", not {found}"))
 
 
 # ---- L3VNIs -------------------------------------------------------------------------------------------------------
@@ -184,15 +195,83 @@ def has_wrong_entries(edge: Edge, tally: Tally) -> None:
         goes(edge, tally, FAR, 5001, place)
         mends(edge, tally, finds(edge, tally, name, f"kernel {place}", f"an entry to {place}"))
         goes(edge, tally, FAR, 5001, "10.0.0.1")
-    edge.within("bridge", "fdb", "replace", "02:00:00:00:66:67", *device, "dst", "10.0.0.2", *zebras)
-    edge.within("bridge", "fdb", "replace", "02:00:00:00:66:67", *device, "master", "extern_learn")
-    mends(edge, tally, finds(edge, tally, "extra", "extra 5001 02:00:00:00:66:67", "an entry like zebra's that nobody advertises"))
+    stray = "02:00:00:00:66:67"
+    edge.within("bridge", "fdb", "replace", stray, *device, "dst", "10.0.0.2", *zebras)
+    edge.within("bridge", "fdb", "replace", stray, *device, "master", "extern_learn")
+    goes(edge, tally, stray, 5001, "10.0.0.2")
+    mends(edge, tally, finds(edge, tally, "extra", f"extra 5001 {stray}", "an entry like zebra's that nobody advertises"))
+    goes(edge, tally, stray, 5001, "10.0.0.1+10.0.0.2+local")
     goes(edge, tally, FAR, 5001, "10.0.0.1")
     edge.within("ip", "neigh", "replace", FAR_IP, "lladdr", OTHER, "dev", "br5001", "nud", "noarp", "extern_learn", "protocol", "zebra")
     mends(edge, tally, finds(edge, tally, "neighbour", f"neighbour wrong 5001 {FAR_IP}", "a wrong ARP entry"))
     edge.within("ip", "neigh", "replace", "198.18.1.99", "lladdr", OTHER, "dev", "br5001", "nud", "noarp", "extern_learn", "protocol", "zebra")
     mends(edge, tally, finds(edge, tally, "neighbourextra", "neighbour extra 5001 198.18.1.99", "an ARP entry that no route names"))
     goes(edge, tally, FAR, 5001, "10.0.0.1")
+
+
+def has_neighbours(edge: Edge, tally: Tally) -> None:
+    """ARP entries of a network without an L3VNI: one is lost, one is wrong, and no route names one."""
+    edge.tell(start_of(edge.routed or L3VNI))
+    agrees(edge, tally, "", "at the beginning")
+    right, stray = f"10.0.0.1 vni 5001 {FAR}", "198.18.1.99"
+    lost = [["ip", "neigh", "del", FAR_IP, "dev", "br5001"]]
+    line = f"neighbour missing 5001 {FAR_IP}: by the routes {FAR}, in the kernel nowhere"
+    loses(edge, tally, "neighbourmissing", lost, line, lambda is_lost: datagrams(edge, tally, FAR_IP, "nowhere" if is_lost else right))
+    zebras = ["lladdr", OTHER, "dev", "br5001", "nud", "noarp", "extern_learn", "protocol", "zebra"]
+    edge.within("ip", "neigh", "replace", FAR_IP, *zebras)
+    datagrams(edge, tally, FAR_IP, f"10.0.0.1 vni 5001 {OTHER}+10.0.0.2 vni 5001 {OTHER}")
+    mends(edge, tally, finds(edge, tally, "", f"neighbour wrong 5001 {FAR_IP}", "a wrong ARP entry"))
+    datagrams(edge, tally, FAR_IP, right)
+    edge.within("ip", "neigh", "replace", stray, *zebras)
+    datagrams(edge, tally, stray, f"10.0.0.1 vni 5001 {OTHER}+10.0.0.2 vni 5001 {OTHER}")
+    mends(edge, tally, finds(edge, tally, "", f"neighbour extra 5001 {stray}", "an ARP entry that no route names"))
+    datagrams(edge, tally, stray, "nowhere")
+    datagrams(edge, tally, FAR_IP, right)
+
+
+def loses_entries(edge: Edge, tally: Tally) -> None:
+    """A MAC's entries and a next hop's neighbour are lost."""
+    edge.tell(start_of(edge.routed))
+    agrees(edge, tally, "", "at the beginning")
+    words = ["bridge", "fdb", "del", FAR, "dev", "vxlan5001"]
+    lost = [[*words, "master"], [*words, "dst", "10.0.0.1", "self"]]
+    line = f"missing 5001 {FAR} owner 10.0.0.1 (the only advert); bgpd 10.0.0.1, zebra 10.0.0.1, kernel nowhere; "
+    flooded = "10.0.0.1+10.0.0.2+local"
+    loses(edge, tally, "macmissing", lost, line, lambda is_lost: goes(edge, tally, FAR, 5001, flooded if is_lost else "10.0.0.1"))
+    lost = [["ip", "neigh", "del", "10.0.0.1", "dev", f"br{edge.routed}"]]
+    line = f"next hop missing {edge.routed} 10.0.0.1: by the routes {ROUTER}, found zebra {ROUTER}, kernel nowhere"
+    loses(edge, tally, "hopmissing", lost, line, lambda is_lost: routes(edge, tally, edge.routed, "nowhere" if is_lost else ""))
+
+
+def loses(edge: Edge, tally: Tally, name: str, lost: List[List[str]], line: str, look: Callable[[bool], None]) -> None:
+    """Deletes entries of the kernel while zebra is stopped, since zebra puts them back otherwise, and runs the mend as printed.
+
+    `look` sees where frames go, without the entries and with them. A stopped zebra answers no vtysh, so the audit reads a view
+    with zebra's texts from before and the kernel's texts of that moment.
+    """
+    look(False)
+    view = os.path.join(edge.folder, name)
+    edge.save(view)
+    edge.daemons["zebra"].send_signal(signal.SIGSTOP)
+    try:
+        for words in lost:
+            edge.within(*words)
+        look(True)
+        for text, words in (("neigh", ["ip", "-j", "neigh", "show"]), ("fdb", ["bridge", "-j", "fdb", "show"])):
+            with open(os.path.join(view, f"{text}.json"), "w", encoding="utf-8") as out:
+                out.write(edge.within(*words))
+        status, text = said(sys.executable, os.path.join(lab.TOOLS, "evpnd_audit.py"), view)
+        found = [each for each in text.splitlines() if not each.startswith(" ") and ": VNI " not in each]
+        is_right = status == 1 and len(found) == 1 and found[0].startswith(line)
+        tally.see(is_right, f"it is lost, and nothing else differs: {line}" + ("" if is_right else f"\nstatus {status}: {text}"))
+        tally.see(len(commands := run_mends(edge, text)) == 1, f"run as printed: {'; '.join(commands)}")
+        look(False)
+    finally:
+        edge.daemons["zebra"].send_signal(signal.SIGCONT)
+    if KEPT["folder"]:
+        shutil.copytree(view, os.path.join(KEPT["folder"], edge.version(), name))
+    agrees(edge, tally, "", "zebra goes on")
+    look(False)
 
 
 def has_causes(edge: Edge, tally: Tally) -> None:
@@ -306,7 +385,7 @@ def leaves_entries(edge: Edge, tally: Tally) -> None:
     edge.speaker.stdin.flush()
     time.sleep(2)
     edge.start_daemon("zebra", "hostname edge\n")
-    time.sleep(5)
+    edge.wait_for(lambda: "5001" in edge.shell("show evpn vni json"), "bgpd's connection to the next zebra")  # 8.4.4: 10 s
     text = finds(edge, tally, "leftsticky", "foreign 5001 02:00:00:00:00:55 owner none", "a killed zebra has left an entry")
     tally.see("a sticky entry that zebra doesn't name" in text, "in its own words")
 
@@ -395,9 +474,9 @@ def has_segments(edge: Edge, tally: Tally) -> None:
 
 CASES: Tuple[Tuple[str, int, Callable[[Edge, Tally], None]], ...] = (
     ("l3vni", L3VNI, has_l3vni), ("lowl3vni", LOW_L3VNI, has_low_l3vni), ("imports", L3VNI, imports),
-    ("others", L3VNI, has_other_devices), ("entries", L3VNI, has_wrong_entries), ("causes", L3VNI, has_causes),
-    ("shared", L3VNI, shares_bridge), ("segments", L3VNI, has_segments), ("ways", L3VNI, loses_ways),
-    ("forgets", 0, forgets), ("leaves", 0, leaves_entries), ("hangs", L3VNI, hangs), ("texts", L3VNI, reads_texts),
+    ("others", L3VNI, has_other_devices), ("entries", L3VNI, has_wrong_entries), ("neighbours", 0, has_neighbours),
+    ("lost", L3VNI, loses_entries), ("causes", L3VNI, has_causes), ("shared", L3VNI, shares_bridge), ("segments", L3VNI, has_segments),
+    ("ways", L3VNI, loses_ways), ("forgets", 0, forgets), ("leaves", 0, leaves_entries), ("hangs", L3VNI, hangs), ("texts", L3VNI, reads_texts),
 )
 
 

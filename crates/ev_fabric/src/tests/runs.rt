@@ -58,7 +58,7 @@ fn third() -> EdgeConfig
     config(Addr::new(0x0a00_0003), BridgeId::new(0x8000_02aa_0000_0003))
 }
 
-fn all(alloc: Global) -> Result<Vec<EdgeConfig>, AllocError>
+pub(super) fn all(alloc: Global) -> Result<Vec<EdgeConfig>, AllocError>
     ensures { IfOk result (λ configs. AreConfigs configs.items) }
 {
     let mut configs = Vec::new(alloc);
@@ -111,10 +111,7 @@ fn all_agree(fabric: &mut Fabric) -> bool {
 }
 
 fn edge_at(fabric: &Fabric, e: u8) -> Option<&Edge> {
-    if e == 0 || usize::from(e) > fabric.edges() {
-        return None;
-    }
-    Some(fabric.edge(usize::from(e)))
+    fabric.edge(usize::from(e))
 }
 
 // The update isn't edge e's, or is of an earlier incarnation than the edge's flood advert, which is

@@ -21,6 +21,8 @@ pub(crate) enum Verb {
     Port,
     Report,
     Restart,
+    Away,
+    Back,
 }
 
 /// A command for an edge. Ports and updates are numbered from 1; the number may be one that doesn't
@@ -55,4 +57,8 @@ pub enum Command<'a> {
     Report,
     /// Opens the edge again, in this incarnation.
     Restart(u32),
+    /// Sends the other edge no frame until it is back.
+    Away(Addr),
+    /// Sends the other edge frames again.
+    Back(Addr),
 }

@@ -44,6 +44,8 @@ impl Verb {
             Verb::Port => b": expected E port P\n",
             Verb::Report => b": expected E report\n",
             Verb::Restart => b": expected E restart N, N from 0 to 4294967295\n",
+            Verb::Away => b": expected E away ADDR\n",
+            Verb::Back => b": expected E back ADDR\n",
         }
     }
 }
@@ -63,7 +65,7 @@ impl LineFault {
             LineFault::NoEdge => b": expected the number of an edge, a space and a command\n",
             LineFault::NoVerb => {
                 b": expected up, down, mcheck, second, frame, tunnel, pin, unpin, thaw, announce, \
-deliver, port, report or restart behind the edge\n"
+deliver, port, report, restart, away or back behind the edge\n"
             }
             LineFault::Misspelt(verb) => verb.form(),
         }

@@ -77,6 +77,12 @@ fn later_verb(word: &[u8]) -> Option<Verb>
     if word == b"restart".as_slice() {
         return Some(Verb::Restart);
     }
+    if word == b"away".as_slice() {
+        return Some(Verb::Away);
+    }
+    if word == b"back".as_slice() {
+        return Some(Verb::Back);
+    }
     None
 }
 
@@ -166,6 +172,8 @@ fn command_with(verb: Verb, text: &[u8]) -> Option<Command<'_>>
         Verb::Deliver => Some(Command::Deliver(number(text)?)),
         Verb::Port => Some(Command::Port(number(text)?)),
         Verb::Restart => Some(Command::Restart(incarnation(text)?)),
+        Verb::Away => Some(Command::Away(Addr::read_text(text)?)),
+        Verb::Back => Some(Command::Back(Addr::read_text(text)?)),
         Verb::Announce | Verb::Report => None,
     }
 }

@@ -27,6 +27,9 @@ fn question_alone(text: &[u8]) -> Option<EdgeQuestion>
     if text == b"stations".as_slice() {
         return Some(EdgeQuestion::Stations(None));
     }
+    if text == b"peers".as_slice() {
+        return Some(EdgeQuestion::Peers);
+    }
     None
 }
 

@@ -337,6 +337,14 @@ impl Simulator {
                 &Step::Restart(edge as usize, *incarnation),
                 out,
             ),
+            Command::Away(other) => {
+                let event = LocalEvent::Away(*other);
+                self.single(edge, &Step::Local(edge as usize, event), out);
+            }
+            Command::Back(other) => {
+                let event = LocalEvent::Back(*other);
+                self.single(edge, &Step::Local(edge as usize, event), out);
+            }
         }
     }
 

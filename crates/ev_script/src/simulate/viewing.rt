@@ -28,11 +28,14 @@ E thaw VNI MAC\n\
 E announce\n\
 E deliver K\n\
 E restart N\n\
+E away ADDR\n\
+E back ADDR\n\
 E port P\n\
 E report\n\
 E owner VNI MAC\n\
 E counts\n\
 E stations [VNI]\n\
+E peers\n\
 edges\n\
 help\n",
     )
@@ -44,24 +47,18 @@ fn put_edges<W: Out>(out: &mut W, fabric: &Fabric) -> Result<(), Device>
     ensures { Puts (W.end out.old) (W.end out.new) (edges_text fabric.now) result }
 {
     for place in 0..fabric.edges() {
-        put_edge(out, place as u64 + 1, fabric.edge(place + 1))?;
+        if let Some(edge) = fabric.edge(place + 1) {
+            put_edge(out, place as u64 + 1, edge)?;
+        }
     }
     Ok(())
 }
 
 /// Returns the edge of this number, if it exists.
-#[tactic(auto, using(crate::proofs::Each::none_past))]
 pub(crate) fn edge_of(fabric: &Fabric, edge: u64) -> Option<&Edge>
     ensures { option_map (λ e. e.now) result ≡ nth fabric.now.edges edge }
 {
-    let place = edge as usize;
-    if place == 0 {
-        return None;
-    }
-    if place > fabric.edges() {
-        return None;
-    }
-    Some(fabric.edge(place))
+    fabric.edge(edge as usize)
 }
 
 /// Writes the refusal for an edge that doesn't exist.

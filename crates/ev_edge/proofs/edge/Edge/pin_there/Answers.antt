@@ -11,22 +11,22 @@ use Rattle.ev_edge.proofs.edge.Edge.pin_there.Goals as goal
 pub invariant_of-self : goal.invariant_of-self
 invariant_of-self c =
     let f = c.self.inside in
-    let e = edge_of f.routes f.clock f.ageing f.bridge f.moves in
+    let e = edge_of f.routes f.clock f.ageing f.bridge f.moves f.away.items in
     kept e f.passing (after_shift f.routes c.args.station.now c.args.port) c.shift.new.self c.self.invariant
     c.shift.ensures
     (shift_holds f.routes c.args.station.now c.args.port f.clock
     (pin_fits c.args.self.now c.args.station.now c.args.port c.requires).1 (holds_of e f.passing c.self.invariant))
-    refl
+    refl refl
 
 pub invariant_of-self-in-Pin : goal.invariant_of-self-in-Pin
 invariant_of-self-in-Pin c =
     let f = c.self.inside in
     let s = c.args.station.now in
-    let e = edge_of f.routes f.clock f.ageing f.bridge f.moves in
+    let e = edge_of f.routes f.clock f.ageing f.bridge f.moves f.away.items in
     let alone = subst (λ (x : Edge). is_static (seq_for (table_of x) (address_of x) s.vni s.mac) ≡ false)
     (sym c.self.view_is)
     (pinned_alone c.args.self.now s c.args.port (entry_at c.args.self.now.routes.learned s) (sym c.in-Pin.ensures)) in
     either e f.passing (after_pin f.routes s c.args.port) c.pin.new.self c.pin.result c.self.invariant c.pin.ensures.ok
     c.pin.ensures.err
     (pin_holds f.routes s c.args.port f.clock c.always_good.ensures.routes alone
-    (pin_fits c.args.self.now s c.args.port c.requires).1 (holds_of e f.passing c.self.invariant)) refl
+    (pin_fits c.args.self.now s c.args.port c.requires).1 (holds_of e f.passing c.self.invariant)) refl refl

@@ -6,13 +6,13 @@ use Rattle.ev_edge.specs.Edge.{Edge, edge_of}
 use Rattle.ev_edge.specs.Bridging.{aged}
 use Rattle.ev_edge.specs.Steps.{SecondSteps}
 use Rattle.ev_edge.proofs.Keeping.{bridged, holds_of, flush_holds, later_holds, aged_holds, aged_ports, removals_ports}
-use Rattle.ev_edge.proofs.Keeping.{second_early}
+use Rattle.ev_edge.proofs.Keeping.{second_early, aged_list, removals_list}
 use Rattle.ev_edge.proofs.edge.Edge.second.Goals as goal
 
 pub invariant_of-self : goal.invariant_of-self
 invariant_of-self c =
     let f = c.self.inside in
-    let e = edge_of f.routes f.clock f.ageing f.bridge f.moves in
+    let e = edge_of f.routes f.clock f.ageing f.bridge f.moves f.away.items in
     let set = c.go_on-flush.result in
     let now = c.next_second-self-inside.result in
     let times = second_early f.clock c.self.invariant.keeps.early in
@@ -26,12 +26,14 @@ invariant_of-self c =
     (later_holds (after_flush f.routes set) f.clock now later
     (flush_holds f.routes set f.clock (holds_of e f.passing c.self.invariant))))
     (aged_ports (after_flush f.routes set) f.ageing now ∙ removals_ports f.routes (flushed_in f.routes.learned set))
+    (aged_list (after_flush f.routes set) f.ageing now ∙ removals_list f.routes (flushed_in f.routes.learned set))
 
 pub returns : goal.returns
 returns c =
     let f = c.self.inside in
     subst (λ (x : Edge). SecondSteps x (record c.clear.new.self { bpdus = c.go_on-flush.new.sent })
-    (edge_of c.age.new.routes c.next_second-self-inside.result f.ageing c.go_on-flush.new.bridge f.moves))
+    (edge_of c.age.new.routes c.next_second-self-inside.result f.ageing c.go_on-flush.new.bridge f.moves
+    f.away.items))
     c.self.view_is (record {
       flush = c.go_on-flush.result;
       goes = c.go_on-flush.ensures.goes;
@@ -41,6 +43,7 @@ returns c =
         ageing = f.ageing;
         tree = c.go_on-flush.new.bridge;
         windows = f.moves.windows;
+        away = f.away.items;
       };
       reply_is = ap (λ (r : Reply). record r { bpdus = c.go_on-flush.new.sent }) c.clear.ensures;
     })

@@ -1,4 +1,4 @@
-use Rattle.std.proofs.Common.{rules, ◌≡◌, ℕ, List, [], refl, subst}
+use Rattle.std.proofs.Common.{rules, ℕ, List, [], refl, subst}
 use Rattle.ev_fabric.specs.Fabric.{nth}
 use Rattle.ev_script.specs.Simulation.{ShowsPortOf}
 use Rattle.ev_script.specs.Inner.Printing.{seen_text}

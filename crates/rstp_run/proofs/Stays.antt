@@ -1,0 +1,67 @@
+-- A bridge stays settled from its start on, if each event may have enough firings.
+use Rattle.std.proofs.Common.{◌≡◌, ℕ, ◌+◌, ◌≤◌, Bool, true, false, List, [], ◌∷◌, length, map, refl, sym, ap, subst}
+use Rattle.std.proofs.Common.{◌∙◌, arith}
+use Rattle.std.proofs.lemmas.List.{length-map}
+use Rattle.rstp_state.specs.declared.start.PortSettings.{PortSettings}
+use Rattle.rstp_state.specs.declared.start.Settings.{Settings}
+use Rattle.rstp_state.specs.Direct.{without_slot}
+use Rattle.rstp_state.specs.Start.{ports_from}
+use Rattle.rstp_run.specs.declared.event.Event.{Event}
+use Rattle.rstp_run.specs.Events.{Happens, direct, start}
+use Rattle.rstp_run.specs.Firings.{ComesWithin, StaysSettled, most_firings}
+use Rattle.rstp_run.specs.RootPort.{Comes}
+use Rattle.rstp_run.specs.Rules.{Tree}
+use Rattle.rstp_run.specs.Runs.{Firing, IsSettled, Run}
+use Rattle.rstp_run.specs.Settled.{IsReached}
+use Rattle.rstp_run.proofs.Few.{events_are_short}
+use Rattle.rstp_run.proofs.Settling.{length-direct}
+use Rattle.rstp_run.proofs.Starting.{settled-start}
+use Rattle.rstp_run.proofs.Within.{run_length}
+
+run_settings : (firings : List Firing) (s t : Tree) → Run firings s t → t.settings ≡ s.settings
+run_settings [] s t same = ap (λ (v : Tree). v.settings) same
+run_settings (f ∷ earlier) s t (mid, run, fires) =
+    ap (λ (v : Tree). v.settings) fires.1 ∙ run_settings earlier s mid run
+
+comes_at_all : (least : ℕ) (events : List Event) (s t : Tree) → ComesWithin least events s t → Comes events s t
+comes_at_all least [] s t h = h
+comes_at_all least (event ∷ earlier) s t (mid, limit, settled, mask, before, enough, happens) =
+    (mid, limit, settled, mask, comes_at_all least earlier s mid before, happens)
+
+length_start : (n : ℕ) (settings : Settings) (ports : List PortSettings)
+    → length (ports_from n settings ports) ≡ length ports
+length_start n settings [] = refl
+length_start n settings (x ∷ xs) = let rest = length_start (n + 1) settings xs in omega (arith, rest)
+
+-- an event that has fewer firings than its limit ends settled
+ends : (event : Event) (limit : ℕ) (s t : Tree) (settled : Bool) (mask : ℕ) (most : ℕ)
+    (h : Happens event limit s t settled mask) → length h.firings ≤ most → most + 1 ≤ limit → IsSettled t
+ends event limit s t settled mask most h few enough = h.settles.0 (go settled h.unsettled)
+  where
+    go : (b : Bool) → (b ≡ false → length h.firings ≡ limit) → b ≡ true
+    go true full = refl
+    go false full = let all = full refl in absurd (omega (arith, all, few, enough))
+
+-- the state that is reached is settled, and has its settings and its number of ports
+kept : (settings : Settings) (ports : List PortSettings) (events : List Event) (s : Tree) → 1 ≤ settings.hello
+    → ComesWithin (most_firings (length ports) + 1) events (start settings ports) s
+    → IsSettled s × (s.settings ≡ settings) × (length s.ports ≡ length ports)
+kept settings ports [] s some comes =
+    let P : Tree → Type 0 = λ v. IsSettled v × (v.settings ≡ settings) × (length v.ports ≡ length ports) in
+    subst P (sym comes) (settled-start settings ports some, refl, length_start 1 settings ports)
+kept settings ports (event ∷ earlier) s some (mid, limit, settled, mask, before, enough, happens) =
+    let was = kept settings ports earlier mid some before in
+    let comes = comes_at_all (most_firings (length ports) + 1) earlier (start settings ports) mid before in
+    let can : IsReached mid = (settings, ports, (earlier, comes)) in
+    let hello : 1 ≤ mid.settings.hello =
+    subst (λ (v : Settings). 1 ≤ v.hello) (sym was.1) some in
+    let few = events_are_short event limit mid s settled mask can was.0 hello happens in
+    let same : length (direct event mid).ports ≡ length mid.ports =
+    length-direct event (map without_slot mid.ports) ∙ length-map mid.ports without_slot in
+    let end = ends event limit mid s settled mask (most_firings (length ports)) happens
+    (subst (λ k. length happens.firings ≤ most_firings k) was.2 few) enough in
+    let kept_settings = run_settings happens.firings (direct event mid) s happens.run ∙ was.1 in
+    (end, kept_settings, run_length happens.firings (direct event mid) s happens.run ∙ same ∙ was.2)
+
+pub stays_settled : StaysSettled
+stays_settled settings ports events s some comes = (kept settings ports events s some comes).0
