@@ -30,10 +30,10 @@ class Joined(TwoCables):
         self.addCleanup(self.part)
         self.programs = [self.serve(0, ONE, self.one, TWO), self.serve(1, TWO, self.two, ONE)]
 
-    def serve(self, place: int, address: str, cable: Cable, other: str, incarnation: Optional[int] = 1) -> Running:
+    def serve(self, place: int, address: str, cable: Cable, other: str, incarnation: Optional[int] = 1, hold: int = 90) -> Running:
         """A program with one edge that knows of the other one, until it answers."""
         keys = "" if incarnation is None else f"incarnation = {incarnation}\n"
-        text = f'control = "{self.paths[place]}"\n' + edge(address, place + 1, cable, keys=keys)
+        text = f'control = "{self.paths[place]}"\npeer_hold = {hold}\n' + edge(address, place + 1, cable, keys=keys)
         return self.started(place, f'{text}[[peer]]\naddress = "{other}"\n')
 
     def started(self, place: int, text: str) -> Running:

@@ -5,8 +5,10 @@ ghost use Rattle.ether_wire.specs.Ends.{Allows};
 ghost use Rattle.ev_run.specs.RunEdges.{ReadsOut};
 
 use crate::control_socket::ControlSocket;
+use crate::holding::{PAUSE_OF_LOOKS, enter_due};
 use crate::records::{ServedEdges, exchange};
 use crate::run::is_read_out;
+use crate::sessions::Sessions;
 use arrayvec::ArrayVec;
 use ether_wire::{Buffered, In, Reader, Writer};
 use ev_console::converse;
@@ -132,6 +134,8 @@ pub(crate) struct Service {
     pub(crate) listed: Known,
     /// The number of seconds after which a console is ended that sends nothing.
     pub(crate) idle: u64,
+    /// The number of seconds without a session after which an edge elsewhere is away, or 0.
+    pub(crate) hold: u64,
 }
 
 /// The state that the clients share.
@@ -147,6 +151,8 @@ struct Hall<'x, R> {
     service: &'x Service,
     /// The seats of the clients.
     seats: &'x Mutex<Seats>,
+    /// The sessions with edges elsewhere.
+    sessions: &'x Mutex<Sessions>,
 }
 
 /// A client's request, by its first line.
@@ -234,7 +240,7 @@ fn say(stream: &UnixStream, words: &[u8]) {
 }
 
 /// Serves a client in a seat by its first line.
-fn attend<R: Threads + Wait + Sync>(
+fn attend<R: Threads + Wait + Clock + Sync>(
     hall: &Hall<'_, R>,
     stream: &UnixStream,
     place: usize,
@@ -258,14 +264,18 @@ fn attend<R: Threads + Wait + Sync>(
 }
 
 /// Serves a client, ends its connection, and frees its seat.
-fn attend_seated<R: Threads + Wait + Sync>(hall: &Hall<'_, R>, stream: UnixStream, place: usize) {
+fn attend_seated<R: Threads + Wait + Clock + Sync>(
+    hall: &Hall<'_, R>,
+    stream: UnixStream,
+    place: usize,
+) {
     let _ = attend(hall, &stream, place);
     let _ = stream.shutdown(Shutdown::Both);
     hall.seats.lock(hall.rt).leave(place);
 }
 
 /// Gives a client a seat and a thread, or writes `busy` to it if it gets no seat.
-fn let_in<'s, 'x: 's, R: Threads + Wait + Sync>(
+fn let_in<'s, 'x: 's, R: Threads + Wait + Clock + Sync>(
     scope: &Scope<'s, &'x ()>,
     hall: &'x Hall<'x, R>,
     stream: UnixStream,
@@ -307,8 +317,20 @@ fn serve_clients<'x, R: Threads + Wait + Clock + Sync>(hall: &'x Hall<'x, R>) {
     })
 }
 
+/// Marks edges elsewhere as away or back at the edges of this process, until the hall is closed.
+fn watch_sessions<R: Wait + Clock>(hall: &Hall<'_, R>) {
+    for _ in hall.rt.forever() {
+        if hall.is_closed() {
+            return;
+        }
+        enter_due(hall.rt, hall.running, hall.sessions, hall.service.hold);
+        thread::sleep(hall.rt, Duration::from_millis(PAUSE_OF_LOOKS));
+    }
+}
+
 /// Reads an input out, and then closes the hall. Returns `true` if no read failed and the end came
-/// within 2^40 reads. Serves clients meanwhile, if a thread can be started for it.
+/// within 2^40 reads. Serves clients and watches sessions meanwhile, if a thread can be started for
+/// each of the two.
 fn read_beside<'s, 'x: 's, R: Threads + Wait + Clock + Sync, E: In>(
     scope: &Scope<'s, &'x ()>,
     hall: &'x Hall<'x, R>,
@@ -318,6 +340,7 @@ fn read_beside<'s, 'x: 's, R: Threads + Wait + Clock + Sync, E: In>(
     ensures { ReadsOut (E.end reader.old) (E.end reader.new) result }
 {
     let _ = scope.spawn(move || serve_clients(hall));
+    let _ = scope.spawn(move || watch_sessions(hall));
     let is_read = is_read_out(reader);
     hall.close();
     is_read
@@ -346,6 +369,7 @@ impl<'x, R> Hall<'x, R> {
             alloc: self.alloc,
             running: self.running,
             listed: &self.service.listed,
+            sessions: self.sessions,
         }
     }
 }
@@ -390,12 +414,14 @@ pub(crate) fn read_out<'x, R: Threads + Wait + Clock + Sync, E: In>(
         return is_read_out(reader);
     };
     let seats = Mutex::new(Seats::new());
+    let sessions = Mutex::new(Sessions::new());
     let hall = Hall {
         rt,
         alloc,
         running,
         service,
         seats: &seats,
+        sessions: &sessions,
     };
     read_serving(&hall, reader)
 }

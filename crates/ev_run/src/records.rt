@@ -8,7 +8,9 @@ ghost use Rattle.std.specs.List.{list_any};
 ghost use Rattle.std.specs.Option.{option_map_or};
 ghost use Rattle.ev_exchange.specs.Sending.{is_own};
 
+use crate::holding::second_now;
 use crate::lives::{OwnLives, PeerLives};
+use crate::sessions::Sessions;
 use ether_wire::{Addr, Buffered, Flushing, Reader, Writer};
 use ev_exchange::{
     Announcing, Due, EdgeTable, Entrance, Known, Sender, StreamEnd, announce, has_any_of, receive,
@@ -19,9 +21,10 @@ use route_wire::Update;
 use std::alloc::{AllocError, Global};
 use std::net::Shutdown;
 use std::os::unix::net::UnixStream;
-use std::sync::Wait;
+use std::sync::{Mutex, Wait};
 use std::thread;
 use std::thread::{Scope, Threads};
+use std::time::Clock;
 
 /// The most times that an edge is asked for a table that has taken an update.
 const TRIES: usize = 100;
@@ -34,6 +37,8 @@ pub(crate) struct ServedEdges<'x, R> {
     pub(crate) running: Running<'x>,
     /// The originators that the configuration lists.
     pub(crate) listed: &'x Known,
+    /// The sessions with edges elsewhere.
+    pub(crate) sessions: &'x Mutex<Sessions>,
 }
 
 impl<R> Clone for ServedEdges<'_, R> {
@@ -150,14 +155,16 @@ struct Entered<'x, R> {
 }
 
 impl<R: Wait> Entered<'_, R> {
-    /// Handles the first update of an edge elsewhere: the registers that the edges hold of that
-    /// edge are due on the connection.
+    /// Handles the first update of an edge elsewhere: its session begins, and the registers that
+    /// the edges hold of that edge are due on the connection.
     fn meet(&self, originator: Addr, update: &Update) {
         let edges = &self.connection.edges;
         if !edges.listed.has(originator) {
             edges
                 .running
                 .refuse(edges.rt, Refused::Unlisted(originator));
+        } else {
+            edges.sessions.lock(edges.rt).begin(originator);
         }
         self.connection.joined.put(edges.rt, *update);
     }
@@ -217,8 +224,17 @@ fn say<R: Wait>(connection: &Connection<'_, R>) {
     let _ = connection.stream.shutdown(Shutdown::Both);
 }
 
+/// Ends the sessions of the edges elsewhere whose updates have come over a connection.
+fn end_sessions<R: Wait + Clock>(edges: &ServedEdges<'_, R>, named: &Known) {
+    let now = second_now(edges.rt);
+    let mut sessions = edges.sessions.lock(edges.rt);
+    for edge in named.as_slice() {
+        sessions.end(*edge, now);
+    }
+}
+
 /// Receives updates for the edges over a connection, up to its end or its first fault.
-fn hear<R: Wait>(connection: &Connection<'_, R>) {
+fn hear<R: Wait + Clock>(connection: &Connection<'_, R>) {
     let mut into = Entered {
         connection,
         named: Known::new(),
@@ -226,15 +242,16 @@ fn hear<R: Wait>(connection: &Connection<'_, R>) {
         own: OwnLives::new(),
     };
     let incoming = receive(&mut into, &mut Reader::new(connection.stream));
+    let edges = &connection.edges;
     if let StreamEnd::Faulty(fault) = incoming.end {
-        let edges = &connection.edges;
         edges.running.refuse(edges.rt, Refused::Record(fault));
     }
+    end_sessions(edges, &into.named);
 }
 
 /// Receives from a connection while a thread sends the edges' updates on it, and then ends the
 /// connection.
-fn hear_beside<'s, 'x: 's, R: Threads + Wait + Sync>(
+fn hear_beside<'s, 'x: 's, R: Threads + Wait + Clock + Sync>(
     scope: &Scope<'s, &'x ()>,
     connection: &'x Connection<'x, R>,
 ) {
@@ -259,7 +276,10 @@ fn own_edges<R: Wait>(rt: &R, alloc: Global, running: Running<'_>) -> Option<Kno
 /// Exchanges records over a connection until either peer ends it, a fault is received, or the peer
 /// is too slow to read the updates. Doesn't begin if memory or a thread is refused, if an edge has
 /// ended, or if eight connections exchange records already.
-pub(crate) fn exchange<R: Threads + Wait + Sync>(edges: ServedEdges<'_, R>, stream: &UnixStream) {
+pub(crate) fn exchange<R: Threads + Wait + Clock + Sync>(
+    edges: ServedEdges<'_, R>,
+    stream: &UnixStream,
+) {
     let (rt, alloc, running) = (edges.rt, edges.alloc, edges.running);
     let Some(own) = own_edges(rt, alloc, running) else {
         return;
