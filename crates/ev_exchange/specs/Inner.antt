@@ -1,2 +1,3 @@
 pub mod Receiving
 pub mod Saying
+pub mod Sessions

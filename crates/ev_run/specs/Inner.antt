@@ -1,9 +1,7 @@
 pub mod ControlSocket
-pub mod Holding
 pub mod Lives
 pub mod RunEdges
 pub mod Serving
-pub mod Sessions
 pub mod Settling
 pub mod Sockets
 pub mod ThreadCheck

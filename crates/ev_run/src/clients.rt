@@ -5,14 +5,13 @@ ghost use Rattle.ether_wire.specs.Ends.{Allows};
 ghost use Rattle.ev_run.specs.RunEdges.{ReadsOut};
 
 use crate::control_socket::ControlSocket;
-use crate::holding::{PAUSE_OF_LOOKS, enter_due};
 use crate::records::{ServedEdges, exchange};
 use crate::run::is_read_out;
-use crate::sessions::Sessions;
+use crate::watching::enter_due;
 use arrayvec::ArrayVec;
 use ether_wire::{Buffered, In, Reader, Writer};
 use ev_console::converse;
-use ev_exchange::Known;
+use ev_exchange::{Known, Sessions};
 use ev_mailboxes::Running;
 use std::alloc::Global;
 use std::io::{Read, Write};
@@ -35,7 +34,8 @@ const PATIENCE: u64 = 10;
 /// The timeout in milliseconds of the last write to a client.
 const FAREWELL: u64 = 100;
 
-/// The milliseconds to wait before the next try if no client could be accepted.
+/// The milliseconds to wait before the next try if no client could be accepted, and before the next
+/// look at the sessions if no step was due.
 const PAUSE: u64 = 100;
 
 /// The most octets of a client's first line that are read.
@@ -153,6 +153,8 @@ struct Hall<'x, R> {
     seats: &'x Mutex<Seats>,
     /// The sessions with edges elsewhere.
     sessions: &'x Mutex<Sessions>,
+    /// The edges elsewhere that the configuration doesn't name.
+    unlisted: &'x Mutex<Known>,
 }
 
 /// A client's request, by its first line.
@@ -209,7 +211,14 @@ fn console<R: Wait>(hall: &Hall<'_, R>, stream: &UnixStream) -> io::Result<()> {
     stream.set_read_timeout(Some(Duration::from_secs(hall.service.idle)))?;
     let mut reader = Reader::new(stream);
     let mut out = Buffered::new(Writer::new(stream));
-    let conversed = converse(hall.rt, hall.alloc, &hall.running, &mut reader, &mut out);
+    let conversed = converse(
+        hall.rt,
+        hall.alloc,
+        &hall.running,
+        hall.unlisted,
+        &mut reader,
+        &mut out,
+    );
     let _ = out.abandon();
     if conversed.is_err() {
         // A read timed out, or the client doesn't read: then this line has no room either.
@@ -323,8 +332,14 @@ fn watch_sessions<R: Wait + Clock>(hall: &Hall<'_, R>) {
         if hall.is_closed() {
             return;
         }
-        enter_due(hall.rt, hall.running, hall.sessions, hall.service.hold);
-        thread::sleep(hall.rt, Duration::from_millis(PAUSE_OF_LOOKS));
+        if !enter_due(
+            hall.rt,
+            &hall.running,
+            hall.sessions,
+            hall.service.hold,
+        ) {
+            thread::sleep(hall.rt, Duration::from_millis(PAUSE));
+        }
     }
 }
 
@@ -370,6 +385,7 @@ impl<'x, R> Hall<'x, R> {
             running: self.running,
             listed: &self.service.listed,
             sessions: self.sessions,
+            unlisted: self.unlisted,
         }
     }
 }
@@ -415,6 +431,7 @@ pub(crate) fn read_out<'x, R: Threads + Wait + Clock + Sync, E: In>(
     };
     let seats = Mutex::new(Seats::new());
     let sessions = Mutex::new(Sessions::new());
+    let unlisted = Mutex::new(Known::new());
     let hall = Hall {
         rt,
         alloc,
@@ -422,6 +439,7 @@ pub(crate) fn read_out<'x, R: Threads + Wait + Clock + Sync, E: In>(
         service,
         seats: &seats,
         sessions: &sessions,
+        unlisted: &unlisted,
     };
     read_serving(&hall, reader)
 }

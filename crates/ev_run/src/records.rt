@@ -8,12 +8,12 @@ ghost use Rattle.std.specs.List.{list_any};
 ghost use Rattle.std.specs.Option.{option_map_or};
 ghost use Rattle.ev_exchange.specs.Sending.{is_own};
 
-use crate::holding::second_now;
 use crate::lives::{OwnLives, PeerLives};
-use crate::sessions::Sessions;
+use crate::watching::second_now;
 use ether_wire::{Addr, Buffered, Flushing, Reader, Writer};
 use ev_exchange::{
-    Announcing, Due, EdgeTable, Entrance, Known, Sender, StreamEnd, announce, has_any_of, receive,
+    Announcing, Due, EdgeTable, Entrance, Known, Sender, Sessions, StreamEnd, announce, has_any_of,
+    receive,
 };
 use ev_mailboxes::{Control, Joined, Running};
 use ev_notices::Refused;
@@ -39,6 +39,8 @@ pub(crate) struct ServedEdges<'x, R> {
     pub(crate) listed: &'x Known,
     /// The sessions with edges elsewhere.
     pub(crate) sessions: &'x Mutex<Sessions>,
+    /// The edges elsewhere that the configuration doesn't name.
+    pub(crate) unlisted: &'x Mutex<Known>,
 }
 
 impl<R> Clone for ServedEdges<'_, R> {
@@ -146,8 +148,10 @@ impl<R: Wait> Announcing for Announced<'_, R> {
 #[derive(Drop)]
 struct Entered<'x, R> {
     connection: &'x Connection<'x, R>,
-    /// The edges elsewhere of which an update has come.
+    /// The listed edges elsewhere of which an update has come.
     named: Known,
+    /// The other edges elsewhere of which an update has come.
+    unlisted: Known,
     /// The lives of these edges.
     peers: PeerLives,
     /// The life of an edge of this process whose updates come back.
@@ -155,18 +159,27 @@ struct Entered<'x, R> {
 }
 
 impl<R: Wait> Entered<'_, R> {
-    /// Handles the first update of an edge elsewhere: its session begins, and the registers that
-    /// the edges hold of that edge are due on the connection.
-    fn meet(&self, originator: Addr, update: &Update) {
-        let edges = &self.connection.edges;
-        if !edges.listed.has(originator) {
+    /// Handles an update of a listed edge elsewhere. With the first one its session begins, and the
+    /// registers that the edges hold of that edge are due on the connection.
+    fn meet(&mut self, originator: Addr, update: &Update) {
+        if self.named.meet(originator) {
+            let edges = &self.connection.edges;
+            edges.sessions.lock(edges.rt).begin(originator);
+            self.connection.joined.put(edges.rt, *update);
+        }
+    }
+
+    /// Handles an update of another edge elsewhere. With the first one the edge is shown to the
+    /// operator.
+    fn meet_unlisted(&mut self, originator: Addr, update: &Update) {
+        if self.unlisted.meet(originator) {
+            let edges = &self.connection.edges;
+            let _is_new = edges.unlisted.lock(edges.rt).meet(originator);
             edges
                 .running
                 .refuse(edges.rt, Refused::Unlisted(originator));
-        } else {
-            edges.sessions.lock(edges.rt).begin(originator);
+            self.connection.joined.put(edges.rt, *update);
         }
-        self.connection.joined.put(edges.rt, *update);
     }
 
     /// Compares the lives of edges with an update of an edge of this process that comes back. It
@@ -194,8 +207,10 @@ impl<R: Wait> Entrance for Entered<'_, R> {
         }
         self.peers.add(connection.edges.alloc, update);
         self.own.forget();
-        if self.named.meet(originator) {
+        if connection.edges.listed.has(originator) {
             self.meet(originator, update);
+        } else {
+            self.meet_unlisted(originator, update);
         }
     }
 
@@ -224,12 +239,13 @@ fn say<R: Wait>(connection: &Connection<'_, R>) {
     let _ = connection.stream.shutdown(Shutdown::Both);
 }
 
-/// Ends the sessions of the edges elsewhere whose updates have come over a connection.
+/// Ends the sessions of the edges elsewhere whose updates have come over a connection. They end
+/// once the present second is over, so that no edge is away too early.
 fn end_sessions<R: Wait + Clock>(edges: &ServedEdges<'_, R>, named: &Known) {
-    let now = second_now(edges.rt);
+    let end = second_now(edges.rt).saturating_add(1);
     let mut sessions = edges.sessions.lock(edges.rt);
     for edge in named.as_slice() {
-        sessions.end(*edge, now);
+        sessions.end(*edge, end);
     }
 }
 
@@ -238,6 +254,7 @@ fn hear<R: Wait + Clock>(connection: &Connection<'_, R>) {
     let mut into = Entered {
         connection,
         named: Known::new(),
+        unlisted: Known::new(),
         peers: PeerLives::new(connection.edges.alloc),
         own: OwnLives::new(),
     };

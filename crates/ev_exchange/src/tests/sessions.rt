@@ -1,5 +1,5 @@
 //! Sessions with edges elsewhere, and when one of these edges is away.
-use crate::sessions::{Sessions, Turn};
+use crate::{Sessions, Turn};
 use ether_wire::Addr;
 
 /// The address 10.0.0.LAST.
@@ -7,10 +7,26 @@ fn address(last: u32) -> Addr {
     Addr::new(0x0a00_0000 + last % 256)
 }
 
+/// Returns the step with which this edge is away.
+fn away(last: u32) -> Option<Turn> {
+    Some(Turn {
+        edge: address(last),
+        is_away: true,
+    })
+}
+
+/// Returns the step with which this edge is back.
+fn back(last: u32) -> Option<Turn> {
+    Some(Turn {
+        edge: address(last),
+        is_away: false,
+    })
+}
+
 /// Returns the step that is due, and notes that it was taken.
 fn taken(sessions: &mut Sessions, now: u64, hold: u64) -> Option<Turn> {
     let turn = sessions.due(now, hold)?;
-    sessions.note(turn);
+    sessions.note(&turn);
     Some(turn)
 }
 
@@ -21,10 +37,10 @@ fn an_edge_is_away_after_its_time_and_back_with_its_session(rt: HostRuntime) {
     assert!(rt; sessions.due(1_000, 90).is_none());
     sessions.end(address(1), 1_000);
     assert!(rt; sessions.due(1_089, 90).is_none());
-    assert_eq!(rt; taken(&mut sessions, 1_090, 90), Some(Turn::Away(address(1))));
+    assert_eq!(rt; taken(&mut sessions, 1_090, 90), away(1));
     assert!(rt; sessions.due(5_000, 90).is_none());
     sessions.begin(address(1));
-    assert_eq!(rt; taken(&mut sessions, 5_000, 90), Some(Turn::Back(address(1))));
+    assert_eq!(rt; taken(&mut sessions, 5_000, 90), back(1));
     assert!(rt; sessions.due(5_000, 90).is_none());
 }
 
@@ -48,7 +64,7 @@ fn the_last_of_two_connections_counts(rt: HostRuntime) {
     assert!(rt; sessions.due(1_000, 90).is_none());
     sessions.end(address(1), 1_000);
     assert!(rt; sessions.due(1_089, 90).is_none());
-    assert_eq!(rt; taken(&mut sessions, 1_090, 90), Some(Turn::Away(address(1))));
+    assert_eq!(rt; taken(&mut sessions, 1_090, 90), away(1));
 }
 
 #[test]
@@ -58,12 +74,12 @@ fn only_the_edge_without_a_session_is_away(rt: HostRuntime) {
     sessions.begin(address(2));
     sessions.begin(address(3));
     sessions.end(address(2), 10);
-    assert_eq!(rt; taken(&mut sessions, 100, 90), Some(Turn::Away(address(2))));
+    assert_eq!(rt; taken(&mut sessions, 100, 90), away(2));
     assert!(rt; sessions.due(100, 90).is_none());
     sessions.end(address(1), 100);
     sessions.end(address(3), 100);
-    assert_eq!(rt; taken(&mut sessions, 190, 90), Some(Turn::Away(address(1))));
-    assert_eq!(rt; taken(&mut sessions, 190, 90), Some(Turn::Away(address(3))));
+    assert_eq!(rt; taken(&mut sessions, 190, 90), away(1));
+    assert_eq!(rt; taken(&mut sessions, 190, 90), away(3));
     assert!(rt; sessions.due(190, 90).is_none());
 }
 
@@ -85,7 +101,7 @@ fn no_more_than_64_edges_have_a_place(rt: HostRuntime) {
         sessions.end(address(last), 10);
     }
     for last in 0..64 {
-        assert_eq!(rt; taken(&mut sessions, 100, 90), Some(Turn::Away(address(last))));
+        assert_eq!(rt; taken(&mut sessions, 100, 90), away(last));
     }
     assert!(rt; sessions.due(100, 90).is_none());
 }
