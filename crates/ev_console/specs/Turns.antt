@@ -43,8 +43,8 @@ EntersDue None count before after taken = (after ≡ before) × (taken ≡ false
 EntersDue (Some turn) count before after taken = EntersAtEach count (step_of turn) before after taken
 
 -- The first step that is due at this second was entered at each of `count` edges, and noted if they took it.
-pub record TakesTurn (now hold count : ℕ) (all all' : List Session) (before after : Option (List Asked)) (taken : Bool) :
-    Type 0 where
+pub record TakesTurn (now hold count : ℕ) (all all' : List Session) (before after : Option (List Asked))
+    (taken : Bool) : Type 0 where
   pub entered : EntersDue (first_turn now hold all) count before after taken
   pub noted : all' ≡ after_due (first_turn now hold all) taken all
 

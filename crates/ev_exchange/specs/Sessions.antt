@@ -1,27 +1,27 @@
--- The sessions with edges elsewhere: which of these edges are away, and since which second. RFC 4271 section 10 has such
--- a hold time for a BGP session; that an edge is away after it, and no route is withdrawn, is a rule of this project.
-use Rattle.std.specs.Prelude.{◌≡◌, ℕ, ◌+◌, ◌-◌, ◌^◌, min, Bool, true, false, ◌==◌, ◌&&◌, not, nat_le, nat_lt, if◌then◌else◌}
-use Rattle.std.specs.Prelude.{List, [], ◌∷◌, ◌++◌, length, map, Option, Some, None}
+-- The sessions with edges elsewhere: which of these edges are away, and since which second. The default of 90 seconds
+-- is the hold time of a BGP session (RFC 4271, section 10). That a route stays in the table is a rule of this project.
+use Rattle.std.specs.Prelude.{◌≡◌, ℕ, ◌+◌, ◌-◌, ◌^◌, min, Bool, true, false, ◌==◌, ◌&&◌, not, nat_le, nat_lt}
+use Rattle.std.specs.Prelude.{if◌then◌else◌, List, [], ◌∷◌, ◌++◌, length, map, Option, Some, None}
 use Rattle.std.specs.List.{list_any}
 use Rattle.ev_exchange.specs.declared.sessions.Session.{Session}
+use Rattle.ev_exchange.specs.declared.sessions.Change.{Change}
+use Rattle.ev_exchange.specs.declared.sessions.Change.TheVariants.{Begins, Ends, Marks}
 use Rattle.ev_exchange.specs.declared.sessions.Turn.{Turn}
 
 abbrev pub is_of : ℕ → Session → Bool
 is_of edge s = s.edge == edge
 
--- this change, if the session is that of the edge
-abbrev pub at_edge : ℕ → (Session → Session) → Session → Session
-at_edge edge change s = if is_of edge s then change s else s
+-- one connection more; one less, since this second; or marked as away, or as back
+abbrev pub changed : Change → Session → Session
+changed Begins s = record s { connections = min (s.connections + 1) (2 ^ 64 - 1) }
+changed (Ends now) s = record s { connections = s.connections - 1; since = now }
+changed (Marks is_away) s = record s { is_away = is_away }
+
+-- this change of the session with the edge
+abbrev pub at_edge : ℕ → Change → Session → Session
+at_edge edge change s = if is_of edge s then changed change s else s
 
 -- ---- connections
-
--- one connection more
-abbrev pub begun : Session → Session
-begun s = record s { connections = min (s.connections + 1) (2 ^ 64 - 1) }
-
--- one connection less, since this second
-abbrev pub ended : ℕ → Session → Session
-ended now s = record s { connections = s.connections - 1; since = now }
 
 abbrev pub first_session : ℕ → Session
 first_session edge = record { edge = edge; connections = 1; since = 0; is_away = false }
@@ -29,12 +29,12 @@ first_session edge = record { edge = edge; connections = 1; since = 0; is_away =
 -- the first update of an edge has come over a connection; there are at most 64 edges
 abbrev pub after_begin : ℕ → List Session → List Session
 after_begin edge all =
-    if list_any (is_of edge) all then map (at_edge edge begun) all
+    if list_any (is_of edge) all then map (at_edge edge Begins) all
     else if nat_lt (length all) 64 then all ++ first_session edge ∷ [] else all
 
 -- a connection over which updates of the edge came has ended at this second
 abbrev pub after_end : ℕ → ℕ → List Session → List Session
-after_end edge now all = map (at_edge edge (ended now)) all
+after_end edge now all = map (at_edge edge (Ends now)) all
 
 -- ---- edges that are away
 
@@ -60,13 +60,9 @@ abbrev pub first_turn : ℕ → ℕ → List Session → Option Turn
 first_turn now hold [] = None
 first_turn now hold (s ∷ more) = or_later (turn_of now hold s) (first_turn now hold more)
 
--- marked as away, or as back
-abbrev pub marked : Bool → Session → Session
-marked is_away s = record s { is_away = is_away }
-
 -- the edges have taken this step
 abbrev pub after_turn : Turn → List Session → List Session
-after_turn turn all = map (at_edge turn.edge (marked turn.is_away)) all
+after_turn turn all = map (at_edge turn.edge (Marks turn.is_away)) all
 
 -- if no step is due, the edges that are marked as away are exactly those that are overdue
 abbrev pub MarksAreDue : Type 0

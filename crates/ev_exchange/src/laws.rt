@@ -71,8 +71,8 @@ pub fn earlier_lives_end()
     ensures { EarlierLivesEnd }
 {}
 
-/// If no step is due at a second, the edges elsewhere that are marked as away are exactly those that
-/// have had no session for `hold` seconds.
+/// If no step is due at a second, the edges elsewhere that are marked as away are exactly those
+/// that have had no session for `hold` seconds.
 pub fn marks_are_due()
     ensures { MarksAreDue }
 {}

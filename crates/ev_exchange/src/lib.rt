@@ -26,7 +26,7 @@ pub use life::{Life, has_any_of};
 pub use receiver::{KINDS, Receiver};
 pub use saying::announce;
 pub use sender::Sender;
-pub use sessions::{Session, Sessions, Turn};
+pub use sessions::{Change, Session, Sessions, Turn};
 pub use stream_end::StreamEnd;
 
 #[cfg(test)]

@@ -3,8 +3,7 @@
 //! it has one.
 ghost use Rattle.std.specs.Prelude.{◌≡◌, [], map};
 ghost use Rattle.std.specs.List.{list_any};
-ghost use Rattle.ev_exchange.specs.Sessions.{is_of, at_edge, is_overdue, turn_of, first_turn, after_begin, after_end, after_turn};
-ghost use Rattle.ev_exchange.specs.Inner.Sessions.{changed};
+ghost use Rattle.ev_exchange.specs.Sessions.{is_of, changed, at_edge, is_overdue, turn_of, first_turn, after_begin, after_end, after_turn};
 
 use arrayvec::ArrayVec;
 use ether_wire::Addr;
@@ -48,8 +47,8 @@ pub struct Turn {
 }
 
 /// A change of a session.
-#[derive(Clone, Copy)]
-enum Change {
+#[derive(Clone, Copy, Debug, PartialEq, Eq)]
+pub enum Change {
     /// One more connection has brought an update of the edge.
     Begins,
     /// One of its connections has ended at this second.
@@ -79,7 +78,7 @@ impl Session {
 
     /// Returns the session after this change of the session with this edge.
     fn at_edge(self, edge: Addr, change: Change) -> Session
-        ensures { result ≡ at_edge edge (changed change) self }
+        ensures { result ≡ at_edge edge change self }
     {
         if self.edge == edge {
             self.changed(change)
@@ -113,7 +112,7 @@ impl Session {
 
 /// Changes each of these sessions that is of this edge.
 fn change_each(sessions: &mut [Session], edge: Addr, change: Change)
-    ensures { sessions.new ≡ map (at_edge edge (changed change)) sessions.old }
+    ensures { sessions.new ≡ map (at_edge edge change) sessions.old }
 {
     for session in sessions.iter_mut() {
         *session = session.at_edge(edge, change);

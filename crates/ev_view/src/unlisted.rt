@@ -1,4 +1,4 @@
-//! The edges elsewhere that the configuration doesn't name, after the other edges that an edge lists.
+//! The edges elsewhere that the configuration doesn't name, after the answer of an edge.
 ghost use Rattle.std.specs.Prelude.{◌≡◌, ◌++◌, IfOk};
 ghost use Rattle.ether_wire.specs.Ends.{IsOpen, Puts};
 ghost use Rattle.ev_view.specs.Peers.{unlisted_line, unlisted_lines, full_text, unlisted_text, text_after};
