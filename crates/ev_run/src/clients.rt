@@ -332,12 +332,7 @@ fn watch_sessions<R: Wait + Clock>(hall: &Hall<'_, R>) {
         if hall.is_closed() {
             return;
         }
-        if !enter_due(
-            hall.rt,
-            &hall.running,
-            hall.sessions,
-            hall.service.hold,
-        ) {
+        if !enter_due(hall.rt, &hall.running, hall.sessions, hall.service.hold) {
             thread::sleep(hall.rt, Duration::from_millis(PAUSE));
         }
     }

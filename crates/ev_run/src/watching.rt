@@ -24,6 +24,7 @@ pub(crate) fn enter_due<R: Wait + Clock>(
     sessions: &Mutex<Sessions>,
     hold: u64,
 ) -> bool {
+    let now = second_now(rt);
     let mut sessions = sessions.lock(rt);
-    take_turn(rt, running, &mut *sessions, second_now(rt), hold)
+    take_turn(rt, running, &mut *sessions, now, hold)
 }

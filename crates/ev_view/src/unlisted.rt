@@ -49,12 +49,7 @@ fn put_full<W: Out>(out: &mut W, number: u64, unlisted: &[Addr]) -> Result<(), D
 
 /// Writes a text, and these edges after it.
 #[tactic(auto, using(ether_wire::proofs::Appending::with_text_twice))]
-fn put_after<W: Out>(
-    out: &mut W,
-    number: u64,
-    text: &[u8],
-    unlisted: &[Addr],
-) -> Result<(), Device>
+fn put_after<W: Out>(out: &mut W, number: u64, text: &[u8], unlisted: &[Addr]) -> Result<(), Device>
     requires { IsOpen (W.end out.old) }
     ensures { Puts (W.end out.old) (W.end out.new)
         (text.now ++ unlisted_text number unlisted.now) result }
