@@ -40,10 +40,13 @@ abbrev pub unlisted_lines : ℕ → List ℕ → List ℕ
 unlisted_lines number [] = []
 unlisted_lines number (originator ∷ more) = unlisted_line number originator ++ unlisted_lines number more
 
--- `E unlisted 64 or more` if there is no place for another name
+-- `E unlisted 64 or more`
+abbrev pub more_line : ℕ → List ℕ
+more_line number = decimal number ++ codes " unlisted 64 or more\n"
+
+-- if there is no place for another name
 abbrev pub full_text : ℕ → List ℕ → List ℕ
-full_text number unlisted =
-    if nat_lt (length unlisted) 64 then [] else decimal number ++ codes " unlisted 64 or more\n"
+full_text number unlisted = if nat_lt (length unlisted) 64 then [] else more_line number
 
 abbrev pub unlisted_text : ℕ → List ℕ → List ℕ
 unlisted_text number unlisted = unlisted_lines number unlisted ++ full_text number unlisted

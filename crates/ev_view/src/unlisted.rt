@@ -1,7 +1,7 @@
 //! The edges elsewhere that the configuration doesn't name, after the answer of an edge.
 ghost use Rattle.std.specs.Prelude.{◌≡◌, ◌++◌, IfOk};
 ghost use Rattle.ether_wire.specs.Ends.{IsOpen, Puts};
-ghost use Rattle.ev_view.specs.Peers.{unlisted_line, unlisted_lines, full_text, unlisted_text, text_after};
+ghost use Rattle.ev_view.specs.Peers.{unlisted_line, unlisted_lines, more_line, full_text, unlisted_text, text_after};
 
 use crate::sheet::Sheet;
 use crate::view::EdgeQuestion;
@@ -34,8 +34,17 @@ fn put_lines<W: Out>(out: &mut W, number: u64, unlisted: &[Addr]) -> Result<(), 
     Ok(())
 }
 
-/// Writes that there may be more edges than these, if no more are kept by name.
+/// Writes that there may be more edges than those that have a line.
 #[tactic(auto, using(ether_wire::proofs::Appending::with_text_twice))]
+fn put_more<W: Out>(out: &mut W, number: u64) -> Result<(), Device>
+    requires { IsOpen (W.end out.old) }
+    ensures { Puts (W.end out.old) (W.end out.new) (more_line number) result }
+{
+    put_decimal(out, number)?;
+    out.put(b" unlisted 64 or more\n")
+}
+
+/// Writes that there may be more edges than these, if no more are kept by name.
 fn put_full<W: Out>(out: &mut W, number: u64, unlisted: &[Addr]) -> Result<(), Device>
     requires { IsOpen (W.end out.old) }
     ensures { Puts (W.end out.old) (W.end out.new) (full_text number unlisted.now) result }
@@ -43,8 +52,7 @@ fn put_full<W: Out>(out: &mut W, number: u64, unlisted: &[Addr]) -> Result<(), D
     if unlisted.len() < MOST {
         return Ok(());
     }
-    put_decimal(out, number)?;
-    out.put(b" unlisted 64 or more\n")
+    put_more(out, number)
 }
 
 /// Writes a text, and these edges after it.
