@@ -18,9 +18,9 @@ pub(crate) fn second_now<R: Clock>(rt: &R) -> u64 {
 /// Enters the first step that is due now for an edge elsewhere at the edges of this process. An
 /// edge is away `hold` seconds after its session has ended, or never if `hold` is 0. Returns `true`
 /// if a step was due and no edge refused it.
-pub(crate) fn enter_due<R: Wait + Clock>(
-    rt: &R,
-    running: &Running<'_>,
+pub(crate) fn enter_due<'x, R: Wait + Clock>(
+    rt: &'x R,
+    running: &Running<'x>,
     sessions: &Mutex<Sessions>,
     hold: u64,
 ) -> bool {
