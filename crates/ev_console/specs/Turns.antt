@@ -1,6 +1,6 @@
 -- The steps of edges elsewhere that are away, or back, at edges that run.
 use Rattle.std.specs.Prelude.{◌≡◌, ℕ, ◌+◌, Bool, true, false, if◌then◌else◌, List, [], ◌∷◌, length, Option, Some, None}
-use Rattle.std.specs.Prelude.{Result, Ok, Err}
+use Rattle.std.specs.Prelude.{Ok, Err}
 use Rattle.std.specs.List.{list_all}
 use Rattle.ev_links.specs.Coming.{behind}
 use Rattle.ev_mailboxes.specs.declared.request.Command.{Command as Step}

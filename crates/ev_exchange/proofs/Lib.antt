@@ -9,3 +9,4 @@ pub mod Joining
 pub mod Lives
 pub mod Meeting
 pub mod Marking
+pub mod Overdue

@@ -1,5 +1,5 @@
 -- At rest an edge elsewhere is marked as away exactly if it is overdue.
-use Rattle.std.proofs.Common.{◌≡◌, ℕ, Bool, true, false, cond, List, [], ◌∷◌, map, Option, Some, None, refl, ap, ◌∙◌}
+use Rattle.std.proofs.Common.{◌≡◌, Bool, true, false, cond, List, [], ◌∷◌, map, Option, Some, None, refl, ap, ◌∙◌}
 use Rattle.ev_exchange.specs.declared.sessions.Session.{Session}
 use Rattle.ev_exchange.specs.declared.sessions.Turn.{Turn}
 use Rattle.ev_exchange.specs.Sessions.{is_overdue, turn_to, or_later, first_turn, MarksAreDue}

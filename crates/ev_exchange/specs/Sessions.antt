@@ -1,8 +1,8 @@
 -- The sessions with edges elsewhere: which of these edges are away, and since which second. The default of 90 seconds
 -- is the hold time of a BGP session (RFC 4271, section 10). That a route stays in the table is a rule of this project.
-use Rattle.std.specs.Prelude.{◌≡◌, ℕ, ◌+◌, ◌-◌, ◌^◌, min, Bool, true, false, ◌==◌, ◌&&◌, not, nat_le, nat_lt}
+use Rattle.std.specs.Prelude.{◌≡◌, ◌≤◌, ℕ, ◌+◌, ◌-◌, ◌^◌, min, Bool, true, false, ◌==◌, ◌&&◌, not, nat_le, nat_lt}
 use Rattle.std.specs.Prelude.{if◌then◌else◌, List, [], ◌∷◌, ◌++◌, length, map, Option, Some, None}
-use Rattle.std.specs.List.{list_any}
+use Rattle.std.specs.List.{All, list_any}
 use Rattle.ev_exchange.specs.declared.sessions.Session.{Session}
 use Rattle.ev_exchange.specs.declared.sessions.Change.{Change}
 use Rattle.ev_exchange.specs.declared.sessions.Change.TheVariants.{Begins, Ends, Marks}
@@ -69,3 +69,36 @@ abbrev pub MarksAreDue : Type 0
 MarksAreDue =
     (now hold : ℕ) (all : List Session) → first_turn now hold all ≡ None
     → map (λ s. s.is_away) all ≡ map (is_overdue now hold) all
+
+-- ---- a history
+
+-- a connection with updates of an edge begins, or one ends at a second; or the edges of this process take a step
+pub data Happening : Type 0 where
+  begins : ℕ → Happening
+  ends : ℕ → ℕ → Happening
+  takes : Turn → Happening
+
+abbrev pub after_one : Happening → List Session → List Session
+after_one (begins edge) all = after_begin edge all
+after_one (ends edge now) all = after_end edge now all
+after_one (takes turn) all = after_turn turn all
+
+-- the first one first
+abbrev pub after_these : List Happening → List Session → List Session
+after_these [] all = all
+after_these (h ∷ more) all = after_these more (after_one h all)
+
+-- a connection of this edge begins or ends
+abbrev pub is_about : ℕ → Happening → Bool
+is_about edge (begins other) = other == edge
+is_about edge (ends other now) = other == edge
+is_about edge (takes turn) = false
+
+-- The last connection of an edge has ended at second t, and none has begun since. Whatever else has happened, the edge
+-- is overdue exactly if `hold` seconds have passed, and `hold` isn't 0.
+abbrev pub OverdueAfterHold : Type 0
+OverdueAfterHold =
+    (edge t now hold : ℕ) (all : List Session) (since : List Happening)
+    → All (λ s. s.edge ≡ edge → s.connections ≤ 1) all → list_any (is_about edge) since ≡ false
+    → All (λ s. s.edge ≡ edge → is_overdue now hold s ≡ (not (hold == 0) && nat_le hold (now - t)))
+    (after_these since (after_end edge t all))

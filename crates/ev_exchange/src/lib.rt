@@ -20,7 +20,8 @@ pub use intake::{Incoming, receive};
 pub use known::Known;
 pub use laws::{
     both_agree, earlier_lives_end, joined_agrees, marks_are_due, meeting_agrees, newest_arrives,
-    own_registers_agree, own_updates_are, processes_agree, said_is_carried, stream_carries,
+    overdue_after_hold, own_registers_agree, own_updates_are, processes_agree, said_is_carried,
+    stream_carries,
 };
 pub use life::{Life, has_any_of};
 pub use receiver::{KINDS, Receiver};
