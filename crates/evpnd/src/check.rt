@@ -30,7 +30,7 @@ pub(crate) struct Purpose {
 
 /// The subject of a check.
 #[derive(Clone, Copy, Debug)]
-pub(crate) struct Checked<'a> {
+pub(crate) struct Wanted<'a> {
     /// The path of a configuration.
     pub(crate) path: &'a str,
     /// The path of a script, if there is one.
@@ -202,7 +202,7 @@ fn check_text<W: Out, N: Out>(
 fn check<F: Files, W: Out, N: Out>(
     alloc: Global,
     files: &mut F,
-    wanted: Checked<'_>,
+    wanted: Wanted<'_>,
     out: &mut W,
     notes: &mut N,
 ) -> u8
@@ -225,7 +225,7 @@ fn check<F: Files, W: Out, N: Out>(
 pub(crate) fn check_all<F: Files, W: Out, N: Out>(
     alloc: Global,
     files: &mut F,
-    wanted: Checked<'_>,
+    wanted: Wanted<'_>,
     out: &mut W,
     notes: &mut N,
 ) -> u8

@@ -30,14 +30,14 @@ fn put_key<N: Out>(notes: &mut N, key: &[u8]) -> Result<(), Device>
 
 /// A text that is no configuration for a use.
 #[derive(Clone, Copy)]
-struct FaultyText<'a> {
+struct Refused<'a> {
     alloc: Global,
     wanted: Use,
     text: &'a str,
 }
 
 /// Writes `config KEY`, and then a line for each fault, as `evpnd check` writes them.
-fn put_faults<N: Out>(refused: FaultyText<'_>, key: &str, notes: &mut N) -> Result<(), Device>
+fn put_faults<N: Out>(refused: Refused<'_>, key: &str, notes: &mut N) -> Result<(), Device>
     requires { IsOpen (N.end notes.old) }
     ensures { (more : Text) × AreFaultLines refused.entry.wanted refused.entry.text.now more
         × Puts (N.end notes.old) (N.end notes.new) (config_text key.now ++ more) result }
@@ -53,7 +53,7 @@ fn put_faults<N: Out>(refused: FaultyText<'_>, key: &str, notes: &mut N) -> Resu
 }
 
 /// Reports which key of a configuration is faulty, and its faults, and returns the status.
-fn tell_key<N: Out>(refused: FaultyText<'_>, key: &str, notes: &mut N) -> u8
+fn tell_key<N: Out>(refused: Refused<'_>, key: &str, notes: &mut N) -> u8
     requires { IsOpen (N.end notes.old) }
     ensures { (more : Text) × AreFaultLines refused.entry.wanted refused.entry.text.now more
         × IsTold (config_text key.now ++ more) (N.end notes.old) (N.end notes.new) result }
@@ -62,7 +62,7 @@ fn tell_key<N: Out>(refused: FaultyText<'_>, key: &str, notes: &mut N) -> u8
 }
 
 /// Reports why a text is no configuration, and returns the status.
-fn tell_refusal<N: Out>(refused: FaultyText<'_>, refusal: &ConfigRefusal, notes: &mut N) -> u8
+fn tell_refusal<N: Out>(refused: Refused<'_>, refusal: &ConfigRefusal, notes: &mut N) -> u8
     requires { IsOpen (N.end notes.old) }
     ensures { (input : Source) → (out : End) → Refuses refused.entry.wanted
         refused.entry.text.now refusal.now (devices input out (N.end notes.old))
@@ -91,7 +91,7 @@ fn configured_by<N: Out>(
         Ok(config) => Ok(config),
         Err(refusal) => {
             let wanted = if for_run { Use::Run } else { Use::Any };
-            let refused = FaultyText {
+            let refused = Refused {
                 alloc,
                 wanted,
                 text,
@@ -111,7 +111,7 @@ fn served_by<N: Out>(alloc: Global, text: &str, notes: &mut N) -> Result<Served,
     match served_config_of(alloc, text) {
         Ok(served) => Ok(served),
         Err(refusal) => {
-            let refused = FaultyText {
+            let refused = Refused {
                 alloc,
                 wanted: Use::Serve,
                 text,

@@ -12,7 +12,7 @@ ghost use Rattle.ev_report.specs.Failures.{failures_of};
 ghost use Rattle.evpnd.specs.Program.{world, use_of, purpose_of, not_text, RunsOpen, FollowsAs, Follows, FollowsTelling, RunsWords, RunsProgram};
 ghost use Rattle.evpnd.specs.Inner.Program.{TellsFault};
 
-use crate::check::{Checked, Purpose, check_all};
+use crate::check::{Purpose, Wanted, check_all};
 use crate::files::Files;
 use crate::host::{Descriptors, Host};
 use crate::records::{migrate, report};
@@ -62,7 +62,7 @@ fn tell_fault<P: Parser, N: Out>(parser: &mut P, error: &Error, notes: &mut N) -
 fn check_on<F: Files, R: In, W: Out, N: Out>(
     alloc: Global,
     files: &mut F,
-    wanted: Checked<'_>,
+    wanted: Wanted<'_>,
     devices: Devices<R, W, N>,
 ) -> (u8, Devices<R, W, N>)
     requires files { HasRoom (F.shelf files.old) }
@@ -88,12 +88,12 @@ fn use_of(aim: Aim) -> Use
 }
 
 /// Returns the subject of an invocation's check.
-fn wanted_of<'a>(descriptors: Descriptors, invocation: &Invocation<'a>) -> Checked<'a>
+fn wanted_of<'a>(descriptors: Descriptors, invocation: &Invocation<'a>) -> Wanted<'a>
     ensures path { result.path ≡ invocation.now.value }
     ensures script { result.script ≡ invocation.now.more }
     ensures purpose { result.purpose ≡ purpose_of invocation.now.aim descriptors }
 {
-    Checked {
+    Wanted {
         path: invocation.value,
         script: invocation.more,
         purpose: Purpose {

@@ -1,10 +1,12 @@
-use Rattle.std.proofs.Common.{◌∙◌, ap₂}
-use Rattle.std.specs.List.{push}
+use Rattle.std.proofs.Common.{◌≡◌, ◌∷◌, ◌++◌, [], ℕ, List, ◌∙◌}
 use Rattle.ev_edge.proofs.tests.originators.Goals as goal
+
+pushed : (xs ys new : List ℕ) (a b : ℕ) → new ≡ xs ++ a ∷ [] → xs ≡ ys → a ≡ b → new ≡ ys ++ b ∷ []
+pushed xs ys new a b e p q = e ∙ λ i. p i ++ q i ∷ []
 
 pub returns : goal.returns
 returns c =
-    let one = c.push.ensures.items ∙ ap₂ push c.new-originators.ensures c.new.ensures in
-    let two = c.push-2.ensures.items ∙ ap₂ push one c.new-2.ensures in
-    let three = c.push-3.ensures.items ∙ ap₂ push two c.new-3.ensures in
-    c.push-4.ensures.items ∙ ap₂ push three c.new-4.ensures
+    let one = pushed _ [] _ _ 0x0a00_0001 c.push.ensures.items c.new-originators.ensures c.new.ensures in
+    let two = pushed _ _ _ _ 0x0a00_0002 c.push-2.ensures.items one c.new-2.ensures in
+    let three = pushed _ _ _ _ 0x0a00_0003 c.push-3.ensures.items two c.new-3.ensures in
+    pushed _ _ _ _ 0x0a00_0004 c.push-4.ensures.items three c.new-4.ensures
