@@ -430,6 +430,19 @@ class Records(Joined):
         late = self.client().send(b"records\n")
         self.assertEqual(len(self.lines(late, 4)), 4)
 
+    def test_more_registers_than_a_page_are_said(self) -> None:
+        """A connection begins with all own registers, and none twice, if they take several pages of a table."""
+        console = self.console()
+        macs = [f"02:00:00:00:{number // 256:02x}:{number % 256:02x}" for number in range(600)]
+        for mac in macs:
+            self.assertEqual(console.ask(f"1 pin {VNI} {mac} 1"), "")
+        said = self.lines(self.client().send(b"records\n"), 602)
+        stations = [line.split()[3] for line in said if line.startswith(f"advert {ONE}") and " flood " not in line]
+        self.assertEqual(stations, macs)
+        report = console.ask("1 report").splitlines()
+        self.assertEqual([line.split()[2] for line in report if line.startswith("mac ")], macs)
+        self.assertEqual([line.split()[2] for line in report if line.startswith("owner ")], macs)
+
     def test_what_comes_is_taken(self) -> None:
         """A withdrawal of edge 2's flood list, of a later life, is taken at edge 1, and not at edge 2: that one says anew what it is."""
         client = self.joined()

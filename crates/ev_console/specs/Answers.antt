@@ -1,9 +1,9 @@
 -- The requests that a line of the console makes to edges that run, and its answer.
-use Rattle.std.specs.Prelude.{◌<◌}
-use Rattle.std.specs.Prelude.{◌≡◌, ◌⊎◌, ℕ, List, [], ◌∷◌, ◌++◌, length, codes, Option, Some, None, Result, Ok, Err}
-use Rattle.std.specs.Global.{Vec}
-use Rattle.std.specs.declared.alloc.AllocError.{AllocError}
+use Rattle.std.specs.Prelude.{◌≡◌, ◌⊎◌, ℕ, ◌+◌, ◌^◌, map, List, [], ◌∷◌, ◌++◌, length, codes, Option, Some, None}
+use Rattle.std.specs.Prelude.{Result, Ok, Err}
+use Rattle.route_wire.specs.declared.update.Register.{Register}
 use Rattle.route_wire.specs.Fields.{Fields}
+use Rattle.route_join.specs.Page.{Page, next_after, updates_on, AreChained}
 use Rattle.ev_edge.specs.declared.refusal.EdgeRefusal.TheVariants as own
 use Rattle.ev_edge.specs.declared.refusal.Refusal.TheVariants as edges
 use Rattle.ev_fabric.specs.declared.refusal.FabricRefusal.TheVariants as fabric
@@ -22,7 +22,7 @@ use Rattle.ev_script.specs.Printing.{words_text, number_text, reply_text, refusa
 use Rattle.ev_view.specs.EdgeViews.{each_from, edge_words}
 use Rattle.ev_console.specs.declared.operated.Unreached.{Unreached}
 use Rattle.ev_console.specs.declared.operated.Unreached.TheVariants.{NoEdge, Ended}
-use Rattle.ev_console.specs.Asking.{Asked, Entered, TableSeen, PortSeen, ServedSeen, entered, table_seen, port_seen}
+use Rattle.ev_console.specs.Asking.{Asked, Entered, PageSeen, PortSeen, ServedSeen, entered, page_seen, port_seen}
 use Rattle.ev_console.specs.Asking.{ViewSeen, view_seen, served_from}
 use Rattle.ev_view.specs.declared.view.EdgeQuestion.{EdgeQuestion}
 use Rattle.ev_console.specs.Table.{IsReportOf}
@@ -65,18 +65,27 @@ served_seen_text e (Ok (Ok served)) = edge_words e served.address served.ports.i
 served_seen_text e (Ok (Err refused)) = no_memory_text e
 served_seen_text e (Err unreached) = unreached_text e unreached
 
--- the report of these updates; or, if there are any, that memory for the report was refused
-abbrev pub TellsUpdates : ℕ → List Fields → List ℕ → Type 0
-TellsUpdates e updates = λ text. IsReportOf updates text ⊎ (0 < length updates) × (text ≡ no_memory_text e)
+-- ---- a table, page by page
 
--- the text for the updates that were shown
-abbrev pub TellsShown : ℕ → Result (Vec Fields) AllocError → List ℕ → Type 0
-TellsShown e (Ok updates) = TellsUpdates e updates.items
-TellsShown e (Err refused) = λ text. text ≡ no_memory_text e
+-- the page, if the edge showed one
+abbrev pub pages_in : PageSeen → List Page
+pages_in (Ok (Ok page)) = page ∷ []
+pages_in (Ok (Err refused)) = []
+pages_in (Err unreached) = []
 
-abbrev pub TellsTable : ℕ → TableSeen → List ℕ → Type 0
-TellsTable e (Ok shown) = TellsShown e shown
-TellsTable e (Err unreached) = λ text. text ≡ unreached_text e unreached
+-- the register after which the next page begins, if one follows
+abbrev pub next_in : PageSeen → Option Register
+next_in answer = next_after None (pages_in answer)
+
+-- why registers are missing, if the edge showed no page
+abbrev pub missing_text : ℕ → PageSeen → List ℕ
+missing_text e (Ok (Ok page)) = []
+missing_text e (Ok (Err refused)) = no_memory_text e
+missing_text e (Err unreached) = unreached_text e unreached
+
+-- the requests for pages that the edge showed
+abbrev pub pages_asked : ℕ → List Page → List Asked
+pages_asked e pages = map (λ (p : Page). page_seen e p.after (Ok (Ok p))) pages
 
 -- ---- a line
 
@@ -89,8 +98,18 @@ abbrev pub Steps : ℕ → Step → List Asked → List ℕ → Type 0
 Steps e step = λ asked text.
     (answer : Entered) × (asked ≡ entered e step answer ∷ []) × (text ≡ entered_text e answer)
 
-abbrev pub ShowsTable : ℕ → List Asked → List ℕ → Type 0
-ShowsTable e = λ asked text. (answer : TableSeen) × (asked ≡ table_seen e answer ∷ []) × TellsTable e answer text
+-- The edge showed its table page by page, each page from the last register of the one before on. No page follows the
+-- last answer, or there were 2^40 of them. The text is the report of the table of all registers that were shown, and
+-- then why some are missing, if so.
+pub record ShowsTable (e : ℕ) (asked : List Asked) (text : List ℕ) : Type 0 where
+  pub pages : List Page
+  pub last : PageSeen
+  pub chained : AreChained (pages ++ pages_in last)
+  pub requests : asked ≡ pages_asked e pages ++ page_seen e (next_after None pages) last ∷ []
+  pub ended : (next_in last ≡ None) ⊎ (length pages + 1 ≡ 2 ^ 40)
+  pub shown : List ℕ
+  pub report : IsReportOf (updates_on (pages ++ pages_in last)) shown
+  pub is : text ≡ shown ++ missing_text e last
 
 abbrev pub ShowsPort : ℕ → ℕ → List Asked → List ℕ → Type 0
 ShowsPort e p = λ asked text.

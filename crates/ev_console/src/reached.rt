@@ -1,14 +1,16 @@
 //! Running edges by their numbers. A console that is proved for any of them asks exactly the edge
 //! that it names, and returns that edge's answer.
-ghost use Rattle.std.specs.Prelude.{◌≡◌, ℕ, MatchOption};
-ghost use Rattle.ev_console.specs.Asking.{Asked, entered, table_seen, port_seen, view_seen, served_seen};
+ghost use Rattle.std.specs.Prelude.{◌≡◌, ℕ, IfOk, MatchOption};
+ghost use Rattle.ev_mailboxes.specs.Request.{IsPageAfter};
+ghost use Rattle.ev_console.specs.Asking.{Asked, entered, page_seen, port_seen, view_seen, served_seen};
 
 use crate::operated::Unreached;
 use ev_book::BookRefusal;
 use ev_edge::Reply;
 use ev_mailboxes::{Command, Control, PortView, Running, Served};
 use ev_view::EdgeQuestion;
-use route_wire::Update;
+use route_join::Page;
+use route_wire::Register;
 use std::alloc::{AllocError, Global};
 use std::sync::Wait;
 
@@ -28,9 +30,14 @@ pub(crate) trait OneEdge {
     fn enter(&self, command: &Command) -> Result<Result<Reply, BookRefusal>, Unreached>
         ensures { gave self.now (entered (number self.now) command.now result) };
 
-    /// Returns the contents of the edge's table, in the order of a report.
-    fn table(&self, alloc: Global) -> Result<Result<Vec<Update>, AllocError>, Unreached>
-        ensures { gave self.now (table_seen (number self.now) result) };
+    /// Returns the page of the edge's table after a register, or its first page.
+    fn page(
+        &self,
+        alloc: Global,
+        after: Option<Register>,
+    ) -> Result<Result<Page, AllocError>, Unreached>
+        ensures after { IfOk result (IsPageAfter after) }
+        ensures gave { gave self.now (page_seen (number self.now) after result) };
 
     /// Returns the state of a port in the edge's spanning tree, or `None` if the edge has no port
     /// with this number.
@@ -123,9 +130,13 @@ impl<R: Wait> OneEdge for HostedEdge<'_, R> {
         }
     }
 
-    fn table(&self, alloc: Global) -> Result<Result<Vec<Update>, AllocError>, Unreached> {
-        match self.control.table(self.rt, alloc) {
-            Some(updates) => Ok(updates),
+    fn page(
+        &self,
+        alloc: Global,
+        after: Option<Register>,
+    ) -> Result<Result<Page, AllocError>, Unreached> {
+        match self.control.page(self.rt, alloc, after) {
+            Some(page) => Ok(page),
             None => Err(Unreached::Ended),
         }
     }

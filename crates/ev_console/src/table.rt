@@ -1,116 +1,117 @@
-//! The report of a table whose updates an edge has shown.
-ghost use Rattle.std.specs.Prelude.{◌≡◌, ◌≤◌, eqb, length, true, IfSome};
-ghost use Rattle.std.specs.List.{IsDistinct};
-ghost use Rattle.ether_wire.specs.Ends.{IsOpen};
-ghost use Rattle.route_join.specs.Table.{AreOriginators, IsTableOf};
-ghost use Rattle.ev_console.specs.Inner.Answers.{PutsTable, PutsShown, PutsUpdates};
+//! The report of an edge's table, which the edge shows page by page: the edge goes on between two
+//! pages, and no copy of the table is made.
+ghost use Rattle.std.specs.Prelude.{◌≡◌, ◌++◌, true};
+ghost use Rattle.ether_wire.specs.Ends.{IsOpen, Puts};
+ghost use Rattle.route_join.specs.Inner.Pages.{ArePages};
+ghost use Rattle.route_join.specs.ReportLines.{updates_text, after_updates, end_text};
+ghost use Rattle.ev_report.specs.Ends.{Tells};
+ghost use Rattle.ev_console.specs.Answers.{ShowsTable, missing_text, next_in, pages_in};
+ghost use Rattle.ev_console.specs.Inner.Answers.{Does, EndsReport, updates_in};
 
-use crate::operated::Unreached;
+use crate::operated::{Operated, Unreached};
 use crate::printing::{put_no_memory, put_unreached};
-use arrayvec::ArrayVec;
-use ether_wire::{Addr, Device, Out};
-use ev_script::put_report;
-use route_join::Table;
-use route_wire::Update;
+use ether_wire::{Device, Out};
+use route_join::{Page, ReportLines};
+use route_wire::{Register, Update};
 use std::alloc::{AllocError, Global};
 
-/// Lists an originator, if it isn't listed. Returns `false` if there was no room for it.
-fn list(originators: &mut ArrayVec<Addr, 64>, originator: Addr) -> bool
-    requires { IsDistinct eqb originators.old.items }
-    ensures distinct { IsDistinct eqb originators.new.items }
-    ensures few { result ≡ true → length originators.new.items ≤ 64 }
-{
-    if originators.contains(&originator) {
-        return true;
-    }
-    if originators.is_full() {
-        return false;
-    }
-    originators.push(originator);
-    true
-}
+/// The maximum number of pages of a report.
+const MOST_PAGES: u64 = 1 << 40;
 
-/// Returns the originators of updates, if there are 1 to 64.
-fn originators_of(updates: &[Update]) -> Option<ArrayVec<Addr, 64>>
-    ensures { IfSome result (λ originators. AreOriginators originators.items) }
-{
-    let mut originators = ArrayVec::new();
-    for update in updates {
-        if !list(&mut originators, update.register().originator) {
-            return None;
-        }
-    }
-    if originators.as_slice().is_empty() {
-        return None;
-    }
-    Some(originators)
-}
+/// An edge's answer to a request for a page.
+type PageSeen = Result<Result<Page, AllocError>, Unreached>;
 
-/// Returns the table of updates. Returns `None` if they have no originator, or more than 64, or if
-/// memory is refused.
-fn table_of(alloc: Global, updates: &[Update]) -> Option<Table>
-    ensures { IfSome result (IsTableOf updates.now) }
-{
-    let originators = originators_of(updates)?;
-    let mut table = Table::new(alloc, originators);
-    for update in updates {
-        match table.take(update) {
-            Ok(_) => {}
-            Err(_) => return None,
-        }
-    }
-    Some(table)
-}
-
-/// Writes the report of the table of these updates.
-fn put_updates<W: Out>(
-    alloc: Global,
-    out: &mut W,
-    edge: u64,
-    updates: &[Update],
-) -> Result<(), Device>
-    requires { IsOpen (W.end out.old) }
-    ensures { PutsUpdates edge updates.now (W.end out.old) (W.end out.new) result }
-{
-    if updates.is_empty() {
-        return Ok(());
-    }
-    match table_of(alloc, updates) {
-        Some(table) => put_report(out, &table),
-        None => put_no_memory(out, edge),
-    }
-}
-
-/// Writes the report of a table's contents, or that memory for them was refused.
-#[tactic(auto, using(crate::proofs::Doing::puts_refused))]
-fn put_shown<W: Out>(
-    alloc: Global,
-    out: &mut W,
-    edge: u64,
-    shown: &Result<Vec<Update>, AllocError>,
-) -> Result<(), Device>
-    requires { IsOpen (W.end out.old) }
-    ensures { PutsShown edge shown.now (W.end out.old) (W.end out.new) result }
-{
-    match shown {
-        Ok(updates) => put_updates(alloc, out, edge, updates.as_slice()),
-        Err(_) => put_no_memory(out, edge),
-    }
-}
-
-/// Writes the report of a table that was requested.
-#[tactic(auto, using(crate::proofs::Doing::puts_unreached))]
-pub(crate) fn put_table_seen<W: Out>(
-    alloc: Global,
-    out: &mut W,
-    edge: u64,
-    answer: &Result<Result<Vec<Update>, AllocError>, Unreached>,
-) -> Result<(), Device>
-    requires { IsOpen (W.end out.old) }
-    ensures { PutsTable edge answer.now (W.end out.old) (W.end out.new) result }
+/// Returns the updates of a page, or none if there is no page.
+fn updates_in(answer: &PageSeen) -> &[Update]
+    ensures value { result.now ≡ updates_in answer.now }
+    ensures pages { ArePages (pages_in answer.now) }
 {
     match answer {
-        Ok(shown) => put_shown(alloc, out, edge, shown),
+        Ok(Ok(page)) => page.updates(),
+        _ => &[],
+    }
+}
+
+/// Returns the register after which the next page begins, or `None` if no page follows.
+fn next_in(answer: &PageSeen) -> Option<Register>
+    ensures { result ≡ next_in answer.now }
+{
+    match answer {
+        Ok(Ok(page)) => page.next(),
+        _ => None,
+    }
+}
+
+/// Writes the lines of registers, if nothing has failed. Returns `true` if nothing has failed then.
+fn tell_updates<W: Out>(
+    is_told: bool,
+    lines: &mut ReportLines,
+    updates: &[Update],
+    out: &mut W,
+) -> bool
+    requires { is_told ≡ true → IsOpen (W.end out.old) }
+    ensures tells { Tells (W.end out.old) (W.end out.new) is_told result
+        (updates_text lines.old updates.now) }
+    ensures lines { result ≡ true → lines.new ≡ after_updates lines.old updates.now }
+{
+    is_told && lines.put_all(updates, out).is_ok()
+}
+
+/// Writes why a table wasn't shown, or not all of it, if so.
+fn put_missing<W: Out>(out: &mut W, edge: u64, answer: &PageSeen) -> Result<(), Device>
+    requires { IsOpen (W.end out.old) }
+    ensures { Puts (W.end out.old) (W.end out.new) (missing_text edge answer.now) result }
+{
+    match answer {
+        Ok(Ok(_)) => Ok(()),
+        Ok(Err(_)) => put_no_memory(out, edge),
         Err(unreached) => put_unreached(out, edge, *unreached),
     }
+}
+
+/// Ends a report, if nothing has failed: writes the line of the last owner, and why registers are
+/// missing, if so.
+fn end_report<W: Out>(
+    is_told: bool,
+    lines: &mut ReportLines,
+    out: &mut W,
+    edge: u64,
+    answer: &PageSeen,
+) -> Result<(), Device>
+    requires { is_told ≡ true → IsOpen (W.end out.old) }
+    ensures { EndsReport is_told (end_text lines.old ++ missing_text edge answer.now)
+        (W.end out.old) (W.end out.new) result }
+{
+    if !is_told {
+        return Err(Device);
+    }
+    lines.end(out)?;
+    put_missing(out, edge, answer)
+}
+
+/// Writes the report of an edge's table, page by page. Requests all pages, whether or not the
+/// writer fails.
+pub(crate) fn show_table<O: Operated, W: Out>(
+    alloc: Global,
+    operated: &mut O,
+    edge: u64,
+    out: &mut W,
+) -> Result<(), Device>
+    requires { IsOpen (W.end out.old) }
+    ensures does { Does (ShowsTable edge) (O.asked operated.old) (O.asked operated.new)
+        (W.end out.old) (W.end out.new) result }
+    ensures count { O.count operated.new ≡ O.count operated.old }
+{
+    let mut lines = ReportLines::new();
+    let mut is_told = true;
+    let mut after = None;
+    for turn in 0..MOST_PAGES {
+        let answer = operated.page(alloc, edge, after);
+        is_told = tell_updates(is_told, &mut lines, updates_in(&answer), out);
+        after = next_in(&answer);
+        if after.is_none() || turn + 1 == MOST_PAGES {
+            return end_report(is_told, &mut lines, out, edge, &answer);
+        }
+    }
+    unreachable!()
 }

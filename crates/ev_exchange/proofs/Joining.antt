@@ -7,9 +7,8 @@ use Rattle.std.proofs.lemmas.Map.Views.{exact_unsigned_eq}
 use Rattle.route_wire.specs.declared.update.Register.{Register}
 use Rattle.route_wire.specs.Fields.{Fields}
 use Rattle.route_join.specs.Table.{Table, value_at, IsTableOf}
-use Rattle.ev_exchange.specs.declared.announcing.EdgeTable.{EdgeTable}
 use Rattle.ev_exchange.specs.Sending.{is_own, own_of, own_updates}
-use Rattle.ev_exchange.specs.Saying.{Step, announces, says_back, said_at, said_of, sent_by}
+use Rattle.ev_exchange.specs.Saying.{EdgeTable, updates_of, Step, announces, says_back, said_at, said_of, sent_by}
 use Rattle.ev_exchange.specs.Laws.{Carries, TookBack, announced_by, IsUnnamed, HasEdge, stream_of, StreamCarries}
 use Rattle.ev_exchange.specs.Laws.{SaidBack, Came, JoinedAgrees}
 use Rattle.ev_exchange.proofs.Arriving.{first_in, first_or_later, filter_in, filter_has, said_is_carried, meets}
@@ -40,11 +39,11 @@ announced_in (says_back o ts ∷ steps) u c = Contains-append_right (said_of (So
 back_of : (o : ℕ) (ts : List EdgeTable) (u : Fields) → Contains (said_of (Some o) ts) u → u.register.originator ≡ o
 back_of o [] u c = absurd (omega (arith, c.1))
 back_of o (t ∷ ts) u c = go (back_of o ts u)
-    (Contains-append_cases (own_of o t.updates.items) (said_of (Some o) ts) u c)
+    (Contains-append_cases (own_of o (updates_of t)) (said_of (Some o) ts) u c)
   where
     go : (Contains (said_of (Some o) ts) u → u.register.originator ≡ o)
-        → Contains (own_of o t.updates.items) u ⊎ Contains (said_of (Some o) ts) u → u.register.originator ≡ o
-    go rest (inl c) = exact_unsigned_eq u.register.originator o (filter_in (is_own o) t.updates.items u c).0
+        → Contains (own_of o (updates_of t)) u ⊎ Contains (said_of (Some o) ts) u → u.register.originator ≡ o
+    go rest (inl c) = exact_unsigned_eq u.register.originator o (filter_in (is_own o) (updates_of t) u c).0
     go rest (inr c) = rest c
 
 later : (o : ℕ) (x : Step) (steps : List Step) → IsUnnamed o (x ∷ steps) → IsUnnamed o steps
@@ -93,8 +92,8 @@ stream_carries edges steps o start h = record {
 pub in_back : (o : ℕ) (held : Table) (back : List Step) → SaidBack o held back → (u : Fields)
     → Contains (own_updates held o) u → Contains (sent_by back) u
 in_back o held back h u c = in_flat said_at back (says_back o h.tables) u h.named
-    (in_flat (λ (t : EdgeTable). own_of o t.updates.items) h.tables h.table u h.one_of
-    (subst (λ (us : List Fields). Contains (own_of o us) u) (sym h.is_held) c))
+    (in_flat (λ (t : EdgeTable). own_of o (updates_of t)) h.tables h.table u h.one_of
+    (subst (λ (us : List Fields). Contains us u) (sym h.is_held) c))
 
 module _ (edges : List (ℕ × Table)) (steps back : List Step) (o : ℕ) (us came ws : List Fields)
     (start now before after : Table) (edge : HasEdge o start edges steps) (old : IsTableOf ws before)

@@ -6,10 +6,8 @@ use Rattle.std.proofs.lemmas.Map.Views.{exact_unsigned_eq}
 use Rattle.route_wire.specs.declared.update.Register.{Register}
 use Rattle.route_wire.specs.Fields.{Fields}
 use Rattle.route_join.specs.Table.{Table, value_at, IsTableOf}
-use Rattle.route_join.specs.Updates.{all_updates}
-use Rattle.ev_exchange.specs.declared.announcing.EdgeTable.{EdgeTable}
 use Rattle.ev_exchange.specs.Sending.{is_own, own_of, own_updates}
-use Rattle.ev_exchange.specs.Saying.{Step, announces, says_back, said_of, sent_by}
+use Rattle.ev_exchange.specs.Saying.{EdgeTable, updates_of, Step, announces, says_back, said_of, sent_by}
 use Rattle.ev_exchange.specs.Laws.{Carries, TookBack, HasEdge, announced_by, said_by, stream_of}
 use Rattle.ev_exchange.specs.JoinedProcesses.{Process, IsEdge, news, Joins, ProcessesAgree, EarlierLivesEnd}
 use Rattle.ev_exchange.proofs.Arriving.{first_in, first_or_later, filter_in, filter_has, own_updates_are, said_from}
@@ -20,20 +18,20 @@ use Rattle.ev_exchange.proofs.Joining.{in_back, stream_carries}
 abbrev IsBack : List Step → Fields → Type 0
 IsBack steps u =
     (o : ℕ) × (ts : List EdgeTable) × (t : EdgeTable) × Contains steps (says_back o ts) × Contains ts t
-    × Contains (own_of o t.updates.items) u
+    × Contains (own_of o (updates_of t)) u
 
 -- an update of the named originator is in one of the tables
 in_tables : (o : ℕ) (ts : List EdgeTable) (u : Fields) → Contains (said_of (Some o) ts) u
-    → (t : EdgeTable) × Contains ts t × Contains (own_of o t.updates.items) u
+    → (t : EdgeTable) × Contains ts t × Contains (own_of o (updates_of t)) u
 in_tables o [] u c = absurd (omega (arith, c.1))
 in_tables o (t ∷ ts) u c = go (in_tables o ts u)
-    (Contains-append_cases (own_of o t.updates.items) (said_of (Some o) ts) u c)
+    (Contains-append_cases (own_of o (updates_of t)) (said_of (Some o) ts) u c)
   where
     Found : List EdgeTable → Type 0
-    Found xs = (t : EdgeTable) × Contains xs t × Contains (own_of o t.updates.items) u
+    Found xs = (t : EdgeTable) × Contains xs t × Contains (own_of o (updates_of t)) u
 
     go : (Contains (said_of (Some o) ts) u → Found ts)
-        → Contains (own_of o t.updates.items) u ⊎ Contains (said_of (Some o) ts) u → Found (t ∷ ts)
+        → Contains (own_of o (updates_of t)) u ⊎ Contains (said_of (Some o) ts) u → Found (t ∷ ts)
     go rest (inl c) = (t, first_in t ts, c)
     go rest (inr c) =
         let h = rest c in
@@ -166,14 +164,14 @@ module _ (p q : Process) (jp : Joins p q) (jq : Joins q p) (o m : ℕ) (eo : IsE
         where
           named : u.register.originator ≡ b.0
           named = exact_unsigned_eq u.register.originator b.0
-              (filter_in (is_own b.0) b.2.updates.items u b.5).0
+              (filter_in (is_own b.0) (updates_of b.2) u b.5).0
 
-          held : (n : ℕ) × IsEdge q n × (b.2.updates.items ≡ all_updates (q.held n))
+          held : (n : ℕ) × IsEdge q n × (own_of b.0 (updates_of b.2) ≡ own_updates (q.held n) b.0)
           held = jq.sends.tables b.0 b.1 b.2 b.3 b.4
 
           at_n : value_at (q.held held.0) u.register ≡ Some u.value
           at_n = (own_updates_are (q.held held.0) b.0).own u
-              (subst (λ (us : List Fields). Contains (own_of b.0 us) u) held.2 b.5)
+              (subst (λ (us : List Fields). Contains us u) held.2 b.5)
 
           at_m : value_at (q.held m) u.register ≡ value_at (q.held held.0) u.register
           at_m = jq.sends.same m held.0 u.register em held.1

@@ -5,9 +5,8 @@ use Rattle.route_wire.specs.declared.update.Value.{Value}
 use Rattle.route_wire.specs.declared.update.Content.TheVariants.{Withdrawn}
 use Rattle.route_wire.specs.Fields.{Fields}
 use Rattle.route_join.specs.Table.{Table, value_at, IsTableOf}
-use Rattle.route_join.specs.Updates.{all_updates}
-use Rattle.ev_exchange.specs.declared.announcing.EdgeTable.{EdgeTable}
-use Rattle.ev_exchange.specs.Saying.{Step, says_back}
+use Rattle.ev_exchange.specs.Sending.{own_of, own_updates}
+use Rattle.ev_exchange.specs.Saying.{EdgeTable, updates_of, Step, says_back}
 use Rattle.ev_exchange.specs.Laws.{announced_by, stream_of, SaidBack}
 
 -- A process while it is joined: its edges by their addresses, each with its table when the connection began, and the
@@ -39,13 +38,13 @@ pub record Takes (p q : Process) : Type 0 where
   pub apart : (o : ℕ) → IsEdge p o → IsEdge q o → ⊥
 
 -- The items of p: its edges announce their own registers. For each edge of q, and for no other originator, each table
--- of p's edges is sent back. These tables have the same registers of q's edges.
+-- of p's edges is sent back, as far as it is of that originator. These tables have the same registers of q's edges.
 pub record Sends (p q : Process) : Type 0 where
   pub own : (u : Fields) → Contains (announced_by p.steps) u → IsEdge p u.register.originator
   pub back : (o m : ℕ) → IsEdge q o → IsEdge p m → SaidBack o (p.held m) p.steps
   pub named : (o : ℕ) (ts : List EdgeTable) → Contains p.steps (says_back o ts) → IsEdge q o
   pub tables : (o : ℕ) (ts : List EdgeTable) (t : EdgeTable) → Contains p.steps (says_back o ts) → Contains ts t
-      → (m : ℕ) × IsEdge p m × (t.updates.items ≡ all_updates (p.held m))
+      → (m : ℕ) × IsEdge p m × (own_of o (updates_of t) ≡ own_updates (p.held m) o)
   pub same : (m n : ℕ) (r : Register) → IsEdge p m → IsEdge p n → IsEdge q r.originator
       → value_at (p.held m) r ≡ value_at (p.held n) r
 

@@ -6,10 +6,8 @@ use Rattle.route_wire.specs.Fields.{Fields}
 use Rattle.route_join.specs.Table.{Table, value_at, IsTableOf}
 use Rattle.route_join.specs.Joins.{newer_of}
 use Rattle.route_join.specs.Report.{report_of}
-use Rattle.route_join.specs.Updates.{all_updates}
-use Rattle.ev_exchange.specs.declared.announcing.EdgeTable.{EdgeTable}
-use Rattle.ev_exchange.specs.Sending.{own_updates, AreOwn}
-use Rattle.ev_exchange.specs.Saying.{Step, announces, says_back, sent_by}
+use Rattle.ev_exchange.specs.Sending.{own_of, own_updates, AreOwn}
+use Rattle.ev_exchange.specs.Saying.{EdgeTable, updates_of, Step, announces, says_back, sent_by}
 
 -- the updates that an edge sends from its table are its own registers, all of them
 abbrev pub OwnUpdatesAre : Type 0
@@ -124,13 +122,13 @@ StreamCarries =
     (edges : List (ℕ × Table)) (steps : List Step) (o : ℕ) (start : Table) → HasEdge o start edges steps
     → Carries o start (announced_by steps) (stream_of edges steps)
 
--- `back` are the items of the other process: o was named, and a table of that process was `held`.
+-- `back` are the items of the other process: o was named, and a table of that process had of o what `held` has.
 pub record SaidBack (o : ℕ) (held : Table) (back : List Step) : Type 0 where
   pub tables : List EdgeTable
   pub table : EdgeTable
   pub named : Contains back (says_back o tables)
   pub one_of : Contains tables table
-  pub is_held : table.updates.items ≡ all_updates held
+  pub is_held : own_of o (updates_of table) ≡ own_updates held o
 
 -- `came` is what came to o's process from a process with these items, one of whose tables took `ws`: all that was sent
 -- for the items, and of o's registers only updates that this table took.

@@ -1,19 +1,21 @@
 -- The updates that edges of this process send on a connection: each edge's own registers, and then each update as it is
 -- announced. Between these they send back the registers of each originator that the other side names.
-use Rattle.std.specs.Prelude.{◌≡◌, ◌⊎◌, ℕ, ◌+◌, Bool, true, false, List, [], ◌∷◌, ◌++◌, length, Option, Some, None}
+use Rattle.std.specs.Prelude.{◌≡◌, ◌⊎◌, ℕ, ◌+◌, Bool, true, false, List, [], ◌∷◌, ◌++◌, length, map, Option, Some, None}
 use Rattle.std.specs.Prelude.{Contains}
 use Rattle.std.specs.List.{flat_map}
+use Rattle.route_wire.specs.declared.update.Register.{Register}
 use Rattle.route_wire.specs.Fields.{Fields}
+use Rattle.route_join.specs.Page.{Page, updates_on, AreChained, IsWhole}
 use Rattle.ev_exchange.specs.declared.announcing.Due.{Due}
 use Rattle.ev_exchange.specs.declared.announcing.Due.TheVariants.{Update, Back}
-use Rattle.ev_exchange.specs.declared.announcing.EdgeTable.{EdgeTable}
 use Rattle.ev_links.specs.Coming.{behind}
 use Rattle.ev_exchange.specs.Sending.{Sending, HasSaid, own_of}
 
--- a result of a call of the edges: the table of the edge with this number, if it returns one; or the next item, if one
--- comes
+-- a result of a call of the edges: the address of the edge with this number, if it returns one; the page of its table
+-- after a register, or its first page, if it returns one; or the next item, if one comes
 pub data Told : Type 0 where
-  has_table : ℕ → Option EdgeTable → Told
+  has_address : ℕ → Option ℕ → Told
+  has_page : ℕ → Option Register → Option Page → Told
   has_due : Option Due → Told
 
 -- the next item, if it has come
@@ -23,32 +25,63 @@ IsReady before after (Some due) = after ≡ behind before (has_due (Some due) �
 
 -- ---- tables
 
+-- an edge's address, and the pages of its table that it returned
+pub record EdgeTable : Type 0 where
+  pub address : ℕ
+  pub pages : List Page
+
+-- the updates on these pages
+abbrev pub updates_of : EdgeTable → List Fields
+updates_of t = updates_on t.pages
+
+-- the pages that the edge with this number returned
+abbrev pub pages_from : ℕ → List Page → List Told
+pages_from number ps = map (λ (p : Page). has_page number p.after (Some p)) ps
+
 -- the tables of edges, the first of which has this number
 abbrev pub tables_from : ℕ → List EdgeTable → List Told
 tables_from number [] = []
-tables_from number (t ∷ ts) = has_table number (Some t) ∷ tables_from (number + 1) ts
+tables_from number (t ∷ ts) = has_address number (Some t.address) ∷ (pages_from number t.pages
+    ++ tables_from (number + 1) ts)
 
 -- the originator whose registers are sent from a table: the named one, or the table's edge
-abbrev pub whose : Option ℕ → EdgeTable → ℕ
-whose None t = t.address
-whose (Some o) t = o
+abbrev pub whose : Option ℕ → ℕ → ℕ
+whose None address = address
+whose (Some o) address = o
 
--- the updates that are sent from these tables
+-- the updates that are sent from a table, and from these tables
+abbrev pub said_from_table : Option ℕ → EdgeTable → List Fields
+said_from_table named t = own_of (whose named t.address) (updates_of t)
+
 abbrev pub said_of : Option ℕ → List EdgeTable → List Fields
-said_of named ts = flat_map (λ (t : EdgeTable). own_of (whose named t) t.updates.items) ts
+said_of named ts = flat_map (said_from_table named) ts
 
--- The tables that edges returned, from the first edge on, were sent: those of all `edges` edges; or the next edge
--- returned none; or a call of the writer has failed. Of each table these were the registers of the named originator, or
--- the edge's own if none is named.
+-- each page begins after the last register of the one before, and the last page isn't full
+pub record IsWholeTable (t : EdgeTable) : Type 0 where
+  pub chained : AreChained t.pages
+  pub whole : IsWhole t.pages
+
+-- a table broke off: the edge with this number returned no address; or after these pages it returned no further one; or
+-- a call of the writer has failed
+abbrev pub BreaksOffAt : ℕ → List EdgeTable → List Told → Sending → Type 0
+BreaksOffAt number part last s' =
+    ((part ≡ []) × (last ≡ has_address number None ∷ []))
+    ⊎ ((t : EdgeTable) × (part ≡ t ∷ []) × AreChained t.pages
+    × (((q : Option Register) × (last ≡ has_page number q None ∷ [])) ⊎ ((last ≡ []) × (s'.is_open ≡ false))))
+
+-- The tables that edges returned, from the first edge on, were sent: those of all `edges` edges; or some of them, and a
+-- part of the next one. Of each table these were the registers of the named originator, or the edge's own if none is
+-- named.
 pub record SaysTables (edges : ℕ) (named : Option ℕ) (before after : Option (List Told)) (s s' : Sending)
     (is_whole : Bool) : Type 0 where
   pub tables : List EdgeTable
+  pub part : List EdgeTable
   pub last : List Told
-  pub told : after ≡ behind before (tables_from 1 tables ++ last)
-  pub said : HasSaid s s' (said_of named tables)
-  pub whole : is_whole ≡ true → (last ≡ []) × (length tables ≡ edges)
-  pub broken : is_whole ≡ false → (last ≡ has_table (length tables + 1) None ∷ [])
-      ⊎ ((last ≡ []) × (s'.is_open ≡ false))
+  pub told : after ≡ behind before (tables_from 1 (tables ++ part) ++ last)
+  pub said : HasSaid s s' (said_of named (tables ++ part))
+  pub wholes : (t : EdgeTable) → Contains tables t → IsWholeTable t
+  pub whole : is_whole ≡ true → (part ≡ []) × (last ≡ []) × (length tables ≡ edges)
+  pub broken : is_whole ≡ false → BreaksOffAt (length tables + 1) part last s'
 
 -- ---- the items since
 
@@ -74,9 +107,10 @@ told_by steps = flat_map told_at steps
 abbrev pub sent_by : List Step → List Fields
 sent_by steps = flat_map said_at steps
 
--- each originator that was named was sent back from the tables of all edges
+-- each originator that was named was sent back from the whole tables of all edges
 abbrev pub AreWhole : ℕ → List Step → Type 0
-AreWhole edges steps = (o : ℕ) (ts : List EdgeTable) → Contains steps (says_back o ts) → length ts ≡ edges
+AreWhole edges steps = (o : ℕ) (ts : List EdgeTable) → Contains steps (says_back o ts)
+    → (length ts ≡ edges) × ((t : EdgeTable) → Contains ts t → IsWholeTable t)
 
 -- an originator was named, and its registers in the edges' tables broke off
 pub record BreaksOff (edges : ℕ) (before after : Option (List Told)) (s s' : Sending) : Type 0 where

@@ -1,22 +1,14 @@
 //! The edges of this process as a connection uses them: their tables, and the items that are due on
 //! it: the updates that the edges announce, and the originators that the other side names.
-ghost use Rattle.std.specs.Prelude.{◌≡◌, ◌∷◌, [], Option, List};
+ghost use Rattle.std.specs.Prelude.{◌≡◌, ◌∷◌, [], Option, List, IfSome};
 ghost use Rattle.ev_links.specs.Coming.{behind};
-ghost use Rattle.ev_exchange.specs.Saying.{Told, has_table, has_due, IsReady};
+ghost use Rattle.ev_exchange.specs.Saying.{Told, has_address, has_page, has_due, IsReady};
 
 use crate::sender::Sender;
 use ether_wire::{Addr, Flushing};
-use route_wire::Update;
+use route_join::Page;
+use route_wire::{Register, Update};
 use std::alloc::Global;
-
-/// An edge's address, and the contents of its table in the order of a report.
-#[derive(Drop)]
-pub struct EdgeTable {
-    /// The edge's address.
-    pub address: Addr,
-    /// Each register of its table with its value, including those of other edges.
-    pub updates: Vec<Update>,
-}
 
 /// An item that is due on a connection.
 #[derive(Clone, Copy, Drop)]
@@ -33,10 +25,17 @@ pub trait Announcing {
     /// The trace of their results, in order; `None` if they keep no trace.
     ghost told: { Self → Option (List Told) };
 
-    /// Returns the table of the edge with this number, or `None` if the edge has ended or memory is
-    /// refused.
-    fn table(&mut self, alloc: Global, edge: u64) -> Option<EdgeTable>
-        ensures { told self.new ≡ behind (told self.old) (has_table edge result ∷ []) };
+    /// Returns the address of the edge with this number, or `None` if the edge has ended or memory
+    /// is refused.
+    fn address(&mut self, alloc: Global, edge: u64) -> Option<Addr>
+        ensures { told self.new ≡ behind (told self.old) (has_address edge result ∷ []) };
+
+    /// Returns the page of the edge's table after a register, or its first page. Returns `None` if
+    /// the edge has ended or memory is refused.
+    fn page(&mut self, alloc: Global, edge: u64, after: Option<Register>) -> Option<Page>
+        ensures after { IfSome result (λ page. page.after ≡ after) }
+        ensures told { told self.new
+            ≡ behind (told self.old) (has_page edge after result ∷ []) };
 
     /// Returns the next item, an update that one of them announces or an originator that the other
     /// side names, if it has come. It does not wait.

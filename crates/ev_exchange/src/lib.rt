@@ -13,7 +13,7 @@ mod saying;
 mod sender;
 mod stream_end;
 
-pub use announcing::{Announcing, Due, EdgeTable};
+pub use announcing::{Announcing, Due};
 pub use entrance::Entrance;
 pub use intake::{Incoming, receive};
 pub use known::Known;
@@ -21,7 +21,7 @@ pub use laws::{
     both_agree, earlier_lives_end, joined_agrees, meeting_agrees, newest_arrives,
     own_registers_agree, own_updates_are, processes_agree, said_is_carried, stream_carries,
 };
-pub use life::{Life, has_any_of};
+pub use life::Life;
 pub use receiver::{KINDS, Receiver};
 pub use saying::announce;
 pub use sender::Sender;

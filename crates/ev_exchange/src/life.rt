@@ -5,7 +5,6 @@ ghost use Rattle.std.specs.Prelude.{◌≡◌, IfOk, OnErr};
 ghost use Rattle.std.specs.List.{list_any};
 ghost use Rattle.route_join.specs.Table.{value_at, is_news};
 ghost use Rattle.ev_exchange.specs.Life.{new_life, with_update, is_present, lacks};
-ghost use Rattle.ev_exchange.specs.Sending.{is_own};
 
 use arrayvec::ArrayVec;
 use ether_wire::Addr;
@@ -98,16 +97,4 @@ impl Life {
         }
         false
     }
-}
-
-/// Returns `true` if one of the updates is of this originator.
-pub fn has_any_of(originator: Addr, updates: &[Update]) -> bool
-    ensures { result ≡ list_any (is_own originator) updates.now }
-{
-    for update in updates {
-        if update.register().originator == originator {
-            return true;
-        }
-    }
-    false
 }

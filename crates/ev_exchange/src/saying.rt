@@ -3,10 +3,10 @@
 //! the other side names.
 ghost use Rattle.std.specs.Prelude.{◌≡◌, [], None};
 ghost use Rattle.ev_exchange.specs.Sending.{HasSaid};
-ghost use Rattle.ev_exchange.specs.Inner.Saying.{Comes};
 ghost use Rattle.ev_exchange.specs.Saying.{whose, SaysTables, PassesOn, Announces};
+ghost use Rattle.ev_exchange.specs.Inner.Saying.{Comes, SaysPages, SaysTable};
 
-use crate::announcing::{Announcing, Due, EdgeTable};
+use crate::announcing::{Announcing, Due};
 use crate::sender::Sender;
 use ether_wire::{Addr, Flushing};
 use std::alloc::Global;
@@ -14,18 +14,68 @@ use std::sync::Wait;
 
 /// Returns the originator whose registers are sent from a table: the named one, if there is one,
 /// and otherwise the table's edge.
-fn whose(named: &Option<Addr>, table: &EdgeTable) -> Addr
-    ensures { result ≡ whose named.now table.now }
+fn whose(named: &Option<Addr>, address: Addr) -> Addr
+    ensures { result ≡ whose named.now address }
 {
     match named {
         Some(originator) => *originator,
-        None => table.address,
+        None => address,
     }
+}
+
+/// Sends the registers of an originator from the table of an edge, page by page: the edge goes on
+/// between two pages. Returns `true` if all of them were sent.
+fn say_pages<S: Announcing, W: Flushing, R: Wait>(
+    rt: &R,
+    alloc: Global,
+    edge: u64,
+    originator: Addr,
+    from: &mut S,
+    sender: &mut Sender<W>,
+) -> bool
+    ensures { SaysPages edge originator (S.told from.old) (S.told from.new) sender.old sender.new
+        result }
+{
+    let mut after = None;
+    for _ in rt.forever() {
+        let Some(page) = from.page(alloc, edge, after) else {
+            return false;
+        };
+        sender.originate(originator, page.updates());
+        if !sender.is_open() {
+            return false;
+        }
+        let Some(last) = page.next() else {
+            return true;
+        };
+        after = Some(last);
+    }
+    unreachable!()
+}
+
+/// Sends the registers of the named originator from the table of an edge, or the edge's own ones if
+/// none is named. Returns `true` if all of them were sent.
+fn say_table<S: Announcing, W: Flushing, R: Wait>(
+    rt: &R,
+    alloc: Global,
+    edge: u64,
+    named: &Option<Addr>,
+    from: &mut S,
+    sender: &mut Sender<W>,
+) -> bool
+    ensures { SaysTable edge named.now (S.told from.old) (S.told from.new) sender.old sender.new
+        result }
+{
+    let Some(address) = from.address(alloc, edge) else {
+        return false;
+    };
+    say_pages(rt, alloc, edge, whose(named, address), from, sender)
 }
 
 /// Sends from the tables of all `edges` edges the registers of this originator, or each edge's own
 /// registers if none is named. Returns `true` if all of them were sent.
-fn say_tables<S: Announcing, W: Flushing>(
+fn say_tables<S: Announcing, W: Flushing, R: Wait>(
+    rt: &R,
     alloc: Global,
     edges: u64,
     named: Option<Addr>,
@@ -36,11 +86,7 @@ fn say_tables<S: Announcing, W: Flushing>(
         result }
 {
     for place in 0..edges {
-        let Some(table) = from.table(alloc, place + 1) else {
-            return false;
-        };
-        sender.originate(whose(&named, &table), table.updates.as_slice());
-        if !sender.is_open() {
+        if !say_table(rt, alloc, place + 1, &named, from, sender) {
             return false;
         }
     }
@@ -85,7 +131,7 @@ fn pass_on<S: Announcing, W: Flushing, R: Wait>(
         match &due {
             Due::Update(update) => sender.put(update),
             Due::Back(originator) => {
-                if !say_tables(alloc, edges, Some(*originator), from, sender) {
+                if !say_tables(rt, alloc, edges, Some(*originator), from, sender) {
                     return;
                 }
             }
@@ -108,7 +154,7 @@ pub fn announce<S: Announcing, W: Flushing, R: Wait>(
 )
     ensures { Announces edges (S.told from.old) (S.told from.new) sender.old sender.new }
 {
-    if say_tables(alloc, edges, None, from, sender) {
+    if say_tables(rt, alloc, edges, None, from, sender) {
         pass_on(rt, alloc, edges, from, sender);
     }
 }

@@ -1,4 +1,5 @@
 pub mod Letter
 pub mod Posts
+pub mod Request
 pub mod Outbox
 pub mod Inner

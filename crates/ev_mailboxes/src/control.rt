@@ -1,6 +1,7 @@
 //! Access to running edges: the caller that waits until they end can send each of them a step, or a
 //! query about its state.
 ghost use Rattle.std.specs.Prelude.{◌≡◌, IfSome, vec_len};
+ghost use Rattle.ev_mailboxes.specs.Request.{IsPageAfter};
 
 use crate::boards::Boards;
 use crate::outbox::Outbox;
@@ -12,7 +13,8 @@ use ev_book::BookRefusal;
 use ev_edge::Reply;
 use ev_notices::Refused;
 use ev_view::EdgeQuestion;
-use route_wire::Update;
+use route_join::Page;
+use route_wire::{Register, Update};
 use std::alloc::{AllocError, Global};
 use std::sync::Wait;
 
@@ -92,11 +94,18 @@ impl Control<'_> {
         answer.take_entered()
     }
 
-    /// Returns the updates of the edge's table.
-    pub fn table<R: Wait>(&self, rt: &R, alloc: Global) -> Option<Result<Vec<Update>, AllocError>> {
+    /// Returns the page of the edge's table after a register, or its first page.
+    pub fn page<R: Wait>(
+        &self,
+        rt: &R,
+        alloc: Global,
+        after: Option<Register>,
+    ) -> Option<Result<Page, AllocError>>
+        ensures { IfSome result (λ page. IsPageAfter after page) }
+    {
         self.mailbox
-            .ask(rt, &Request::Read(Reading::Table(alloc)))?
-            .table()
+            .ask(rt, &Request::Read(Reading::Page(alloc, after)))?
+            .page(&after)
     }
 
     /// Returns the state of the port in the spanning tree.

@@ -1,13 +1,15 @@
 //! The operator's requests to a running edge, and the edge's answers.
-ghost use Rattle.std.specs.Prelude.{◌≡◌};
-ghost use Rattle.ev_mailboxes.specs.Inner.Request.{entered_in, table_in, port_in, served_in, view_in};
+ghost use Rattle.std.specs.Prelude.{◌≡◌, IfSome};
+ghost use Rattle.ev_mailboxes.specs.Request.{IsPageAfter};
+ghost use Rattle.ev_mailboxes.specs.Inner.Request.{entered_in, page_in, port_in, served_in, view_in};
 
 use ether_wire::{Addr, Vni};
 use ev_book::BookRefusal;
 use ev_edge::Reply;
 use ev_view::EdgeQuestion;
 use mac_arena::Station;
-use route_wire::Update;
+use route_join::Page;
+use route_wire::Register;
 use rstp_state::port::PortState;
 use std::alloc::{AllocError, Global};
 use std::mem;
@@ -36,8 +38,8 @@ pub enum Command {
 /// A query of the operator about an edge's state.
 #[derive(Clone, Copy)]
 pub enum Reading {
-    /// The updates of its table, in memory of this allocator.
-    Table(Global),
+    /// The page of its table after this register, or the first page, in memory of this allocator.
+    Page(Global, Option<Register>),
     /// The state of the port with this number in its spanning tree.
     Port(u8),
     /// Its address and the networks that it serves, in memory of this allocator.
@@ -80,9 +82,8 @@ pub struct Served {
 pub enum Answer {
     /// The book's answer to the step.
     Entered(Result<Reply, BookRefusal>),
-    /// The updates of all registers of its table, in the order of a report, or `AllocError` if
-    /// memory was refused for them.
-    Table(Result<Vec<Update>, AllocError>),
+    /// The page of its table, or `AllocError` if memory was refused for it.
+    Page(Result<Page, AllocError>),
     /// The state of the port in its spanning tree. `None` if no port has that number.
     Port(Option<PortView>),
     /// Its address and networks, or `AllocError` if memory was refused for them.
@@ -99,16 +100,24 @@ impl Answer {
         match self {
             Answer::Entered(Ok(reply)) => Some(Ok(mem::replace(reply, Reply::nothing()))),
             Answer::Entered(Err(refusal)) => Some(Err(*refusal)),
-            Answer::Table(_) | Answer::Port(_) | Answer::Served(_) | Answer::View(_) => None,
+            Answer::Page(_) | Answer::Port(_) | Answer::Served(_) | Answer::View(_) => None,
         }
     }
 
-    /// Returns the updates of the table, if this is the answer to that query.
-    pub(crate) fn table(self) -> Option<Result<Vec<Update>, AllocError>>
-        ensures { result ≡ table_in self }
+    /// Returns the page, if this is the answer to the query for the page after this register.
+    pub(crate) fn page(self, after: &Option<Register>) -> Option<Result<Page, AllocError>>
+        ensures page { result ≡ page_in after.now self }
+        ensures after { IfSome result (λ page. IsPageAfter after.now page) }
     {
         match self {
-            Answer::Table(updates) => Some(updates),
+            Answer::Page(Ok(page)) => {
+                if page.is_after(after) {
+                    Some(Ok(page))
+                } else {
+                    None
+                }
+            }
+            Answer::Page(Err(refused)) => Some(Err(refused)),
             Answer::Entered(_) | Answer::Port(_) | Answer::Served(_) | Answer::View(_) => None,
         }
     }
@@ -119,7 +128,7 @@ impl Answer {
     {
         match self {
             Answer::Port(view) => Some(*view),
-            Answer::Entered(_) | Answer::Table(_) | Answer::Served(_) | Answer::View(_) => None,
+            Answer::Entered(_) | Answer::Page(_) | Answer::Served(_) | Answer::View(_) => None,
         }
     }
 
@@ -129,7 +138,7 @@ impl Answer {
     {
         match self {
             Answer::Served(served) => Some(served),
-            Answer::Entered(_) | Answer::Table(_) | Answer::Port(_) | Answer::View(_) => None,
+            Answer::Entered(_) | Answer::Page(_) | Answer::Port(_) | Answer::View(_) => None,
         }
     }
 
@@ -139,7 +148,7 @@ impl Answer {
     {
         match self {
             Answer::View(text) => Some(text),
-            Answer::Entered(_) | Answer::Table(_) | Answer::Port(_) | Answer::Served(_) => None,
+            Answer::Entered(_) | Answer::Page(_) | Answer::Port(_) | Answer::Served(_) => None,
         }
     }
 }

@@ -1,10 +1,8 @@
 //! Answers the operator's requests in an edge's worker: it enters a step like any event, or reads
 //! from the edge's book.
-ghost use Rattle.std.specs.Prelude.{◌≡◌, ◌++◌, IfOk};
-ghost use Rattle.route_join.specs.Updates.{all_updates};
-ghost use Rattle.ev_edge.specs.Edge.{table_of};
+ghost use Rattle.std.specs.Prelude.{◌≡◌, IfOk};
 ghost use Rattle.ev_book.specs.Entering.{answered};
-ghost use Rattle.ev_peers.specs.Control.{event_of, Obeys, ShowsTable, ShowsPort, ShowsServed, ShowsView, Shows, Looked, Fulfils, Answers};
+ghost use Rattle.ev_peers.specs.Control.{event_of, Obeys, ShowsPort, ShowsServed, ShowsView, Shows, Looked, Fulfils, Answers};
 
 use crate::gate::Gate;
 use crate::giving::Carried;
@@ -16,7 +14,6 @@ use ev_book::{Book, BookRefusal};
 use ev_edge::{Edge, Event, Reply};
 use ev_mailboxes::{Answer, Command, PortView, Reading, Request, Served};
 use ev_view::EdgeQuestion;
-use route_wire::Update;
 use rstp_run::bridge::Bridge;
 use std::alloc::{AllocError, Global};
 use std::mem;
@@ -64,17 +61,6 @@ fn obey<L: Ledger, O: Outlet + Drop, G: Gate, R: Wait>(
     let answer = replied(answer, &mut worker.scratch.reply);
     worker.announce();
     answer
-}
-
-/// Returns the updates of all registers of an edge's table.
-fn updates_of(alloc: Global, edge: &Edge) -> Result<Vec<Update>, AllocError>
-    ensures { ShowsTable edge.now result }
-{
-    let mut updates = Vec::new(alloc);
-    for update in edge.table().updates() {
-        updates.push(update)?;
-    }
-    Ok(updates)
 }
 
 /// Returns a copy of these networks.
@@ -128,7 +114,7 @@ fn shown(edge: &Edge, reading: &Reading) -> Answer
     ensures { Shows edge.now reading.now result }
 {
     match reading {
-        Reading::Table(alloc) => Answer::Table(updates_of(*alloc, edge)),
+        Reading::Page(alloc, after) => Answer::Page(edge.table().page(*alloc, *after)),
         Reading::Port(port) => Answer::Port(view_of(edge.bridge(), *port)),
         Reading::Served(alloc) => Answer::Served(served_by(*alloc, edge)),
         Reading::View(alloc, number, question) => {

@@ -94,15 +94,32 @@ impl PeerLives {
         }
     }
 
-    /// Reports each edge elsewhere of which these updates are, if it hasn't sent one of them that
-    /// isn't of an earlier life.
-    fn report<R: Wait>(&self, edges: &ServedEdges<'_, R>, held: &[Update]) {
+    /// Reports each edge elsewhere of which some of these updates are, if it hasn't sent one that
+    /// isn't of an earlier life. Reports no edge twice.
+    fn report<R: Wait>(&self, edges: &ServedEdges<'_, R>, held: &[Update], reported: &mut Known) {
         for life in self.lives.as_slice() {
-            if life.lacks_any(held) {
+            if life.lacks_any(held) && reported.meet(life.originator()) {
                 let refused = Refused::Outlived(life.originator());
                 edges.running.refuse(edges.rt, refused);
             }
         }
+    }
+
+    /// Compares the lives with the updates that an edge holds, page by page. Returns `None` at the
+    /// end of its table, or if memory is refused or the edge has ended.
+    fn compare_with<R: Wait>(
+        &self,
+        edges: &ServedEdges<'_, R>,
+        control: &Control<'_>,
+    ) -> Option<()> {
+        let mut reported = Known::new();
+        let mut after = None;
+        for _ in edges.rt.forever() {
+            let page = control.page(edges.rt, edges.alloc, after)?.ok()?;
+            self.report(edges, page.updates(), &mut reported);
+            after = Some(page.next()?);
+        }
+        unreachable!()
     }
 
     /// Compares the lives, once, with the updates that the first edge of this process holds.
@@ -111,9 +128,7 @@ impl PeerLives {
             return;
         }
         if let Some(control) = edges.running.edge(1) {
-            if let Some(Ok(held)) = control.table(edges.rt, edges.alloc) {
-                self.report(edges, held.as_slice());
-            }
+            let _end = self.compare_with(edges, &control);
         }
         self.end();
     }
@@ -132,24 +147,31 @@ fn edge_at<'x, R: Wait>(edges: &ServedEdges<'x, R>, originator: Addr) -> Option<
     None
 }
 
-/// Returns the life of this edge in which it announced those of the updates that are its own.
-/// Returns `None` if memory is refused.
-fn life_in(alloc: Global, originator: Addr, updates: &[Update]) -> Option<Life> {
-    let mut life = Life::new(alloc, originator);
+/// Adds those of the updates to a life that are of its edge. Returns `None` if memory is refused.
+fn add_own(life: &mut Life, updates: &[Update]) -> Option<()> {
     for update in updates {
-        if update.register().originator == originator && life.add(update).is_err() {
+        if update.register().originator == life.originator() && life.add(update).is_err() {
             return None;
         }
     }
-    Some(life)
+    Some(())
 }
 
 /// Returns the present life of an edge of this process, by its table, or `None` if memory is
 /// refused or an edge has ended.
 fn present_life<R: Wait>(edges: &ServedEdges<'_, R>, originator: Addr) -> Option<Life> {
     let control = edge_at(edges, originator)?;
-    let updates = control.table(edges.rt, edges.alloc)?.ok()?;
-    life_in(edges.alloc, originator, updates.as_slice())
+    let mut life = Life::new(edges.alloc, originator);
+    let mut after = None;
+    for _ in edges.rt.forever() {
+        let page = control.page(edges.rt, edges.alloc, after)?.ok()?;
+        add_own(&mut life, page.updates())?;
+        let Some(last) = page.next() else {
+            return Some(life);
+        };
+        after = Some(last);
+    }
+    unreachable!()
 }
 
 /// The edges of this process whose updates come back over a connection.

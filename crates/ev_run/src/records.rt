@@ -3,28 +3,21 @@
 //! edge of the client are written back to it, so that an edge that has restarted withdraws the
 //! routes of its earlier life. The operator receives a message if the configuration doesn't list an
 //! originator, and if an edge was restarted in an incarnation that isn't higher.
-ghost use Rattle.std.specs.Prelude.{◌≡◌, true};
-ghost use Rattle.std.specs.List.{list_any};
-ghost use Rattle.std.specs.Option.{option_map_or};
-ghost use Rattle.ev_exchange.specs.Sending.{is_own};
+ghost use Rattle.std.specs.Prelude.{◌≡◌, IfSome};
 
 use crate::lives::{OwnLives, PeerLives};
 use ether_wire::{Addr, Buffered, Flushing, Reader, Writer};
-use ev_exchange::{
-    Announcing, Due, EdgeTable, Entrance, Known, Sender, StreamEnd, announce, has_any_of, receive,
-};
+use ev_exchange::{Announcing, Due, Entrance, Known, Sender, StreamEnd, announce, receive};
 use ev_mailboxes::{Control, Joined, Running};
 use ev_notices::Refused;
-use route_wire::Update;
+use route_join::Page;
+use route_wire::{Register, Update};
 use std::alloc::{AllocError, Global};
 use std::net::Shutdown;
 use std::os::unix::net::UnixStream;
 use std::sync::Wait;
 use std::thread;
 use std::thread::{Scope, Threads};
-
-/// The most times that an edge is asked for a table that has taken an update.
-const TRIES: usize = 100;
 
 /// The edges that exchange records with clients.
 #[derive(Drop)]
@@ -59,35 +52,14 @@ struct Connection<'x, R> {
 #[derive(Drop)]
 struct Announced<'x, R> {
     connection: &'x Connection<'x, R>,
-    /// The listed originator that the other side named last, if that was the last item.
-    named: Option<Addr>,
 }
 
 impl<R: Wait> Announced<'_, R> {
-    /// Returns `true` if these updates of an edge's table contain one of the named originator, or
-    /// none is named.
-    fn is_taken(&self, updates: &[Update]) -> bool
-        ensures { result
-            ≡ option_map_or (λ o. list_any (is_own o) updates.now) self.now.named true }
+    /// Returns the edge with this number, if there is one.
+    fn control(&self, edge: u64) -> Option<Control<'_>>
+        ensures { IfSome result (λ control. control.mailbox.now.number ≡ edge) }
     {
-        match self.named {
-            Some(originator) => has_any_of(originator, updates),
-            None => true,
-        }
-    }
-
-    /// Returns the updates of an edge's table. An edge answers before it takes the waiting updates:
-    /// asks again, up to 100 times, while the table lacks the update that named an originator.
-    fn updates(&self, alloc: Global, control: &Control<'_>) -> Option<Vec<Update>> {
-        let edges = self.connection.edges;
-        let rt = edges.rt;
-        for _ in 0..TRIES {
-            let updates = control.table(rt, alloc)?.ok()?;
-            if self.is_taken(updates.as_slice()) {
-                return Some(updates);
-            }
-        }
-        control.table(rt, alloc)?.ok()
+        self.connection.edges.running.edge(edge as usize)
     }
 
     /// Waits for the next update of the connection's outbox. Returns the item that it makes due.
@@ -95,14 +67,10 @@ impl<R: Wait> Announced<'_, R> {
         let edges = self.connection.edges;
         let update = self.connection.joined.next(edges.rt)?;
         let originator = update.register().originator;
-        self.named = None;
         if self.connection.own.has(originator) {
             return Some(Due::Update(update));
         }
         // The reader has put it there: it is the first one of an edge elsewhere.
-        if edges.listed.has(originator) {
-            self.named = Some(originator);
-        }
         Some(Due::Back(originator))
     }
 }
@@ -112,15 +80,17 @@ impl<R: Wait> Announcing for Announced<'_, R> {
 
     ghost told = { λ a. None };
 
-    fn table(&mut self, alloc: Global, edge: u64) -> Option<EdgeTable> {
-        let edges = self.connection.edges;
-        let control = edges.running.edge(edge as usize)?;
-        let served = control.served(edges.rt, alloc)?.ok()?;
-        let updates = self.updates(alloc, &control)?;
-        Some(EdgeTable {
-            address: served.address,
-            updates,
-        })
+    fn address(&mut self, alloc: Global, edge: u64) -> Option<Addr> {
+        let rt = self.connection.edges.rt;
+        let served = self.control(edge)?.served(rt, alloc)?.ok()?;
+        Some(served.address)
+    }
+
+    // An edge takes the updates that came before a request, so it has the one that named an
+    // originator.
+    fn page(&mut self, alloc: Global, edge: u64, after: Option<Register>) -> Option<Page> {
+        let rt = self.connection.edges.rt;
+        self.control(edge)?.page(rt, alloc, after)?.ok()
     }
 
     fn ready(&mut self) -> Option<Due> {
@@ -200,10 +170,7 @@ impl<R: Wait> Entrance for Entered<'_, R> {
 
 /// Sends the edges' updates on a connection until it is cut off, and then ends the connection.
 fn say<R: Wait>(connection: &Connection<'_, R>) {
-    let mut from = Announced {
-        connection,
-        named: None,
-    };
+    let mut from = Announced { connection };
     let mut sender = Sender::new(Buffered::new(Writer::new(connection.stream)));
     let edges = &connection.edges;
     announce(

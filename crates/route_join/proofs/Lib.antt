@@ -21,3 +21,7 @@ pub mod WinnerTrees
 pub mod Trees
 pub mod Abouts
 pub mod HexGroups
+pub mod Paged
+pub mod Filling
+pub mod Streamed
+pub mod PagedTables

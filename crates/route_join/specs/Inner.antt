@@ -4,6 +4,7 @@ pub mod Hashes
 pub mod LargeGroup
 pub mod Lines
 pub mod Names
+pub mod Pages
 pub mod Place
 pub mod Ranks
 pub mod Report

@@ -4,12 +4,43 @@ use Rattle.route_wire.specs.declared.update.Ip.{Ip}
 use Rattle.route_wire.specs.declared.update.Key.TheVariants.{Mac}
 use Rattle.route_wire.specs.declared.update.Register.{Register}
 use Rattle.route_wire.specs.Fields.{Fields}
-use Rattle.route_join.specs.Table.{Table, value_at, with_update, with_updates, table_from, IsTableOf}
+use Rattle.route_join.specs.Table.{Table, value_at, with_update, with_updates, table_from, IsTableOf, IsOrdered}
 use Rattle.route_join.specs.Owner.{advert_at, owner, IsOwner, IsUnowned}
 use Rattle.route_join.specs.Flood.{flood_of, IsFloodList}
 use Rattle.route_join.specs.Updates.{all_updates, updates_of, AreAllUpdates, AreUpdatesOf}
 use Rattle.route_join.specs.Joins.{newer_of, IsJoin, IsPartJoin, join}
 use Rattle.route_join.specs.Report.{report_of}
+use Rattle.route_join.specs.Page.{Page, page_of, updates_on, ArePagesOf, AreChained, IsWhole, AreShown}
+use Rattle.route_join.specs.ReportLines.{lines_text}
+
+-- pages that were taken one after the other, up to the last one
+abbrev pub PagesShow : Type 0
+PagesShow = (ts : List Table) (ps : List Page) → ArePagesOf ts ps → AreChained ps → IsWhole ps
+    → AreShown ts (updates_on ps)
+
+-- the pages of a table that didn't change meanwhile have all its updates
+abbrev pub PagesAreAll : Type 0
+PagesAreAll = (t : Table) (ps : List Page) → ((p : Page) → Contains ps p → p ≡ page_of t p.after) → AreChained ps
+    → IsWhole ps → updates_on ps ≡ all_updates t
+
+-- the table has taken `us`, and some of these updates
+abbrev pub HasTaken : List Fields → List Fields → Table → Type 0
+HasTaken us since t = (some : List Fields) × IsTableOf (us ++ some) t
+    × ((u : Fields) → Contains some u → Contains since u)
+
+-- Pages were taken one after the other while the table took updates `since`. What they show is the content of a table:
+-- with all of `since` it becomes the table at the end.
+abbrev pub PagesMakeATable : Type 0
+PagesMakeATable =
+    (us since : List Fields) (ts : List Table) (now : Table) (ps : List Page)
+    → ((t : Table) → Contains ts t → HasTaken us since t) → IsTableOf (us ++ since) now → ArePagesOf ts ps
+    → AreChained ps → IsWhole ps → (shown : Table) × (all_updates shown ≡ updates_on ps)
+    × IsTableOf (updates_on ps) shown × IsTableOf (updates_on ps ++ since) now
+
+-- the lines of registers in the order of a report are the report of their table
+abbrev pub ReportByLines : Type 0
+ReportByLines = (originators : List ℕ) (us : List Fields) → IsOrdered us → IsTableOf us (table_from originators us)
+    × (lines_text us ≡ report_of (table_from originators us))
 
 -- two lists have the same updates, regardless of order and repetition
 pub record HaveSame (us vs : List Fields) : Type 0 where

@@ -1,14 +1,16 @@
 //! The updates of one subject: few updates are searched by a walk, and more of them are stored in a
 //! tree.
-ghost use Rattle.std.specs.Prelude.{◌≡◌, ℕ, Ok, ◌∷◌, [], ◌<◌, None, IfOk, OnErr, IfSome, IfNone, MatchOption};
+ghost use Rattle.std.specs.Prelude.{◌≡◌, ℕ, Ok, ◌∷◌, ◌++◌, [], ◌<◌, take, Some, None, IfOk, OnErr, IfSome, IfNone, MatchOption, ◌≤◌, length};
 ghost use Rattle.std.specs.FinMap.Entries.{find};
 ghost use Rattle.route_wire.specs.Order.{register_cmp};
 ghost use Rattle.route_join.specs.Table.{entries_of, IsOrdered};
 ghost use Rattle.route_join.specs.Subject.{subject_of};
 ghost use Rattle.route_join.specs.Group.{AreAbout};
+ghost use Rattle.route_join.specs.Page.{updates_after};
 ghost use Rattle.route_join.specs.Inner.Group.{Takes, update_among, IsLeader, IsSilent};
 
 use crate::large_group::LargeGroup;
+use crate::page::Filling;
 use crate::place::place;
 use crate::small_group::{SmallGroup, best_place, owner_at};
 use crate::table::Taken;
@@ -100,6 +102,19 @@ impl Group {
             Storage::One(own) => UpdatesOf::few(slice::from_ref(own)),
             Storage::SmallGroup(few) => UpdatesOf::few(few.updates()),
             Storage::LargeGroup(many) => UpdatesOf::many(many.updates()),
+        }
+    }
+
+    /// Puts the updates of the registers after a register on a page, as long as there is room.
+    pub(crate) fn fill_after(&self, register: &Register, page: &mut Filling)
+        requires { length page.old ≤ 256 }
+        ensures { page.new
+            ≡ take 256 (page.old ++ updates_after (Some register.now) self.now) }
+    {
+        match &self.kept {
+            Storage::One(own) => page.put_after(slice::from_ref(own), register),
+            Storage::SmallGroup(few) => page.put_after(few.updates(), register),
+            Storage::LargeGroup(many) => many.fill_after(register, page),
         }
     }
 

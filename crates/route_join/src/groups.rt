@@ -1,6 +1,6 @@
 //! A table's groups in an index: an update goes into the group of its subject, and groups are
 //! reported one after the other in the order of their subjects.
-ghost use Rattle.std.specs.Prelude.{◌≡◌, ◌<◌, ◌∷◌, [], OnOk, OnErr, None};
+ghost use Rattle.std.specs.Prelude.{◌≡◌, ◌<◌, ◌∷◌, ◌++◌, [], take, OnOk, OnErr, None, ◌≤◌, length};
 ghost use Rattle.std.specs.Option.{option_copied};
 ghost use Rattle.std.specs.Iterator.{YieldsFirstBy, item_count};
 ghost use Rattle.std.specs.BTreeMap.{insert_entry};
@@ -9,12 +9,13 @@ ghost use Rattle.route_join.specs.Subject.{subject_cmp};
 ghost use Rattle.route_join.specs.Table.{entries_of};
 ghost use Rattle.route_join.specs.Group.{AreAbout, IsSome, AreGroups, updates_in};
 ghost use Rattle.route_join.specs.Inner.Group.{Takes};
-ghost use Rattle.route_join.specs.Inner.Groups.{group_at};
+ghost use Rattle.route_join.specs.Inner.Groups.{group_at, groups_along, groups_from};
 ghost use Rattle.route_join.specs.Inner.Report.{report_lines};
 ghost use Rattle.route_join.specs.Inner.Lines.{group_lines};
 
 use crate::group::Group;
 use crate::names::Names;
+use crate::page::Filling;
 use crate::report::{LINE, put_owner, put_updates, subject_text};
 use crate::salt::Salted;
 use crate::subject::{Subject, subject_of};
@@ -24,6 +25,7 @@ use route_wire::Update;
 use std::alloc::{AllocError, Global};
 use std::collections::{BTreeSet, HashMap, btree_set};
 use std::marker::Model;
+use std::ops::Bound;
 
 /// Groups by their subjects, and the subjects in the order of a report: a look-up needs only the
 /// hash map, and only a new subject changes the order. Contracts see the groups in that order.
@@ -50,6 +52,26 @@ impl Model for Groups {
     ghost invariant = { λ g. AreIndexed g.order.keys g.index.entries };
 }
 
+/// Puts the updates of the groups of subjects on a page, as long as there is room.
+fn put_along(
+    page: &mut Filling,
+    subjects: btree_set::Range<'_, Subject>,
+    index: &HashMap<Subject, Group, Salted>,
+)
+    requires { length page.old ≤ 256 }
+    ensures { page.new ≡ take 256
+        (page.old ++ updates_in (groups_along subjects.entry index.now.entries)) }
+{
+    for subject in subjects {
+        if page.is_full() {
+            return;
+        }
+        if let Some(group) = index.get(subject) {
+            page.put_all(group.updates());
+        }
+    }
+}
+
 impl Groups {
     /// Returns an empty list of groups, whose subjects will be hashed with this salt. It takes no
     /// memory.
@@ -68,6 +90,16 @@ impl Groups {
         ensures { option_copied result ≡ group_at subject.now self.now }
     {
         self.index.get(subject)
+    }
+
+    /// Puts the updates of the groups from a subject on on a page, as long as there is room.
+    pub(crate) fn fill_from(&self, start: Bound<Subject>, page: &mut Filling)
+        requires { length page.old ≤ 256 }
+        ensures { page.new
+            ≡ take 256 (page.old ++ updates_in (groups_from start self.now)) }
+    {
+        let subjects = self.order.range((start, Bound::Unbounded));
+        put_along(page, subjects, &self.index);
     }
 
     /// Returns the groups, in the order of their subjects.

@@ -1,15 +1,17 @@
 //! The updates of one subject, for any number of updates: in the order in which they came, found by
 //! a tree of their registers, and the best advert among them.
-ghost use Rattle.std.specs.Prelude.{◌≡◌, ◌<◌, Some, None, IfOk, IfSome, OnOk, OnErr, MatchOption, if◌then◌else◌};
+ghost use Rattle.std.specs.Prelude.{◌≡◌, ◌<◌, ◌++◌, take, Some, None, IfOk, IfSome, OnOk, OnErr, MatchOption, if◌then◌else◌, ◌≤◌, length};
 ghost use Rattle.std.specs.FinMap.Entries.{put};
 ghost use Rattle.std.specs.List.{slice_get};
 ghost use Rattle.std.specs.Iterator.{YieldsFirstBy, item_count};
 ghost use Rattle.route_wire.specs.Order.{is_newer, register_cmp};
 ghost use Rattle.route_join.specs.Table.{entries_of, IsOrdered};
+ghost use Rattle.route_join.specs.Page.{updates_after};
 ghost use Rattle.route_join.specs.Inner.Group.{Takes, update_among, IsLeader, IsSilent};
 ghost use Rattle.route_join.specs.Inner.WinnerTree.{owns};
-ghost use Rattle.route_join.specs.Inner.LargeGroup.{IsLargeGroup, place_at, large_updates};
+ghost use Rattle.route_join.specs.Inner.LargeGroup.{IsLargeGroup, ArePlaced, place_at, updates_along, large_updates};
 
+use crate::page::Filling;
 use crate::register_key::RegisterKey;
 use crate::table::Taken;
 use crate::winner_tree::{WinnerNode, best, own_at, push, replace, reserve, said_at};
@@ -18,6 +20,7 @@ use route_wire::{Register, Update};
 use std::alloc::{AllocError, Global};
 use std::collections::{BTreeMap, btree_map};
 use std::marker::Model;
+use std::ops::Bound;
 
 /// Returns the place of a register, if it has one.
 fn place_at(tree: &BTreeMap<RegisterKey, u32>, register: &Register) -> Option<u32>
@@ -67,6 +70,26 @@ fn is_newer_there(nodes: &[WinnerNode], place: u32, update: &Update) -> bool
     }
 }
 
+/// Puts the updates at places on a page, as long as there is room.
+fn put_places(
+    page: &mut Filling,
+    places: btree_map::Range<'_, RegisterKey, u32>,
+    nodes: &[WinnerNode],
+)
+    requires placed { ArePlaced (owns nodes.now) places }
+    requires few { length page.old ≤ 256 }
+    ensures { page.new ≡ take 256 (page.old ++ updates_along (owns nodes.now) places.entry) }
+{
+    for (_, place) in places {
+        if page.is_full() {
+            return;
+        }
+        if let Some(update) = own_at(nodes, *place) {
+            page.put(update);
+        }
+    }
+}
+
 /// The updates of one subject, each once: in a winner tree for the best advert. A second tree has
 /// the place of each register.
 #[derive(Drop)]
@@ -113,6 +136,17 @@ impl LargeGroup {
             places: self.tree.iter(),
             nodes: &self.nodes,
         }
+    }
+
+    /// Puts the updates of the registers after a register on a page, as long as there is room.
+    pub(crate) fn fill_after(&self, register: &Register, page: &mut Filling)
+        requires { length page.old ≤ 256 }
+        ensures { page.new
+            ≡ take 256 (page.old ++ updates_after (Some register.now) self.now) }
+    {
+        let start = Bound::Excluded(RegisterKey::new(*register));
+        let places = self.tree.range((start, Bound::Unbounded));
+        put_places(page, places, &self.nodes);
     }
 
     /// Returns the update of a register, if there is one.

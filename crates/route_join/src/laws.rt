@@ -1,5 +1,5 @@
 //! Laws on tables, as functions that do nothing: the contract is the law.
-ghost use Rattle.route_join.specs.Laws.{OneTable, EqualReports, NoneTaken, OneTaken, AllTaken, OneJoined, JoinIs, JoinCommutes, JoinAssociates, JoinRepeats, JoinOfTables, MergeCompletes, OneOwner, OwnerIs, OwnerAlong, SameOwner, FloodIs, AllUpdatesAre, UpdatesOfAre, OthersStay, NewerStands};
+ghost use Rattle.route_join.specs.Laws.{OneTable, EqualReports, NoneTaken, OneTaken, AllTaken, OneJoined, JoinIs, JoinCommutes, JoinAssociates, JoinRepeats, JoinOfTables, MergeCompletes, OneOwner, OwnerIs, OwnerAlong, SameOwner, FloodIs, AllUpdatesAre, UpdatesOfAre, OthersStay, NewerStands, PagesShow, PagesAreAll, PagesMakeATable, ReportByLines};
 
 /// A set of updates has one table: tables of lists with the same updates have equal registers,
 /// regardless of the order in which the updates came and of repetition.
@@ -108,4 +108,28 @@ pub fn others_stay()
 /// The register of an update that is taken has the newer of the update and its value before.
 pub fn newer_stands()
     ensures { NewerStands }
+{}
+
+/// Pages that were taken one after the other, up to the last one, while the table may have changed
+/// between two of them, have registers in the order of a report, each at most once. Each has a
+/// value that it had at a moment, and each register that was there all the time is among them.
+pub fn pages_show()
+    ensures { PagesShow }
+{}
+
+/// The pages of a table that didn't change meanwhile have all its updates.
+pub fn pages_are_all()
+    ensures { PagesAreAll }
+{}
+
+/// Pages that were taken while the table took updates show the content of a table. Once that has
+/// taken these updates too, it is the table at the end. So a reader of the pages who then takes the
+/// updates has the table at the end, as after a copy of the whole table.
+pub fn pages_make_a_table()
+    ensures { PagesMakeATable }
+{}
+
+/// Registers in the order of a report are written one by one as the report of their table.
+pub fn report_by_lines()
+    ensures { ReportByLines }
 {}

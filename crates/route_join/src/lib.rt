@@ -8,9 +8,11 @@ mod large_group;
 mod laws;
 mod names;
 mod owner;
+mod page;
 mod place;
 mod register_key;
 mod report;
+mod report_lines;
 mod salt;
 mod small_group;
 mod subject;
@@ -23,10 +25,13 @@ mod winner_tree;
 pub use laws::{
     all_taken, all_updates_are, equal_reports, flood_is, join_associates, join_commutes, join_is,
     join_of_tables, join_repeats, merge_completes, newer_stands, none_taken, one_joined, one_owner,
-    one_table, one_taken, others_stay, owner_along, owner_is, same_owner, updates_of_are,
+    one_table, one_taken, others_stay, owner_along, owner_is, pages_are_all, pages_make_a_table,
+    pages_show, report_by_lines, same_owner, updates_of_are,
 };
 pub use owner::{advert_in, is_better};
+pub use page::Page;
 pub use register_key::RegisterKey;
+pub use report_lines::ReportLines;
 pub use salt::Salted;
 pub use table::{Table, TakeError, Taken, Unmerged};
 pub use updates::{Updates, UpdatesOf};

@@ -23,7 +23,7 @@ use route_wire::{Addr6, Advert, Content, Ip, Key, Register, Update, Value};
 pub(crate) const LINE: usize = 256;
 
 /// The size of the array with a subject's text, which is copied as a whole.
-const SUBJECT: usize = 48;
+pub(crate) const SUBJECT: usize = 48;
 
 /// Writes two groups of four hexadecimal digits with a colon.
 fn two_groups_at(line: &mut [u8], at: usize, high: u16, low: u16) -> usize

@@ -1,6 +1,6 @@
 //! The table of route updates: the newest value of each register, of the
 //! originators that it listens to.
-ghost use Rattle.std.specs.Prelude.{◌≡◌, ◌+◌, ◌↔◌, false, Some, None, Ok, Err, IfOk, OnOk, OnErr, IfErr, MatchOption, ℕ, true};
+ghost use Rattle.std.specs.Prelude.{◌≡◌, ◌+◌, ◌++◌, ◌↔◌, take, false, Some, None, Ok, Err, IfOk, OnOk, OnErr, IfErr, MatchOption, ℕ, true, ◌≤◌, length};
 ghost use Rattle.std.specs.Prelude.{eqb};
 ghost use Rattle.std.specs.List.{list_any};
 ghost use Rattle.std.specs.FinMap.{empty};
@@ -12,17 +12,20 @@ ghost use Rattle.route_join.specs.Joins.{join, IsJoin, IsPartJoin};
 ghost use Rattle.route_join.specs.Flood.{flood_of, IsFloodList};
 ghost use Rattle.route_join.specs.Taken.{taken_of, number_of};
 ghost use Rattle.route_join.specs.Updates.{all_updates, updates_of, AreAllUpdates, AreUpdatesOf};
+ghost use Rattle.route_join.specs.Page.{page_of, updates_after};
 ghost use Rattle.route_wire.specs.declared.update.Value.{Value};
 
 use crate::flood::put_flood;
 use crate::groups::{Groups, put_groups};
+use crate::page::{Filling, Page};
 use crate::subject::{Subject, subject_of};
 use crate::updates::{Updates, UpdatesOf};
 use arrayvec::ArrayVec;
 use ether_wire::{Addr, Device, Mac, Out, Vni};
 use route_wire::{Key, NO_MEMORY, Register, UNKNOWN_ORIGINATOR, Update};
-use std::alloc::Global;
+use std::alloc::{AllocError, Global};
 use std::marker::Model;
+use std::ops::Bound;
 
 /// The result of an update that a table took.
 #[derive(Clone, Copy, Debug, PartialEq, Eq)]
@@ -263,6 +266,46 @@ impl Table {
         ensures exact { AreAllUpdates self.now result }
     {
         Updates::of(&self.groups)
+    }
+
+    /// Returns the page of the first 256 registers after a register, or of the first 256 registers
+    /// of all. It takes no more time if the table has more registers.
+    ///
+    /// # Errors
+    ///
+    /// `AllocError` if memory is refused for the page.
+    pub fn page(&self, alloc: Global, after: Option<Register>) -> Result<Page, AllocError>
+        ensures { IfOk result (λ page. page ≡ page_of self.now after) }
+    {
+        let mut page = Filling::new(alloc)?;
+        self.fill(&after, &mut page);
+        Ok(page.page(after))
+    }
+
+    /// Puts the updates of the registers after a register on a page, or all updates, as long as
+    /// there is room.
+    fn fill(&self, after: &Option<Register>, page: &mut Filling)
+        requires { length page.old ≤ 256 }
+        ensures { page.new
+            ≡ take 256 (page.old ++ updates_after after.now (all_updates self.now)) }
+    {
+        match after {
+            None => self.groups.fill_from(Bound::Unbounded, page),
+            Some(register) => self.fill_after(register, page),
+        }
+    }
+
+    /// Puts the updates of the registers after a register on a page, as long as there is room.
+    fn fill_after(&self, register: &Register, page: &mut Filling)
+        requires { length page.old ≤ 256 }
+        ensures { page.new
+            ≡ take 256 (page.old ++ updates_after (Some register.now) (all_updates self.now)) }
+    {
+        let subject = subject_of(&register.key);
+        if let Some(group) = self.groups.get(&subject) {
+            group.fill_after(register, page);
+        }
+        self.groups.fill_from(Bound::Excluded(subject), page);
     }
 
     /// Returns the originators that advertise a network's flood list (RFC 7432, section 7.3),

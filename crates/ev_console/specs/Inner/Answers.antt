@@ -1,28 +1,22 @@
 -- The requests that a line of the console makes to edges that run, and its answer.
-use Rattle.std.specs.Prelude.{◌≡◌, ℕ, List, ◌++◌, codes, Option, Result}
-use Rattle.std.specs.Global.{Vec}
-use Rattle.std.specs.declared.alloc.AllocError.{AllocError}
+use Rattle.std.specs.Prelude.{◌≡◌, ℕ, Bool, true, false, List, ◌++◌, codes, Option, Result, Ok, Err}
 use Rattle.ether_wire.specs.Ends.{End, Puts}
 use Rattle.ether_wire.specs.declared.ends.Device.{Device}
-use Rattle.route_wire.specs.Fields.{Fields}
 use Rattle.ev_links.specs.Coming.{behind}
-use Rattle.ev_console.specs.Asking.{Asked, TableSeen}
-use Rattle.ev_console.specs.Answers.{TellsUpdates, TellsShown, TellsTable, AnswersLine}
+use Rattle.route_wire.specs.Fields.{Fields}
+use Rattle.route_join.specs.Page.{updates_on}
+use Rattle.ev_console.specs.Asking.{Asked, PageSeen}
+use Rattle.ev_console.specs.Answers.{pages_in, AnswersLine}
 
--- A text of this kind was written, or a call of the writer failed.
-pub record PutsOne (tells : List ℕ → Type 0) (old new : End) (result : Result (Unit {0}) Device) : Type 0 where
-  pub text : List ℕ
-  pub told : tells text
-  pub written : Puts old new text result
+-- the updates on the page, if the edge showed one
+abbrev pub updates_in : PageSeen → List Fields
+updates_in answer = updates_on (pages_in answer)
 
-abbrev pub PutsUpdates : ℕ → List Fields → End → End → Result (Unit {0}) Device → Type 0
-PutsUpdates e updates old new result = PutsOne (TellsUpdates e updates) old new result
-
-abbrev pub PutsShown : ℕ → Result (Vec Fields) AllocError → End → End → Result (Unit {0}) Device → Type 0
-PutsShown e shown old new result = PutsOne (TellsShown e shown) old new result
-
-abbrev pub PutsTable : ℕ → TableSeen → End → End → Result (Unit {0}) Device → Type 0
-PutsTable e answer old new result = PutsOne (TellsTable e answer) old new result
+-- This text was written if nothing had failed before.
+abbrev pub EndsReport : Bool → List ℕ → End → End → Result (Unit {0}) Device → Type 0
+EndsReport true text old new result = Puts old new text result
+EndsReport false text old new (Ok done) = ⊥
+EndsReport false text old new (Err device) = new ≡ old
 
 -- These requests were made and answered, and no others; this text was written, or a call of the writer failed.
 pub record Does (says : List Asked → List ℕ → Type 0) (before after : Option (List Asked)) (old new : End)

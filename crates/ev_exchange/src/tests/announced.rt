@@ -1,8 +1,10 @@
 //! Tests the updates that edges send on a connection that is joined to them.
 use super::{EDGE, FLOOD, KIND, are, of_another, update, with, withdrawn};
-use crate::{Announcing, Due, EdgeTable, Known, Sender, announce};
+use crate::{Announcing, Due, Known, Sender, announce};
 use ether_wire::{Addr, FailAt, Flushing, Page};
-use route_wire::Update;
+use ev_report::read_originators;
+use route_join::Table;
+use route_wire::Register;
 use std::alloc::Global;
 use std::test::Fail;
 
@@ -66,22 +68,20 @@ impl Announcing for Two {
 
     ghost told = { λ two. None };
 
-    fn table(&mut self, alloc: Global, edge: u64) -> Option<EdgeTable> {
-        let (address, third) = match edge {
-            _ if edge > self.tables => return None,
-            1 => (EDGE, with(elsewhere(), KIND, 2)),
-            _ => (EDGE + 1, elsewhere()),
-        };
-        let mut updates = Vec::new(alloc);
-        for record in [FLOOD, of_another(), third].iter() {
-            if let Ok(update) = update(record) {
-                let _ = updates.push(update);
-            }
+    fn address(&mut self, _alloc: Global, edge: u64) -> Option<Addr> {
+        if edge > self.tables {
+            return None;
         }
-        Some(EdgeTable {
-            address: Addr::new(address),
-            updates,
-        })
+        Some(Addr::new(if edge == 1 { EDGE } else { EDGE + 1 }))
+    }
+
+    fn page(
+        &mut self,
+        alloc: Global,
+        edge: u64,
+        after: Option<Register>,
+    ) -> Option<route_join::Page> {
+        table_of(alloc, edge)?.page(alloc, after).ok()
     }
 
     fn ready(&mut self) -> Option<Due> {
@@ -94,6 +94,23 @@ impl Announcing for Two {
     fn wait<W: Flushing>(&mut self, _sender: &Sender<W>) -> Option<Due> {
         self.due()
     }
+}
+
+/// Returns the table of an edge, or `None` if it can't be made.
+fn table_of(alloc: Global, edge: u64) -> Option<Table> {
+    let third = if edge == 1 {
+        with(elsewhere(), KIND, 2)
+    } else {
+        elsewhere()
+    };
+    let originators = read_originators(b"10.0.0.1,10.0.0.2,10.0.0.3").ok()?;
+    let mut table = Table::new(alloc, originators);
+    for record in [FLOOD, of_another(), third].iter() {
+        if let Ok(update) = update(record) {
+            let _taken = table.take(&update);
+        }
+    }
+    Some(table)
 }
 
 /// Returns the flood list of the edge elsewhere.

@@ -1,10 +1,12 @@
 -- Groups in an index: found by their subjects, which are in the order of a report.
 use Rattle.std.specs.Prelude.{◌≡◌, Bool, true, Option, is_some, List, [], ◌∷◌}
-use Rattle.std.specs.List.{list_any}
+use Rattle.std.specs.List.{filter, list_any}
 use Rattle.std.specs.List.Sorted.{IsStrictlySortedBy}
 use Rattle.std.specs.Option.{unwrap_or}
 use Rattle.std.specs.Map.{lookup}
 use Rattle.std.specs.BTreeMap.{is_at}
+use Rattle.std.specs.BTreeMap.Range.{is_from_start}
+use Rattle.std.specs.declared.ops.Bound.{Bound}
 use Rattle.route_wire.specs.Fields.{Fields}
 use Rattle.route_join.specs.Subject.{Subject, subject_cmp}
 use Rattle.route_join.specs.Inner.Subject.{subject_eq}
@@ -12,6 +14,10 @@ use Rattle.route_join.specs.Inner.Subject.{subject_eq}
 -- the group of a subject, among groups in the order of their subjects
 abbrev pub group_at : Subject → List (Subject × List Fields) → Option (List Fields)
 group_at s gs = lookup (is_at (subject_cmp s)) gs
+
+-- the groups from a subject on, or after it
+abbrev pub groups_from : Bound Subject → List (Subject × List Fields) → List (Subject × List Fields)
+groups_from start gs = filter (λ (g : Subject × List Fields). is_from_start subject_cmp start g.0) gs
 
 -- the group of a subject, among groups in any order
 abbrev pub group_in : List (Subject × List Fields) → Subject → Option (List Fields)

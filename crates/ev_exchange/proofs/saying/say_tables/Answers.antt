@@ -1,34 +1,22 @@
-use Rattle.std.proofs.Common.{ℕ, List, sym, subst, ◌∙◌}
-use Rattle.route_wire.specs.Fields.{Fields}
-use Rattle.ev_exchange.specs.Sending.{HasSaid, own_of}
-use Rattle.ev_exchange.proofs.Sayings.{saying_more, saying_shut, saying_without}
+use Rattle.std.proofs.Common.{Bool, sym, subst, ◌∙◌, arith}
+use Rattle.ev_exchange.specs.Inner.Saying.{SaysTable}
+use Rattle.ev_exchange.proofs.Sayings.{saying_more, saying_broken, saying_all}
 use Rattle.ev_exchange.proofs.saying.say_tables.Goals as goal
 
-pub returns-in_default : goal.returns-in_default
-returns-in_default g c =
-    saying_without c.loop-place.place c.args.named (g.S.Announcing.told c.args.from.now)
-    (g.S.Announcing.told c.loop-place.from) c.args.sender.now c.loop-place.sender c.loop-place.invariant
-    c.args.edges (g.S.Announcing.told c.table.new.self)
-    c.in_default.ensures
-
-pub returns-then-not-is_open : goal.returns-then-not-is_open
-returns-then-not-is_open g c =
-    saying_shut c.loop-place.place c.args.named (g.S.Announcing.told c.args.from.now)
-    (g.S.Announcing.told c.loop-place.from) c.args.sender.now c.loop-place.sender c.loop-place.invariant
-    c.in-Some.table (g.S.Announcing.told c.table.new.self)
-    c.originate.new.self c.in-Some.ensures
-    (subst (λ (o : ℕ). HasSaid c.loop-place.sender c.originate.new.self (own_of o c.in-Some.table.updates.items))
-    c.whose.ensures
-    (subst (λ (us : List Fields). HasSaid c.loop-place.sender c.originate.new.self (own_of c.whose.result us))
-    c.as_slice.ensures.value c.originate.ensures.said)) c.args.edges (sym c.is_open.ensures ∙ c.if-not-is_open.true)
+pub returns-then-not-say_table : goal.returns-then-not-say_table
+returns-then-not-say_table g c =
+    let now = g.S.Announcing.told c.loop-place.from in
+    let next = g.S.Announcing.told c.say_table.new.from in
+    saying_broken c.loop-place.place c.args.named (g.S.Announcing.told c.args.from.now) now next c.args.sender.now
+    c.loop-place.sender c.say_table.new.sender c.loop-place.invariant c.args.edges
+    (subst (λ (b : Bool). SaysTable (c.loop-place.place + 1) c.args.named now next c.loop-place.sender
+    c.say_table.new.sender b) c.if-not-say_table.true c.say_table.ensures)
 
 pub loop-place-preserved : goal.loop-place-preserved
 loop-place-preserved g c =
-    saying_more c.loop-place.place c.args.named (g.S.Announcing.told c.args.from.now)
-    (g.S.Announcing.told c.loop-place.from) c.args.sender.now c.loop-place.sender c.loop-place.invariant
-    c.in-Some.table (g.S.Announcing.told c.table.new.self)
-    c.originate.new.self c.in-Some.ensures
-    (subst (λ (o : ℕ). HasSaid c.loop-place.sender c.originate.new.self (own_of o c.in-Some.table.updates.items))
-    c.whose.ensures
-    (subst (λ (us : List Fields). HasSaid c.loop-place.sender c.originate.new.self (own_of c.whose.result us))
-    c.as_slice.ensures.value c.originate.ensures.said))
+    let now = g.S.Announcing.told c.loop-place.from in
+    let next = g.S.Announcing.told c.say_table.new.from in
+    saying_more c.loop-place.place c.args.named (g.S.Announcing.told c.args.from.now) now next c.args.sender.now
+    c.loop-place.sender c.say_table.new.sender c.loop-place.invariant
+    (subst (λ (b : Bool). SaysTable (c.loop-place.place + 1) c.args.named now next c.loop-place.sender
+    c.say_table.new.sender b) c.if-not-say_table.false c.say_table.ensures)
