@@ -186,8 +186,43 @@ class Joined(TwoCables):
         self.assertEqual(self.asked(0, "peer", "add", STRANGER), "1 refused edge 12\n")
         self.assertIn(f"owner 5001 02:00:00:00:00:02 {TWO}", self.report(0))
 
+    def sent_from_1(self, octets: bytes, to: Cable, not_to: Cable) -> None:
+        """Sees that a frame of edge 1's first cable comes out at one other cable, and not at the other one."""
+        self.is_carried(self.one, to, octets)
+        while not_to.receive(0.2):
+            pass
+        self.one.send(octets)
+        self.assertEqual((to.receive(), not_to.receive(0.5)), (octets, b""))
+
+    def test_peer_without_a_session_gets_no_frame(self) -> None:
+        """`peer_hold` seconds after its session has ended a frame for its station is flooded here, until the session is back."""
+        beside, seconds = Cable(), 3
+        self.addCleanup(beside.here.close)
+        self.programs[0].kill()
+        keys = f'control = "{self.paths[0]}"\npeer_hold = {seconds}\n'
+        text = keys + edge(ONE, 1, self.one, beside, keys="incarnation = 2\n") + f'[[peer]]\naddress = "{TWO}"\n'
+        self.programs[0] = self.started(0, text)
+        self.join()
+        self.is_carried(self.two, self.one, frame(BROADCAST, station(2), b"here"))
+        self.assertTrue(is_reached(lambda: f"owner 5001 02:00:00:00:00:02 {TWO}" in self.report(0)))
+        to_owned = frame(station(2), station(1), b"who is there")
+        self.sent_from_1(to_owned, self.two, beside)
+        self.assertEqual(self.asked(0, "peers"), f"1 peer {TWO} up\n")
+
+        begun = time.monotonic()
+        self.part()
+        self.assertTrue(is_reached(lambda: self.asked(0, "peers") == f"1 peer {TWO} away\n"))
+        self.assertGreaterEqual(time.monotonic() - begun, seconds)
+        self.sent_from_1(to_owned, beside, self.two)
+        self.sent_from_1(frame(BROADCAST, station(1), b"who is there"), beside, self.two)
+        self.assertIn(f"owner 5001 02:00:00:00:00:02 {TWO}", self.report(0))
+
+        self.join()
+        self.assertTrue(is_reached(lambda: self.asked(0, "peers") == f"1 peer {TWO} up\n"))
+        self.sent_from_1(to_owned, self.two, beside)
+
     def test_peer_that_is_not_listed_is_told_once(self) -> None:
-        """Nothing of it is taken; its name is told at the first connection, and not at the second."""
+        """Nothing of it is taken; its name is told at the first connection, and not at the second. The console lists it once."""
         text = f'control = "{self.paths[1]}"\n' + edge(STRANGER, 2, self.two, keys="incarnation = 1\n") + f'[[peer]]\naddress = "{ONE}"\n'
         self.programs[1].kill()
         self.programs[1] = self.started(1, text)
@@ -195,6 +230,8 @@ class Joined(TwoCables):
             self.join()
             self.assertTrue(is_reached(lambda: ONE in self.report(1)))
             self.part()
+        listed = f"1 peer {TWO} up\n1 peer {STRANGER} unlisted\n"
+        self.assertTrue(is_reached(lambda: self.asked(0, "peers") == listed), self.asked(0, "peers"))
         noted = f"records of {STRANGER}: dropped; no [[edge]] and no [[peer]] has this address\n"
         self.assertEqual(self.programs[0].note(), noted)
         status, out, told = self.programs[0].end()

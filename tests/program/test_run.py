@@ -560,10 +560,10 @@ class Beginning(unittest.TestCase):
 
     @unittest.skipIf(os.getuid(), "only root can give a user a limit of its own")
     def test_refused_thread_is_told_at_once(self) -> None:
-        """Two edges of one port with 16 threads, 17 if they are served: with fewer the run doesn't begin, though its input hasn't ended."""
+        """Two edges of one port with 16 threads, 18 if they are served: with fewer the run doesn't begin, though its input hasn't ended."""
         one, two = Cable(), Cable(TWO)
         text = edge(ONE, 1, one) + edge(TWO, 2, two)
-        for subcommand, needed in (("run", 16), ("serve", 17)):
+        for subcommand, needed in (("run", 16), ("serve", 18)):
             for allowed in (1, 2, needed // 2, needed - 1):
                 with self.subTest(subcommand=subcommand, allowed=allowed), self.limited(allowed, [subcommand], text) as program:
                     try:

@@ -337,10 +337,10 @@ class Clients(Served):
         return len(os.listdir(f"/proc/{self.running.program.pid}/task"))
 
     def threads_of_check(self) -> int:
-        """How many it has without clients: as many as `check` says, and one that accepts clients."""
+        """How many it has without clients: as many as `check` says, one that accepts clients, and one that watches sessions."""
         words = [PROGRAM, "check", "--serve", "--config", os.path.join(self.running.folder.name, "edges.toml")]
         done = subprocess.run(words, capture_output=True, encoding="utf-8", timeout=PATIENCE, check=False)
-        return int(done.stdout.splitlines()[1].split()[0]) + 1
+        return int(done.stdout.splitlines()[1].split()[0]) + 2
 
     def test_many_clients(self) -> None:
         """3,000 one after the other, some of which break off: neither memory nor threads grow with them."""

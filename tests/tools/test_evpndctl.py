@@ -103,10 +103,12 @@ OBJECTS = {
     ),
     "E peers": (
         "1 peers",
-        "1 peer 10.0.0.2 up\n1 peer 10.0.0.9 away\n",
+        "1 peer 10.0.0.2 up\n1 peer 10.0.0.9 away\n1 peer 10.0.0.23 unlisted\n1 unlisted 64 or more\n",
         [
             {"line": "peer", "edge": 1, "address": "10.0.0.2", "state": "up"},
             {"line": "peer", "edge": 1, "address": "10.0.0.9", "state": "away"},
+            {"line": "peer", "edge": 1, "address": "10.0.0.23", "state": "unlisted"},
+            {"line": "unlisted", "edge": 1, "least": 64},
         ],
     ),
     "edges": (

@@ -298,18 +298,25 @@ class Pools(unittest.TestCase):
     """How many checks of large crates run side by side."""
 
     def test_memory_is_shared(self):
-        # MiB that are free: a proof may take 5,500 of 85 in 100 of them, another check 3,500
-        checks = {0: {"proofs": 1}, 10_000: {"proofs": 1}, 11_000: {"proofs": 1, "edits": 1}, 16_000: {"proofs": 1, "edits": 2},
-                  18_000: {"proofs": 2, "edits": 1}, 22_000: {"proofs": 2, "edits": 2}}
+        # MiB that are free: a proof of the longest chain may take 5,500 of 85 in 100 of them, each other check 3,500
+        checks = {0: {"all": 1}, 10_000: {"all": 1}, 11_000: {"others": 1}, 16_000: {"proofs": 1, "edits": 1},
+                  18_000: {"proofs": 1, "edits": 1}, 19_000: {"proofs": 2, "edits": 1}, 23_000: {"proofs": 2, "edits": 2}}
         for memory, pools in checks.items():
             with self.subTest(memory=memory):
                 self.assertEqual(graph.pools_for(memory), pools)
 
-    def test_edits_never_take_the_place_of_a_proof(self):
-        large = type("Large", (), {"reach": lambda self, name: range(graph.MANY + 1), "lines_of": lambda self, name: 1})()
-        pools = {"proofs": 2, "edits": 1}
-        self.assertEqual([graph.pool_of(large, rule, "top", pools) for rule in graph.RULES], ["proofs", "edits", None, "edits", None, None])
-        self.assertEqual(graph.pool_of(large, "edits", "top", {"proofs": 1}), "proofs")
+    def test_no_check_takes_the_place_of_a_proof_of_the_chain(self):
+        large = type("Large", (), {"reach": lambda self, name: range(graph.MANY + 1)})()
+
+        def pools_of(pools, chain):
+            return [graph.pool_of(large, rule, "top", pools, chain) for rule in ("proof", "edits", "tests", "house")]
+
+        both = {"proofs": 2, "edits": 1}
+        self.assertEqual(pools_of(both, ["top"]), [None, "edits", None, "edits"])
+        self.assertEqual(pools_of(both, []), ["proofs", "edits", None, "edits"])
+        self.assertEqual(pools_of({"others": 1}, ["top"]), [None, "others", None, "others"])
+        self.assertEqual(pools_of({"others": 1}, []), ["others", "others", None, "others"])
+        self.assertEqual(pools_of({"all": 1}, ["top"]), ["all", "all", None, "all"])
 
 
 class Chain(unittest.TestCase):
@@ -332,7 +339,6 @@ class Chain(unittest.TestCase):
             with self.subTest(lanes_at_work=lanes_at_work, memory=memory), mock.patch.multiple(lanes, time=mock.DEFAULT, **state):
                 self.assertEqual(lanes.jobs_for(self.project(), "edge", is_in_chain), jobs)
                 self.assertEqual(lanes.jobs_for(self.project(), "words", is_in_chain), 1)
-
 
     def test_other_rules_give_way_to_them(self):
         found = [lanes.niceness_of(rule, is_in_chain) for rule, is_in_chain in (("proof", True), ("proof", False), ("edits", True), ("tests", False))]

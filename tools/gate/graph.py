@@ -1,9 +1,9 @@
 """The gate as a graph of files for ninja: which rule waits for which, and in which order they start.
 
 ninja starts what is ready in the order of its file. Proofs come first, that with the longest chain of other proofs behind it before
-all; edits, tests and looks fill what proofs leave free. Two pools hold as many checks of large crates as memory does: one for proofs,
-one for edits and searches. When a check ends, ninja gives its place to what waits in its pool, before it looks what has become ready.
-With one pool for both, the next proof of the chain waited for an edit of some ten minutes.
+all; edits, tests and looks fill what proofs leave free. Pools hold as many checks of large crates as memory does beside a proof of the
+longest chain: one for other proofs, one for edits and searches. Proofs of the chain are in no pool. When they were in that of the
+proofs, the next one waited five minutes for a place, and with one pool for all ten.
 """
 import subprocess
 from concurrent.futures import FIRST_COMPLETED, ThreadPoolExecutor, wait
@@ -12,7 +12,8 @@ from calls import free_memory
 
 # in the order in which tasks that are ready start
 RULES = ("proof", "edits", "tests", "house", "layout", "texts")
-# The memory in MiB of the largest crates' checks, as measured: of a proof with two jobs, and of another check, which has one job.
+# The memory in MiB of the largest crates' checks, as measured: of a proof with two jobs, as those of the longest chain have, and of
+# another check, which has one job.
 PROOF, CHECK = 5500, 3500
 # how many crates below a crate make it large
 MANY = 15
@@ -56,30 +57,36 @@ def longest_chain(project):
         chain.append(max(ready, key=above.get))
 
 
-def pool_of(project, rule, name, pools):
-    """Returns the pool of a rule that takes as much memory as a large crate's check, or None if the rule takes less."""
+def pool_of(project, rule, name, pools, chain):
+    """Returns the pool of a rule that takes as much memory as a large crate's check, or None if the rule takes less. A proof of the
+    longest chain has a pool only if this pool is for all large checks."""
     if rule not in ("proof", "edits", "house") or len(project.reach(name)) <= MANY:
         return None
-    return "proofs" if rule == "proof" or "edits" not in pools else "edits"
+    if rule == "proof" and name in chain and "all" not in pools:
+        return None
+    kind = "proofs" if rule == "proof" else "edits"
+    return kind if kind in pools else next(iter(pools))
 
 
 def pools_for(memory):
-    """Returns how many proofs and how many other checks of large crates these MiB carry: one pool if only one check fits."""
-    left = memory * 85 // 100
-    proofs = min(2, max(1, (left - CHECK) // PROOF))
-    edits = (left - proofs * PROOF) // CHECK
-    return {"proofs": proofs, "edits": edits} if edits > 0 else {"proofs": 1}
+    """Returns how many checks of large crates these MiB carry beside a proof of the longest chain: other proofs and other checks. Only
+    one pool if one check fits beside it, or none."""
+    places = (memory * 85 // 100 - PROOF) // CHECK
+    if places < 2:
+        return {"others": 1} if places == 1 else {"all": 1}
+    proofs = min(2, places - 1)
+    return {"proofs": proofs, "edits": places - proofs}
 
 
 def ninja_file(project, crates, rules, command):
     """Returns the text of a build.ninja that does these rules of these crates, each by this command."""
-    pools = pools_for(free_memory())
+    pools, chain = pools_for(free_memory()), longest_chain(project)
     told = "\n".join(f"pool {name}\n  depth = {depth}" for name, depth in pools.items())
     parts = [HEAD.format(pools=told, command=command, folder=project.gate)]
     for rule in rules:
         for name in longest_first(project, crates):
             waits = " ".join([*(f"{project.gate}/{crate}.{it}" for it, crate in needs_of(project, rules, rule, name)), "always"])
-            pool = pool_of(project, rule, name, pools)
+            pool = pool_of(project, rule, name, pools, chain)
             line = f"  pool = {pool}\n" if pool else ""
             parts.append(f"build {project.gate}/{name}.{rule}: work | {waits}\n  rule = {rule}\n  crate = {name}\n{line}")
     return "\n".join(parts)
@@ -88,13 +95,13 @@ def ninja_file(project, crates, rules, command):
 def run_without_ninja(project, crates, rules, command, jobs):
     """Does what ninja does, in the same order, where there is no ninja."""
     left = [(rule, name) for rule in rules for name in longest_first(project, crates)]
-    pools, done, running = pools_for(free_memory()), set(), {}
+    pools, chain, done, running = pools_for(free_memory()), longest_chain(project), set(), {}
 
     def can_start(step):
         if not done.issuperset(needs_of(project, rules, *step)):
             return False
-        pool = pool_of(project, *step, pools)
-        return pool is None or sum(pool_of(project, *it, pools) == pool for it in running.values()) < pools[pool]
+        pool = pool_of(project, *step, pools, chain)
+        return pool is None or sum(pool_of(project, *it, pools, chain) == pool for it in running.values()) < pools[pool]
 
     with ThreadPoolExecutor(jobs) as pool:
         while left or running:

@@ -2,7 +2,7 @@
 use Rattle.std.proofs.Common.{◌≡◌, ℕ, List, [], ◌∷◌, ◌++◌, map, drop, Result, Ok, refl, ap, sym, subst, ◌∙◌}
 use Rattle.std.proofs.Common.{append_assoc}
 use Rattle.std.specs.List.{concat}
-use Rattle.std.proofs.lemmas.List.{append-nil}
+use Rattle.std.proofs.lemmas.List.{append-nil, map_push}
 use Rattle.std.proofs.lemmas.List.Folds.{concat-append}
 use Rattle.route_wire.specs.Fields.{Fields}
 use Rattle.route_wire.specs.Record.{ReadsUpTo, Reads, Answers}
@@ -15,18 +15,9 @@ reads_on : (newest : ℕ) (s : List ℕ) (xs ys : List (Result Fields ℕ)) (r t
 reads_on newest s [] ys r t h k = subst (λ (z : List ℕ). ReadsUpTo newest z ys t) (sym h) k
 reads_on newest s (x ∷ xs) ys r t h k = (h.0, h.1, h.2, reads_on newest (drop h.0 s) xs ys r t h.3 k)
 
-map-push : (us : List Fields) (u : Fields) → all_ok (us ++ u ∷ []) ≡ all_ok us ++ Ok u ∷ []
-map-push [] u = refl
-map-push (x ∷ us) u = ap (λ z. Ok x ∷ z) (map-push us u)
-
-spellings-push : (us : List Fields) (u : Fields) → map spelling_of (us ++ u ∷ []) ≡ map spelling_of us ++ spelling_of u
-    ∷ []
-spellings-push [] u = refl
-spellings-push (x ∷ us) u = ap (λ z. spelling_of x ∷ z) (spellings-push us u)
-
 -- one record more
 pub records-push : (us : List Fields) (u : Fields) → records_of (us ++ u ∷ []) ≡ records_of us ++ spelling_of u
-records-push us u = ap concat (spellings-push us u) ∙ concat-append (map spelling_of us) (spelling_of u ∷ [])
+records-push us u = ap concat (map_push spelling_of us u) ∙ concat-append (map spelling_of us) (spelling_of u ∷ [])
     ∙ ap (λ z. records_of us ++ z) (append-nil (spelling_of u))
 
 -- the records of these updates are read as them, whatever follows
@@ -45,7 +36,7 @@ reads_more us u before last rest =
     (last rest) in
     subst (λ (z : List ℕ). Reads z (all_ok (us ++ u ∷ [])) rest) whole
     (subst (λ (z : List (Result Fields ℕ)). Reads (records_of us ++ (spelling_of u ++ rest)) z rest)
-    (sym (map-push us u)) all)
+    (sym (map_push (λ v. Ok v) us u)) all)
 
 pub answered : (us : List Fields) → ReadAgain us → Answers (records_of us) (all_ok us) []
 answered us h = record {

@@ -1,6 +1,6 @@
 -- The updates of a table: no more than those whose table it is, each of them among these, and no fewer for more
 -- updates.
-use Rattle.std.proofs.Common.{◌≡◌, ℕ, zero, suc, ◌<◌, ◌≤◌, Bool, true, false, ◌||◌, Option, Some, None, is_some, List}
+use Rattle.std.proofs.Common.{◌≡◌, ℕ, zero, suc, ◌<◌, ◌≤◌, true, ◌||◌, Option, Some, None, is_some, List}
 use Rattle.std.proofs.Common.{[], ◌∷◌, ◌++◌, length, map, get_or, Contains, refl, ap, ◌∙◌, arith}
 use Rattle.std.specs.List.{AllByRecursion, list_any}
 use Rattle.std.specs.List.Sorted.{IsStrictlySortedBy}
@@ -9,7 +9,7 @@ use Rattle.std.specs.declared.cmp.Ordering.TheVariants.{Less}
 use Rattle.std.specs.Ordering.{eq_by_cmp, is_lt}
 use Rattle.std.specs.FinMap.{entries, entries_sorted, get-entries}
 use Rattle.std.specs.FinMap.Entries.{find, below_all, is_sorted, is_some-find}
-use Rattle.std.proofs.lemmas.Bool.{false≢true}
+use Rattle.std.proofs.lemmas.Bool.{false≢true, or_right}
 use Rattle.std.proofs.lemmas.Cmp.{eq_by_cmp_equiv}
 use Rattle.std.proofs.lemmas.List.{length-map}
 use Rattle.std.proofs.lemmas.List.Elements.{Contains-append_left}
@@ -47,10 +47,6 @@ sorted_keys [] h = tt
 sorted_keys (e ∷ es) h =
     let parts = both (below_all register_cmp e.0 es) (is_sorted register_cmp es) h in
     (below_keys e.0 es parts.0, sorted_keys es parts.1)
-
-or_right : (b c : Bool) → c ≡ true → (b || c) ≡ true
-or_right true c h = refl
-or_right false c h = h
 
 member_at : (us : List Fields) (u : Fields) (k : ℕ) → k < length us → get_or us k u ≡ u
     → is_member (eq_by_cmp register_cmp) (registers_in us) u.register ≡ true

@@ -86,16 +86,14 @@ pub record Grows (e : Edge) (us : List Fields) (event : Event) (result : Result 
   pub are_own : AreOwnSince e'.routes.speaker e.routes.speaker.counter own
   pub journal : us' ≡ us ++ (accepted event result ++ own)
 
--- The same after the rest of the journal: all of it, or the table's updates; at most two updates for each register, and
--- 64.
+-- The same after the rest of the journal: all, or the table's updates. At most two updates for each register, and 64.
 pub record Writes (e : Edge) (us : List Fields) (event : Event) (result : Result Reply edges.Refusal) (e' : Edge)
     (us' : List Fields) : Type 0 where
   pub left : List Fields
   pub kept : IsKept (table_of e) us left
   pub grows : Grows e left event result e' us'
 
--- It is written; or there was no room for the updates that it may write, though the journal is as short as its table
--- allows.
+-- It is written; or there was no room for its updates, though the journal is as short as its table allows.
 abbrev pub WritesOrNot : Edge → List Fields → Event → Result Reply BookRefusal → Edge → List Fields → Type 0
 WritesOrNot e journal event (Ok reply) e' journal' = Writes e journal event (Ok reply) e' journal'
 WritesOrNot e journal event (Err (OfEdge r)) e' journal' = Writes e journal event (Err r) e' journal'

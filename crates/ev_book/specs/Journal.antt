@@ -22,8 +22,7 @@ records_of us = concat (map spelling_of us)
 abbrev pub all_ok : List Fields → List (Result Fields ℕ)
 all_ok us = map (λ u. Ok u) us
 
--- The journal has one update of each register, in the order of a report; each was in it, and no newer one of its
--- register.
+-- The journal has one update of each register, in a report's order; it was in it, and no newer one of the register.
 pub record Compacts (old new : List Fields) : Type 0 where
   pub ordered : IsOrdered new
   pub from : (u : Fields) → Contains new u → Contains old u

@@ -13,8 +13,7 @@ use Rattle.ev_book.specs.Journal.{all_ok}
 abbrev pub listening : BookState → Table
 listening b = record { originators = (table_of b.edge).originators; registers = empty }
 
--- Each update of the journal is of a listed originator, and a table that takes them has the edge's registers and its
--- report.
+-- Each update of the journal is of a listed originator. A table that takes them has the edge's registers and report.
 pub record Replays (b : BookState) : Type 0 where
   pub listed : (u : Fields) → Contains b.journal u → is_listed (table_of b.edge) u.register.originator ≡ true
   pub registers : (with_updates (listening b) b.journal).registers ≡ (table_of b.edge).registers

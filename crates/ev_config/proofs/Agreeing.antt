@@ -17,7 +17,7 @@ use Rattle.ev_config.specs.ConfigPort as port
 use Rattle.ev_config.specs.ConfigEdge as edge
 use Rattle.ev_config.specs.ConfigPeer.{peer_keys, peer_of, listed_from}
 use Rattle.ev_config.specs.Config.{Edges, no_edges, with_edge, edges_from, Whole, described, config_in, told}
-use Rattle.ev_config.specs.Config.{with_peers, ServedWhole, idle_of, served_in}
+use Rattle.ev_config.specs.Config.{with_peers, ServedWhole, idle_of, hold_of, served_keys, served_in}
 use Rattle.ev_config.specs.Faults as all
 use Rattle.ev_config.specs.Faults.{Spot, File, Edge, Port as PortSpot, Peer, Faulty, fault_at, StartAt, Agree}
 use Rattle.ev_config.specs.Faults.{found, spelt}
@@ -421,10 +421,10 @@ config_agrees for_run t = go (all.edge_tables t)
         (all.others File (codes "edge" ∷ []) t) (all.edges_faults for_run [] [] 1 tables)
         (known_keys File (codes "edge" ∷ []) (keys_of t)) (λ known is. described_agree for_run tables)
 
-abbrev answer : List ℕ × ℕ → Whole → Result ServedWhole Key
+abbrev answer : List ℕ × (ℕ × ℕ) → Whole → Result ServedWhole Key
 answer path whole = Ok (whole, path)
 
-with_peers_agree : (path : List ℕ × ℕ) (tables peers : Items)
+with_peers_agree : (path : List ℕ × (ℕ × ℕ)) (tables peers : Items)
     → Agree (edges_from true no_edges tables >>= (λ edges. with_peers peers edges >>= (λ whole. answer path whole)))
     (all.edges_faults true [] [] 1 tables ++ all.peers_faults (all.all_addresses [] tables) 1 peers)
 with_peers_agree path tables peers =
@@ -441,42 +441,42 @@ with_peers_agree path tables peers =
     listed edges (Ok addresses) a = a
     listed edges (Err k) a = a
 
-abbrev served_keys : List Key
-served_keys = codes "edge" ∷ codes "control" ∷ codes "idle" ∷ codes "peer" ∷ []
-
 pub served_agrees : (t : Members) → Agree (served_in t) (all.served_faults t)
 served_agrees t = go (all.edge_tables t)
   where
-    from : (tables : Items) (c : Result (List ℕ) Key) (i : Result ℕ Key) (p : Result Items Key)
-        → Agree (c >>= (λ path. i >>= (λ idle. p >>= (λ peers. only served_keys t >>= (λ known.
+    from : (tables : Items) (c : Result (List ℕ) Key) (i h : Result ℕ Key) (p : Result Items Key)
+        → Agree (c >>= (λ path. i >>= (λ idle. h >>= (λ hold. p >>= (λ peers. only served_keys t >>= (λ known.
         edges_from true no_edges tables >>= (λ edges. with_peers peers edges
-        >>= (λ whole. answer (path, idle) whole)))))))
-        (fault_at File c ++ (fault_at File i ++ (fault_at File p ++ (all.others File served_keys t
+        >>= (λ whole. answer (path, (idle, hold)) whole))))))))
+        (fault_at File c ++ (fault_at File i ++ (fault_at File h ++ (fault_at File p ++ (all.others File served_keys t
         ++ (all.edges_faults true [] [] 1 tables
-        ++ all.peers_faults (all.all_addresses [] tables) 1 (all.tables_or_none p))))))
-    from tables (Err k) i p = refl
-    from tables (Ok path) (Err k) p = refl
-    from tables (Ok path) (Ok idle) (Err k) = refl
-    from tables (Ok path) (Ok idle) (Ok peers) = after (only served_keys t)
+        ++ all.peers_faults (all.all_addresses [] tables) 1 (all.tables_or_none p)))))))
+    from tables (Err k) i h p = refl
+    from tables (Ok path) (Err k) h p = refl
+    from tables (Ok path) (Ok idle) (Err k) p = refl
+    from tables (Ok path) (Ok idle) (Ok hold) (Err k) = refl
+    from tables (Ok path) (Ok idle) (Ok hold) (Ok peers) = after (only served_keys t)
         (λ known. edges_from true no_edges tables
-        >>= (λ edges. with_peers peers edges >>= (λ whole. answer (path, idle) whole)))
+        >>= (λ edges. with_peers peers edges >>= (λ whole. answer (path, (idle, hold)) whole)))
         (all.others File served_keys t)
         (all.edges_faults true [] [] 1 tables ++ all.peers_faults (all.all_addresses [] tables) 1 peers)
-        (known_keys File served_keys (keys_of t)) (λ known is. with_peers_agree (path, idle) tables peers)
+        (known_keys File served_keys (keys_of t)) (λ known is. with_peers_agree (path, (idle, hold)) tables peers)
 
     go : (r : Result Items Key)
         → Agree (r >>= (λ tables. required (codes "control") path_in t
         >>= (λ path. idle_of t
-        >>= (λ idle. optional (codes "peer") (tables_beside (count_of tables)) no_items t
+        >>= (λ idle. hold_of t
+        >>= (λ hold. optional (codes "peer") (tables_beside (count_of tables)) no_items t
         >>= (λ peers. only served_keys t >>= (λ known.
         edges_from true no_edges tables >>= (λ edges. with_peers peers edges
-        >>= (λ whole. answer (path, idle) whole))))))))
+        >>= (λ whole. answer (path, (idle, hold)) whole)))))))))
         (fault_at File r ++ (fault_at File (required (codes "control") path_in t) ++ (fault_at File (idle_of t)
+        ++ (fault_at File (hold_of t)
         ++ (fault_at File (optional (codes "peer") (tables_beside (count_of (all.tables_or_none r))) no_items t)
         ++ (all.others File served_keys t
         ++ (all.edges_faults true [] [] 1 (all.tables_or_none r)
         ++ all.peers_faults (all.all_addresses [] (all.tables_or_none r)) 1 (all.tables_or_none
-        (optional (codes "peer") (tables_beside (count_of (all.tables_or_none r))) no_items t))))))))
+        (optional (codes "peer") (tables_beside (count_of (all.tables_or_none r))) no_items t)))))))))
     go (Err k) = refl
-    go (Ok tables) = from tables (required (codes "control") path_in t) (idle_of t)
+    go (Ok tables) = from tables (required (codes "control") path_in t) (idle_of t) (hold_of t)
         (optional (codes "peer") (tables_beside (count_of tables)) no_items t)

@@ -85,12 +85,20 @@ ConfigOf for_run = TextGives view_of (config_in for_run)
 
 -- ---- edges that answer queries while they run
 
--- the edges, the path of the control socket, and the seconds after which a console is ended that sends nothing
+-- the edges, the path of the control socket, the seconds after which a console is ended that sends nothing, and the
+-- seconds without a session after which an edge elsewhere is away
 abbrev pub ServedWhole : Type 0
-ServedWhole = Whole × (List ℕ × ℕ)
+ServedWhole = Whole × (List ℕ × (ℕ × ℕ))
 
 abbrev pub idle_of : Members → Result ℕ Key
 idle_of t = optional (codes "idle") (number_in 1 86400) 300 t
+
+-- with 0 none is ever away
+abbrev pub hold_of : Members → Result ℕ Key
+hold_of t = optional (codes "peer_hold") (number_in 0 86400) 90 t
+
+abbrev pub served_keys : List Key
+served_keys = codes "edge" ∷ codes "control" ∷ codes "idle" ∷ codes "peer_hold" ∷ codes "peer" ∷ []
 
 -- each of these edges lists all edges, and the peers of these tables
 abbrev pub with_peers : Items → Edges → Result Whole Key
@@ -103,14 +111,15 @@ served_in t = do
   tables ← required (codes "edge") tables_in t
   path ← required (codes "control") path_in t
   idle ← idle_of t
+  hold ← hold_of t
   peers ← optional (codes "peer") (tables_beside (count_of tables)) no_items t
-  _ ← only (codes "edge" ∷ codes "control" ∷ codes "idle" ∷ codes "peer" ∷ []) t
+  _ ← only served_keys t
   edges ← edges_from true no_edges tables
   all ← with_peers peers edges
-  Ok (all, (path, idle))
+  Ok (all, (path, (idle, hold)))
 
 abbrev pub served_view : Served → ServedWhole
-served_view s = (view_of s.config, (string_bytes s.control, s.idle))
+served_view s = (view_of s.config, (string_bytes s.control, (s.idle, s.hold)))
 
 abbrev pub ServedOf : List ℕ → Result Served ConfigRefusal → Type 0
 ServedOf = TextGives served_view served_in
@@ -118,8 +127,8 @@ ServedOf = TextGives served_view served_in
 -- the configuration of the edges alone
 abbrev pub ServedEdgesOf : List ℕ → Result Config ConfigRefusal → Type 0
 ServedEdgesOf text (Ok config) =
-    (control : String Global) × (idle : ℕ)
-    × ServedOf text (Ok (record { config = config; control = control; idle = idle }))
+    (control : String Global) × (idle : ℕ) × (hold : ℕ)
+    × ServedOf text (Ok (record { config = config; control = control; idle = idle; hold = hold }))
 ServedEdgesOf text (Err refused) = ServedOf text (Err refused)
 
 -- ---- a configuration for a use

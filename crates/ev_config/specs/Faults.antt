@@ -9,7 +9,7 @@ use Rattle.ev_config.specs.Keys.{count_of, tables_beside, is_among, keys_of}
 use Rattle.ev_config.specs.ConfigPort as port
 use Rattle.ev_config.specs.ConfigEdge as edge
 use Rattle.ev_config.specs.ConfigPeer.{peer_keys}
-use Rattle.ev_config.specs.Config.{config_in, idle_of, served_in}
+use Rattle.ev_config.specs.Config.{config_in, idle_of, hold_of, served_keys, served_in}
 
 -- a table of the document; edges, ports of an edge, and peers count from 1
 pub data Spot : Type 0 where
@@ -199,10 +199,11 @@ abbrev pub served_faults : Members → List Faulty
 served_faults t = fault_at File (edge_tables t)
     ++ (fault_at File (required (codes "control") path_in t)
     ++ (fault_at File (idle_of t)
+    ++ (fault_at File (hold_of t)
     ++ (fault_at File (peer_tables t)
-    ++ (others File (codes "edge" ∷ codes "control" ∷ codes "idle" ∷ codes "peer" ∷ []) t
+    ++ (others File served_keys t
     ++ (edges_faults true [] [] 1 (edge_items t)
-    ++ peers_faults (all_addresses [] (edge_items t)) 1 (tables_or_none (peer_tables t)))))))
+    ++ peers_faults (all_addresses [] (edge_items t)) 1 (tables_or_none (peer_tables t))))))))
 
 -- the faults of a document for a use
 abbrev pub faults_in : Use → Members → List Faulty

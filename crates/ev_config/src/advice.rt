@@ -73,7 +73,8 @@ fn allowed_in_file(wanted: Use, key: &str) -> &'static str {
         "peer" if wanted == Use::Serve =>
             "allowed are tables, each written as [[peer]], at most 64 with those of [[edge]]",
         "idle" if wanted == Use::Serve => "allowed are 1 to 86400 seconds",
-        "control" | "idle" | "peer" => "which is a key of what `serve` runs alone",
+        "peer_hold" if wanted == Use::Serve => "allowed are 0 to 86400 seconds",
+        "control" | "idle" | "peer_hold" | "peer" => "which is a key of what `serve` runs alone",
         _ => "which is no key of the file",
     }
 }

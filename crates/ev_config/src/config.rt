@@ -65,8 +65,9 @@ pub fn config_of(alloc: Global, text: &str, for_run: bool) -> Result<Config, Con
 
 /// Returns the configuration of a text for edges that answer queries while they run: that of a run,
 /// with the path of a Unix socket at the key `control`, the seconds after which a silent console is
-/// ended at the optional key `idle`, and optional peers, which are edges that run elsewhere. Each
-/// edge lists all edges and all peers.
+/// ended at the optional key `idle`, the seconds without a session after which an edge elsewhere is
+/// away at the optional key `peer_hold`, and optional peers, which are edges that run elsewhere.
+/// Each edge lists all edges and all peers.
 ///
 /// # Errors
 ///
@@ -92,6 +93,7 @@ fn served_edges_of(alloc: Global, text: &str) -> Result<Config, ConfigRefusal>
                 config,
                 control: _path,
                 idle: _seconds,
+                hold: _seconds_of_peers,
             } = served;
             Ok(config)
         }

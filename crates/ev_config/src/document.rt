@@ -7,7 +7,7 @@ ghost use Rattle.ev_config.specs.Keys.{optional, count_of, tables_beside};
 ghost use Rattle.ev_config.specs.Faults.{all_addresses, edges_faults, peers_faults, edge_items, config_faults, served_faults, tables_or_none, faults_in};
 ghost use Rattle.ev_config.specs.Inner.Faults.{faults_view, Adds};
 
-use crate::edges::{FILE_KEYS, SERVED_KEYS, idle_of};
+use crate::edges::{FILE_KEYS, SERVED_KEYS, hold_of, idle_of};
 use crate::faults::{FaultyKey, add_edges, add_others, add_peers, note};
 use crate::keys::{Fault, path_at, tables_at, tables_beside};
 use crate::place::Place;
@@ -115,6 +115,7 @@ fn add_served<'a>(
     note(faults, place, tables_at(document, "edge"))?;
     note(faults, place, path_at(document, "control"))?;
     note(faults, place, idle_of(document))?;
+    note(faults, place, hold_of(document))?;
     let edges = edge_tables(document)?;
     let count = count_of(edges);
     note(faults, place, tables_beside(document, "peer", count))?;

@@ -8,7 +8,7 @@ ghost use Rattle.ev_fabric.specs.Opening.{AreConfigs};
 ghost use Rattle.ev_config.specs.Inner.Fitting.{Fits, FitTogether};
 ghost use Rattle.ev_config.specs.Keys.{optional, tables_beside, count_of};
 ghost use Rattle.ev_config.specs.Inner.Keys.{Gives};
-ghost use Rattle.ev_config.specs.Config.{no_edges, with_edge, edges_from, listening, described, config_in, view_of, with_peers, idle_of, served_in, served_view};
+ghost use Rattle.ev_config.specs.Config.{no_edges, with_edge, edges_from, listening, described, config_in, view_of, with_peers, idle_of, hold_of, served_in, served_view};
 ghost use Rattle.ev_config.specs.Inner.Config.{edges_view};
 
 use crate::edge::{Described, edge_of};
@@ -27,7 +27,7 @@ use toml::value::Array;
 pub(crate) const FILE_KEYS: [&'static str; 1] = ["edge"];
 
 /// The edges of a document whose edges answer queries while they run.
-pub(crate) const SERVED_KEYS: [&'static str; 4] = ["edge", "control", "idle", "peer"];
+pub(crate) const SERVED_KEYS: [&'static str; 5] = ["edge", "control", "idle", "peer_hold", "peer"];
 
 /// The edges read so far, with their addresses and bridges. They have no lists of originators yet.
 #[derive(Drop)]
@@ -192,6 +192,13 @@ pub(crate) fn idle_of<'a>(table: &'a Table) -> Result<u64, Fault<'a>>
     number(table, "idle", 1, 86_400, 300)
 }
 
+/// Returns the number of seconds without a session after which an edge elsewhere is away, or 0.
+pub(crate) fn hold_of<'a>(table: &'a Table) -> Result<u64, Fault<'a>>
+    ensures { Gives (λ n. n) (hold_of (table_view table.now)) result }
+{
+    number(table, "peer_hold", 0, 86_400, 90)
+}
+
 /// Returns the configuration of a document of edges that answer queries while they run.
 pub(crate) fn served_in<'a>(alloc: Global, table: &'a Table) -> Result<Served, Fault<'a>>
     ensures value { Gives served_view (served_in (table_view table.now)) result }
@@ -200,6 +207,7 @@ pub(crate) fn served_in<'a>(alloc: Global, table: &'a Table) -> Result<Served, F
     let tables = tables_at(table, "edge")?;
     let path = path_at(table, "control")?;
     let idle = idle_of(table)?;
+    let hold = hold_of(table)?;
     let peers = peers_at(table, tables)?;
     only(table, &SERVED_KEYS)?;
     let edges = edges_of(alloc, true, tables)?;
@@ -209,5 +217,6 @@ pub(crate) fn served_in<'a>(alloc: Global, table: &'a Table) -> Result<Served, F
         config,
         control,
         idle,
+        hold,
     })
 }

@@ -36,4 +36,7 @@ pub struct Served {
     pub control: String,
     /// The number of seconds after which a console is ended that sends nothing, 1 to 86,400.
     pub idle: u64,
+    /// The number of seconds without a session after which an edge elsewhere is away, 1 to 86,400;
+    /// with 0 none ever is.
+    pub hold: u64,
 }

@@ -1,3 +1,4 @@
 pub mod Doing
 pub mod Conversing
 pub mod Talking
+pub mod Turning

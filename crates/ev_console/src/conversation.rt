@@ -10,10 +10,11 @@ use crate::operated::Operated;
 use crate::reached::Host;
 use arrayvec::ArrayVec;
 use ether_wire::{Device, Flushing, In};
+use ev_exchange::Known;
 use ev_mailboxes::Running;
 use ev_report::MOST_READS;
 use std::alloc::Global;
-use std::sync::Wait;
+use std::sync::{Mutex, Wait};
 
 /// The number of octets of a line that are kept: one more than a line may have, so that a longer
 /// line is recognized.
@@ -135,7 +136,8 @@ pub fn converse_with<O: Operated, I: In, W: Flushing>(
 
 /// Answers the lines that an operator writes, each once and in their order, up to the end of the
 /// input. After each answer it writes an empty line, and then flushes the writer. A line of more
-/// than 20,000 octets is a bad one; it takes no more memory than any other line.
+/// than 20,000 octets is a bad one; it takes no more memory than any other line. The answer about
+/// other edges shows the `unlisted` ones too, whose records are dropped.
 ///
 /// # Errors
 ///
@@ -145,6 +147,7 @@ pub fn converse<R: Wait, I: In, W: Flushing>(
     rt: &R,
     alloc: Global,
     running: &Running<'_>,
+    unlisted: &Mutex<Known>,
     reader: &mut I,
     out: &mut W,
 ) -> Result<(), Device>
@@ -156,6 +159,7 @@ pub fn converse<R: Wait, I: In, W: Flushing>(
         many: Host {
             rt,
             running: *running,
+            unlisted: Some(unlisted),
         },
     };
     converse_with(alloc, &mut edges, reader, out)

@@ -9,6 +9,8 @@ mod operated;
 mod printing;
 mod reached;
 mod table;
+mod turns;
 
 pub use conversation::{converse, converse_with};
 pub use operated::{Operated, Unreached};
+pub use turns::{take_turn, take_turn_with};

@@ -6,11 +6,12 @@ ghost use Rattle.ev_console.specs.Asking.{Asked, entered, table_seen, port_seen,
 use crate::operated::Unreached;
 use ev_book::BookRefusal;
 use ev_edge::Reply;
+use ev_exchange::Known;
 use ev_mailboxes::{Command, Control, PortView, Running, Served};
-use ev_view::EdgeQuestion;
+use ev_view::{EdgeQuestion, with_unlisted};
 use route_wire::Update;
 use std::alloc::{AllocError, Global};
-use std::sync::Wait;
+use std::sync::{Mutex, Wait};
 
 /// A running edge, as a console queries it.
 ///
@@ -78,6 +79,8 @@ pub(crate) struct Host<'x, R> {
     pub(crate) rt: &'x R,
     /// The edges.
     pub(crate) running: Running<'x>,
+    /// The edges elsewhere that the configuration doesn't name, for a caller that shows them.
+    pub(crate) unlisted: Option<&'x Mutex<Known>>,
 }
 
 /// An edge of this process. Its answers come from a book under a lock, of which no clause knows.
@@ -85,6 +88,7 @@ pub(crate) struct Host<'x, R> {
 pub(crate) struct HostedEdge<'x, R> {
     rt: &'x R,
     control: Control<'x>,
+    unlisted: Option<&'x Mutex<Known>>,
 }
 
 impl<'x, R: Wait> ManyEdges for Host<'x, R> {
@@ -105,7 +109,26 @@ impl<'x, R: Wait> ManyEdges for Host<'x, R> {
         Some(HostedEdge {
             rt: self.rt,
             control,
+            unlisted: self.unlisted,
         })
+    }
+}
+
+impl<R: Wait> HostedEdge<'_, R> {
+    /// Returns the answer of the edge to a question, with the edges that the configuration doesn't
+    /// name after it if the question is about other edges.
+    fn shown(
+        &self,
+        alloc: Global,
+        question: &EdgeQuestion,
+        text: Vec<u8>,
+    ) -> Result<Vec<u8>, AllocError> {
+        let Some(unlisted) = self.unlisted else {
+            return Ok(text);
+        };
+        let number = self.control.number() as u64;
+        let known = unlisted.lock(self.rt);
+        with_unlisted(alloc, number, question, text, known.as_slice())
     }
 }
 
@@ -143,7 +166,8 @@ impl<R: Wait> OneEdge for HostedEdge<'_, R> {
         question: &EdgeQuestion,
     ) -> Result<Result<Vec<u8>, AllocError>, Unreached> {
         match self.control.view(self.rt, alloc, *question) {
-            Some(text) => Ok(text),
+            Some(Ok(text)) => Ok(self.shown(alloc, question, text)),
+            Some(Err(refused)) => Ok(Err(refused)),
             None => Err(Unreached::Ended),
         }
     }

@@ -8,3 +8,5 @@ pub mod Arriving
 pub mod Joining
 pub mod Lives
 pub mod Meeting
+pub mod Marking
+pub mod Overdue

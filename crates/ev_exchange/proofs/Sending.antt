@@ -1,8 +1,9 @@
 -- One record more is sent, or none.
-use Rattle.std.proofs.Common.{◌≡◌, ℕ, ◌+◌, Bool, true, false, List, [], ◌∷◌, ◌++◌, map, drop, Result, Ok, refl, sym, ap}
+use Rattle.std.proofs.Common.{◌≡◌, ℕ, ◌+◌, Bool, true, false, List, [], ◌∷◌, ◌++◌, map, drop, Result, Ok, sym, ap}
 use Rattle.std.proofs.Common.{Err, cond, is_ok, subst, ◌∙◌, append_assoc, append-nil}
 use Rattle.std.specs.List.{concat}
 use Rattle.std.proofs.lemmas.List.Folds.{concat-append}
+use Rattle.std.proofs.lemmas.List.{map_push}
 use Rattle.ether_wire.specs.Ends.{End, with_text, Puts}
 use Rattle.ether_wire.specs.declared.ends.Device.{Device}
 use Rattle.ether_wire.proofs.Appending.{with_text_twice}
@@ -16,10 +17,6 @@ reads_on : (newest : ℕ) (s : List ℕ) (xs ys : List (Result Fields ℕ)) (r t
     → ReadsUpTo newest r ys t → ReadsUpTo newest s (xs ++ ys) t
 reads_on newest s [] ys r t h k = subst (λ (z : List ℕ). ReadsUpTo newest z ys t) (sym h) k
 reads_on newest s (x ∷ xs) ys r t h k = (h.0, h.1, h.2, reads_on newest (drop h.0 s) xs ys r t h.3 k)
-
-map_push : {X Y : Type 0} (f : X → Y) (us : List X) (u : X) → map f (us ++ u ∷ []) ≡ map f us ++ f u ∷ []
-map_push f [] u = refl
-map_push f (x ∷ us) u = ap (λ z. f x ∷ z) (map_push f us u)
 
 records_push : (us : List Fields) (u : Fields) → records_of (us ++ u ∷ []) ≡ records_of us ++ spelling_of u
 records_push us u = ap concat (map_push spelling_of us u) ∙ concat-append (map spelling_of us) (spelling_of u ∷ [])

@@ -22,8 +22,7 @@ abbrev pub said_by : List (ℕ × Table) → List Fields
 said_by [] = []
 said_by (e ∷ edges) = own_updates e.1 e.0 ++ said_by edges
 
--- `written` has exactly these updates of o: those that o sent from its table at the start, and those that it announced
--- since.
+-- `written` has exactly these updates of o: those sent from its table at the start, and those announced since.
 pub record Carries (o : ℕ) (start : Table) (since written : List Fields) : Type 0 where
   pub said : (u : Fields) → Contains (own_updates start o) u → Contains written u
   pub announced : (u : Fields) → Contains since u → u.register.originator ≡ o → Contains written u
@@ -59,8 +58,7 @@ OwnRegistersAgree =
     → IsTableOf (us ++ since) now → Carries o start since written → IsDelivered o (us ++ since) written taken
     → IsTableOf taken after → (r : Register) → r.originator ≡ o → value_at after r ≡ value_at now r
 
--- An edge o: the updates that its table took by the start and since, the table then and now, and the updates that its
--- process wrote.
+-- An edge o: the updates that its table took by the start and since, the table then and now, and the written updates.
 pub record Side (o : ℕ) (us since written : List Fields) (start now : Table) : Type 0 where
   pub began : IsTableOf us start
   pub went_on : IsTableOf (us ++ since) now

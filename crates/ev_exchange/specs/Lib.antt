@@ -3,6 +3,7 @@ pub mod Sending
 pub mod Known
 pub mod Saying
 pub mod Life
+pub mod Sessions
 pub mod Laws
 pub mod JoinedProcesses
 pub mod Inner

@@ -26,7 +26,6 @@ with_update l u = record l {
 abbrev pub is_present : Life → Fields → Bool
 is_present l u = is_own l.originator u && nat_le l.incarnation u.value.incarnation
 
--- Such an update, but no update of the life is as new: the edge made it before it was restarted in an incarnation that
--- isn't higher.
+-- Such an update, but none of the life is as new: the edge made it before a restart in no higher incarnation.
 abbrev pub lacks : Life → Fields → Bool
 lacks l u = is_present l u && is_news (value_at l.said u.register) u.value

@@ -1,5 +1,4 @@
--- The records that come over a connection: the answers of its stream, those that are passed on, and the counts of
--- refusals.
+-- The records of a connection: the answers of its stream, those that are passed on, and the counts of refusals.
 use Rattle.std.specs.Prelude.{◌≡◌, ℕ, ◌+◌, ◌<◌, ◌^◌, ◌-◌, min, ◌==◌, if◌then◌else◌, List, [], ◌∷◌, ◌++◌}
 use Rattle.std.specs.Prelude.{length, slice_index, Option, Some, None, Result, Ok, Err}
 use Rattle.route_wire.specs.declared.stream.Whole.{Whole}

@@ -10,8 +10,7 @@ use Rattle.ev_exchange.specs.declared.announcing.EdgeTable.{EdgeTable}
 use Rattle.ev_links.specs.Coming.{behind}
 use Rattle.ev_exchange.specs.Sending.{Sending, HasSaid, own_of}
 
--- a result of a call of the edges: the table of the edge with this number, if it returns one; or the next item, if one
--- comes
+-- a result of a call of the edges: the table of the edge with this number, if there is one; or the next item, if any
 pub data Told : Type 0 where
   has_table : ℕ → Option EdgeTable → Told
   has_due : Option Due → Told
@@ -52,8 +51,7 @@ pub record SaysTables (edges : ℕ) (named : Option ℕ) (before after : Option 
 
 -- ---- the items since
 
--- an item that was sent: an announced update; or the registers of an originator that the other side named, from these
--- tables
+-- an item that was sent: an announced update, or the registers that these tables have of a named originator
 pub data Step : Type 0 where
   announces : Fields → Step
   says_back : ℕ → List EdgeTable → Step
@@ -101,8 +99,7 @@ pub record PassesOn (edges : ℕ) (before after : Option (List Told)) (s s' : Se
 
 -- ---- all of it
 
--- The own registers in the tables of `edges` edges were sent, and then the items since; or the tables broke off, and
--- nothing followed.
+-- The own registers of `edges` edges were sent, then the items since; or the tables broke off, and nothing followed.
 pub record Announces (edges : ℕ) (before after : Option (List Told)) (s s' : Sending) : Type 0 where
   pub middle : Option (List Told)
   pub mid : Sending

@@ -50,6 +50,13 @@ impl Known {
         self.all.contains(&originator)
     }
 
+    /// Returns the originators, in the order in which they were added.
+    pub fn as_slice(&self) -> &[Addr]
+        ensures { result.now ≡ self.now }
+    {
+        self.all.as_slice()
+    }
+
     /// Adds an originator. Returns `true` if it was added, and `false` if it is one of these
     /// already or there are 64.
     pub fn meet(&mut self, originator: Addr) -> bool

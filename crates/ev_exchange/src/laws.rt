@@ -1,6 +1,7 @@
 //! Laws, as functions that do nothing: the contract is the law.
 ghost use Rattle.ev_exchange.specs.Laws.{OwnUpdatesAre, SaidIsCarried, NewestArrives, OwnRegistersAgree, BothAgree, MeetingAgrees, StreamCarries, JoinedAgrees};
 ghost use Rattle.ev_exchange.specs.JoinedProcesses.{ProcessesAgree, EarlierLivesEnd};
+ghost use Rattle.ev_exchange.specs.Sessions.{MarksAreDue, OverdueAfterHold};
 
 /// The updates that an edge sends from its table at the beginning are its own registers, all of
 /// them, each with its value, in the order of a report.
@@ -68,4 +69,17 @@ pub fn processes_agree()
 /// `processes_agree`.
 pub fn earlier_lives_end()
     ensures { EarlierLivesEnd }
+{}
+
+/// If no step is due at a second, the edges elsewhere that are marked as away are exactly those
+/// that have had no session for `hold` seconds.
+pub fn marks_are_due()
+    ensures { MarksAreDue }
+{}
+
+/// The last connection of an edge elsewhere has ended at a second, and none has begun since.
+/// Whatever happens to other edges, the edge is overdue exactly if `hold` seconds have passed since
+/// then, and `hold` isn't 0.
+pub fn overdue_after_hold()
+    ensures { OverdueAfterHold }
 {}

@@ -11,6 +11,7 @@ mod life;
 mod receiver;
 mod saying;
 mod sender;
+mod sessions;
 mod stream_end;
 
 pub use announcing::{Announcing, Due, EdgeTable};
@@ -18,13 +19,15 @@ pub use entrance::Entrance;
 pub use intake::{Incoming, receive};
 pub use known::Known;
 pub use laws::{
-    both_agree, earlier_lives_end, joined_agrees, meeting_agrees, newest_arrives,
-    own_registers_agree, own_updates_are, processes_agree, said_is_carried, stream_carries,
+    both_agree, earlier_lives_end, joined_agrees, marks_are_due, meeting_agrees, newest_arrives,
+    overdue_after_hold, own_registers_agree, own_updates_are, processes_agree, said_is_carried,
+    stream_carries,
 };
 pub use life::{Life, has_any_of};
 pub use receiver::{KINDS, Receiver};
 pub use saying::announce;
 pub use sender::Sender;
+pub use sessions::{Change, Session, Sessions, Turn};
 pub use stream_end::StreamEnd;
 
 #[cfg(test)]

@@ -3,6 +3,7 @@
 mod announced;
 mod received;
 mod sent;
+mod sessions;
 
 use route_wire::{BAD_KIND, Update, Whole, read_one, whole_of};
 

@@ -1,16 +1,20 @@
 -- Among the adverts of one register a list has a newest one.
 use Rattle.std.proofs.Common.{◌≡◌, ◌⊎◌, inl, inr, zero, suc, Bool, true, false, Option, Some, None, List, [], ◌∷◌, ◌++◌}
 use Rattle.std.proofs.Common.{refl, sym, ap, subst, ◌∙◌, arith}
+use Rattle.std.proofs.lemmas.Bool.{or_parts}
+use Rattle.std.proofs.lemmas.List.Folds.{list_any-append}
 use Rattle.std.specs.Prelude.{Contains, is_some, not, ◌&&◌, ◌||◌}
 use Rattle.std.specs.List.{list_any}
-use Rattle.std.specs.Ordering.{eq_by_cmp}
+use Rattle.std.specs.Ordering.{eq_by_cmp, is_lt, ordering_reverse}
 use Rattle.route_wire.specs.declared.update.Register.{Register}
 use Rattle.route_wire.specs.declared.update.Value.{Value}
 use Rattle.route_wire.specs.Fields.{Fields}
 use Rattle.route_wire.specs.Order.{register_cmp, is_newer}
+use Rattle.route_wire.specs.Inner.Totals.{value_total}
 use Rattle.route_join.specs.Table.{is_news}
 use Rattle.route_join.specs.Owner.{advert_in}
 use Rattle.ev_fabric.specs.ConvergenceEdge.{is_over, is_latest}
+use Rattle.route_join.proofs.Orders.{less}
 use Rattle.route_join.proofs.Tables.{same_register, not_newer_itself}
 use Rattle.route_join.proofs.Joins.{newer_trans, not_newer_trans}
 
@@ -27,19 +31,7 @@ any_none p (x ∷ xs) h = both (p x) (list_any p xs) (h x (0, omega arith, refl)
 
 -- a longer list that has none has none at its front
 pub any_front : {X : Type 0} (p : X → Bool) (xs ys : List X) → list_any p (xs ++ ys) ≡ false → list_any p xs ≡ false
-any_front p [] ys h = refl
-any_front p (x ∷ xs) ys h = go (p x) (list_any p (xs ++ ys)) h (any_front p xs ys)
-  where
-    go : (a b : Bool) → (a || b) ≡ false → (b ≡ false → list_any p xs ≡ false) → (a || list_any p xs) ≡ false
-    go false b e rest = rest e
-    go true b e rest = cc
-
-newer_not_back : (a b : Value) → is_newer a b ≡ true → is_newer b a ≡ false
-newer_not_back a b p = go (is_newer b a) refl
-  where
-    go : (x : Bool) → is_newer b a ≡ x → is_newer b a ≡ false
-    go true e = let h = newer_trans a b a e p in let no_such = not_newer_itself a in cc
-    go false e = e
+any_front p xs ys h = (or_parts (list_any p xs) (list_any p ys) (sym (list_any-append p xs ys) ∙ h)).0
 
 pub record Newest (us : List Fields) (u : Fields) : Type 0 where
   pub update : Fields
@@ -106,7 +98,7 @@ newest (x ∷ us) u some = go (is_over u x) refl (λ w is. newest us w is)
           above = λ y in'. either y n.update in' (not_over n.update x
               (λ r a. elim n.order [
                 | inl same ↦ ap (λ (w : Fields). is_newer x.value w.value) same ∙ not_newer_itself x.value
-                | inr more ↦ newer_not_back n.update.value x.value more
+                | inr more ↦ ap is_lt (value_total.antisymm n.update.value x.value ∙ ap ordering_reverse (less _ more))
               ])) n.above;
         }
     go false e rest =
@@ -125,7 +117,8 @@ newest (x ∷ us) u some = go (is_over u x) refl (λ w is. newest us w is)
                 | inl same ↦ ap (λ (w : Fields). is_newer x.value w.value) same
                     ∙ low (subst (λ (q : Register). eq_by_cmp register_cmp x.register q ≡ true) n.register r) a
                     (is_newer x.value u.value) refl
-                | inr more ↦ not_newer_trans n.update.value u.value x.value (newer_not_back n.update.value u.value more)
+                | inr more ↦ not_newer_trans n.update.value u.value x.value
+                    (ap is_lt (value_total.antisymm n.update.value u.value ∙ ap ordering_reverse (less _ more)))
                     (low (subst (λ (q : Register). eq_by_cmp register_cmp x.register q ≡ true) n.register r) a
                     (is_newer x.value u.value) refl)
               ])) n.above;

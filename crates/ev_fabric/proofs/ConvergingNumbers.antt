@@ -1,15 +1,20 @@
--- Fabrics in which plenty of numbers are left.
+-- Fabrics in which plenty of numbers are left, and agreement after two rounds from an opened one.
 use Rattle.std.proofs.Common.{◌≡◌, ℕ, ◌+◌, ◌≤◌, ◌^◌, List, length, ap, arith}
 use Rattle.std.proofs.lemmas.List.Sums.{count_by-le-length}
 use Rattle.ev_claims.specs.LocalRoutes.{capacity}
 use Rattle.ev_edge.specs.declared.config.EdgeConfig.{EdgeConfig}
 use Rattle.ev_edge.specs.Edge.{Edge}
 use Rattle.ev_fabric.specs.Fabric.{Fabric, IsEdge}
-use Rattle.ev_fabric.specs.Opening.{IsStart}
+use Rattle.ev_fabric.specs.Opening.{AreConfigs, IsStart}
 use Rattle.ev_fabric.specs.Sound.{IsSound}
+use Rattle.ev_fabric.specs.Agreed.{AllAgree}
 use Rattle.ev_fabric.specs.ConvergenceEdge.{returning}
-use Rattle.ev_fabric.specs.Convergence.{HasNumbers}
+use Rattle.ev_fabric.specs.Convergence.{HasNumbers, Rests, full_pool, two_rounds}
+use Rattle.ev_fabric.proofs.Opened.{start_sound}
+use Rattle.ev_fabric.proofs.Fabrics.{rests_sound}
 use Rattle.ev_fabric.proofs.ConvergingEdge.{may_return}
+use Rattle.ev_fabric.proofs.ConvergingMoves.{sound_kept}
+use Rattle.ev_fabric.proofs.ConvergingRounds.{IsReady, two_rounds_agree, enough_itself, may_rest, quiet_rounds}
 
 -- if nothing was announced, nothing comes back
 pub start_numbers : (configs : List EdgeConfig) (f : Fabric) → IsStart configs f → HasNumbers f
@@ -24,3 +29,22 @@ few_numbers f h few i a at some =
     let bound = few i a at in
     let most = count_by-le-length (may_return f.pool a.routes.speaker) f.pool in
     omega (arith, fits, bound, most)
+
+-- two rounds from an opened fabric
+pub agreement : (configs : List EdgeConfig) (f : Fabric) → AreConfigs configs → IsStart configs f
+    → (new : Fabric) × Rests f (two_rounds f) new × AllAgree new × IsSound new
+agreement configs f are start = (
+  run.0,
+  run.1,
+  two_rounds_agree (length f.edges) (full_pool f) f run.0 ready (enough_itself f) run.1,
+  rests_sound (two_rounds f) f run.0 run.1 sound,
+)
+  where
+    sound : IsSound f
+    sound = start_sound configs f are start
+
+    ready : IsReady f
+    ready = record { kept = sound_kept f sound; numbers = start_numbers configs f start }
+
+    run : (new : Fabric) × Rests f (two_rounds f) new
+    run = may_rest (two_rounds f) f ready (quiet_rounds f)

@@ -5,6 +5,7 @@ use Rattle.std.proofs.Common.{arith}
 use Rattle.std.proofs.lemmas.Bool.Decides.{nat_tests}
 use Rattle.std.proofs.lemmas.Bool.{cases_eq}
 use Rattle.std.proofs.lemmas.List.Elements.{Contains-append_cases, Contains-push_cases}
+use Rattle.std.proofs.lemmas.Option.{slice_get_within}
 use Rattle.std.specs.Prelude.{◌&&◌, ◌==◌, Contains, slice_get, slice_set, drop}
 use Rattle.std.specs.Option.{MatchOption}
 use Rattle.route_wire.specs.declared.update.Register.{Register}
@@ -36,7 +37,7 @@ use Rattle.ev_fabric.specs.Convergence.{IsQuiet, IsGranted, Rests, AllQuiet, ful
 use Rattle.ev_fabric.specs.Convergence.{each}
 use Rattle.ev_fabric.specs.Convergence.{round, two_rounds, WasGiven, AllGiven, AllSilent}
 use Rattle.ev_fabric.proofs.Agreements.{none_pending}
-use Rattle.ev_fabric.proofs.Places.{minus, set_cases, set_same, contains_at, below_length}
+use Rattle.ev_fabric.proofs.Places.{minus, set_cases, set_same, contains_at}
 use Rattle.ev_fabric.proofs.Cases.{at_edge, at_delivery, at_given}
 use Rattle.ev_fabric.proofs.ConvergingSums.{sum_has, count_some, place_of, later_one}
 use Rattle.ev_fabric.proofs.ConvergingEdge.{Accepts, heard, heard_has, may_return, counted}
@@ -503,7 +504,7 @@ rounds m n old new ready enough h = record {
       let same : new.pool ≡ s.0.pool = takes_pool (each (λ e. taking e n) m) s.0 new (takes_each m n) s.2 in
       let x = rests_before (each (λ e. taking e n) m) s.0 new mid_ready.kept s.2 i a at in
       let place = place_of s.0.pool u (subst (λ l. Contains l u) same in') in
-      let below = below_length s.0.pool place.0 u place.1 in
+      let below = slice_get_within s.0.pool place.0 u place.1 in
       let bound = between.updates in
       each_has m n s.0 new mid_ready s.2 i (between.edges i x.was x.at) place.0 u (omega (arith, below, bound)) place.1
       a at;
@@ -559,7 +560,7 @@ two_rounds_agree m n old new ready enough h =
     (rests_enough m n (round m n) old s.0 s.1 ready.kept enough) s.2
 
 pub enough_itself : (f : Fabric) → IsEnough (length f.edges) (full_pool f) f
-enough_itself f = record { edges = λ i a at. below_length f.edges i a at; updates = omega arith }
+enough_itself f = record { edges = λ i a at. slice_get_within f.edges i a at; updates = omega arith }
 
 -- ---- fairness
 pool_keeps : (old new : Fabric) → Move old new → (k : ℕ) (u : Fields) → slice_get old.pool k ≡ Some u

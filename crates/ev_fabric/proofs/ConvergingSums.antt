@@ -1,7 +1,8 @@
 -- Sums and counts over a list of which one element is replaced.
 use Rattle.std.proofs.Common.{◌≡◌, ◌≢◌, ℕ, zero, suc, ◌+◌, ◌≤◌, Bool, true, false, cond, Some, List, [], ◌∷◌, ◌++◌}
-use Rattle.std.proofs.Common.{refl, sym, ap, subst, ◌∙◌, arith}
-use Rattle.std.proofs.lemmas.List.Sums.{sum_by-cons, sum_by_push}
+use Rattle.std.proofs.Common.{refl, sym, ap, subst, ◌∙◌, arith, length}
+use Rattle.std.proofs.lemmas.List.Sums.{sum_by-cons, sum_by_push, get_or-le-sum_by}
+use Rattle.std.proofs.lemmas.Option.{slice_get_within, slice_get_read, get_or_from_slice_get}
 use Rattle.std.specs.Prelude.{Contains, slice_get, slice_set}
 use Rattle.std.specs.List.{count_by, sum_by}
 
@@ -93,19 +94,11 @@ count_some p xs u in' is_so = let less = count_less p (λ x. false) xs u (λ x n
     omega (arith, less)
 
 pub sum_has : {X : Type 0} (f : X → ℕ) (xs : List X) (i : ℕ) (a : X) → slice_get xs i ≡ Some a → f a ≤ sum_by f xs
-sum_has f [] i a at = cc
-sum_has f (x ∷ xs) zero a at =
-    let same : x ≡ a = cc in
-    let of_f = sum_by-cons f x xs in
-    let here = ap f same in
-    omega (arith, of_f, here)
-sum_has f (x ∷ xs) (suc i) a at = let of_f = sum_by-cons f x xs in let tail = sum_has f xs i a at in
-    omega (arith, of_f, tail)
+sum_has f xs i a at = subst (λ x. f x ≤ sum_by f xs) (get_or_from_slice_get xs i a a at)
+    (get_or-le-sum_by f xs i a (slice_get_within xs i a at))
 
 pub place_of : {X : Type 0} (xs : List X) (a : X) → Contains xs a → (k : ℕ) × (slice_get xs k ≡ Some a)
-place_of [] a (i, lt, is) = absurd (omega (arith, lt))
-place_of (x ∷ xs) a (zero, lt, is) = (0, ap Some is)
-place_of (x ∷ xs) a (suc i, lt, is) = let h = place_of xs a (i, omega (arith, lt), is) in (suc h.0, h.1)
+place_of xs a (i, lt, is) = (i, slice_get_read xs (length xs) i a refl lt (sym is))
 
 pub set_itself : {X : Type 0} (xs : List X) (i : ℕ) (a : X) → slice_get xs i ≡ Some a → slice_set xs i a ≡ xs
 set_itself [] i a at = refl

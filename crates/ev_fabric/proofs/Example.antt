@@ -1,6 +1,6 @@
 -- Two edges with one VNI as they are opened: the laws' first premise can be met.
 use Rattle.std.proofs.Common.{◌≡◌, ◌≤◌, ◌==◌, ◌&&◌, ◌||◌, ℕ, zero, suc, ◌+◌, true, false, Some, None, List, [], ◌∷◌}
-use Rattle.std.proofs.Common.{refl, sym, ap, subst, ◌∙◌, eqb, arith, lit<, lit≤}
+use Rattle.std.proofs.Common.{refl, sym, ap, subst, ◌∙◌, eqb, arith, lit<, lit≤, ◌++◌}
 use Rattle.std.specs.Prelude.{Contains, is_some, is_none, slice_get, slice_index_or, nat_lt}
 use Rattle.std.specs.List.{IsDistinct}
 use Rattle.std.proofs.lemmas.Bool.Decides.{nat_tests}
@@ -72,23 +72,23 @@ pub all_differ : IsDistinct eqb listeners
 unfolding IsDistinct
 all_differ = ((refl, (refl, tt)), ((refl, tt), (tt, tt)))
 
-abbrev addresses : List ℕ
+abbrev pub addresses : List ℕ
 addresses = 0x0a000001 ∷ 0x0a000002 ∷ []
 
-differ : IsDistinct eqb addresses
+pub differ : IsDistinct eqb addresses
 unfolding IsDistinct
 differ = ((refl, tt), (tt, tt))
 
-two_listen : (o : ℕ) → Contains addresses o → Contains listeners o
+pub two_listen : (o : ℕ) → Contains addresses o → Contains listeners o
 two_listen o (zero, l, e) = (zero, lit< tt, e)
 two_listen o (suc zero, l, e) = (suc zero, lit< tt, e)
 two_listen o (suc (suc n), l, e) = absurd (omega (arith, l))
 
-one_network : IsDistinct eqb (5001 ∷ [])
+pub one_network : IsDistinct eqb (5001 ∷ [])
 unfolding IsDistinct
 one_network = (tt, tt)
 
-served : (v : ℕ) → Contains (5001 ∷ 5001 ∷ []) v → Contains (5001 ∷ []) v
+pub served : (v : ℕ) → Contains (5001 ∷ 5001 ∷ []) v → Contains (5001 ∷ []) v
 served v (zero, l, e) = (zero, lit< tt, e)
 served v (suc zero, l, e) = (zero, lit< tt, e)
 served v (suc (suc n), l, e) = absurd (omega (arith, l))
@@ -111,11 +111,19 @@ fits tree address hello listed = record {
 abbrev pub configs_of : Settings → List EdgeConfig
 configs_of tree = config_of tree 0x0a000001 ∷ config_of tree 0x0a000002 ∷ []
 
--- a property of two elements holds for each element of their list
+pub pushed : (xs ys new : List EdgeConfig) (c : EdgeConfig) → new ≡ xs ++ c ∷ [] → xs ≡ ys → new ≡ ys ++ c ∷ []
+pushed xs ys new c e p = e ∙ λ i. p i ++ c ∷ []
+
+-- a property of two or three elements holds for each element of their list
 pub each : (P : EdgeConfig → Type 0) (x y : EdgeConfig) → P x → P y → (c : EdgeConfig) → Contains (x ∷ y ∷ []) c → P c
 each P x y h k c (zero, l, e) = subst P e h
 each P x y h k c (suc zero, l, e) = subst P e k
 each P x y h k c (suc (suc n), l, e) = absurd (omega (arith, l))
+
+pub each_of_three : (P : EdgeConfig → Type 0) (x y z : EdgeConfig) → P x → P y → P z → (c : EdgeConfig)
+    → Contains (x ∷ y ∷ z ∷ []) c → P c
+each_of_three P x y z h k m c (zero, l, e) = subst P e h
+each_of_three P x y z h k m c (suc n, l, e) = each P y z k m c (n, omega (arith, l), e)
 
 pub are_configs : (tree : Settings) → 1 ≤ tree.hello → AreConfigs (configs_of tree)
 are_configs tree hello = record {

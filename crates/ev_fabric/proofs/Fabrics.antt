@@ -1,6 +1,6 @@
 -- Every step keeps a fabric sound.
 use Rattle.std.proofs.Common.{◌≡◌, ◌≢◌, ◌⊎◌, inl, inr, ℕ, suc, ◌<◌, true, Option, Some, None, Result, Ok}
-use Rattle.std.proofs.Common.{Err, List, [], ◌∷◌, ◌++◌, length, refl, sym, ap, subst, ◌∙◌, arith}
+use Rattle.std.proofs.Common.{Err, List, [], ◌∷◌, ◌++◌, length, refl, sym, ap, subst, ◌∙◌, arith, length-set}
 use Rattle.std.proofs.lemmas.Bool.{cases_eq}
 use Rattle.std.proofs.lemmas.List.Elements.{Contains-push_cases}
 use Rattle.std.specs.Prelude.{Contains, slice_get, slice_set, drop}
@@ -34,7 +34,7 @@ use Rattle.ev_fabric.specs.Steps.{RestartsAt}
 use Rattle.ev_fabric.specs.Steps.{FabricSteps}
 use Rattle.ev_fabric.specs.Runs.{Runs}
 use Rattle.ev_fabric.specs.Convergence.{Rests}
-use Rattle.ev_fabric.proofs.Places.{minus, set_cases, set_same, set_other, set_length, contains_at}
+use Rattle.ev_fabric.proofs.Places.{minus, set_cases, set_same, set_other, contains_at}
 use Rattle.ev_fabric.proofs.Cases.{at_edge, at_delivery}
 use Rattle.ev_fabric.proofs.Voices.{AreOne, talks_told, talks_one, grown_told, announced_told, one_itself}
 use Rattle.ev_fabric.proofs.Events.{Leaves, local_talks, takes_told}
@@ -143,7 +143,7 @@ module _ (old new : Fabric) (i : ℕ) (before after : Edge) (step : Becomes old 
       was = subst (λ l. slice_get l j ≡ Some c) same at_c
 
   count_still : length new.configs ≡ length old.configs → length new.configs ≡ length new.edges
-  count_still same = same ∙ h.count ∙ sym (ap length step.edges ∙ set_length old.edges i after)
+  count_still same = same ∙ h.count ∙ sym (ap length step.edges ∙ length-set old.edges i after)
 
   -- ---- the pool stays
   pool_stays : new.pool ≡ old.pool → new.configs ≡ old.configs → AreOne before.routes.speaker after.routes.speaker
@@ -359,7 +359,7 @@ restart_sound old new i a n reply at s h = record {
   sources = λ u in'. source_still old new i a s.after step h u (subst (λ l. Contains l u) pool in');
   listed = listed_still old new i a s.after step h;
   count = count_still old new i a s.after step h (ap length configs
-      ∙ set_length old.configs i (in_incarnation s.config n));
+      ∙ length-set old.configs i (in_incarnation s.config n));
   configs = λ j c x at_c at_x. elim (at_place old new i a s.after step h j x at_x) [
     | inl p ↦ elim (set_cases old.configs i (in_incarnation s.config n) j c
         (subst (λ l. slice_get l j ≡ Some c) configs at_c)) [

@@ -1,8 +1,9 @@
 -- In every run edges stay, their incarnations rise, and the pool grows.
 use Rattle.std.proofs.Common.{◌≡◌, inl, inr, ℕ, zero, suc, ◌≤◌, Option, Some, None, Result, Ok, Err, List, [], ◌∷◌}
-use Rattle.std.proofs.Common.{◌++◌, length, refl, sym, ap, subst, ◌∙◌, arith}
+use Rattle.std.proofs.Common.{◌++◌, length, refl, sym, ap, subst, ◌∙◌, arith, length-set}
 use Rattle.std.proofs.lemmas.Bool.{cases_eq}
 use Rattle.std.proofs.lemmas.List.{append-nil, append_assoc}
+use Rattle.std.proofs.lemmas.Option.{none-some}
 use Rattle.std.specs.Prelude.{slice_get, slice_set}
 use Rattle.route_wire.specs.Fields.{Fields}
 use Rattle.ev_edge.specs.declared.reply.Reply.{Reply}
@@ -20,7 +21,7 @@ use Rattle.ev_fabric.specs.Steps.{with_announced, StepsAt, AnnouncesAt, in_incar
 use Rattle.ev_fabric.specs.Steps.{RestartsAt}
 use Rattle.ev_fabric.specs.Steps.{FabricSteps}
 use Rattle.ev_fabric.specs.Later.{IsLaterEdge, IsLaterFabric, RunsLead, RestsRun, AdvertsAreAnew}
-use Rattle.ev_fabric.proofs.Places.{minus, set_same, set_other, set_length}
+use Rattle.ev_fabric.proofs.Places.{minus, set_same, set_other}
 use Rattle.ev_fabric.proofs.Voices.{AreOne}
 use Rattle.ev_fabric.proofs.Events.{Leaves}
 use Rattle.ev_fabric.proofs.Opened.{opened_of, fit_in_life}
@@ -63,7 +64,7 @@ one_there f i a x p q = cc
 one_later : (old new : Fabric) (i : ℕ) (a b : Edge) (more : List Fields) → IsEdge old i a
     → new.edges ≡ slice_set old.edges i b → IsLaterEdge a b → new.pool ≡ old.pool ++ more → IsLaterFabric old new
 one_later old new i a b more at edges later pool = record {
-  count = ap length edges ∙ set_length old.edges i b;
+  count = ap length edges ∙ length-set old.edges i b;
   edges = λ j x at_x. elim (cases_eq j i) [
     | inl same ↦
         let here : IsEdge old i x = subst (λ n. IsEdge old n x) same at_x in
@@ -133,9 +134,6 @@ restarts_later : (old new : Fabric) (i : ℕ) (a : Edge) (n : ℕ) (result : Res
 restarts_later old new i a n (Ok reply) h at s = restart_later old new i a n reply h at s
 restarts_later old new i a n (Err why) h at s = unchanged old new s.1
 
-no_edge : (a : Edge) → ◌≡◌ {A = Option Edge} None (Some a) → ⊥
-no_edge a q = cc
-
 pub step_later : (old new : Fabric) (step : Step) (result : Result Reply FabricRefusal) → IsSound old
     → FabricSteps old step result new → IsLaterFabric old new
 step_later old new (Local e event) result h s =
@@ -203,7 +201,7 @@ adverts_are_anew old mid new e n reply steps h restart runs agree i b c at_b at_
 
     go : (e : ℕ) → nth new.edges e ≡ Some b → (a : Edge) × (nth mid.edges e ≡ Some a) × (incarnation_of a ≡ n)
         → n ≤ v.incarnation
-    go zero at anew = absurd (no_edge b at)
+    go zero at anew = absurd (none-some b at)
     go (suc j) at anew =
         let x = (runs_lead steps mid new sound_mid runs).edges j anew.0 anew.1 in
         let here : slice_get new.edges j ≡ Some b = at in

@@ -29,6 +29,5 @@ pub mod StationRounds
 pub mod StationMeanwhile
 pub mod StationTaken
 pub mod Goings
-pub mod Meetings
 pub mod Journeys
 pub mod Example

@@ -1,8 +1,9 @@
 -- An edge as it is opened, and a fabric of edges as they are opened.
-use Rattle.std.proofs.Common.{◌≡◌, inl, inr, ℕ, zero, suc, ◌+◌, ◌<◌, ◌++◌, take, Bool, true, false, Some, None, List}
-use Rattle.std.proofs.Common.{[], ◌∷◌, length, refl, sym, ap, subst, ◌∙◌, arith}
+use Rattle.std.proofs.Common.{◌≡◌, inl, inr, ℕ, zero, suc, ◌+◌, ◌<◌, ◌++◌, take, true, false, Some, None, List}
+use Rattle.std.proofs.Common.{[], ◌∷◌, length, refl, sym, ap, subst, ◌∙◌, arith, length-take-le, option_map}
 use Rattle.std.proofs.lemmas.Bool.{eq-eqb}
-use Rattle.std.specs.Prelude.{Contains, slice_get, eqb, map, ◌||◌}
+use Rattle.std.proofs.lemmas.Option.{slice_get_within, slice_get-map}
+use Rattle.std.specs.Prelude.{Contains, slice_get, eqb}
 use Rattle.std.specs.List.{IsDistinct, list_any, AllByRecursion}
 use Rattle.route_wire.specs.declared.update.Key.TheVariants.{Flood}
 use Rattle.route_wire.specs.declared.update.Content.TheVariants.{Advert as Advertised}
@@ -19,13 +20,13 @@ use Rattle.ev_edge.specs.declared.config.EdgeConfig.{EdgeConfig}
 use Rattle.ev_edge.specs.Config.{IsConfig}
 use Rattle.ev_edge.specs.Edge.{Edge, IsGoodEdge, address_of}
 use Rattle.ev_edge.specs.Opening.{IsOpening}
+use Rattle.ev_edge.proofs.Places.{any_is}
 use Rattle.ev_fabric.specs.Fabric.{Fabric, IsEdge, addresses_of}
 use Rattle.ev_fabric.specs.Opening.{AreConfigs, AreOpened, IsStart}
 use Rattle.ev_fabric.specs.Steps.{in_incarnation}
 use Rattle.ev_fabric.specs.Sound.{IsTold, IsOf, IsSound}
 use Rattle.ev_fabric.proofs.Voices.{Talks, Quiet, Says, talks_one, talks_told, talks_further}
-use Rattle.ev_fabric.proofs.Places.{contains_at, there_at, below_length, take_get, get_take, take_length, push_get}
-use Rattle.ev_fabric.proofs.Places.{push_length}
+use Rattle.ev_fabric.proofs.Places.{contains_at, there_at, take_get, get_take, push_get, push_length}
 
 -- an opening is a list of own updates
 floods_talk : (e : Speaker) (vs : List ℕ) → Talks e (after_floods e vs)
@@ -86,20 +87,10 @@ one_place (x ∷ xs) (suc i) zero a h at_i at_j = absurd (let differs = all_at (
     let same : x ≡ a = cc in let yes = eq-eqb x a same in cc)
 one_place (x ∷ xs) (suc i) (suc j) a h at_i at_j = ap suc (one_place xs i j a h.1 at_i at_j)
 
-map_at : {A B : Type 0} (f : A → B) (xs : List A) (i : ℕ) (a : A) → slice_get xs i ≡ Some a
-    → slice_get (map f xs) i ≡ Some (f a)
-map_at f [] i a is = cc
-map_at f (x ∷ xs) zero a is = let same : x ≡ a = cc in ap (λ y. Some (f y)) same
-map_at f (x ∷ xs) (suc i) a is = map_at f xs i a is
-
-any_there : (os : List ℕ) (a : ℕ) → Contains os a → list_any (λ x. eqb x a) os ≡ true
-any_there [] a (k, less, is) = absurd (omega (arith, less))
-any_there (x ∷ os) a (zero, less, is) = ap (λ b. b || list_any (λ x. eqb x a) os) (eq-eqb x a is)
-any_there (x ∷ os) a (suc k, less, is) = go (eqb x a) (any_there os a (k, omega (arith, less), is))
-  where
-    go : (b : Bool) → list_any (λ x. eqb x a) os ≡ true → (b || list_any (λ x. eqb x a) os) ≡ true
-    go true h = refl
-    go false h = h
+address_at : (cs : List EdgeConfig) (i : ℕ) (c : EdgeConfig) → slice_get cs i ≡ Some c
+    → slice_get (addresses_of cs) i ≡ Some c.address
+address_at cs i c is = slice_get-map (λ (d : EdgeConfig). d.address) cs i
+    ∙ ap (option_map (λ (d : EdgeConfig). d.address)) is
 
 -- ---- a fabric as it is opened
 
@@ -112,8 +103,8 @@ record HasConfig (cs : List EdgeConfig) (i : ℕ) (a : Edge) : Type 0 where
 
 has_config : (cs : List EdgeConfig) (f : Fabric) → AreConfigs cs → IsStart cs f → (i : ℕ) (a : Edge) → IsEdge f i a
     → HasConfig cs i a
-has_config cs f fit h i a at = go (there_at cs i (let less = below_length f.edges i a at in let same = h.opened.count in
-    omega (arith, less, same)))
+has_config cs f fit h i a at = go (there_at cs i (let less = slice_get_within f.edges i a at in
+    let same = h.opened.count in omega (arith, less, same)))
   where
     go : ((c : EdgeConfig) × (slice_get cs i ≡ Some c)) → HasConfig cs i a
     go (c, there) = record {
@@ -129,8 +120,8 @@ start_sound cs f fit h = record {
       let x = has_config cs f fit h i a at_a in
       let y = has_config cs f fit h j b at_b in
       one_place (addresses_of cs) i j (address_of a) fit.apart
-      (map_at (λ (c : EdgeConfig). c.address) cs i x.config x.there ∙ ap Some (sym x.is_of.address))
-      (map_at (λ (c : EdgeConfig). c.address) cs j y.config y.there ∙ ap Some (sym y.is_of.address ∙ sym same));
+      (address_at cs i x.config x.there ∙ ap Some (sym x.is_of.address))
+      (address_at cs j y.config y.there ∙ ap Some (sym y.is_of.address ∙ sym same));
   good = λ i a at. h.opened.good i a at;
   told = λ i a at.
       let x = has_config cs f fit h i a at in
@@ -141,11 +132,12 @@ start_sound cs f fit h = record {
       let x = has_config cs f fit h i a at_a in
       let y = has_config cs f fit h j b at_b in
       ap (λ os. list_any (λ o. eqb o (address_of b)) os) x.is_of.originators
-      ∙ any_there x.config.originators.items (address_of b)
-      (fit.listed x.config (contains_at cs i x.config x.there) (address_of b)
-      (subst (Contains (addresses_of cs)) (sym y.is_of.address)
-      (contains_at (addresses_of cs) j y.config.address
-      (map_at (λ (c : EdgeConfig). c.address) cs j y.config y.there))));
+      ∙ sym (any_is true x.config.originators.items (address_of b) (
+        (λ t. fit.listed x.config (contains_at cs i x.config x.there) (address_of b)
+            (subst (Contains (addresses_of cs)) (sym y.is_of.address)
+            (contains_at (addresses_of cs) j y.config.address (address_at cs j y.config y.there)))),
+        (λ in'. refl),
+      ));
   count = ap length h.configs ∙ sym h.opened.count;
   configs = λ i c a at_c at_a.
       let x = has_config cs f fit h i a at_a in
@@ -162,9 +154,9 @@ pub opened_more : (cs : List EdgeConfig) (edges : List Edge) (i : ℕ) (c : Edge
     → slice_get cs i ≡ Some c → AreOpened (take i cs) edges → IsOpening c b → IsGoodEdge b
     → AreOpened (take (i + 1) cs) (edges ++ b ∷ [])
 opened_more cs edges i c b less at h opened good = record {
-  count = push_length edges b ∙ ap suc size ∙ sym (take_length cs (i + 1) (omega (arith, less)) ∙ (omega arith));
+  count = push_length edges b ∙ ap suc size ∙ sym (length-take-le (i + 1) cs (omega (arith, less)) ∙ (omega arith));
   opened = λ j d a at_d at_a. elim (push_get edges b j a at_a) [
-    | inl before ↦ h.opened j d a (get_take cs i j d (let l = below_length edges j a before in let s = size in
+    | inl before ↦ h.opened j d a (get_take cs i j d (let l = slice_get_within edges j a before in let s = size in
         omega (arith, l, s)) (take_get cs (i + 1) j d at_d).1) before
     | inr new ↦
         let place : j ≡ i = new.0 ∙ size in
@@ -179,7 +171,7 @@ opened_more cs edges i c b less at h opened good = record {
 }
   where
     size : length edges ≡ i
-    size = h.count ∙ take_length cs i (omega (arith, less))
+    size = h.count ∙ length-take-le i cs (omega (arith, less))
 
 pub fit_in_life : (c : EdgeConfig) (n : ℕ) → IsConfig c → IsConfig (in_incarnation c n)
 fit_in_life c n h = record {

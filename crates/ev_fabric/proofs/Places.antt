@@ -3,8 +3,9 @@ use Rattle.std.proofs.Common.{◌≡◌, ◌≢◌, ◌⊎◌, inl, inr, ℕ, ze
 use Rattle.std.proofs.Common.{◌++◌, length, take, get_or, refl, sym, ap, ◌∙◌, arith}
 use Rattle.std.specs.Prelude.{Contains, slice_get, slice_set}
 use Rattle.std.specs.Option.{MatchOption}
-use Rattle.std.proofs.lemmas.Option.{slice_get-get_or}
+use Rattle.std.proofs.lemmas.Option.{slice_get-get_or, slice_get_within, get_or_from_slice_get}
 use Rattle.ev_fabric.specs.Fabric.{nth}
+use Rattle.route_join.proofs.WinnerTrees.{set_here, set_there}
 
 -- ---- one element of a list is replaced
 pub set_cases : {A : Type 0} (xs : List A) (i : ℕ) (b : A) (j : ℕ) (c : A) → slice_get (slice_set xs i b) j ≡ Some c
@@ -20,38 +21,20 @@ set_cases (x ∷ xs) (suc i) b (suc j) c is = elim (set_cases xs i b j c is) [
 
 pub set_same : {A : Type 0} (xs : List A) (i : ℕ) (a b : A) → slice_get xs i ≡ Some a
     → slice_get (slice_set xs i b) i ≡ Some b
-set_same [] i a b is = cc
-set_same (x ∷ xs) zero a b is = refl
-set_same (x ∷ xs) (suc i) a b is = set_same xs i a b is
+set_same xs i a b is = set_here xs i b (slice_get_within xs i a is)
 
 pub set_other : {A : Type 0} (xs : List A) (i : ℕ) (b : A) (j : ℕ) (c : A) → j ≢ i → slice_get xs j ≡ Some c
     → slice_get (slice_set xs i b) j ≡ Some c
-set_other [] i b j c ne is = is
-set_other (x ∷ xs) zero b zero c ne is = absurd (ne refl)
-set_other (x ∷ xs) zero b (suc j) c ne is = is
-set_other (x ∷ xs) (suc i) b zero c ne is = is
-set_other (x ∷ xs) (suc i) b (suc j) c ne is = set_other xs i b j c (λ same. ne (ap suc same)) is
-
-pub set_length : {A : Type 0} (xs : List A) (i : ℕ) (b : A) → length (slice_set xs i b) ≡ length xs
-set_length [] i b = refl
-set_length (x ∷ xs) zero b = refl
-set_length (x ∷ xs) (suc i) b = ap suc (set_length xs i b)
+set_other xs i b j c ne is = set_there xs i j b ne ∙ is
 
 pub contains_at : {A : Type 0} (xs : List A) (i : ℕ) (a : A) → slice_get xs i ≡ Some a → Contains xs a
-contains_at [] i a is = cc
-contains_at (x ∷ xs) zero a is = (0, omega arith, cc)
-contains_at (x ∷ xs) (suc i) a is = let h = contains_at xs i a is in (suc h.0, omega (arith, h.1), h.2)
+contains_at xs i a is = (i, slice_get_within xs i a is, get_or_from_slice_get xs i a a is)
 
 -- an element below the length is there
 pub there_at : {A : Type 0} (xs : List A) (i : ℕ) → i < length xs → (a : A) × (slice_get xs i ≡ Some a)
 there_at [] i less = absurd (omega (arith, less))
 there_at (x ∷ xs) zero less = (x, refl)
 there_at (x ∷ xs) (suc i) less = there_at xs i (omega (arith, less))
-
-pub below_length : {A : Type 0} (xs : List A) (i : ℕ) (a : A) → slice_get xs i ≡ Some a → i < length xs
-below_length [] i a is = cc
-below_length (x ∷ xs) zero a is = omega arith
-below_length (x ∷ xs) (suc i) a is = let h = below_length xs i a is in omega (arith, h)
 
 -- ---- places counted from 1
 pub minus : (i : ℕ) → suc i - 1 ≡ i
@@ -77,9 +60,6 @@ there_nth xs (suc i) pos in' = there_at xs i (omega (arith, in'))
 pub same_nth : {A : Type 0} (xs : List A) (e : ℕ) (a b : A) → nth xs e ≡ Some a → nth xs e ≡ Some b → a ≡ b
 same_nth xs e a b p q = cc
 
-pub item_at : {A : Type 0} (xs : List A) (i : ℕ) (a : A) → i < length xs → a ≡ get_or xs i a → slice_get xs i ≡ Some a
-item_at xs i a less is = slice_get-get_or xs i a less ∙ ap Some (sym is)
-
 -- ---- the front of a list, and one element more
 pub take_get : {A : Type 0} (xs : List A) (n j : ℕ) (c : A) → slice_get (take n xs) j ≡ Some c
     → (j < n) × (slice_get xs j ≡ Some c)
@@ -95,11 +75,6 @@ get_take xs zero j c less is = absurd (omega (arith, less))
 get_take [] (suc n) j c less is = is
 get_take (x ∷ xs) (suc n) zero c less is = is
 get_take (x ∷ xs) (suc n) (suc j) c less is = get_take xs n j c (omega (arith, less)) is
-
-pub take_length : {A : Type 0} (xs : List A) (n : ℕ) → n ≤ length xs → length (take n xs) ≡ n
-take_length xs zero less = refl
-take_length [] (suc n) less = absurd (omega (arith, less))
-take_length (x ∷ xs) (suc n) less = ap suc (take_length xs n (omega (arith, less)))
 
 pub push_get : {A : Type 0} (xs : List A) (b : A) (j : ℕ) (a : A) → slice_get (xs ++ b ∷ []) j ≡ Some a
     → (slice_get xs j ≡ Some a) ⊎ ((j ≡ length xs) × (a ≡ b))

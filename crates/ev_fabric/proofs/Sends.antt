@@ -7,6 +7,7 @@ use Rattle.std.specs.FinMap.{FinMap}
 use Rattle.std.specs.Option.{MatchOption, option_map}
 use Rattle.std.proofs.lemmas.Bool.{eq-eqb}
 use Rattle.std.proofs.lemmas.Bool.Decides.{nat_tests}
+use Rattle.std.proofs.lemmas.Option.{slice_get_within}
 use Rattle.ether_wire.specs.Addr.{is_group}
 use Rattle.ether_wire.specs.Ports.{IsPort, has_port, with_port}
 use Rattle.ether_wire.proofs.PortLemmas.{has_port-none, has_port-with}
@@ -47,7 +48,6 @@ use Rattle.ev_edge.proofs.Owning.{other_key, said_other}
 use Rattle.ev_fabric.specs.Agreed.{Advertises}
 use Rattle.ev_fabric.specs.Laws.{IsBehindPort, frame_in, tunnel_frame_in, IsFrameFor, IsTunnelFrameFor, FramesGo}
 use Rattle.ev_fabric.specs.Laws.{FramesComeOut, TunnelFramesComeOut}
-use Rattle.ev_fabric.proofs.Places.{below_length}
 use Rattle.ev_fabric.specs.Station.{StationFramesGo}
 use Rattle.ev_fabric.proofs.Agreements.{learnt, individual}
 use Rattle.ev_fabric.proofs.Stations.{agree_on_each, station_one, station_owner}
@@ -298,7 +298,7 @@ record IsThere (o : Edge) (q : ℕ) : Type 0 where
 there : (o : Edge) (vni q : ℕ) → IsGoodEdge o → vni_at o.routes.ports q ≡ Some vni → IsThere o q
 there o vni zero h is = cc
 there o vni (suc l) h is =
-    let less = below_length o.routes.ports l vni is in
+    let less = slice_get_within o.routes.ports l vni is in
     let same = h.keeps.ports in
     let few = h.routes.routes.few in
     record { least = omega arith; most = omega (arith, less, same); few = omega (arith, less, few) }

@@ -4,6 +4,7 @@ use Rattle.std.proofs.Common.{Result, List, [], ◌∷◌, ◌++◌, length, ref
 use Rattle.std.proofs.lemmas.Bool.{cases_eq}
 use Rattle.std.proofs.lemmas.List.{append-nil, length-append}
 use Rattle.std.proofs.lemmas.List.Elements.{Contains-append_cases, Contains-append_right}
+use Rattle.std.proofs.lemmas.Option.{slice_get_within}
 use Rattle.std.specs.Prelude.{Contains, slice_get, slice_set}
 use Rattle.std.specs.List.{filter}
 use Rattle.route_wire.specs.declared.update.Register.{Register}
@@ -23,7 +24,7 @@ use Rattle.ev_fabric.specs.Sound.{IsSound}
 use Rattle.ev_fabric.specs.Convergence.{Rests, HasNumbers, announcing}
 use Rattle.ev_fabric.specs.Station.{is_of, AgreesOn, StationComes, updates_on, all_take, StationArrives}
 use Rattle.ev_fabric.specs.Rounds.{AllTaken}
-use Rattle.ev_fabric.proofs.Places.{minus, set_cases, below_length}
+use Rattle.ev_fabric.proofs.Places.{minus, set_cases}
 use Rattle.ev_fabric.proofs.Cases.{at_delivery}
 use Rattle.ev_fabric.proofs.ConvergingSums.{place_of}
 use Rattle.ev_fabric.proofs.ConvergingEdge.{Heard, Back, Lost, Kept as HeardKept, heard, hears, marked_length}
@@ -145,7 +146,7 @@ module _ (old : Fabric) (i j : ℕ) (s : Station) (mid : Fabric) (sound : IsSoun
     ready = record { kept = sound_kept mid (point_mid old i j s mid sound m).sound_still; numbers = numbers };
     has = λ y w in'. let x = filter_from (λ (z : Fields). is_of s z.register) old.pool w in' in
         known_still old i j s mid sound m w (λ z. agreed_known old s m.agree z w x.0 x.1) y;
-    places = λ y c at. below_length mid.edges y c at;
+    places = λ y c at. slice_get_within mid.edges y c at;
   }
 
   longer : (steps : List Step) (f g : Fabric) → Rests f steps g → OnWay f → count s f ≤ count s g

@@ -20,24 +20,20 @@ use Rattle.ev_claims.specs.LocalRoutes.{LocalRoutes, key_of}
 use Rattle.ev_claims.proofs.Numbers.{own_same}
 use Rattle.ev_edge.specs.Edge.{Edge}
 use Rattle.ev_fabric.specs.Fabric.{Fabric, IsEdge}
-use Rattle.ev_fabric.specs.Sound.{update_of, IsSound}
+use Rattle.ev_fabric.specs.Sound.{update_of}
 use Rattle.ev_fabric.specs.ConvergenceEdge.{comes_back, IsLater}
-use Rattle.ev_fabric.specs.Agreed.{AllAgree}
-use Rattle.ev_fabric.specs.Convergence.{Rests, two_rounds, full_pool}
 use Rattle.ev_fabric.specs.Station.{is_of, updates_on}
 use Rattle.ev_fabric.specs.Station.{StationReached, unannounced_on, to_come_on, StationSettles}
 use Rattle.ev_fabric.proofs.Stations.{agree_on_each}
 use Rattle.ev_fabric.proofs.Places.{push_length}
-use Rattle.ev_fabric.proofs.Fabrics.{step_sound, rests_sound}
-use Rattle.ev_fabric.proofs.Opened.{start_sound}
+use Rattle.ev_fabric.proofs.Fabrics.{step_sound}
 use Rattle.ev_fabric.proofs.ConvergingSums.{sum_set, count_le, count_less, count_push, count_none}
 use Rattle.ev_fabric.proofs.ConvergingEdge.{comes, comes_when, Heard, Back, Lost, Kept as HeardKept, heard, hears}
 use Rattle.ev_fabric.proofs.ConvergingEdge.{heard_later, heard_has, comes_before, others_stay_away, known_stays_away}
 use Rattle.ev_fabric.proofs.ConvergingGood.{quieter}
 use Rattle.ev_fabric.proofs.ConvergingMoves.{Kept, Move, Stays, Tells, Takes, own_pending, announced_away}
 use Rattle.ev_fabric.proofs.ConvergingMoves.{sound_kept}
-use Rattle.ev_fabric.proofs.ConvergingRounds.{IsReady, two_rounds_agree, enough_itself, may_rest, quiet_rounds}
-use Rattle.ev_fabric.proofs.ConvergingNumbers.{start_numbers}
+use Rattle.ev_fabric.proofs.ConvergingNumbers.{agreement}
 use Rattle.ev_fabric.proofs.ConvergingHearing.{hear_cases}
 use Rattle.ev_fabric.proofs.StationStages.{filter_push, filter_past, waiting, SameOf, same_own, same_newest}
 use Rattle.ev_fabric.proofs.StationStages.{heard_other, whole_station, not_both, aside_quiet, Hears}
@@ -46,27 +42,13 @@ use Rattle.ev_fabric.proofs.StationAlone.{Moves, Same, Opens, Loses, Change, Any
 use Rattle.ev_fabric.proofs.StationAlone.{station_lasts}
 
 pub station_reached : StationReached
-station_reached configs f are start = (
-  run.0,
-  run.1,
-  after,
-  λ s steps new h none. (station_lasts s steps run.0 new after ((agree_on_each run.0 agree).stations s) h none).0,
-)
-  where
-    sound : IsSound f
-    sound = start_sound configs f are start
-
-    ready : IsReady f
-    ready = record { kept = sound_kept f sound; numbers = start_numbers configs f start }
-
-    run : (new : Fabric) × Rests f (two_rounds f) new
-    run = may_rest (two_rounds f) f ready (quiet_rounds f)
-
-    after : IsSound run.0
-    after = rests_sound (two_rounds f) f run.0 run.1 sound
-
-    agree : AllAgree run.0
-    agree = two_rounds_agree (length f.edges) (full_pool f) f run.0 ready (enough_itself f) run.1
+station_reached configs f are start =
+    let x = agreement configs f are start in (
+      x.0,
+      x.1,
+      x.3,
+      λ s steps new h none. (station_lasts s steps x.0 new x.3 ((agree_on_each x.0 x.2).stations s) h none).0,
+    )
 
 -- ---- updates that may still be announced
 

@@ -14,10 +14,9 @@ use Rattle.ev_fabric.specs.Fabric.{Fabric, IsEdge}
 use Rattle.ev_fabric.specs.Local.{event_of}
 use Rattle.ev_fabric.specs.Steps.{StepsAt, RestartsAt, FabricSteps}
 use Rattle.ev_fabric.specs.Sound.{IsSound}
-use Rattle.ev_fabric.specs.Runs.{Runs}
+use Rattle.ev_fabric.specs.Runs.{Runs, StaysOpen}
 use Rattle.ev_fabric.specs.Station.{NoneRestarts}
 use Rattle.ev_fabric.specs.Rounds.{TakenStays}
-use Rattle.ev_fabric.specs.Sessions.{StaysOpen}
 use Rattle.ev_fabric.proofs.Places.{minus, set_cases}
 use Rattle.ev_fabric.proofs.Cases.{at_edge}
 use Rattle.ev_fabric.proofs.Events.{local_talks}

@@ -118,10 +118,12 @@ was_announced : (pool : List Fields) (u : Fields) (r : Register) (v : Value) →
     → v ≡ u.value → Contains pool (update_of r v)
 was_announced pool u r v in' same equal = subst (Contains pool) (λ i. update_of (sym same i) (sym equal i)) in'
 
--- another's
-pub heard_told : (pool : List Fields) (e : Speaker) (u : Fields) → Contains pool u → u.register.originator ≢ e.address
+-- it replaces none of the edge's own values of this incarnation
+taken_told : (pool : List Fields) (e : Speaker) (u : Fields) → Contains pool u
+    → ((r : Register) (v : Value) → r.originator ≡ e.address → value_at e.table r ≡ Some v
+    → v.incarnation ≡ e.incarnation → r ≢ u.register)
     → IsTold pool e → IsTold pool (after_importing e u)
-heard_told pool e u in' other told = record {
+taken_told pool e u in' other told = record {
   foreign = λ r v ne is. elim (heard_cases e.table u r v is) [
     | inl before ↦ told.foreign r v ne before
     | inr new ↦ was_announced pool u r v in' new.0 new.1
@@ -135,39 +137,25 @@ heard_told pool e u in' other told = record {
     | inr b ↦ inr (record {
       present = b.present;
       says = b.says;
-      there = update_other e.table u.register u.value w.register
-          (λ same. other (ap (λ (r : Register). r.originator) (sym same) ∙ mine)) ∙ b.there;
-      alive = b.alive;
-      order = b.order;
-    })
-  ];
-}
-
--- one under the edge's own address, of an earlier incarnation
-pub earlier_told : (pool : List Fields) (e : Speaker) (u : Fields) → Contains pool u → is_newest e u ≡ true
-    → u.value.incarnation < e.incarnation → IsTold pool e → IsTold pool (after_importing e u)
-earlier_told pool e u in' newest past told = record {
-  foreign = λ r v ne is. elim (heard_cases e.table u r v is) [
-    | inl before ↦ told.foreign r v ne before
-    | inr new ↦ was_announced pool u r v in' new.0 new.1
-  ];
-  own = λ r v mine is quiet. elim (heard_cases e.table u r v is) [
-    | inl before ↦ told.own r v mine before quiet
-    | inr new ↦ was_announced pool u r v in' new.0 new.1
-  ];
-  behind = λ w there mine. elim (told.behind w there mine) [
-    | inl earlier ↦ inl earlier
-    | inr b ↦ inr (record {
-      present = b.present;
-      says = b.says;
-      there = update_other e.table u.register u.value w.register
-          (λ same. not_present e u b.says newest past (ap (value_at e.table) (sym same) ∙ b.there) b.alive)
+      there = update_other e.table u.register u.value w.register (other w.register b.says mine b.there b.alive)
           ∙ b.there;
       alive = b.alive;
       order = b.order;
     })
   ];
 }
+
+-- another's
+pub heard_told : (pool : List Fields) (e : Speaker) (u : Fields) → Contains pool u → u.register.originator ≢ e.address
+    → IsTold pool e → IsTold pool (after_importing e u)
+heard_told pool e u in' other = taken_told pool e u in'
+    (λ r v mine is alive same. other (ap (λ (q : Register). q.originator) (sym same) ∙ mine))
+
+-- one under the edge's own address, of an earlier incarnation
+pub earlier_told : (pool : List Fields) (e : Speaker) (u : Fields) → Contains pool u → is_newest e u ≡ true
+    → u.value.incarnation < e.incarnation → IsTold pool e → IsTold pool (after_importing e u)
+earlier_told pool e u in' newest past = taken_told pool e u in'
+    (λ r v mine is alive same. not_present e u v newest past (ap (value_at e.table) (sym same) ∙ is) alive)
 
 -- if the update isn't news, nothing changes
 pub known_told : (pool : List Fields) (e : Speaker) (u : Fields) → is_newest e u ≡ false → IsTold pool e

@@ -33,8 +33,7 @@ returning pool e = count_by (λ (u : Fields). comes_back e u && is_latest pool u
 
 -- ---- updates that may still be made
 
--- the number of withdrawals that the edge may still make: of the stations that it has learnt, and of adverts that come
--- back
+-- the number of withdrawals that the edge may still make: of learnt stations, and of adverts that come back
 abbrev pub unsaid : List Fields → LocalRoutes → ℕ
 unsaid pool c = entries c + returning pool c.speaker
 

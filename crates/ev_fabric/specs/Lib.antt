@@ -14,6 +14,5 @@ pub mod Station
 pub mod Rounds
 pub mod Meanwhile
 pub mod Later
-pub mod Sessions
 pub mod Witnesses
 pub mod Inner

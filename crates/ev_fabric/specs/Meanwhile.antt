@@ -37,8 +37,7 @@ GoesHome a s port reply = (x : Entry) × IsBehindPort a s x
     × GoesOut x.port (Passes a.tree x.port × (x.port ≢ port)) reply
 
 -- After a move and any steps of `RunsBeside` without a restart, an edge sends a frame for the station only to the old
--- place, only to the new place, or to all; and only at one of the two places it goes to a port on which the station is
--- learnt.
+-- place, only to the new place, or to all. Only these two may send it to a port on which they have learnt the station.
 abbrev pub FramesMeanwhile : Type 0
 FramesMeanwhile =
     (i j : ℕ) (s : Station) (old mid new : Fabric) (steps : List Step) → IsSound old → (m : StationComes old i j s mid)

@@ -1,5 +1,4 @@
--- Rounds of a station: the pending updates are announced, the updates of the pool are taken, and any other steps come
--- in between.
+-- Rounds of a station: pending updates are announced, the pool's are taken, and any other steps come in between.
 use Rattle.std.specs.Prelude.{◌≡◌, ℕ, zero, suc, ◌+◌, ◌*◌, ◌≤◌, false, true, Some, Ok, List, ◌++◌, Contains, slice_get}
 use Rattle.route_wire.specs.declared.update.Register.{Register}
 use Rattle.route_wire.specs.declared.update.Value.{Value}
@@ -46,8 +45,7 @@ TakenStays = (i k : ℕ) (u : Fields) (reply : Reply) (steps : List Step) (old m
     → NoneRestarts steps → (b : Edge) → IsEdge new i b
     → (v : Value) × (value_at (table_of b) u.register ≡ Some v) × (is_newer u.value v ≡ false)
 
--- the updates that were pending at the beginning were announced, and those that the pool had at the beginning were
--- taken
+-- each update that was pending at the beginning was announced, and each update of the pool at the beginning was taken
 pub record IsRound (s : Station) (old new : Fabric) : Type 0 where
   pub announced : AllAnnounced s old new
   pub taken : AllTaken s old new

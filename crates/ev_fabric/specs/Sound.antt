@@ -14,8 +14,7 @@ use Rattle.ev_fabric.specs.Fabric.{Fabric, IsEdge, incarnation_of}
 abbrev pub update_of : Register → Value → Fields
 update_of r v = record { register = r; value = v }
 
--- The update is of the present incarnation n, and the table still has its value, or one of that incarnation with a
--- higher number.
+-- The update is of the present incarnation n, and the table has its value, or one of n with a higher number.
 pub record IsBehind (n : ℕ) (t : Table) (u : Fields) : Type 0 where
   pub present : u.value.incarnation ≡ n
   pub says : Value

@@ -216,8 +216,7 @@ RunsLosing i j s old [] new = new ≡ old
 RunsLosing i j s old (step ∷ steps) new = (mid : Fabric) × (result : Result Reply FabricRefusal)
     × FabricSteps old step result mid × LeavesOrLoses i j s old step mid × RunsLosing i j s mid steps new
 
--- The pool has got an advert of the station by one originator and a withdrawal by another, in this order or in the
--- other one.
+-- The pool has got an advert of the station by one originator and a withdrawal by another, in either order.
 pub record IsMovedAnyhow (old : List Fields) (s : Station) (from to : ℕ) (new : List Fields) : Type 0 where
   pub advert : Value
   pub withdrawal : Value
@@ -282,8 +281,7 @@ NoneRestarts (Announce e ∷ steps) = NoneRestarts steps
 NoneRestarts (Deliver e k ∷ steps) = NoneRestarts steps
 NoneRestarts (Restart e n ∷ steps) = ⊥
 
--- edges that agree on an undisturbed station go on agreeing on it while no edge restarts, and nothing more of it is
--- announced
+-- edges that agree on an undisturbed station go on agreeing while none restarts, and nothing of it is announced
 abbrev pub StationLasts : Type 0
 StationLasts = (s : Station) (steps : List Step) (old new : Fabric) → IsSound old → AgreesOn old s
     → RunsAlone s old steps new → NoneRestarts steps → AgreesOn new s × (updates_on s new.pool ≡ updates_on s old.pool)

@@ -8,7 +8,6 @@ mod later;
 mod laws;
 mod refusal;
 mod rounds;
-mod sessions;
 mod station;
 mod step;
 #[cfg(test)]
@@ -25,7 +24,6 @@ pub use laws::{
 };
 pub use refusal::FabricRefusal;
 pub use rounds::{frames_meanwhile, station_agrees, station_agrees_after_a_move, taken_stays};
-pub use sessions::{begun_anew, sessions_agree};
 pub use station::{
     agreed_station, agrees_on, station_arrives, station_frames_go, station_from_port_to_port,
     station_lasts, station_moves, station_moves_anyhow, station_settles,

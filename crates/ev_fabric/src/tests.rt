@@ -15,8 +15,8 @@ use std::alloc::{AllocError, Global};
 use std::test::Fail;
 
 mod memory;
+mod restarts;
 mod runs;
-mod sessions;
 
 // Edges accept updates from 10.0.0.1, 10.0.0.2 and 10.0.0.3.
 fn originators() -> ArrayVec<Addr, 64>

@@ -4,8 +4,7 @@ use Rattle.std.specs.Prelude.{List, [], ◌∷◌, ◌++◌, length, take, drop,
 use Rattle.ev_links.specs.Links.{Packet, packet}
 use Rattle.ev_links.specs.declared.line.Head.{Head}
 
--- the waiting BPDUs and frames, each with the first one first; the number of dropped ones; and whether the line has
--- ended
+-- the waiting BPDUs and frames, the first one first; the number of dropped ones; and whether the line has ended
 pub record Waiting : Type 0 where
   pub bpdus : List (List ℕ)
   pub frames : List Packet

@@ -1,5 +1,4 @@
--- The alerts of an edge: those that wait for the operator, and the recent ones, which were taken and came less than 180
--- seconds ago.
+-- The alerts of an edge: those that wait for the operator, and the recent ones: taken, and less than 180 seconds old.
 use Rattle.std.specs.Prelude.{ℕ, ◌+◌, ◌-◌, ◌^◌, min, Bool, false, true, ◌&&◌, not, ◌==◌, nat_lt, if◌then◌else◌, List}
 use Rattle.std.specs.Prelude.{[], ◌∷◌, ◌++◌, length, filter, Option, Some, None}
 use Rattle.std.specs.List.{list_any}

@@ -128,8 +128,7 @@ abbrev pub end_of_all : Result (Unit {0}) Device → List (Option Told)
 end_of_all (Ok done) = None ∷ []
 end_of_all (Err device) = []
 
--- The lines of all news that came were written, in order, to the end; or a call of the writer failed, and no more news
--- was taken.
+-- The lines of all news that came were written, in order; or a call of the writer failed, and no more news was taken.
 pub record TellsAll (came : Option (List (Option Told))) (old : End) (came' : Option (List (Option Told))) (new : End)
     (result : Result (Unit {0}) Device) : Type 0 where
   pub things : List Told

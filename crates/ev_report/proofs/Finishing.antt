@@ -21,7 +21,7 @@ use Rattle.ev_report.proofs.Feeding.{same_note, same_broken}
 
 -- ---- one call after the other
 
-tells_holds : (a b : End) (q : Bool) (t : List ℕ) → Tells a b true q t → Holds a b t
+pub tells_holds : (a b : End) (q : Bool) (t : List ℕ) → Tells a b true q t → Holds a b t
 tells_holds a b true t h = record {
   written = λ _. h.written refl;
   failures = inl (ap (λ (x : End). x.failures) (h.written refl));
@@ -29,7 +29,7 @@ tells_holds a b true t h = record {
 tells_holds a b false t h = let one = h.failed refl refl in
     record { written = λ e. absurd (omega arith); failures = inr one }
 
-tells_failed : (a b : End) (q : Bool) (t : List ℕ) → Tells a b true q t → has_failed a b ≡ not q
+pub tells_failed : (a b : End) (q : Bool) (t : List ℕ) → Tells a b true q t → has_failed a b ≡ not q
 tells_failed a b true t h = let none : b.failures ≡ a.failures = ap (λ (x : End). x.failures) (h.written refl) in
     grind (arith, nat_tests)
 tells_failed a b false t h = let one = h.failed refl refl in grind (arith, nat_tests)

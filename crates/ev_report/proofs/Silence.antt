@@ -1,6 +1,5 @@
 -- Nothing was written, at a run's end.
-use Rattle.std.proofs.Common.{◌≡◌, inl, ℕ, Bool, true, false, cond, ◌&&◌, ◌||◌, [], refl, sym, ap, ◌∙◌, arith}
-use Rattle.std.proofs.lemmas.Bool.Decides.{nat_tests}
+use Rattle.std.proofs.Common.{◌≡◌, inl, ℕ, Bool, true, false, cond, ◌&&◌, ◌||◌, [], refl, sym, ap, ◌∙◌, arith, le-ltb}
 use Rattle.ether_wire.specs.Ends.{End}
 use Rattle.ether_wire.proofs.Appending.{with_text_none}
 use Rattle.ev_report.specs.Ends.{Devices, has_failed, Holds, Passes}
@@ -18,14 +17,12 @@ holds_none e = record { written = λ _. sym (with_text_none e); failures = inl r
 pub is_silent : (out notes : End) → IsSilent out out notes notes
 is_silent out notes = record { out_kept = holds_none out; notes_kept = holds_none notes }
 
-unfailed : (e : End) → has_failed e e ≡ false
-unfailed e = grind (arith, nat_tests)
-
 pub refused_memory : (out notes : End) (status : ℕ) → status ≡ 3 → IsRefusedMemory out out notes notes status
 refused_memory out notes status is = (
   is_silent out notes,
   is ∙ status_as false false (has_failed out out) (has_failed notes notes) true true false
-      (sym (unfailed out)) (sym (unfailed notes)) refl,
+      (sym (le-ltb out.failures out.failures (omega arith))) (sym (le-ltb notes.failures notes.failures (omega arith)))
+      refl,
 )
 
 -- ---- writers that are given more at once

@@ -72,9 +72,7 @@ EndsBy (Faulty fault) old new pieces input = (last : List ℕ) × Gives old new 
     × (input ≡ concat pieces ++ last)
 EndsBy Unended old new pieces input = (new ≡ old) × (length pieces ≡ 2 ^ 40) × (input ≡ concat pieces)
 
--- The reader gave these octets, in at most 2^40 reads: pieces that show no fault in records up to a version, and then
--- it
--- ended so.
+-- The reader gave these octets in at most 2^40 reads, in pieces without a fault up to a version, and then ended so.
 pub record Gave (newest : ℕ) (old new : Source) (input : List ℕ) (ending : Ending) : Type 0 where
   pub pieces : List (List ℕ)
   pub behind : Source

@@ -53,10 +53,11 @@ abbrev pub sockets_of : Bool → List EdgeConfig → ℕ
 sockets_of is_asked edges =
     if is_asked then min ((needs_of edges).sockets + client_sockets) most else (needs_of edges).sockets
 
--- the threads with which a run begins, with the one that accepts clients if clients may query the run
+-- The threads with which a run begins. If clients may query the run, two more: one accepts clients, and one watches
+-- the sessions with edges elsewhere.
 abbrev pub threads_of : Bool → List EdgeConfig → ℕ
 threads_of is_asked edges =
-    if is_asked then min ((needs_of edges).threads + 1) most else (needs_of edges).threads
+    if is_asked then min ((needs_of edges).threads + 2) most else (needs_of edges).threads
 
 -- ---- the text
 
@@ -74,9 +75,10 @@ memory_text memory = codes "about " ++ decimal (memory / 1048576 + 1) ++ codes "
 abbrev pub needs_text : Needs → Text
 needs_text n = threads_text n.threads ++ sockets_text n.sockets ++ memory_text n.memory
 
--- the resources that clients take in addition: a thread that accepts them, two for each of 8, and memory for these
+-- the resources that clients take in addition: a thread that accepts them, one that watches sessions, two for each of
+-- 8 clients, and memory for these
 abbrev pub clients_text : Text
-clients_text = codes "for 8 clients at most 17 threads, 18 sockets and about 2 MiB of memory more\n"
+clients_text = codes "for 8 clients at most 18 threads, 18 sockets and about 2 MiB of memory more\n"
 
 -- the needs, with those of clients if clients may query the run
 abbrev pub asked_text : Bool → Needs → Text

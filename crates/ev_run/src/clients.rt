@@ -7,10 +7,11 @@ ghost use Rattle.ev_run.specs.RunEdges.{ReadsOut};
 use crate::control_socket::ControlSocket;
 use crate::records::{ServedEdges, exchange};
 use crate::run::is_read_out;
+use crate::watching::enter_due;
 use arrayvec::ArrayVec;
 use ether_wire::{Buffered, In, Reader, Writer};
 use ev_console::converse;
-use ev_exchange::Known;
+use ev_exchange::{Known, Sessions};
 use ev_mailboxes::Running;
 use std::alloc::Global;
 use std::io::{Read, Write};
@@ -33,7 +34,8 @@ const PATIENCE: u64 = 10;
 /// The timeout in milliseconds of the last write to a client.
 const FAREWELL: u64 = 100;
 
-/// The milliseconds to wait before the next try if no client could be accepted.
+/// The milliseconds to wait before the next try if no client could be accepted, and before the next
+/// look at the sessions if no step was due.
 const PAUSE: u64 = 100;
 
 /// The most octets of a client's first line that are read.
@@ -132,6 +134,8 @@ pub(crate) struct Service {
     pub(crate) listed: Known,
     /// The number of seconds after which a console is ended that sends nothing.
     pub(crate) idle: u64,
+    /// The number of seconds without a session after which an edge elsewhere is away, or 0.
+    pub(crate) hold: u64,
 }
 
 /// The state that the clients share.
@@ -147,6 +151,10 @@ struct Hall<'x, R> {
     service: &'x Service,
     /// The seats of the clients.
     seats: &'x Mutex<Seats>,
+    /// The sessions with edges elsewhere.
+    sessions: &'x Mutex<Sessions>,
+    /// The edges elsewhere that the configuration doesn't name.
+    unlisted: &'x Mutex<Known>,
 }
 
 /// A client's request, by its first line.
@@ -203,7 +211,14 @@ fn console<R: Wait>(hall: &Hall<'_, R>, stream: &UnixStream) -> io::Result<()> {
     stream.set_read_timeout(Some(Duration::from_secs(hall.service.idle)))?;
     let mut reader = Reader::new(stream);
     let mut out = Buffered::new(Writer::new(stream));
-    let conversed = converse(hall.rt, hall.alloc, &hall.running, &mut reader, &mut out);
+    let conversed = converse(
+        hall.rt,
+        hall.alloc,
+        &hall.running,
+        hall.unlisted,
+        &mut reader,
+        &mut out,
+    );
     let _ = out.abandon();
     if conversed.is_err() {
         // A read timed out, or the client doesn't read: then this line has no room either.
@@ -234,7 +249,7 @@ fn say(stream: &UnixStream, words: &[u8]) {
 }
 
 /// Serves a client in a seat by its first line.
-fn attend<R: Threads + Wait + Sync>(
+fn attend<R: Threads + Wait + Clock + Sync>(
     hall: &Hall<'_, R>,
     stream: &UnixStream,
     place: usize,
@@ -258,14 +273,18 @@ fn attend<R: Threads + Wait + Sync>(
 }
 
 /// Serves a client, ends its connection, and frees its seat.
-fn attend_seated<R: Threads + Wait + Sync>(hall: &Hall<'_, R>, stream: UnixStream, place: usize) {
+fn attend_seated<R: Threads + Wait + Clock + Sync>(
+    hall: &Hall<'_, R>,
+    stream: UnixStream,
+    place: usize,
+) {
     let _ = attend(hall, &stream, place);
     let _ = stream.shutdown(Shutdown::Both);
     hall.seats.lock(hall.rt).leave(place);
 }
 
 /// Gives a client a seat and a thread, or writes `busy` to it if it gets no seat.
-fn let_in<'s, 'x: 's, R: Threads + Wait + Sync>(
+fn let_in<'s, 'x: 's, R: Threads + Wait + Clock + Sync>(
     scope: &Scope<'s, &'x ()>,
     hall: &'x Hall<'x, R>,
     stream: UnixStream,
@@ -307,8 +326,21 @@ fn serve_clients<'x, R: Threads + Wait + Clock + Sync>(hall: &'x Hall<'x, R>) {
     })
 }
 
+/// Marks edges elsewhere as away or back at the edges of this process, until the hall is closed.
+fn watch_sessions<R: Wait + Clock>(hall: &Hall<'_, R>) {
+    for _ in hall.rt.forever() {
+        if hall.is_closed() {
+            return;
+        }
+        if !enter_due(hall.rt, &hall.running, hall.sessions, hall.service.hold) {
+            thread::sleep(hall.rt, Duration::from_millis(PAUSE));
+        }
+    }
+}
+
 /// Reads an input out, and then closes the hall. Returns `true` if no read failed and the end came
-/// within 2^40 reads. Serves clients meanwhile, if a thread can be started for it.
+/// within 2^40 reads. Serves clients and watches sessions meanwhile, if a thread can be started for
+/// each of the two.
 fn read_beside<'s, 'x: 's, R: Threads + Wait + Clock + Sync, E: In>(
     scope: &Scope<'s, &'x ()>,
     hall: &'x Hall<'x, R>,
@@ -318,6 +350,7 @@ fn read_beside<'s, 'x: 's, R: Threads + Wait + Clock + Sync, E: In>(
     ensures { ReadsOut (E.end reader.old) (E.end reader.new) result }
 {
     let _ = scope.spawn(move || serve_clients(hall));
+    let _ = scope.spawn(move || watch_sessions(hall));
     let is_read = is_read_out(reader);
     hall.close();
     is_read
@@ -346,6 +379,8 @@ impl<'x, R> Hall<'x, R> {
             alloc: self.alloc,
             running: self.running,
             listed: &self.service.listed,
+            sessions: self.sessions,
+            unlisted: self.unlisted,
         }
     }
 }
@@ -390,12 +425,16 @@ pub(crate) fn read_out<'x, R: Threads + Wait + Clock + Sync, E: In>(
         return is_read_out(reader);
     };
     let seats = Mutex::new(Seats::new());
+    let sessions = Mutex::new(Sessions::new());
+    let unlisted = Mutex::new(Known::new());
     let hall = Hall {
         rt,
         alloc,
         running,
         service,
         seats: &seats,
+        sessions: &sessions,
+        unlisted: &unlisted,
     };
     read_serving(&hall, reader)
 }

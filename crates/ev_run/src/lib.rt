@@ -18,6 +18,7 @@ mod settling;
 mod sockets;
 mod system_drops;
 mod thread_check;
+mod watching;
 
 pub use control_socket::ListenError;
 pub use needs::{Needs, needs_of};

@@ -87,14 +87,14 @@ pub fn sockets_of(config: &Config, is_asked: bool) -> u64
     }
 }
 
-/// Returns the number of threads with which a run begins, with the one that accepts clients if
-/// `is_asked`.
+/// Returns the number of threads with which a run begins. If `is_asked`, two more: one accepts
+/// clients, and one watches the sessions with edges elsewhere.
 pub(crate) fn threads_of(config: &Config, is_asked: bool) -> u64
     ensures { result ≡ threads_of is_asked config.now.edges.items }
 {
     let threads = needs_of(config).threads;
     if is_asked {
-        threads.saturating_add(1)
+        threads.saturating_add(2)
     } else {
         threads
     }

@@ -67,7 +67,7 @@ fn put_clients<W: Out>(out: &mut W, is_asked: bool) -> Result<(), Device>
     if !is_asked {
         return Ok(());
     }
-    out.put(b"for 8 clients at most 17 threads, 18 sockets and about 2 MiB of memory more\n")
+    out.put(b"for 8 clients at most 18 threads, 18 sockets and about 2 MiB of memory more\n")
 }
 
 /// Writes the resources that a run takes, a line each, and those that its clients take at most if

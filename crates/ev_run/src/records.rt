@@ -9,9 +9,11 @@ ghost use Rattle.std.specs.Option.{option_map_or};
 ghost use Rattle.ev_exchange.specs.Sending.{is_own};
 
 use crate::lives::{OwnLives, PeerLives};
+use crate::watching::second_now;
 use ether_wire::{Addr, Buffered, Flushing, Reader, Writer};
 use ev_exchange::{
-    Announcing, Due, EdgeTable, Entrance, Known, Sender, StreamEnd, announce, has_any_of, receive,
+    Announcing, Due, EdgeTable, Entrance, Known, Sender, Sessions, StreamEnd, announce, has_any_of,
+    receive,
 };
 use ev_mailboxes::{Control, Joined, Running};
 use ev_notices::Refused;
@@ -19,9 +21,10 @@ use route_wire::Update;
 use std::alloc::{AllocError, Global};
 use std::net::Shutdown;
 use std::os::unix::net::UnixStream;
-use std::sync::Wait;
+use std::sync::{Mutex, Wait};
 use std::thread;
 use std::thread::{Scope, Threads};
+use std::time::Clock;
 
 /// The most times that an edge is asked for a table that has taken an update.
 const TRIES: usize = 100;
@@ -34,6 +37,10 @@ pub(crate) struct ServedEdges<'x, R> {
     pub(crate) running: Running<'x>,
     /// The originators that the configuration lists.
     pub(crate) listed: &'x Known,
+    /// The sessions with edges elsewhere.
+    pub(crate) sessions: &'x Mutex<Sessions>,
+    /// The edges elsewhere that the configuration doesn't name.
+    pub(crate) unlisted: &'x Mutex<Known>,
 }
 
 impl<R> Clone for ServedEdges<'_, R> {
@@ -141,8 +148,10 @@ impl<R: Wait> Announcing for Announced<'_, R> {
 #[derive(Drop)]
 struct Entered<'x, R> {
     connection: &'x Connection<'x, R>,
-    /// The edges elsewhere of which an update has come.
+    /// The listed edges elsewhere of which an update has come.
     named: Known,
+    /// The other edges elsewhere of which an update has come.
+    unlisted: Known,
     /// The lives of these edges.
     peers: PeerLives,
     /// The life of an edge of this process whose updates come back.
@@ -150,16 +159,27 @@ struct Entered<'x, R> {
 }
 
 impl<R: Wait> Entered<'_, R> {
-    /// Handles the first update of an edge elsewhere: the registers that the edges hold of that
-    /// edge are due on the connection.
-    fn meet(&self, originator: Addr, update: &Update) {
-        let edges = &self.connection.edges;
-        if !edges.listed.has(originator) {
+    /// Handles an update of a listed edge elsewhere. With the first one its session begins, and the
+    /// registers that the edges hold of that edge are due on the connection.
+    fn meet(&mut self, originator: Addr, update: &Update) {
+        if self.named.meet(originator) {
+            let edges = &self.connection.edges;
+            edges.sessions.lock(edges.rt).begin(originator);
+            self.connection.joined.put(edges.rt, *update);
+        }
+    }
+
+    /// Handles an update of another edge elsewhere. With the first one the edge is shown to the
+    /// operator.
+    fn meet_unlisted(&mut self, originator: Addr, update: &Update) {
+        if self.unlisted.meet(originator) {
+            let edges = &self.connection.edges;
+            let _is_new = edges.unlisted.lock(edges.rt).meet(originator);
             edges
                 .running
                 .refuse(edges.rt, Refused::Unlisted(originator));
+            self.connection.joined.put(edges.rt, *update);
         }
-        self.connection.joined.put(edges.rt, *update);
     }
 
     /// Compares the lives of edges with an update of an edge of this process that comes back. It
@@ -187,8 +207,10 @@ impl<R: Wait> Entrance for Entered<'_, R> {
         }
         self.peers.add(connection.edges.alloc, update);
         self.own.forget();
-        if self.named.meet(originator) {
+        if connection.edges.listed.has(originator) {
             self.meet(originator, update);
+        } else {
+            self.meet_unlisted(originator, update);
         }
     }
 
@@ -217,24 +239,36 @@ fn say<R: Wait>(connection: &Connection<'_, R>) {
     let _ = connection.stream.shutdown(Shutdown::Both);
 }
 
+/// Ends the sessions of the edges elsewhere whose updates have come over a connection. They end
+/// once the present second is over, so that no edge is away too early.
+fn end_sessions<R: Wait + Clock>(edges: &ServedEdges<'_, R>, named: &Known) {
+    let end = second_now(edges.rt).saturating_add(1);
+    let mut sessions = edges.sessions.lock(edges.rt);
+    for edge in named.as_slice() {
+        sessions.end(*edge, end);
+    }
+}
+
 /// Receives updates for the edges over a connection, up to its end or its first fault.
-fn hear<R: Wait>(connection: &Connection<'_, R>) {
+fn hear<R: Wait + Clock>(connection: &Connection<'_, R>) {
     let mut into = Entered {
         connection,
         named: Known::new(),
+        unlisted: Known::new(),
         peers: PeerLives::new(connection.edges.alloc),
         own: OwnLives::new(),
     };
     let incoming = receive(&mut into, &mut Reader::new(connection.stream));
+    let edges = &connection.edges;
     if let StreamEnd::Faulty(fault) = incoming.end {
-        let edges = &connection.edges;
         edges.running.refuse(edges.rt, Refused::Record(fault));
     }
+    end_sessions(edges, &into.named);
 }
 
 /// Receives from a connection while a thread sends the edges' updates on it, and then ends the
 /// connection.
-fn hear_beside<'s, 'x: 's, R: Threads + Wait + Sync>(
+fn hear_beside<'s, 'x: 's, R: Threads + Wait + Clock + Sync>(
     scope: &Scope<'s, &'x ()>,
     connection: &'x Connection<'x, R>,
 ) {
@@ -259,7 +293,10 @@ fn own_edges<R: Wait>(rt: &R, alloc: Global, running: Running<'_>) -> Option<Kno
 /// Exchanges records over a connection until either peer ends it, a fault is received, or the peer
 /// is too slow to read the updates. Doesn't begin if memory or a thread is refused, if an edge has
 /// ended, or if eight connections exchange records already.
-pub(crate) fn exchange<R: Threads + Wait + Sync>(edges: ServedEdges<'_, R>, stream: &UnixStream) {
+pub(crate) fn exchange<R: Threads + Wait + Clock + Sync>(
+    edges: ServedEdges<'_, R>,
+    stream: &UnixStream,
+) {
     let (rt, alloc, running) = (edges.rt, edges.alloc, edges.running);
     let Some(own) = own_edges(rt, alloc, running) else {
         return;

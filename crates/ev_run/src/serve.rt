@@ -65,6 +65,7 @@ pub fn serve_edges<R: Threads + Wait + Net + Files + Clock + Sync, E: In, W: Out
         config,
         control,
         idle,
+        hold,
     } = served;
     let path = control.as_bytes();
     let socket = match ControlSocket::open(rt, path) {
@@ -76,6 +77,7 @@ pub fn serve_edges<R: Threads + Wait + Net + Files + Clock + Sync, E: In, W: Out
         socket,
         listed,
         idle,
+        hold,
     };
     let host = Host::new(rt, alloc, Some(&service));
     let status = run_asked(&host, config, reader, out, notes);

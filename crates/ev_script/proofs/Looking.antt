@@ -2,6 +2,7 @@
 use Rattle.std.proofs.Common.{◌≡◌, ℕ, ◌+◌, ◌<◌, Bool, true, false, ◌&&◌, List, [], ◌∷◌, ◌++◌, length, length-append}
 use Rattle.std.proofs.Common.{append_assoc, Some, refl, sym, ap, subst, ◌∙◌, arith}
 use Rattle.std.proofs.lemmas.List.{append-nil}
+use Rattle.std.proofs.Math.Bool.{and-true}
 use Rattle.std.specs.List.{list_all}
 use Rattle.ether_wire.specs.Ends.{End, IsOpen}
 use Rattle.ev_report.specs.Ends.{Tells}
@@ -26,13 +27,9 @@ and_assoc : (a b c : Bool) → ((a && b) && c) ≡ (a && (b && c))
 and_assoc true b c = refl
 and_assoc false b c = refl
 
-and_true : (a : Bool) → (a && true) ≡ a
-and_true true = refl
-and_true false = refl
-
 all_more : (lines : List (List ℕ)) (line : List ℕ)
     → list_all is_good (lines ++ line ∷ []) ≡ (list_all is_good lines && is_good line)
-all_more [] line = and_true (is_good line)
+all_more [] line = and-true (is_good line)
 all_more (l ∷ lines) line = ap (λ b. is_good l && b) (all_more lines line)
     ∙ sym (and_assoc (is_good l) (list_all is_good lines) (is_good line))
 

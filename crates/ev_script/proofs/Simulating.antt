@@ -21,8 +21,7 @@ use Rattle.ev_script.specs.Simulation.{PlaysOn, PlaysRead, Simulates}
 use Rattle.ev_script.specs.Inner.Simulation.{read_error_status}
 use Rattle.ev_script.specs.Inner.Playing.{PlaysTo}
 use Rattle.ev_report.proofs.Finishing.{put_holds, put_failed, passed_out, passed_notes, passed_status, failed_out}
-use Rattle.ev_report.proofs.Finishing.{failed_notes}
-use Rattle.ev_script.proofs.Telling.{told_holds, told_failed}
+use Rattle.ev_report.proofs.Finishing.{failed_notes, tells_holds, tells_failed}
 
 -- ---- a run on a fabric
 
@@ -40,7 +39,7 @@ module _ (mode : Mode) (start : Fabric) (script : List ℕ) (p final : Simulator
   status_played bad out_of_memory text told put s is =
       is ∙ status_as (not final.is_told) (not (is_ok r)) (has_failed out out') (has_failed notes notes')
       final.is_out_of_memory out_of_memory (is_some bad)
-      (sym (told_failed out out' final.is_told text (said text told)))
+      (sym (tells_failed out out' final.is_told text (said text told)))
       (sym (put_failed notes notes' r (note_of_line bad) put)) (s ∙ ap (λ b. b || out_of_memory) fed)
 
   pub plays_on : (bad : Option BadLine) → PlaysTo mode script p final out out' bad
@@ -59,7 +58,7 @@ module _ (mode : Mode) (start : Fabric) (script : List ℕ) (p final : Simulator
         ran = played.ran;
         final = final.fabric;
         runs = subst (λ (f : Fabric). RunsLines mode script played.lines f played.ran final.fabric) from played.runs;
-        written = told_holds out out' final.is_told text (said text played.told);
+        written = tells_holds out out' final.is_told text (said text played.told);
         noted = put_holds notes notes' r [] put;
         status_is = status_played None (ran_out_of_memory (made_by played.ran)) text played.told put
             played.out_of_memory is;
@@ -78,7 +77,7 @@ module _ (mode : Mode) (start : Fabric) (script : List ℕ) (p final : Simulator
         ran = played.ran;
         final = final.fabric;
         runs = subst (λ (f : Fabric). RunsLines mode script played.lines f played.ran final.fabric) from played.runs;
-        written = told_holds out out' final.is_told text (said text played.told);
+        written = tells_holds out out' final.is_told text (said text played.told);
         noted = subst (λ l. Holds notes notes' (bad_line (length played.lines + 1) l)) h.3
             (subst (λ n. Holds notes notes' (bad_line n bad.line.now)) at
             (put_holds notes notes' r (bad_line number bad.line.now) put));

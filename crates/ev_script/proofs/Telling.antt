@@ -1,10 +1,9 @@
 -- Texts that are written if no call of the writer has failed.
-use Rattle.std.proofs.Common.{◌≡◌, ℕ, List, inl, inr, Bool, true, false, not, Result, Ok, Err, is_ok, refl, ap}
+use Rattle.std.proofs.Common.{◌≡◌, ℕ, List, Bool, true, false, Result, Ok, Err, is_ok, refl, ap}
 use Rattle.std.proofs.Common.{arith}
-use Rattle.std.proofs.lemmas.Bool.Decides.{nat_tests}
 use Rattle.ether_wire.specs.declared.ends.Device.{Device}
 use Rattle.ether_wire.specs.Ends.{End, IsOpen, Puts}
-use Rattle.ev_report.specs.Ends.{has_failed, Holds, Tells}
+use Rattle.ev_report.specs.Ends.{Tells}
 
 -- a call that is made, since no earlier call has failed
 pub tells_put : (a b : End) (p : Bool) (text : List ℕ) (r : Result (Unit {0}) Device) → p ≡ true → Puts a b text r
@@ -25,16 +24,3 @@ still_open a b true q text room h t =
     let same = ap (λ (e : End). e.failures) (h.written t) in
     omega arith
 still_open a b false q text room h t = absurd (let n = (h.kept refl).0 in cc)
-
-pub told_holds : (a b : End) (q : Bool) (text : List ℕ) → Tells a b true q text → Holds a b text
-told_holds a b true text h = record {
-  written = λ _. h.written refl;
-  failures = inl (ap (λ (e : End). e.failures) (h.written refl));
-}
-told_holds a b false text h = let one = h.failed refl refl in
-    record { written = λ e. absurd (omega arith); failures = inr one }
-
-pub told_failed : (a b : End) (q : Bool) (text : List ℕ) → Tells a b true q text → has_failed a b ≡ not q
-told_failed a b true text h = let same : b.failures ≡ a.failures = ap (λ (e : End). e.failures) (h.written refl) in
-    grind (arith, nat_tests)
-told_failed a b false text h = let one = h.failed refl refl in grind (arith, nat_tests)

@@ -3,9 +3,7 @@ use Rattle.std.proofs.Common.{◌≡◌, ◌≢◌, ℕ, zero, suc, ◌<◌, ◌
 use Rattle.std.proofs.Common.{length, refl, sym, ap, subst, ◌∙◌, arith}
 use Rattle.std.proofs.lemmas.Bool.{eq-eqb, eqb-true}
 use Rattle.rstp_net.specs.Network.{Spot, Network, IsNetwork, IsAtRest, PassesAt, Crosses, Travels, NoCircle}
-
-spot_same : (x y : Spot) → x.bridge ≡ y.bridge → x.place ≡ y.place → x ≡ y
-spot_same x y b p = λ i. record { bridge = b i; place = p i }
+use Rattle.rstp_net.proofs.Ways.{spot_same}
 
 -- two ports are equal, or not
 same_spot : (x y : Spot) → (x ≡ y) ⊎ (x ≢ y)

@@ -3,13 +3,12 @@ use Rattle.std.proofs.Common.{◌≡◌, ◌≢◌, ℕ, ◌-◌, ◌<◌, ◌�
 use Rattle.std.proofs.Common.{Option, Some, None, Result, Ok, Err, List, length, slice_get, refl, sym, ap, subst, ◌∙◌}
 use Rattle.std.proofs.Common.{arith}
 use Rattle.std.specs.Option.{option_map_or}
-use Rattle.std.proofs.lemmas.Bool.{eq-eqb, true≢false}
+use Rattle.std.proofs.lemmas.Bool.{eq-eqb, true≢false, and_parts}
 use Rattle.std.proofs.lemmas.Option.{slice_get_within}
 use Rattle.ether_wire.specs.Ports.{IsPort, has_port, no_ports, with_port}
 use Rattle.ether_wire.proofs.PortLemmas.{has_port-none, is_port}
 use Rattle.mac_arena.specs.declared.station.Station.{Station}
 use Rattle.rstp_state.specs.declared.port.PortState.{PortState}
-use Rattle.rstp_run.specs.declared.event.Event as tree
 use Rattle.rstp_run.specs.Events.{Passes}
 use Rattle.rstp_run.specs.Rules.{Tree}
 use Rattle.route_join.specs.Owner.{owner}
@@ -31,16 +30,10 @@ use Rattle.ev_edge.specs.declared.reply.Reply.{Reply}
 use Rattle.ev_edge.specs.Edge.{Edge, table_of, address_of}
 use Rattle.ev_edge.specs.Arrival.{is_other, datagram_arrival, tunnel_arrival}
 use Rattle.ev_edge.specs.Sending.{IsDecision, port_of}
-use Rattle.ev_edge.specs.Steps.{LearnsIf, SendsIf, DataSteps, FrameSteps, TunnelSteps, Bridges}
+use Rattle.ev_edge.specs.Steps.{LearnsIf, SendsIf, DataSteps, FrameSteps, TunnelSteps}
 use Rattle.ev_edge.proofs.Cases.{learnt_by}
 use Rattle.ev_edge.specs.Laws.{decision_in}
-
-none_there : {P : Type 0} (p : ℕ) → has_port 0 p ≡ true → P
-none_there p h = absurd (true≢false (sym h ∙ has_port-none p))
-
-right : (a b : Bool) → (a && b) ≡ true → b ≡ true
-right true b h = h
-right false b h = absurd (true≢false (sym h))
+use Rattle.ev_edge.proofs.Frames.{bridged}
 
 -- ---- a decision's ports
 
@@ -52,7 +45,7 @@ alone_passes port from members passing q there = go (has_port passing port) ther
     go : (b : Bool) → has_port (cond (b && not (is_from from port)) (with_port no_ports port) no_ports) q ≡ true
         → b ≡ true
     go true there = refl
-    go false there = none_there q there
+    go false there = absurd (true≢false (sym there ∙ has_port-none q))
 
 -- each of them passes
 passes_in : (destination : ℕ) (entry owner : Option ℕ) (own : ℕ) (from : Source) (members passing q : ℕ)
@@ -125,16 +118,12 @@ none_decided : {P : Type 0} (result : Result Reply Refusal) (d : Decision) → d
     → decision_in result ≡ Some d → P
 none_decided result d none is = absurd (let no : ⊥ = cc in no)
 
-bridged : (event : tree.Event) (e : Edge) (result : Result Reply Refusal) (e' : Edge) → Bridges event e result e'
-    → decision_in result ≡ None
-bridged event e (Ok reply) e' h = ap (λ (r : Reply). r.decision) h.reply_is
-bridged event e (Err r) e' h = absurd h
-
 module _ (e : Edge) (port : ℕ) (e' : Edge) (some : 1 ≤ port) where
   sent : (vni destination : ℕ) (d : Decision) → e'.tree ≡ e.tree → (b : Bool) → (b ≡ true → Passes e.tree port)
       → SendsIf b e' vni destination (Port port) (Some d) → (q : ℕ) → IsPort q → has_port d.local q ≡ true
       → Sent e port q
-  sent vni destination d stays false passes h q port_q there = none_there q (ap (λ n. has_port n q) (sym h.0) ∙ there)
+  sent vni destination d stays false passes h q port_q there =
+      absurd (true≢false (sym there ∙ ap (λ n. has_port n q) h.0 ∙ has_port-none q))
   sent vni destination d stays true passes h q port_q there =
       let own = passes refl in
       let back = not_own e' vni destination port d some (subst (λ t. Passes t port) (sym stays) own) h in
@@ -176,7 +165,7 @@ tunnel_passes e (Ok (Data vni destination source)) (Ok reply) e' d h is q port_q
 tunnel_passes e (Ok (Data vni destination source)) (Err r) e' d h is q port_q there = absurd h
 
 right_of : (a b : Bool) → (a && not b) ≡ true → b ≡ false
-right_of a true h = absurd (true≢false (sym (right a false h)))
+right_of a true h = absurd (true≢false (sym (and_parts a false h).1))
 right_of a false h = refl
 
 -- an edge takes no datagram from itself

@@ -11,3 +11,4 @@ pub mod Agreed
 pub mod Moved
 pub mod Trio
 pub mod Traffic
+pub mod Meetings

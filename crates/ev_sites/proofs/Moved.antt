@@ -29,6 +29,7 @@ use Rattle.ev_fabric.specs.Convergence.{Rests}
 use Rattle.ev_fabric.specs.Station.{AgreesOn, StationComes, RunsBeside}
 use Rattle.ev_fabric.specs.Rounds.{AllAnnounced, AllTaken, IsOrderly}
 use Rattle.ev_fabric.proofs.Example.{nobody_learnt}
+use Rattle.ev_fabric.proofs.Agreements.{none_pending}
 use Rattle.ev_sites.proofs.Tables.{Said, found}
 use Rattle.ev_sites.proofs.Guest.{guest, here, there, guest_register, said_first, said_guest, said_gone, speaker_with}
 use Rattle.ev_sites.proofs.Guest.{routes_with, keeps, withdraws, first_agreed, second_agreed, second_said, first_moved}
@@ -179,9 +180,6 @@ told_once =
       ((said_guest 0, refl, refl), ((said_first, refl, refl), ((said_guest 1, refl, refl), tt))),
     )
 
-none_waits : {r : Register} → Contains [] r → ⊥
-none_waits (x, lt, is) = omega (arith, lt)
-
 one_waits : {r q : Register} → Contains (q ∷ []) r → q ≡ r
 one_waits (zero, lt, is) = is
 one_waits (suc n, lt, is) = absurd (omega (arith, lt))
@@ -189,7 +187,7 @@ one_waits (suc n, lt, is) = absurd (omega (arith, lt))
 advert_told : AllAnnounced guest come heard
 advert_told zero a r at of waits =
     let is : first_edge ≡ a = cc in
-    absurd (none_waits (subst (λ (e : Edge). Contains e.routes.speaker.pending r) (sym is) waits))
+    absurd (none_pending (subst (λ (e : Edge). Contains e.routes.speaker.pending r) (sym is) waits))
 advert_told (suc zero) a r at of waits =
     let is : second_with second_said (guest_register there ∷ []) ≡ a = cc in
     let one = one_waits (subst (λ (e : Edge). Contains e.routes.speaker.pending r) (sym is) waits) in
@@ -232,7 +230,7 @@ withdrawal_told zero a r at of waits =
     }
 withdrawal_told (suc zero) a r at of waits =
     let is : second_with second_said [] ≡ a = cc in
-    absurd (none_waits (subst (λ (e : Edge). Contains e.routes.speaker.pending r) (sym is) waits))
+    absurd (none_pending (subst (λ (e : Edge). Contains e.routes.speaker.pending r) (sym is) waits))
 withdrawal_told (suc (suc i)) a r at of waits = let no : ⊥ = cc in absurd no
 
 pub second_round : IsOrderly 0 1 guest left moved

@@ -1,9 +1,9 @@
 -- The bridges of a fabric's edges came from their starts by events.
-use Rattle.std.proofs.Common.{◌≡◌, inl, inr, ℕ, zero, suc, ◌-◌, ◌<◌, ◌^◌, Bool, true, false, cond, not, ◌&&◌, Option}
+use Rattle.std.proofs.Common.{◌≡◌, inl, inr, ℕ, suc, ◌-◌, ◌<◌, ◌^◌, Bool, true, false, cond, not, ◌&&◌, Option}
 use Rattle.std.proofs.Common.{Some, None, Result, Ok, Err, List, [], ◌∷◌, length, refl, sym, ap, subst, ◌∙◌, arith}
 use Rattle.std.specs.Prelude.{slice_get, slice_set, ◌==◌}
-use Rattle.std.specs.Option.{MatchOption}
 use Rattle.std.proofs.lemmas.Bool.{cases_eq}
+use Rattle.std.proofs.lemmas.Option.{slice_get_within}
 use Rattle.ether_wire.specs.Addr.{is_group}
 use Rattle.mac_arena.specs.declared.station.Station.{Station}
 use Rattle.mac_arena.specs.Learning.{entry_at, is_pinned}
@@ -40,18 +40,18 @@ use Rattle.ev_edge.specs.Steps.{Steps, LearnsIf, FrameSteps, TunnelSteps, Bridge
 use Rattle.ev_edge.specs.Steps.{Marks}
 use Rattle.ev_edge.proofs.Cases.{learnt_by, or_refused}
 use Rattle.ev_fabric.specs.declared.refusal.FabricRefusal.{FabricRefusal}
-use Rattle.ev_fabric.specs.declared.refusal.FabricRefusal.TheVariants.{NoSuchEdge, NoSuchUpdate}
 use Rattle.ev_fabric.specs.declared.step.Step.{Step}
 use Rattle.ev_fabric.specs.declared.step.Step.TheVariants.{Local, Announce, Deliver, Restart}
-use Rattle.ev_fabric.specs.Fabric.{Fabric, IsEdge, nth}
+use Rattle.ev_fabric.specs.Fabric.{Fabric, IsEdge}
 use Rattle.ev_fabric.specs.Local.{event_of}
 use Rattle.ev_fabric.specs.Opening.{IsStart}
 use Rattle.ev_fabric.specs.Runs.{Runs}
 use Rattle.ev_fabric.specs.Sound.{IsSound}
-use Rattle.ev_fabric.specs.Steps.{IsRefused, StepsAt, AnnouncesAt, in_incarnation, OpensAnew, RestartsAt, FabricSteps}
-use Rattle.ev_fabric.proofs.Places.{set_cases}
+use Rattle.ev_fabric.specs.Steps.{StepsAt, AnnouncesAt, in_incarnation, OpensAnew, RestartsAt, FabricSteps}
+use Rattle.ev_fabric.proofs.Places.{set_cases, there_at}
 use Rattle.ev_fabric.proofs.Opened.{start_sound}
 use Rattle.ev_fabric.proofs.Fabrics.{runs_sound}
+use Rattle.ev_fabric.proofs.Cases.{at_edge, at_delivery}
 use Rattle.ev_sites.specs.Sites.{Site, IsSiteAt, AreAtRest, NoCircleThroughTunnels}
 use Rattle.ev_sites.specs.Fabrics.{BridgesCanBe, EveryRunCanBe, AreSitesOf, SitesRest, NoCircleInAFabric}
 
@@ -231,49 +231,20 @@ restarts_at : (old new : Fabric) (i : ℕ) (a : Edge) (n : ℕ) (result : Result
 restarts_at old new i a n (Err why) s h = unchanged old new s.1 h
 restarts_at old new i a n (Ok reply) s h = reopened old new i a n reply s h
 
-delivers_at : (old new : Fabric) (i : ℕ) (a : Edge) (result : Result Reply FabricRefusal) (o : Option Fields)
-    → IsEdge old i a
-    → MatchOption o (IsRefused NoSuchUpdate old result new) (λ u. StepsAt old (suc i) a (events.Take u) result new)
-    → BridgesCanBe old → BridgesCanBe new
-delivers_at old new i a result None at s h = unchanged old new s.1 h
-delivers_at old new i a result (Some u) at s h = steps_at old new i a (events.Take u) result at s h
-
-no_edge : (a : Edge) → ◌≡◌ {A = Option Edge} None (Some a) → ⊥
-no_edge a q = cc
-
 step_can_be : (old new : Fabric) (step : Step) (result : Result Reply FabricRefusal) → FabricSteps old step result new
     → BridgesCanBe old → BridgesCanBe new
-step_can_be old new (Local e event) result s h = go e (nth old.edges e) refl s
-  where
-    go : (e : ℕ) (o : Option Edge) → nth old.edges e ≡ o
-        → MatchOption o (IsRefused NoSuchEdge old result new) (λ a. StepsAt old e a (event_of event) result new)
-        → BridgesCanBe new
-    go e None is s = unchanged old new s.1 h
-    go zero (Some a) is s = absurd (no_edge a is)
-    go (suc i) (Some a) is s = steps_at old new i a (event_of event) result is s h
-step_can_be old new (Announce e) result s h = go e (nth old.edges e) refl s
-  where
-    go : (e : ℕ) (o : Option Edge) → nth old.edges e ≡ o
-        → MatchOption o (IsRefused NoSuchEdge old result new) (λ a. AnnouncesAt old e a result new) → BridgesCanBe new
-    go e None is s = unchanged old new s.1 h
-    go zero (Some a) is s = absurd (no_edge a is)
-    go (suc i) (Some a) is s = announces_at old new i a result is s h
-step_can_be old new (Deliver e k) result s h = go e (nth old.edges e) refl s
-  where
-    go : (e : ℕ) (o : Option Edge) → nth old.edges e ≡ o
-        → MatchOption o (IsRefused NoSuchEdge old result new)
-        (λ a. MatchOption (nth old.pool k) (IsRefused NoSuchUpdate old result new)
-        (λ u. StepsAt old e a (events.Take u) result new)) → BridgesCanBe new
-    go e None is s = unchanged old new s.1 h
-    go zero (Some a) is s = absurd (no_edge a is)
-    go (suc i) (Some a) is s = delivers_at old new i a result (nth old.pool k) is s h
-step_can_be old new (Restart e n) result s h = go e (nth old.edges e) refl s
-  where
-    go : (e : ℕ) (o : Option Edge) → nth old.edges e ≡ o
-        → MatchOption o (IsRefused NoSuchEdge old result new) (λ a. RestartsAt old e a n result new) → BridgesCanBe new
-    go e None is s = unchanged old new s.1 h
-    go zero (Some a) is s = absurd (no_edge a is)
-    go (suc i) (Some a) is s = restarts_at old new i a n result s h
+step_can_be old new (Local e event) result s h =
+    at_edge (BridgesCanBe new) old new result (λ e a. StepsAt old e a (event_of event) result new) e s
+    (λ is. unchanged old new is.1 h) (λ i a _ at s. steps_at old new i a (event_of event) result at s h)
+step_can_be old new (Announce e) result s h =
+    at_edge (BridgesCanBe new) old new result (λ e a. AnnouncesAt old e a result new) e s
+    (λ is. unchanged old new is.1 h) (λ i a _ at s. announces_at old new i a result at s h)
+step_can_be old new (Deliver e k) result s h =
+    at_delivery (BridgesCanBe new) old new result e k s (λ why is. unchanged old new is.1 h)
+    (λ i a n u _ _ at there s. steps_at old new i a (events.Take u) result at s h)
+step_can_be old new (Restart e n) result s h =
+    at_edge (BridgesCanBe new) old new result (λ e a. RestartsAt old e a n result new) e s
+    (λ is. unchanged old new is.1 h) (λ i a _ at s. restarts_at old new i a n result s h)
 
 runs_can_be : (steps : List Step) (old new : Fabric) → Runs old steps new → BridgesCanBe old → BridgesCanBe new
 runs_can_be [] old new s h = unchanged old new s h
@@ -288,21 +259,11 @@ every_run_can_be cs old new steps start runs = runs_can_be steps old new runs (s
 
 -- ---- the sites of its edges
 
-there_at : {A : Type 0} (xs : List A) (i n : ℕ) → i < n → length xs ≡ n → (a : A) × (slice_get xs i ≡ Some a)
-there_at [] i n less size = absurd (omega (arith, less, size))
-there_at (x ∷ xs) zero n less size = (x, refl)
-there_at (x ∷ xs) (suc i) zero less size = absurd (omega (arith, less))
-there_at (x ∷ xs) (suc i) (suc n) less size = there_at xs i n (omega (arith, less)) (omega (arith, size))
-
-below : {A : Type 0} (xs : List A) (i : ℕ) (a : A) → slice_get xs i ≡ Some a → i < length xs
-below [] i a is = cc
-below (x ∷ xs) zero a is = omega arith
-below (x ∷ xs) (suc i) a is = let h = below xs i a is in omega (arith, h)
-
 -- an edge's bridge came from its start by events
 reached : (f : Fabric) → IsSound f → BridgesCanBe f → (i : ℕ) (a : Edge) → IsEdge f i a → IsReached a.tree
 reached f h can i a at =
-    let c = there_at f.configs i (length f.edges) (below f.edges i a at) h.count in
+    let c = there_at f.configs i (let low = slice_get_within f.edges i a at in let same = h.count in
+    omega (arith, low, same)) in
     (c.0.tree, settings_of c.0.ports.items, can i c.0 a c.1 at)
 
 module _ (f : Fabric) (sites : List Site) (h : IsSound f) (can : BridgesCanBe f) (of : AreSitesOf f sites)

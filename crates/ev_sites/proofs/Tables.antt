@@ -1,6 +1,7 @@
 -- A table by the list of updates that it took, the newest first: its contents are computed from that list.
-use Rattle.std.proofs.Common.{◌≡◌, ℕ, zero, suc, true, false, cond, Some, None, Option, List, [], ◌∷◌, length, refl}
+use Rattle.std.proofs.Common.{◌≡◌, ℕ, zero, suc, true, false, cond, Some, None, Option, List, [], ◌∷◌}
 use Rattle.std.proofs.Common.{sym, ap, subst, ◌∙◌, arith}
+use Rattle.std.proofs.lemmas.List.{nil_from_length}
 use Rattle.std.specs.Prelude.{Contains, map}
 use Rattle.std.specs.Ordering.{eq_by_cmp}
 use Rattle.std.specs.FinMap.{empty, insert, entries, put, get-empty, get-insert, entries-insert, len-entries, len-empty}
@@ -54,13 +55,9 @@ abbrev pub in_order : List Said → List Said
 in_order [] = []
 in_order (e ∷ es) = put register_cmp e.0 e.1 (in_order es)
 
-no_length : {A : Type 0} (xs : List A) → length xs ≡ 0 → xs ≡ []
-no_length [] e = refl
-no_length (x ∷ xs) e = absurd (omega arith)
-
 all_said : (es : List Said) → entries (registers_of es) ≡ in_order es
 all_said [] =
-    no_length (entries (empty {X = Value} {R = register_cmp}))
+    nil_from_length (entries (empty {X = Value} {R = register_cmp}))
     (sym (len-entries (empty {X = Value} {R = register_cmp})) ∙ len-empty register_cmp Value)
 all_said (e ∷ es) =
     entries-insert register_total (registers_of es) e.0 e.1 ∙ ap (λ l. put register_cmp e.0 e.1 l) (all_said es)

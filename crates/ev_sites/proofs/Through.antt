@@ -1,6 +1,7 @@
 -- A way through sites at rest stays in its site, or crosses one tunnel and ends in another site.
 use Rattle.std.proofs.Common.{◌≡◌, ◌≢◌, ◌⊎◌, inl, inr, ℕ, zero, suc, ◌+◌, true, Some, List, [], ◌∷◌, slice_get, refl}
 use Rattle.std.proofs.Common.{sym, ap, subst, ◌∙◌, arith}
+use Rattle.std.proofs.lemmas.Option.{same_Some}
 use Rattle.ether_wire.specs.Ports.{IsPort, has_port}
 use Rattle.ev_tunnel.specs.declared.decision.Decision.{Decision}
 use Rattle.rstp_run.specs.Events.{Passes}
@@ -11,9 +12,6 @@ use Rattle.ev_sites.specs.Sites.{Site, IsSiteAt, AreAtRest, Point, IsEdgeOf, Dec
 use Rattle.ev_sites.specs.Sites.{SitesCanBeAtRest}
 use Rattle.ev_sites.proofs.Back.{longer, never_back}
 use Rattle.ev_sites.proofs.Leaving.{Sent, frame_sent, tunnel_passes, tunnel_other}
-
-some_same : {X : Type 0} (a b : X) → Some a ≡ Some b → a ≡ b
-some_same a b h = cc
 
 -- ---- the form of a hop
 
@@ -78,7 +76,7 @@ came sites x y h =
 -- the far end of a tunnel is in another site
 elsewhere : (sites : List Site) (x y : Point) → ByTunnel sites x y → y.site ≢ x.site
 elsewhere sites x y h same =
-    let one : h.far ≡ h.near = some_same h.far h.near (sym h.at_far ∙ ap (λ i. slice_get sites i) same ∙ h.at_near) in
+    let one : h.far ≡ h.near = same_Some h.far h.near (sym h.at_far ∙ ap (λ i. slice_get sites i) same ∙ h.at_near) in
     (came sites x y h).other (ap (λ (s : Site). s.address) (sym one) ∙ sym h.decides_far.edge.address)
 
 -- ---- ways
@@ -110,7 +108,7 @@ module _ (law : NoCircle) (sites : List Site) (rest : AreAtRest sites) where
   after_tunnel (v ∷ later) z w s o y before at here leaves arrives segment apart way goes =
       elim (hop_is sites z v goes.0) [
         | inl h ↦ (
-            let one : h.site ≡ s = some_same h.site s (sym h.at ∙ at) in
+            let one : h.site ≡ s = same_Some h.site s (sym h.at ∙ at) in
             let crosses : Crosses s.net z.spot v.spot =
             subst (λ (t : Site). Crosses t.net z.spot v.spot) one h.crosses in
             let further = longer s.net before y z.spot v.spot way crosses in
@@ -119,7 +117,7 @@ module _ (law : NoCircle) (sites : List Site) (rest : AreAtRest sites) where
             further.way
             goes.1 ∙ h.same)
         | inr h ↦ (
-            let one : h.near ≡ s = some_same h.near s (sym h.at_near ∙ at) in
+            let one : h.near ≡ s = same_Some h.near s (sym h.at_near ∙ at) in
             let back : z.spot.bridge ≡ o.bridge = h.decides.here ∙ ap (λ (t : Site). t.attached) one ∙ sym here in
             absurd (never_back law s.net (rest.networks z.site s at) (rest.rest z.site s at) o y z.spot before leaves
             arrives segment apart way back))
@@ -159,7 +157,7 @@ module _ (law : NoCircle) (sites : List Site) (rest : AreAtRest sites) where
       on h (inl more) = inl (record {
         same = more.same ∙ h.same;
         way = λ s at. (
-            let one : h.site ≡ s = some_same h.site s (sym h.at ∙ at) in (
+            let one : h.site ≡ s = same_Some h.site s (sym h.at ∙ at) in (
               subst (λ (t : Site). Crosses t.net x.spot z.spot) one h.crosses,
               more.way s
                   (ap (λ i. slice_get sites i) h.same ∙ at),
@@ -218,6 +216,6 @@ sites_at_rest law (net, x, y, is, rest, crosses) =
     the_net : (net : Network) (i : ℕ) (s : Site)
         → slice_get (record { net = net; attached = y.bridge; address = 1 }
         ∷ record { net = net; attached = y.bridge; address = 2 } ∷ []) i ≡ Some s → s.net ≡ net
-    the_net net zero s at = ap (λ (t : Site). t.net) (sym (some_same _ s at))
-    the_net net (suc zero) s at = ap (λ (t : Site). t.net) (sym (some_same _ s at))
+    the_net net zero s at = ap (λ (t : Site). t.net) (sym (same_Some _ s at))
+    the_net net (suc zero) s at = ap (λ (t : Site). t.net) (sym (same_Some _ s at))
     the_net net (suc (suc i)) s at = absurd (let no : ⊥ = cc in no)

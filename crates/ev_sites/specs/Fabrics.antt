@@ -41,8 +41,7 @@ pub record SitesRest (sites : List Site) : Type 0 where
       → IsBridgeAt s.net d u → t.settings.identifier ≡ u.settings.identifier → b ≡ d
   pub rest : (i : ℕ) (s : Site) → IsSiteAt sites i s → IsAtRest s.net
 
--- if the sites of a fabric's edges are at rest, after any history, no frame comes in at a port at which it came in
--- before
+-- if the sites of a fabric's edges are at rest, after any history, no frame comes in at any port twice
 abbrev pub NoCircleInAFabric : Type 0
 NoCircleInAFabric =
     (cs : List EdgeConfig) (old new : Fabric) (steps : List Step) → AreConfigs cs → IsStart cs old → Runs old steps new

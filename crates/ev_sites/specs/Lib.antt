@@ -1,3 +1,4 @@
 pub mod Sites
 pub mod Fabrics
+pub mod Sessions
 pub mod Witnesses

@@ -112,8 +112,7 @@ Goes sites (z ∷ later) x y = Hops sites x z × Goes sites later z y
 
 -- ---- the laws
 
--- In a network at rest, a frame that left a bridge by the port o and crossed to y never comes in at a port of that
--- bridge.
+-- In a network at rest, a frame that left a bridge by the port o and crossed to y never comes in at that bridge.
 abbrev pub NeverBackToItsBridge : Type 0
 NeverBackToItsBridge =
     (net : Network) → IsNetwork net → IsAtRest net → (o y w : Spot) (ports : List Spot)

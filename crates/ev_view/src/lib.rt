@@ -9,8 +9,10 @@ mod owner;
 mod peers;
 mod sheet;
 mod stations;
+mod unlisted;
 mod view;
 
 pub use edge_line::{put_edge, put_edge_line};
 pub use laws::owner_leads;
+pub use unlisted::with_unlisted;
 pub use view::{EdgeQuestion, put_edge_view, view_of};

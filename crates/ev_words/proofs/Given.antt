@@ -8,6 +8,7 @@ use Rattle.std.specs.Option.{option_map_or}
 use Rattle.std.specs.Str.{bytes_eq, chars}
 use Rattle.std.proofs.lemmas.List.{append-nil}
 use Rattle.std.proofs.lemmas.Slice.Eq.{bytes_eq-Decides}
+use Rattle.std.specs.Cmp.Derive.{both_true}
 use Rattle.clap.specs.Facts.{explicit_source, unwrap_or_range}
 use Rattle.clap.specs.Lexer.{long_of, short_of}
 use Rattle.clap.specs.Walk.{Held, Names, Outcome, Row, Rule, Step, Text, Waiting, Walk, action_of, after_flag}
@@ -58,9 +59,6 @@ or_nil : (a b : Kinds) → or_else a b ≡ [] → (a ≡ []) × (b ≡ [])
 or_nil [] b e = (refl, e)
 or_nil (k ∷ ks) b e = cc
 
-joined : (a b : Bool) → a ≡ true → b ≡ true → (a && b) ≡ true
-joined a b p q = rw (p, q) refl
-
 -- ---- rows that have a value each
 
 abbrev has_value : List Text → Bool
@@ -81,7 +79,7 @@ full_append : (xs ys : List Row) → AreFull xs → AreFull ys → AreFull (xs +
 full_append [] ys a b = b
 full_append (x ∷ xs) ys a b =
     let p = both (has_value x.values) (are_full xs) a in
-    joined (has_value x.values) (are_full (xs ++ ys)) p.0 (full_append xs ys p.1 b)
+    both_true p.0 (full_append xs ys p.1 b)
 
 at_full : (id : Text) (change : Row → List Row) (missing rows : List Row)
     → ((r : Row) → has_value r.values ≡ true → AreFull (change r)) → AreFull missing → AreFull rows
@@ -93,7 +91,7 @@ at_full id change missing (r ∷ rs) h m e = go (bytes_eq r.id id) (both (has_va
     go : (b : Bool) → (has_value r.values ≡ true) × AreFull rs → AreFull (at_row id change missing rs)
         → AreFull (cond b (change r ++ rs) (r ∷ at_row id change missing rs))
     go true p rest = full_append (change r) rs (h r p.0) p.1
-    go false p rest = joined (has_value r.values) (are_full (at_row id change missing rs)) p.0 rest
+    go false p rest = both_true p.0 rest
 
 with_full : (id : Text) (how : _) (source : _) (values : List Text) (rows : List Row) → has_value values ≡ true
     → AreFull rows → AreFull (with_values id how source values rows)
@@ -105,8 +103,8 @@ with_full id how source values rows v e =
       source = Some source;
       reading = how;
     } ∷ []) rows
-    (λ r has. joined (has_value (r.values ++ values)) true (value_more r.values values has) refl)
-    (joined (has_value values) true v refl) e
+    (λ r has. both_true (value_more r.values values has) refl)
+    (both_true v refl) e
 
 without_full : (id : Text) (rows : List Row) → AreFull rows → AreFull (without id rows)
 without_full id rows e = at_full id (λ _. []) [] rows (λ r has. refl) refl e

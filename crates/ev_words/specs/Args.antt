@@ -190,16 +190,14 @@ abbrev pub IsAnswer : List Text → Result ArgMatches Error → Type 0
 IsAnswer words (Ok m) = (fault_of program words ≡ []) × (subcommand_rows_of m ≡ subcommand_of program words)
 IsAnswer words (Err e) = (kind_of e ≡ OutOfMemory) ⊎ IsAmong (kind_of e) (fault_of program words)
 
--- A parser's answer, and how often it was refused memory before and after: once more exactly if the error's kind is
--- refused memory.
+-- A parser's answer, and how often it was refused memory before and after: once more exactly if its error says so.
 pub record Parses (words : List Text) (before after : ℕ) (answer : Result ArgMatches Error) : Type 0 where
   pub is_answer : IsAnswer words answer
   pub kept : OnOk answer (after ≡ before)
   pub refused : IfErr answer (λ e. kind_of e ≡ OutOfMemory → after ≡ before + 1)
   pub told : IfErr answer (λ e. kind_of e ≢ OutOfMemory → after ≡ before)
 
--- The arguments have no fault and are this invocation; or they have the fault that the error reports; or memory was
--- refused.
+-- The arguments have no fault and are this invocation, or have the fault of the error, or memory was refused.
 abbrev pub Invokes : List Text → ℕ → ℕ → Result Invocation ArgsError → Type 0
 Invokes words before after (Ok invocation) = Spells words (parts_of invocation) × (after ≡ before)
 Invokes words before after (Err (Usage e)) = IsAmong (kind_of e) (fault_of program words) × (after ≡ before)

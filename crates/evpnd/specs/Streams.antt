@@ -17,8 +17,7 @@ closed_text Input = codes "standard input: it is closed\n"
 closed_text Output = codes "standard output: it is closed\n"
 closed_text Error = codes "standard error: it is closed\n"
 
--- Nothing starts: the notes report that this stream was closed when the program began. Nothing was read, nothing else
--- written.
+-- Nothing starts: the notes report that this stream was closed at the start. Nothing was read, nothing else written.
 pub record IsClosed (stream : Stream) (before after : Desk) (status : ℕ) : Type 0 where
   pub shelf_kept : after.shelf ≡ before.shelf
   pub input : after.devices.input ≡ before.devices.input

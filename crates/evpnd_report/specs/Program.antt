@@ -1,7 +1,7 @@
 -- A run of the program, from its words to its status.
 use Rattle.std.specs.Prelude.{◌≡◌, ℕ, List, [], ◌∷◌, codes, map, string_bytes}
-use Rattle.evpnd_report.specs.declared.program.Line.{Line}
-use Rattle.evpnd_report.specs.declared.program.Line.TheVariants.{Words, NotText, NoMemory}
+use Rattle.evpnd_report.specs.declared.program.Arguments.{Arguments}
+use Rattle.evpnd_report.specs.declared.program.Arguments.TheVariants.{Words, NotText, NoMemory}
 use Rattle.ev_report.specs.Originators.{Text}
 use Rattle.ev_report.specs.Ends.{Devices}
 use Rattle.ev_report.specs.Usage.{TellsUsage, OfList}
@@ -16,8 +16,7 @@ usage = codes "usage: evpnd_report LIST\n"
 abbrev pub not_text : Text
 not_text = codes "error: a word isn't UTF-8\n"
 
--- the records are reported with the originators of the list, or the list's fault is printed; then, whether reading or
--- writing failed
+-- the records are reported with the list's originators, or its fault is printed; then, whether an end failed
 pub record ReportsTelling (list : Text) (before after : Devices) (status : ℕ) : Type 0 where
   pub mid : Devices
   pub reports : OfList Reports list before mid status
@@ -31,7 +30,7 @@ ReportsWords (name ∷ list ∷ []) before after status = ReportsTelling list be
 ReportsWords (name ∷ list ∷ word ∷ words) before after status = TellsUsage usage before after status
 
 -- A run, with the system's arguments.
-abbrev pub ReportsLine : Line → Devices → Devices → ℕ → Type 0
+abbrev pub ReportsLine : Arguments → Devices → Devices → ℕ → Type 0
 ReportsLine NoMemory before after status = (after ≡ before) × (status ≡ 3)
 ReportsLine NotText before after status = TellsUsage not_text before after status
 ReportsLine (Words words) before after status = ReportsWords (map string_bytes words.items) before after status

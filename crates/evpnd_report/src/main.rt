@@ -6,7 +6,7 @@
 
 mod program;
 
-use crate::program::{Line, run};
+use crate::program::{Arguments, run};
 use ether_wire::{Reader, Writer};
 use ev_report::Devices;
 use std::io;
@@ -26,14 +26,14 @@ fn main(rt: HostRuntime) -> ExitCode {
 }
 
 /// The arguments of the system.
-fn line_of(rt: &HostRuntime) -> Line {
+fn line_of(rt: &HostRuntime) -> Arguments {
     let words = match std::env::args(rt) {
         Ok(words) => words,
-        Err(error) if error.kind() == io::ErrorKind::OutOfMemory => return Line::NoMemory,
-        Err(_) => return Line::NotText,
+        Err(error) if error.kind() == io::ErrorKind::OutOfMemory => return Arguments::NoMemory,
+        Err(_) => return Arguments::NotText,
     };
     match words.collect::<Vec<String>>(rt.alloc()) {
-        Ok(words) => Line::Words(words),
-        Err(_) => Line::NoMemory,
+        Ok(words) => Arguments::Words(words),
+        Err(_) => Arguments::NoMemory,
     }
 }

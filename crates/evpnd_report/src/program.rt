@@ -9,7 +9,7 @@ use std::alloc::Global;
 
 /// The arguments of the system.
 #[derive(Debug, Drop)]
-pub(crate) enum Line {
+pub(crate) enum Arguments {
     /// The words, of which the first is the program's name.
     Words(Vec<String>),
     /// One of them isn't UTF-8.
@@ -55,15 +55,15 @@ fn run_words<R: In, W: Out, N: Out>(
 /// the words aren't one list of originators, 1 if the input is broken, else 0.
 pub(crate) fn run<R: In, W: Out, N: Out>(
     alloc: Global,
-    line: &Line,
+    line: &Arguments,
     devices: Devices<R, W, N>,
 ) -> (u8, Devices<R, W, N>)
     requires { AreOpen devices }
     ensures { ReportsLine line.now devices result.1 result.0 }
 {
     match line {
-        Line::Words(words) => run_words(alloc, words.as_slice(), devices),
-        Line::NotText => tell_words(b"error: a word isn't UTF-8\n", devices),
-        Line::NoMemory => (MEMORY, devices),
+        Arguments::Words(words) => run_words(alloc, words.as_slice(), devices),
+        Arguments::NotText => tell_words(b"error: a word isn't UTF-8\n", devices),
+        Arguments::NoMemory => (MEMORY, devices),
     }
 }

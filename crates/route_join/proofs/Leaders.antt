@@ -27,7 +27,7 @@ use Rattle.route_wire.specs.Inner.Totals.{register_total}
 use Rattle.route_join.specs.Table.{entries_of, IsOrdered, is_news}
 use Rattle.route_join.specs.Owner.{advert_in, advert_of, IsBetter, is_better, is_better_by}
 use Rattle.route_join.specs.Inner.Group.{told, Leads, HasWinner, candidate_in, candidate_at, wins, better_place}
-use Rattle.route_join.specs.Inner.Group.{stays_best}
+use Rattle.route_join.specs.Inner.Group.{said_in, said_at, stays_best}
 use Rattle.route_join.specs.Inner.Group.{moved, update_among, added, Takes}
 use Rattle.route_join.proofs.Tables.{same_or_other, itself_register, other_register}
 use Rattle.route_join.proofs.Places.{IsPlace, IsGap}
@@ -226,9 +226,6 @@ winner_set us at u w s p h ne =
     (stands_set us at u p.within) same)))
 
 -- ---- a newer update at the winner's place with an advert that is no worse
-was_at : (us : List Fields) (at : ℕ) (v x : Fields) → slice_get us at ≡ Some x → v ≡ get_or us at v → v ≡ x
-was_at us at v x s e = e ∙ get_or_from_slice_get us at x v s
-
 pub told_no_worse : (r : Register) (was now : Option Advert) → stays_best was now ≡ true → (a : Advert) → was ≡ Some a
     → (n : Advert) × (now ≡ Some n) × (is_better a r n r ≡ false)
 told_no_worse r None now t a e = cc
@@ -246,17 +243,16 @@ told_no_worse r (Some w) (Some n) t a e =
     denied true p = cc
     denied false p = refl
 
-pub winner_stays : (us : List Fields) (at : ℕ) (u v : Fields) → IsPlace us u.register at
-    → HasWinner us (told us) (Some at) → v ≡ get_or us at v
-    → stays_best (advert_in v.value.content) (advert_in u.value.content) ≡ true
+pub winner_stays : (us : List Fields) (at : ℕ) (u : Fields) → IsPlace us u.register at
+    → HasWinner us (told us) (Some at) → stays_best (said_at us at) (advert_in u.value.content) ≡ true
     → HasWinner (set us at u) (told (set us at u)) (Some at)
-winner_stays us at u v p l e t =
+winner_stays us at u p l t =
     let new = set us at u in
     let w = p.write u refl in
-    let old : v ≡ l.update = was_at us at v l.update l.stands e in
-    let named : l.update.register ≡ u.register = ap (λ (x : Fields). x.register) (sym old ∙ e) ∙ p.register v in
-    let now = told_no_worse u.register (advert_in v.value.content) (advert_in u.value.content) t l.advert
-    (ap (λ (x : Fields). advert_in x.value.content) old ∙ l.advertises) in
+    let named : l.update.register ≡ u.register = ap (λ (x : Fields). x.register)
+    (sym (get_or_from_slice_get us at l.update l.update l.stands)) ∙ p.register l.update in
+    let now = told_no_worse u.register (said_at us at) (advert_in u.value.content) t l.advert
+    (ap said_in l.stands ∙ l.advertises) in
     record {
       update = u;
       stands = stands_set us at u p.within;

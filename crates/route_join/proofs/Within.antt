@@ -1,7 +1,7 @@
 -- The order of registers of one subject: by their originators, then by their IP addresses; and among updates in order,
 -- by their places.
-use Rattle.std.proofs.Common.{◌≡◌, ℕ, true, zero, suc, ◌<◌, Option, Some, None, List, [], ◌∷◌, refl, sym, ap, subst}
-use Rattle.std.proofs.Common.{◌∙◌}
+use Rattle.std.proofs.Common.{◌≡◌, ℕ, true, zero, suc, ◌+◌, ◌<◌, Option, Some, None, List, [], ◌∷◌, refl, sym, ap}
+use Rattle.std.proofs.Common.{subst, ◌∙◌, length, get_or, Ok, Err}
 use Rattle.std.proofs.Common.{arith}
 use Rattle.std.specs.List.{slice_get}
 use Rattle.std.specs.Option.{option_map}
@@ -9,16 +9,18 @@ use Rattle.std.specs.Cmp.{ranked, nat_cmp_is, tied_itself}
 use Rattle.std.specs.declared.cmp.Ordering.{Ordering}
 use Rattle.std.specs.declared.cmp.Ordering.TheVariants.{Less, Equal, Greater}
 use Rattle.std.specs.Ordering.{is_lt, MatchOrdering, nat_cmp, ordering_then, ordering_reverse}
-use Rattle.std.specs.FinMap.Entries.{below_all, is_sorted}
+use Rattle.std.specs.FinMap.Entries.{below_all, by_order, is_sorted}
+use Rattle.std.proofs.lemmas.Option.{slice_get-get_or}
 use Rattle.route_wire.specs.declared.update.Ip.{Ip}
 use Rattle.route_wire.specs.declared.update.Ip.TheVariants.{V4, V6}
 use Rattle.route_wire.specs.declared.update.Advert.{Advert}
 use Rattle.route_wire.specs.declared.update.Register.{Register}
 use Rattle.route_wire.specs.Fields.{Fields}
 use Rattle.route_wire.specs.Order.{ip_of, ip_cmp, register_cmp}
-use Rattle.route_wire.specs.Inner.Totals.{register_total}
+use Rattle.route_wire.specs.Inner.Totals.{register_total, register_exact}
 use Rattle.route_join.specs.Subject.{subject_cmp, subject_of}
 use Rattle.route_join.specs.Table.{entries_of, IsOrdered}
+use Rattle.route_join.specs.Inner.Place.{place_of, later_by}
 use Rattle.route_join.specs.Owner.{is_better_by}
 use Rattle.route_join.specs.Inner.Group.{candidate_in, candidate_at, said_in, said_at, wins, wins_by}
 use Rattle.route_join.proofs.Orders.{less, both}
@@ -91,6 +93,24 @@ by_place (u ∷ us) (suc i) zero x y s p q =
 by_place (u ∷ us) (suc i) (suc j) x y s p q =
     sym (next_by i j) ∙ by_place us i j x y (both (below_all register_cmp u.register (entries_of us))
     (is_sorted register_cmp (entries_of us)) s).1 p q
+
+-- an update of the register is at the register's place
+pub found_near : (us : List Fields) (q : Register) (g : ℕ) (u : Fields) → IsOrdered us → g < length us
+    → u ≡ get_or us g u → register_cmp q u.register ≡ Equal → place_of us q ≡ Ok g
+found_near [] q g u s l h e = absurd (omega (arith, l))
+found_near (v ∷ us) q zero u s l h e =
+    ap (λ o. by_order o (Err 0) (Ok 0) (later_by 1 (place_of us q)))
+    (ap (λ (x : Fields). register_cmp q x.register) (sym h) ∙ e)
+found_near (v ∷ us) q (suc g) u s l h e =
+    let parts = both (below_all register_cmp v.register (entries_of us)) (is_sorted register_cmp (entries_of us)) s in
+    let fits : g < length us = omega (arith, l) in
+    let there = slice_get-get_or us g u fits ∙ ap Some (sym h) in
+    let above : register_cmp q v.register ≡ Greater =
+    ap (λ r. register_cmp r v.register) (register_exact q u.register e) ∙ register_total.antisymm u.register v.register
+    ∙ ap ordering_reverse (below_at v.register us g u parts.0 there) in
+    let next : 1 + g ≡ suc g = omega arith in
+    ap (λ o. by_order o (Err 0) (Ok 0) (later_by 1 (place_of us q))) above
+    ∙ ap (later_by 1) (found_near us q g u parts.1 fits h e) ∙ ap Ok next
 
 -- ---- which of two updates wins
 alone : (r : Register) (a : Option Advert) (o : Ordering)

@@ -161,6 +161,7 @@ impl Group {
         &mut self,
         alloc: Global,
         held: &mut usize,
+        guess: usize,
         update: &Update,
     ) -> Result<Taken, AllocError>
         requires { AreAbout (subject_of update.now.register.key) (entries_of self.old) }
@@ -173,22 +174,24 @@ impl Group {
                 Some(taken) => Ok(taken),
                 None => {
                     let mut few = SmallGroup::new(alloc, own)?;
-                    let taken = few.take(held, update)?;
+                    let taken = few.take(held, guess, update)?;
                     self.kept = Storage::SmallGroup(few);
                     Ok(taken)
                 }
             },
-            Storage::SmallGroup(few) => few.take(held, update),
+            Storage::SmallGroup(few) => few.take(held, guess, update),
             Storage::LargeGroup(many) => many.take(held, update),
         }
     }
 
     /// Takes an update: its register then has the newer of the update and its value so far. A known
-    /// register takes no memory, and a new one is one more held register.
+    /// register takes no memory, and a new one is one more held register. In a list the update at
+    /// the place `guess` is compared first.
     pub(crate) fn take(
         &mut self,
         alloc: Global,
         held: &mut usize,
+        guess: usize,
         update: &Update,
     ) -> Result<Taken, AllocError>
         requires { AreAbout (subject_of update.now.register.key) (entries_of self.old) }
@@ -197,7 +200,7 @@ impl Group {
         ensures err { OnErr result (self.new ≡ self.old) }
     {
         let before = *held;
-        let taken = self.take_stored(alloc, held, update);
+        let taken = self.take_stored(alloc, held, guess, update);
         if *held != before {
             self.settle(alloc);
         }

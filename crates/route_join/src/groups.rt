@@ -100,8 +100,14 @@ impl Groups {
     }
 
     /// Takes an update into the group of its subject, and makes the group if there is none yet. A
-    /// new register is one more held register. If memory is refused, nothing changes.
-    pub(crate) fn take(&mut self, held: &mut usize, update: &Update) -> Result<Taken, AllocError>
+    /// new register is one more held register. If memory is refused, nothing changes. In a list the
+    /// update at the place `guess` is compared first.
+    pub(crate) fn take(
+        &mut self,
+        held: &mut usize,
+        guess: usize,
+        update: &Update,
+    ) -> Result<Taken, AllocError>
         requires { AreGroups self.old }
         ensures takes { Takes (entries_of (updates_in self.old)) update.now held.old result
             (entries_of (updates_in self.new)) held.new }
@@ -111,7 +117,7 @@ impl Groups {
         let alloc = self.alloc;
         let subject = subject_of(&update.register().key);
         match self.index.get_mut(&subject) {
-            Some(group) => group.take(alloc, held, update),
+            Some(group) => group.take(alloc, held, guess, update),
             None => {
                 let Some(more) = held.checked_add(1) else {
                     return Err(AllocError);

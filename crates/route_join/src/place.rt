@@ -4,7 +4,7 @@ ghost use Rattle.route_wire.specs.Order.{ip_cmp, register_cmp};
 ghost use Rattle.route_join.specs.Group.{AreAbout};
 ghost use Rattle.route_join.specs.Inner.Place.{place_of};
 ghost use Rattle.route_join.specs.Subject.{subject_of};
-ghost use Rattle.route_join.specs.Table.{entries_of};
+ghost use Rattle.route_join.specs.Table.{entries_of, IsOrdered};
 
 use route_wire::{Ip, Register, Update};
 use std::cmp::Ordering;
@@ -54,4 +54,23 @@ pub(crate) fn place(updates: &[Update], register: &Register) -> Result<usize, us
         }
     }
     Err(updates.len())
+}
+
+/// Returns what `place` returns. It compares the update at `guess` first, so a wrong guess costs
+/// only time.
+#[inline(always)]
+#[tactic(auto, using(crate::proofs::Within::found_near))]
+pub(crate) fn place_near(
+    updates: &[Update],
+    register: &Register,
+    guess: usize,
+) -> Result<usize, usize>
+    requires about { AreAbout (subject_of register.now.key) (entries_of updates.now) }
+    requires ordered { IsOrdered updates.now }
+    ensures { result ≡ place_of updates.now register.now }
+{
+    if guess < updates.len() && cmp_within(register, &updates[guess].register()).is_eq() {
+        return Ok(guess);
+    }
+    place(updates, register)
 }

@@ -5,12 +5,13 @@ ghost use Rattle.std.specs.FinMap.Entries.{put};
 ghost use Rattle.route_wire.specs.Order.{register_cmp};
 ghost use Rattle.route_join.specs.Table.{entries_of, IsOrdered};
 ghost use Rattle.route_join.specs.Inner.Place.{place_of};
+ghost use Rattle.route_join.specs.Owner.{advert_in};
 ghost use Rattle.route_join.specs.Subject.{subject_of};
 ghost use Rattle.route_join.specs.Group.{AreAbout};
 ghost use Rattle.route_join.specs.Inner.Group.{told, Takes, update_among, said_at, wins_by, better_place, stays_best, moved, HasWinner, IsLeader, IsSilent};
 
 use crate::owner::{advert_in, is_better};
-use crate::place::place;
+use crate::place::{place, place_near};
 use crate::table::Taken;
 use ether_wire::Addr;
 use route_wire::{Advert, Register, Update};
@@ -88,6 +89,15 @@ fn stays_best(was: &Option<Advert>, now: &Option<Advert>) -> bool
         (Some(was), Some(now)) => !is_better(was, now, Ordering::Equal),
         _ => false,
     }
+}
+
+/// Returns `true` only if the winner stays the best one where this update replaces it. Nothing is
+/// compared if the winner is at another place.
+fn stays_winner(updates: &[Update], at: usize, winner: Option<usize>, update: &Update) -> bool
+    ensures { result ≡ true
+        → stays_best (said_at updates.now at) (advert_in update.now.value.content) ≡ true }
+{
+    winner == Some(at) && stays_best(&said_at(updates, at), &advert_in(&update.value().content))
 }
 
 /// Returns the winner's place after the update at a place was replaced. It searches for the winner
@@ -213,9 +223,7 @@ impl SmallGroup {
         ensures { entries_of self.new ≡ put register_cmp update.now.register update.now.value
             (entries_of self.old) }
     {
-        let was = advert_in(&self.updates[at].value().content);
-        let now = advert_in(&update.value().content);
-        let stays = stays_best(&was, &now);
+        let stays = stays_winner(&self.updates, at, self.winner, update);
         self.updates[at] = *update;
         self.winner = winner_after(&self.updates, at, self.winner, stays);
     }
@@ -236,14 +244,20 @@ impl SmallGroup {
     }
 
     /// Takes an update: its register then has the newer of the update and its value so far. A known
-    /// register takes no memory, and a new one is one more held register.
-    pub(crate) fn take(&mut self, held: &mut usize, update: &Update) -> Result<Taken, AllocError>
+    /// register takes no memory, and a new one is one more held register. The update at the place
+    /// `guess` is compared first.
+    pub(crate) fn take(
+        &mut self,
+        held: &mut usize,
+        guess: usize,
+        update: &Update,
+    ) -> Result<Taken, AllocError>
         requires { AreAbout (subject_of update.now.register.key) (entries_of self.old) }
         ensures takes { Takes (entries_of self.old) update.now held.old result
             (entries_of self.new) held.new }
         ensures err { OnErr result (self.new ≡ self.old) }
     {
-        match place(&self.updates, &update.register()) {
+        match place_near(&self.updates, &update.register(), guess) {
             Ok(at) => {
                 if !update.is_newer(&self.updates[at]) {
                     return Ok(Taken::Known);

@@ -199,7 +199,8 @@ impl Table {
             return Err(TakeError::UnknownOriginator);
         }
         update.always_well_formed();
-        let Ok(taken) = self.groups.take(&mut self.held, update) else {
+        // the guess is also a register's place, if each originator has one and they are in order
+        let Ok(taken) = self.groups.take(&mut self.held, guess, update) else {
             return Err(TakeError::NoMemory);
         };
         Ok(taken)

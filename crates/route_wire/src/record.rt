@@ -8,16 +8,18 @@
 //! | 8 | counter |
 //! | 3 | VNI |
 //! | the rest | the route, as `route` has it, and the octets after it |
-ghost use Rattle.std.specs.Prelude.{◌≡◌, ◌+◌, ◌≤◌, ◌⊎◌, if◌then◌else◌, length};
+ghost use Rattle.std.specs.Prelude.{◌≡◌, ◌+◌, ◌≤◌, ◌⊎◌, None, if◌then◌else◌, length};
 ghost use Rattle.route_wire.specs.Stream.{IsWhole};
 ghost use Rattle.route_wire.specs.Route.{ip_len, has_label2, ip_in, label2_in, route_type, tail_of};
 ghost use Rattle.route_wire.specs.Inner.Route.{HasRoute};
 ghost use Rattle.route_wire.specs.Inner.Refusal.{IsReadable};
+ghost use Rattle.route_wire.specs.Refusal.{refusal_of};
 ghost use Rattle.route_wire.specs.Record.{route_place, first_header_in, later_header_in, header_in, is_flagged, advert_in, names_no_ip, key_in, content_in, update_in, unless_refused, reading};
 
 use crate::refusal::refusal;
 use crate::route::{
-    FLAGS_PLACE, IP_PLACE, LABEL2_PLACE, MAC_PLACE, MAC_ROUTE, SEQUENCE_PLACE, has_label2, ip_len,
+    FLAGS_PLACE, IP_PLACE, LABEL2_PLACE, MAC_LEN_V4, MAC_PLACE, MAC_ROUTE, SEQUENCE_PLACE,
+    has_label2, ip_len,
 };
 use crate::stream::{FIRST_VERSION, KIND_PLACE, NEWEST, VERSION_PLACE, WITHDRAWS};
 use crate::update::{Addr6, Advert, Content, Ip, Key, Register, Update, Value};
@@ -179,6 +181,22 @@ fn names_no_ip(header: &Header) -> bool
     header.is_withdrawal && header.version != NEWEST
 }
 
+/// Returns the IP address that the record names.
+// A route without one is checked first: its caller knows that.
+fn named_ip(header: &Header, route: &[u8], ip_octets: usize) -> Option<Ip>
+    requires octets { ip_octets ≡ ip_len route.now }
+    requires fits { LABEL2_PLACE + ip_len route.now ≤ length route.now }
+    ensures { result ≡ (if names_no_ip header.now then None else ip_in route.now) }
+{
+    if ip_octets == 0 {
+        return None;
+    }
+    if names_no_ip(header) {
+        return None;
+    }
+    ip_in(route, ip_octets)
+}
+
 /// Returns the key of the route.
 fn key_in(header: &Header, route: &[u8], ip_octets: usize) -> Key
     requires octets { ip_octets ≡ ip_len route.now }
@@ -188,11 +206,7 @@ fn key_in(header: &Header, route: &[u8], ip_octets: usize) -> Key
     if route[0] != MAC_ROUTE {
         return Key::Flood(header.vni);
     }
-    let ip = if names_no_ip(header) {
-        None
-    } else {
-        ip_in(route, ip_octets)
-    };
+    let ip = named_ip(header, route, ip_octets);
     Key::Mac(header.vni, Mac::from_octets(&route[MAC_PLACE..]), ip)
 }
 
@@ -233,6 +247,35 @@ fn write_update(header: &Header, route: &[u8], ip_octets: usize, update: &mut Up
     *update = Update::new(register, value);
 }
 
+/// Writes the update of a record, or returns its refusal, the first that applies.
+// Inlined: a caller that knows some of the route makes the tests of it for nothing.
+#[inline(always)]
+fn read_route(header: &Header, route: &[u8], ip_octets: usize, update: &mut Update) -> Option<u8>
+    requires octets { ip_octets ≡ ip_len route.now }
+    ensures { unless_refused result update.new
+        ≡ unless_refused (refusal_of header.now route.now) (update_in header.now route.now) }
+{
+    match refusal(header, route, ip_octets) {
+        Some(refusal) => Some(refusal),
+        None => {
+            write_update(header, route, ip_octets, update);
+            None
+        }
+    }
+}
+
+/// Does what `read_into` does, for each route.
+#[inline(never)]
+#[tactic(auto, using(crate::proofs::Wholes::whole_long), unfolding(crate::specs::Record::reading))]
+fn read_other(bytes: &[u8], update: &mut Update) -> Option<u8>
+    requires { IsWhole bytes.now }
+    ensures { unless_refused result update.new ≡ reading bytes.now }
+{
+    let header = header_in(bytes);
+    let (_, route) = bytes.split_at(route_place(bytes));
+    read_route(&header, route, ip_len(route), update)
+}
+
 /// Writes the update that a whole record spells to a place of the caller, or returns its refusal,
 /// the first that applies.
 // In place: a whole update in a result would be copied at each step of its way.
@@ -241,16 +284,13 @@ pub(crate) fn read_into(bytes: &[u8], update: &mut Update) -> Option<u8>
     requires { IsWhole bytes.now }
     ensures { unless_refused result update.new ≡ reading bytes.now }
 {
-    let header = header_in(bytes);
-    let (_, route) = bytes.split_at(route_place(bytes));
-    let ip_octets = ip_len(route);
-    match refusal(&header, route, ip_octets) {
-        Some(refusal) => Some(refusal),
-        None => {
-            write_update(&header, route, ip_octets, update);
-            None
+    if bytes[VERSION_PLACE] != FIRST_VERSION {
+        let (_, route) = bytes.split_at(ROUTE_PLACE);
+        if route.len() >= 2 && route[0] == MAC_ROUTE && route[1] < MAC_LEN_V4 {
+            return read_route(&later_header_in(bytes), route, 0, update);
         }
     }
+    read_other(bytes, update)
 }
 
 /// Returns the update that a whole record spells, or its refusal, the first that applies:

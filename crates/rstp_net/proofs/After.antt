@@ -2,6 +2,7 @@
 use Rattle.std.proofs.Common.{◌≡◌, ℕ, ◌+◌, ◌-◌, ◌⊎◌, inl, inr, ◌||◌, false, true, List, [], ◌∷◌, Option, Some, None}
 use Rattle.std.proofs.Common.{slice_get, refl}
 use Rattle.std.proofs.Common.{sym, ap, subst, ◌∙◌, arith}
+use Rattle.std.proofs.lemmas.Bool.{false≢true}
 use Rattle.std.specs.Option.{option_map_or}
 use Rattle.rstp_state.specs.declared.port.PortState.{PortState}
 use Rattle.rstp_state.specs.Port.{is_designated, is_root, test_at}
@@ -46,9 +47,6 @@ module _ (laws : BridgeLaws) (rest now : Network) (is : IsNetwork rest) (at_rest
   pub no_circle_within : (x : Spot) (ports : List Spot) → Travels now ports x x → ports ≡ []
   no_circle_within x ports way = comes_back_by_none laws rest is x ports (led ports x x way)
 
-no : {A : Type 0} → false ≡ true → A
-no h = let e : ⊥ = cc in absurd e
-
 -- if a port in the tree has the role of the port at its place in another bridge, that port is in the tree
 same_in_tree : (s t : Tree) (p : ℕ) → ((b : PortState) → IsAtPlace t p b → (a : PortState) × IsAtPlace s p a
     × (b.role ≡ a.role)) → IsInTree t (p + 1) → IsInTree s (p + 1)
@@ -59,7 +57,7 @@ same_in_tree s t p same tree =
   where
     from : (o : Option PortState) → slice_get t.ports p ≡ o → option_map_or is_in_tree o false ≡ true
         → test_at p is_in_tree s.ports ≡ true
-    from None e h = no h
+    from None e h = absurd (false≢true h)
     from (Some b) e h =
         let was = same b e in
         ap (λ o. option_map_or is_in_tree o false) was.1

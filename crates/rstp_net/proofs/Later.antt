@@ -2,6 +2,7 @@
 -- port that joins it to the third.
 use Rattle.std.proofs.Common.{◌≡◌, ◌≢◌, ℕ, zero, suc, ◌+◌, ◌-◌, ◌⊎◌, inl, inr, Bool, true, false, not, List, [], ◌∷◌}
 use Rattle.std.proofs.Common.{length, map, Some, is_none, refl, sym, ap, subst, ◌∙◌}
+use Rattle.std.proofs.lemmas.Bool.{false≢true}
 use Rattle.rstp_state.specs.Port.{is_root, test_at}
 use Rattle.rstp_state.specs.Selection.{selected_ports, selected_root, best_path}
 use Rattle.rstp_run.specs.declared.event.Event.{Event}
@@ -23,9 +24,6 @@ use Rattle.rstp_net.proofs.Ring.{a_ring, at_rest, network, off_at_two, passing, 
 use Rattle.rstp_net.proofs.Ring.{second_bridge, third_bridge}
 use Rattle.rstp_net.proofs.Round.{IsOpen, closed_at, over_first, passes_at, passes_frames, ring_of, round, spot}
 
-no : {A : Type 0} → false ≡ true → A
-no h = let e : ⊥ = cc in absurd e
-
 -- ---- three bridges and what became of them
 
 abbrev Remains : Tree → Tree → Type 0
@@ -36,7 +34,7 @@ abbrev Differs : Tree → Tree → Type 0
 Differs s t = (test : Tree → Bool) × (test s ≡ false) × (test t ≡ true)
 
 differs : (x y s t : Tree) → Some x ≡ Some s → Some y ≡ Some t → Differs x y → s ≢ t
-differs x y s t at now (test, off, on) same = let e : x ≡ y = cc in no (sym off ∙ ap test e ∙ on)
+differs x y s t at now (test, off, on) same = let e : x ≡ y = cc in absurd (false≢true (sym off ∙ ap test e ∙ on))
 
 module _ (a b c a' b' c' : Tree) where
   all_remain : Remains a a' → Remains b b' → Remains c c' → IsLater (ring_of a b c) (ring_of a' b' c')
@@ -161,6 +159,10 @@ pub record Laws : Type 0 where
   pub reach : LastingIsReached
   pub loss : LosingKeepsTree
   pub in_tree : PassingIsInTree
+
+pub laws_of : SettledByLists → RunsHappen → RolesLast → LastingIsReached → LosingKeepsTree → PassingIsInTree → Laws
+laws_of lists happens roles reach loss in_tree =
+    record { lists = lists; happens = happens; roles = roles; reach = reach; loss = loss; in_tree = in_tree }
 
 module _ (laws : Laws) where
   is_network : IsNetwork at_first

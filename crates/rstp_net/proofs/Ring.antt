@@ -2,6 +2,7 @@
 -- would be a circle.
 use Rattle.std.proofs.Common.{◌≡◌, ℕ, zero, suc, ◌+◌, ◌-◌, Bool, true, false, ◌&&◌, List, [], ◌∷◌}
 use Rattle.std.proofs.Common.{length, Some, slice_get, ◌⊎◌, inl, inr, refl, sym, ap, subst, ◌∙◌, arith}
+use Rattle.std.proofs.lemmas.Bool.{false≢true}
 use Rattle.bpdu_wire.specs.declared.bpdu.Bpdu.{Bpdu}
 use Rattle.bpdu_wire.specs.declared.bpdu.Bpdu.TheVariants.{Rst}
 use Rattle.rstp_state.specs.declared.port.PortState.{PortState}
@@ -23,9 +24,6 @@ use Rattle.rstp_net.specs.Network.{CanBeAtRest, RingCanBeAtRest}
 use Rattle.rstp_net.proofs.Round.{spot, segment_of, ring_of, IsOpen, passes_frames, passes_at, closed_at}
 use Rattle.rstp_net.proofs.Round.{over_second, round}
 use Rattle.rstp_net.proofs.Histories.{Happening, come_to, AllHappen, can_be, coming_up, hearing, blocking}
-
-no : {A : Type 0} → false ≡ true → A
-no h = let e : ⊥ = cc in absurd e
 
 -- ---- the conditions on the three bridges
 
@@ -106,7 +104,8 @@ module _ (a b c : Tree) (a0 a1 b0 b1 c0 c1 : PortState) (is : IsRing a b c a0 a1
 
   not_designated : (known port : PortState) → is_designated known.role ≡ false → known ≡ port
       → is_designated port.role ≡ true → ⊥
-  not_designated known port off same on = no (sym off ∙ ap (λ (p : PortState). is_designated p.role) same ∙ on)
+  not_designated known port off same on =
+      absurd (false≢true (sym off ∙ ap (λ (p : PortState). is_designated p.role) same ∙ on))
 
   of_designated : (x : Spot) (s : Tree) (port : PortState) → IsPortAt (ring_of a b c) x s port
       → is_designated port.role ≡ true → AreDesignated x port
@@ -159,7 +158,8 @@ module _ (a b c : Tree) (a0 a1 b0 b1 c0 c1 : PortState) (is : IsRing a b c a0 a1
 
   not_root : {A : Type 0} (known port : PortState) → is_root known.role ≡ false → known ≡ port
       → is_root port.role ≡ true → A
-  not_root known port off same on = no (sym off ∙ ap (λ (p : PortState). is_root p.role) same ∙ on)
+  not_root known port off same on =
+      absurd (false≢true (sym off ∙ ap (λ (p : PortState). is_root p.role) same ∙ on))
 
   -- the known root port, at the first place of the bridge at place n, has the times of the root bridge's port at place
   -- p

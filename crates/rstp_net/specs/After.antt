@@ -27,8 +27,7 @@ NoCircleWithin =
     (rest now : Network) → IsNetwork rest → IsAtRest rest → IsWithin rest now → (x : Spot) (ports : List Spot)
     → Travels now ports x x → ports ≡ []
 
--- The segments are the same. Each bridge came from its state at rest by events at which it didn't select its root and
--- roles again.
+-- The segments are the same. Each bridge came from its state at rest by events without a selection of root and roles.
 pub record IsLater (rest now : Network) : Type 0 where
   pub segment : HaveSameSegments rest now
   pub bridge : (b : ℕ) (t : Tree) → IsBridgeAt now b t

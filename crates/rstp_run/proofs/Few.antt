@@ -1,94 +1,257 @@
--- A bound of the firings at an event of a settled bridge: at most two selections, and few firings before, between and
--- after them.
-use Rattle.std.proofs.Common.{◌≡◌, ℕ, ◌+◌, ◌*◌, ◌≤◌, ◌<◌, Bool, true, false, length, map, refl, sym}
-use Rattle.std.proofs.Common.{subst, ◌∙◌, arith}
-use Rattle.std.proofs.Math.Nat.{mul-le-mul_right}
+-- A bound of the firings at an event of a settled bridge: each rule at most once at each port in each of the first six
+-- passes, and then no more than a number that each firing lowers.
+use Rattle.std.proofs.Common.{◌≡◌, ℕ, zero, suc, ◌+◌, ◌*◌, ◌≤◌, ◌⊎◌, inl, inr, Bool, true, false, List, [], ◌∷◌}
+use Rattle.std.proofs.Common.{◌||◌, Some, length, map, slice_get, refl, sym, ap, subst, ◌∙◌, arith}
 use Rattle.std.proofs.lemmas.List.{length-map}
+use Rattle.rstp_state.specs.declared.port.PortState.{PortState}
 use Rattle.rstp_state.specs.Direct.{without_slot}
 use Rattle.rstp_run.specs.declared.rule.Rule.{Rule}
 use Rattle.rstp_run.specs.declared.rule.Rule.TheVariants as rules
 use Rattle.rstp_run.specs.Events.{direct}
-use Rattle.rstp_run.specs.Firings.{EventsAreShort, most_firings, selections}
+use Rattle.rstp_run.specs.Firings.{EventsAreShort, most_firings}
 use Rattle.rstp_run.specs.Lasting.{is_select}
-use Rattle.rstp_run.specs.Rules.{Tree, after, guard}
-use Rattle.rstp_run.specs.Sweep.{Going, fired, swept}
-use Rattle.rstp_run.proofs.Alone.{IsLone, direct-lone, lone-size, place_at, rule-lone}
-use Rattle.rstp_run.proofs.Answered.{comes-meant}
+use Rattle.rstp_run.specs.Laws.{AreOrderly, IsOrderly}
+use Rattle.rstp_run.specs.Rules.{Tree, guard}
+use Rattle.rstp_run.specs.Sweep.{Going, fired, main_order, pass, sending_order, swept, tries, tries_all, tries_below}
+use Rattle.rstp_run.proofs.Each.{EachIs}
 use Rattle.rstp_run.proofs.Falls.{IsAfterDiscard}
+use Rattle.rstp_run.proofs.Informed.{no}
+use Rattle.rstp_run.proofs.Kept.{IsKept, kept_walks}
+use Rattle.rstp_run.proofs.Levels.{IsCalm, IsYoung}
+use Rattle.rstp_run.proofs.Ordered.{pass-full, tries_all-full}
+use Rattle.rstp_run.proofs.Orderly.{at_place, orderly-after, orderly-direct}
+use Rattle.rstp_run.proofs.Places.{AtAll, Stage, main_rest, pass-by, select-rests, stage-as, stage-rests, stage-with}
 use Rattle.rstp_run.proofs.Reached.{reached}
-use Rattle.rstp_run.proofs.Ready.{comes-ready}
-use Rattle.rstp_run.proofs.Selects.{selects-twice}
-use Rattle.rstp_run.proofs.Settling.{length-direct, sweep-holds}
-use Rattle.rstp_run.proofs.Sizes.{size, size-falls}
+use Rattle.rstp_run.proofs.Ready.{IsReady, Readies, comes-ready, ready_walks}
+use Rattle.rstp_run.proofs.Selects.{Passed, first-pass, passed-first, second-pass, sweep-reaches, third-select}
+use Rattle.rstp_run.proofs.Selects.{whole-pass}
+use Rattle.rstp_run.proofs.Settling.{length-direct, main-holds, sends-hold}
+use Rattle.rstp_run.proofs.Sound as sound
+use Rattle.rstp_run.proofs.Sound.{Keeps}
 use Rattle.rstp_run.proofs.Steps.{length-ports_after}
+use Rattle.rstp_run.proofs.Steady.{IsBase, IsSteady, visit-steady}
+use Rattle.rstp_run.proofs.Takes.{IsRested, visit-takes}
+use Rattle.rstp_run.proofs.Flags.{Bits, after_roles, core1, core2, due, first_visit, second_visit, shut}
+use Rattle.rstp_run.proofs.Fixed.{IsFixed}
+use Rattle.rstp_run.proofs.Heard.{lit}
+use Rattle.rstp_run.proofs.Gates.{Begins, Ends, visit-ends}
+use Rattle.rstp_run.proofs.Late.{IsLate, late-after}
+use Rattle.rstp_run.proofs.Tells.{late-bound, late-falls, remains}
+use Rattle.rstp_run.proofs.Walk.{direct_holds, rule_holds}
+use Rattle.rstp_run.proofs.Whole.{all-keeps, pass-keeps, tries-cases}
 
--- ---- an invariant of the sweep
+-- ---- a rule fires at most once at each port in each pass
 
--- F is a fact that each firing keeps, and that bounds the size of the bridge by b
-module _ (n b : ℕ) (F : Tree → Type 0)
-    (keeps : (rule : Rule) (s : Tree) (p : ℕ) → guard rule s p ≡ true → F s → F (after rule s p))
-    (bound : (s : Tree) → length s.ports ≡ n → F s → size n s ≤ b) where
-  -- m is the size at the beginning
-  abbrev Spends : ℕ → Going → Type 0
-  Spends m g =
-      (length g.firings + size n g.tree ≤ m + selections g.firings * (b + 1)) × (1 ≤ g.tree.settings.hello)
-      × (length g.tree.ports ≡ n) × F g.tree
+tries_adds : (limit : ℕ) (rule : Rule) (p : ℕ) (g : Going)
+    → length (tries rule p limit g).firings ≤ length g.firings + 1
+tries_adds limit rule p g =
+    tries-cases (λ x. length x.firings ≤ length g.firings + 1) rule p limit g (λ below on. omega arith) (omega arith)
 
-  other_spends : (m : ℕ) (rule : Rule) (p : ℕ) (g : Going) → is_select rule ≡ false → IsAfterDiscard rule g.tree p
-      → guard rule g.tree p ≡ true → Spends m g → Spends m (fired rule p g)
-  other_spends m rule p g other rest on h =
-      let less : size n (after rule g.tree p) < size n g.tree =
-      subst (λ k. size k (after rule g.tree p) < size k g.tree) h.2 (size-falls rule g.tree p other h.1 rest on) in
-      let count : selections (fired rule p g).firings ≡ selections g.firings = rw other refl in
-      let before = h.0 in
-      let now : length (fired rule p g).firings + size n (fired rule p g).tree ≤ m + selections g.firings * (b + 1) =
-      omega (arith, less, before) in
-      let Q : ℕ → Type 0 = λ k. length (fired rule p g).firings + size n (fired rule p g).tree ≤ m + k * (b + 1) in
-      (subst Q (sym count) now, h.1, length-ports_after rule g.tree p ∙ h.2, keeps rule g.tree p on h.3)
+all_adds : (limit : ℕ) (list : List Rule) (p : ℕ) (g : Going)
+    → length (tries_all list p limit g).firings ≤ length g.firings + length list
+all_adds limit [] p g = omega arith
+all_adds limit (rule ∷ rest) p g =
+    let one = tries_adds limit rule p g in
+    let more = all_adds limit rest p (tries rule p limit g) in
+    omega (arith, one, more)
 
-  select_spends : (m p : ℕ) (g : Going) → guard rules.Select g.tree p ≡ true → Spends m g
-      → Spends m (fired rules.Select p g)
-  select_spends m p g on h =
-      let same = length-ports_after rules.Select g.tree p ∙ h.2 in
-      let kept = keeps rules.Select g.tree p on h.3 in
-      let after_it = bound (after rules.Select g.tree p) same kept in
-      let before = h.0 in
-      (omega (arith, after_it, before), h.1, same, kept)
+below_adds : (limit k : ℕ) (g : Going)
+    → length (tries_below main_order k limit g).firings ≤ length g.firings + k * 54
+below_adds limit zero g = omega arith
+below_adds limit (suc k) g =
+    let before = below_adds limit k g in
+    let one : length (tries_all main_order k limit (tries_below main_order k limit g)).firings
+    ≤ length (tries_below main_order k limit g).firings + 54 =
+    all_adds limit main_order k (tries_below main_order k limit g) in
+    omega (arith, before, one)
 
-  spends : (m : ℕ) (rule : Rule) (p : ℕ) (g : Going) → IsAfterDiscard rule g.tree p → guard rule g.tree p ≡ true
-      → Spends m g → Spends m (fired rule p g)
-  spends m rule p g rest on h = go (is_select rule) refl
+-- ---- facts of the whole sweep
+
+each_at : (P : PortState → Type 0) (ports : List PortState) (p : ℕ) (x : PortState) → slice_get ports p ≡ Some x
+    → EachIs P ports → P x
+each_at P [] p x at h = let e : ⊥ = cc in absurd e
+each_at P (y ∷ ys) zero x at h = let same : y ≡ x = cc in subst P same h.0
+each_at P (y ∷ ys) (suc p) x at h = each_at P ys p x at h.1
+
+abbrev EachReady : Tree → Type 0
+EachReady s = EachIs IsReady s.ports
+
+module _ (n limit : ℕ) where
+  abbrev IsWell : Going → Type 0
+  IsWell g =
+      IsKept g.tree.ports × EachReady g.tree × AreOrderly g.tree × (length g.tree.ports ≡ n)
+      × (1 ≤ g.tree.settings.hello)
+
+  well_fires : (rule : Rule) (p : ℕ) (g : Going) → guard rule g.tree p ≡ true → IsWell g → IsWell (fired rule p g)
+  well_fires rule p g on h = (
+    rule_holds (λ s. IsKept s.ports) (λ s. Keeps) kept_walks rule g.tree p on h.0,
+    rule_holds EachReady (λ s. Readies) ready_walks rule g.tree p on h.1,
+    orderly-after rule g.tree p on h.2,
+    length-ports_after rule g.tree p ∙ h.3,
+    h.4,
+  )
+
+  well_pass : (g : Going) → IsWell g → IsWell (pass main_order limit g)
+  well_pass g h =
+      pass-keeps IsWell limit main_order
+      (all-keeps IsWell limit (λ rule p x k. tries-cases IsWell rule p limit x (λ below on. well_fires rule p x on k) k)
+      main_order) g h
+
+  -- ---- after six passes
+
+  abbrev Spends : Going → Type 0
+  Spends g =
+      IsWell g × AtAll (λ q. IsLate) g.tree.ports × (length g.firings + remains n g.tree ≤ 475 * n)
+
+  spends : (rule : Rule) (p : ℕ) (g : Going) → IsAfterDiscard rule g.tree p → guard rule g.tree p ≡ true → Spends g
+      → Spends (fired rule p g)
+  spends rule p g rest on h = go (is_select rule) refl
     where
       selects : (r : Rule) → is_select r ≡ true → r ≡ rules.Select
       selects rules.Select e = refl
-      selects (rules.Receive r) e = let no : ⊥ = cc in absurd no
-      selects (rules.Migration r) e = let no : ⊥ = cc in absurd no
-      selects (rules.Detection r) e = let no : ⊥ = cc in absurd no
-      selects (rules.Information r) e = let no : ⊥ = cc in absurd no
-      selects (rules.Role r) e = let no : ⊥ = cc in absurd no
-      selects (rules.State r) e = let no : ⊥ = cc in absurd no
-      selects (rules.Topology r) e = let no : ⊥ = cc in absurd no
-      selects (rules.Transmit r) e = let no : ⊥ = cc in absurd no
+      selects (rules.Receive r) e = no e
+      selects (rules.Migration r) e = no e
+      selects (rules.Detection r) e = no e
+      selects (rules.Information r) e = no e
+      selects (rules.Role r) e = no e
+      selects (rules.State r) e = no e
+      selects (rules.Topology r) e = no e
+      selects (rules.Transmit r) e = no e
 
-      go : (c : Bool) → is_select rule ≡ c → Spends m (fired rule p g)
-      go false is = other_spends m rule p g is rest on h
+      go : (b : Bool) → is_select rule ≡ b → Spends (fired rule p g)
       go true is =
-          let same = selects rule is in
           let G : Rule → Type 0 = λ r. guard r g.tree p ≡ true in
-          subst (λ r. Spends m (fired r p g)) (sym same) (select_spends m p g (subst G same on) h)
+          no (sym (select-rests g.tree p (λ q x at. (h.1 q x at).0.0.0.1)) ∙ subst G (selects rule is) on)
+      go false is =
+          let less = late-falls n rule g.tree p is h.0.4 h.0.3 h.1 rest on in
+          let few = h.2 in
+          (well_fires rule p g on h.0, late-after rule g.tree p is on h.1, omega (arith, less, few))
 
-  pub few-firings : (limit : ℕ) (s : Tree) → 1 ≤ s.settings.hello → length s.ports ≡ n → F s
-      → selections (swept limit s).firings ≤ 2 → length (swept limit s).firings ≤ 3 * b + 2
-  few-firings limit s some same fact twice =
-      let m : ℕ = size n s in
-      let start : m ≤ b = bound s same fact in
-      let end : Spends m (swept limit s) =
-      sweep-holds (Spends m) (spends m) limit s
-      (let first : 0 + size n s ≤ m + 0 * (b + 1) = omega arith in first, some, same, fact) in
-      let all = end.0 in
-      let most_selected : selections (swept limit s).firings * (b + 1) ≤ 2 * (b + 1) =
-      mul-le-mul_right (b + 1) twice in
-      omega (arith, start, all, most_selected)
+  abbrev IsLast : Going → Type 0
+  IsLast g = ((limit ≤ length g.firings) × (length g.firings ≤ 324 * n)) ⊎ Spends g
+
+  -- ---- the facts after this many passes
+
+  abbrev Counted : ℕ → Going → Type 0
+  Counted k g = IsWell g × (length g.firings ≤ k * 54 * n)
+
+  abbrev Spent : ℕ → Going → Type 0
+  Spent zero g = Passed n limit 0 g × Counted 0 g
+  Spent (suc zero) g = Passed n limit 1 g × Counted 1 g
+  Spent (suc (suc zero)) g = Passed n limit 2 g × Counted 2 g
+  Spent (suc (suc (suc zero))) g = Stage 2 n (λ q. IsSteady) limit g × Counted 3 g
+  Spent (suc (suc (suc (suc zero)))) g = Stage 2 n (λ q x. IsSteady x × IsRested x) limit g × Counted 4 g
+  Spent (suc (suc (suc (suc (suc zero))))) g = Stage 2 n (λ q x. IsFixed x × Ends core1 x) limit g × Counted 5 g
+  Spent (suc (suc (suc (suc (suc (suc k)))))) g = IsLast g
+
+  adds : (k : ℕ) (g : Going) → Counted k g → Counted (suc k) (pass main_order limit g)
+  adds k g h =
+      let more : length (pass main_order limit g).firings ≤ length g.firings + length g.tree.ports * 54 =
+      below_adds limit (length g.tree.ports) g in
+      let times : length g.tree.ports * 54 ≡ n * 54 = ap (λ j. j * 54) h.0.3 in
+      let few = h.1 in
+      (well_pass g h.0, omega (arith, more, few, times))
+
+  -- Select is reached in the third pass, and then information rests
+  third : (g : Going) → Spent 2 g → Stage 2 n (λ q. IsSteady) limit (pass main_order limit g)
+  third g h =
+      let x : Going = tries rules.Select 0 limit g in
+      let well : IsWell x = tries-cases IsWell rules.Select 0 limit g
+      (λ below on. well_fires rules.Select 0 g on h.1.0) h.1.0 in
+      let first : Stage 2 n (λ q. IsBase) limit x =
+      stage-as 2 n limit (λ q y. IsCalm y × (sound.IsSound y × IsReady y)) (λ q. IsBase) x
+      (λ q y within k. (k.0, k.1.0, k.1.1))
+      (stage-with 2 n limit (λ q. IsCalm) (λ q y. sound.IsSound y × IsReady y) x
+      (λ q y at. (each_at sound.IsSound x.tree.ports q y at well.0.sound, each_at IsReady x.tree.ports q y at well.1))
+      (third-select n limit g h.0)) in
+      whole-pass 2 n limit (λ q. IsSteady) g
+      (pass-by main_rest 1 2 n limit IsYoung IsBase IsSteady (λ p y k. visit-steady 2 n limit p y k) (omega arith) g
+      first h.0)
+
+  -- each port takes its role
+  fourth : (g : Going) → Spent 3 g → Stage 2 n (λ q x. IsSteady x × IsRested x) limit (pass main_order limit g)
+  fourth g h =
+      whole-pass 2 n limit (λ q x. IsSteady x × IsRested x) g
+      (pass-by main_rest 2 2 n limit IsSteady (λ x. IsSteady x × IsSteady x) (λ x. IsSteady x × IsRested x)
+      (λ p y k. visit-takes 2 n limit p y k) (omega arith) g
+      (stage-rests 2 n limit (λ q x. IsSteady x × IsSteady x) 0 g (λ q x z. z.0.0.1)
+      (stage-as 2 n limit (λ q. IsSteady) (λ q x. IsSteady x × IsSteady x) g (λ q x within z. (z, z)) h.0)) h.0)
+
+  begins : (core : Bits → Bool) (start : Bool → Bool → Bits → Bool)
+      (visits : (dark inactive active : Bool) (b : Bits) → b.learn || dark ≡ true → start inactive active b ≡ true
+      → after_roles dark (due core inactive active) b ≡ true) (g : Going)
+      → Stage 2 n (λ q x. IsFixed x × Begins start x) limit g
+      → Stage 2 n (λ q x. IsFixed x × Ends core x) limit (pass main_order limit g)
+  begins core start visits g h =
+      whole-pass 2 n limit (λ q x. IsFixed x × Ends core x) g
+      (pass-by main_rest 2 2 n limit (λ x. IsFixed x × Begins start x) (λ x. IsFixed x × Begins start x)
+      (λ x. IsFixed x × Ends core x) (λ p y k. visit-ends core start visits 2 n limit p y k) (omega arith) g
+      (stage-rests 2 n limit (λ q x. IsFixed x × Begins start x) 0 g (λ q x z. z.0.0.0.1) h) h)
+
+  orderly : (g : Going) → IsWell g → AtAll (λ q. IsOrderly) g.tree.ports
+  orderly g h q x at = at_place IsOrderly g.tree.ports q x at h.2
+
+  fifth : (g : Going) → Spent 4 g → Stage 2 n (λ q x. IsFixed x × Ends core1 x) limit (pass main_order limit g)
+  fifth g h =
+      begins core1 (λ inactive active b. true) (λ dark inactive active b k any. first_visit dark inactive active b k) g
+      (stage-as 2 n limit (λ q x. (IsSteady x × IsRested x) × IsOrderly x)
+      (λ q x. IsFixed x × Begins (λ inactive active b. true) x) g
+      (λ q x within z. ((z.0.0, z.0.1.0), (z.0.1.1, lit x z.1 z.0.1.2, λ e. refl)))
+      (stage-with 2 n limit (λ q x. IsSteady x × IsRested x) (λ q. IsOrderly) g (orderly g h.1.0) h.0))
+
+  sixth : (g : Going) → Spent 5 g → Stage 2 n (λ q x. IsFixed x × Ends core2 x) limit (pass main_order limit g)
+  sixth g h =
+      begins core2 (shut core1) (λ dark inactive active b k h. second_visit dark inactive active b k h) g
+      (stage-as 2 n limit (λ q x. (IsFixed x × Ends core1 x) × IsOrderly x)
+      (λ q x. IsFixed x × Begins (shut core1) x) g
+      (λ q x within z. (z.0.0, (z.0.1.0, lit x z.1 z.0.1.1, z.0.1.2)))
+      (stage-with 2 n limit (λ q x. IsFixed x × Ends core1 x) (λ q. IsOrderly) g (orderly g h.1.0) h.0))
+
+  last_of : (g : Going) → Counted 6 g → Stage 2 n (λ q x. IsFixed x × Ends core2 x) limit g → IsLast g
+  last_of g h stage = go stage.2
+    where
+      go : (limit ≤ length g.firings) ⊎ AtAll (λ q x. IsFixed x × Ends core2 x) g.tree.ports → IsLast g
+      go (inl full) = let few = h.1 in inl (full, omega (arith, few))
+      go (inr all) =
+          let late : AtAll (λ q. IsLate) g.tree.ports =
+          λ q x at. (let k = all q x at in (k.0, k.1.2, k.1.3)) in
+          let bound = late-bound n g.tree h.0.3 late h.0.0.roots in
+          let few = h.1 in
+          inr (h.0, late, omega (arith, bound, few))
+
+  next : (k : ℕ) (g : Going) → Spent k g → Spent (suc k) (pass main_order limit g)
+  next zero g h = (first-pass n limit g h.0, adds 0 g h.1)
+  next (suc zero) g h = (second-pass n limit g h.0, adds 1 g h.1)
+  next (suc (suc zero)) g h = (third g h, adds 2 g h.1)
+  next (suc (suc (suc zero))) g h = (fourth g h, adds 3 g h.1)
+  next (suc (suc (suc (suc zero)))) g h = (fifth g h, adds 4 g h.1)
+  next (suc (suc (suc (suc (suc zero))))) g h = last_of (pass main_order limit g) (adds 5 g h.1) (sixth g h)
+  next (suc (suc (suc (suc (suc (suc k)))))) g (inl h) =
+      subst IsLast (sym (pass-full main_order limit g h.0)) (inl h)
+  next (suc (suc (suc (suc (suc (suc k)))))) g (inr h) =
+      inr (pass-keeps Spends limit main_order (λ p x k. main-holds Spends spends p limit x k) g h)
+
+  full : (k : ℕ) (g : Going) → limit ≤ length g.firings → Spent k g → Spent 6 g
+  full zero g all h = let few = h.1.1 in inl (all, omega (arith, few))
+  full (suc zero) g all h = let few = h.1.1 in inl (all, omega (arith, few))
+  full (suc (suc zero)) g all h = let few = h.1.1 in inl (all, omega (arith, few))
+  full (suc (suc (suc zero))) g all h = let few = h.1.1 in inl (all, omega (arith, few))
+  full (suc (suc (suc (suc zero)))) g all h = let few = h.1.1 in inl (all, omega (arith, few))
+  full (suc (suc (suc (suc (suc zero))))) g all h = let few = h.1.1 in inl (all, omega (arith, few))
+  full (suc (suc (suc (suc (suc (suc k)))))) g all h = h
+
+  sends : (p : ℕ) (g : Going) → Spent 6 g → Spent 6 (tries_all sending_order p limit g)
+  sends p g (inl h) = subst IsLast (sym (tries_all-full sending_order p limit g h.0)) (inl h)
+  sends p g (inr h) = inr (sends-hold Spends spends p limit g h)
+
+  count : (g : Going) → Spent 0 g ⊎ Spent 6 g → length g.firings ≤ 475 * n
+  count g (inl h) = let few = h.1.1 in omega (arith, few)
+  count g (inr (inl h)) = let few = h.1 in omega (arith, few)
+  count g (inr (inr h)) = let few = h.2 in omega (arith, few)
+
+  pub few-firings : (s : Tree) → Spent 0 (record { tree = s; firings = [] })
+      → length (swept limit s).firings ≤ 475 * n
+  few-firings s h = count (swept limit s) (sweep-reaches limit 6 Spent next full (λ k g z. z) sends s h)
 
 -- ---- events of a settled bridge
 
@@ -96,15 +259,13 @@ pub events_are_short : EventsAreShort
 events_are_short event limit s t settled mask can rests some h =
     let same : length (direct event s).ports ≡ length s.ports =
     length-direct event (map without_slot s.ports) ∙ length-map s.ports without_slot in
-    let n : ℕ = length s.ports in
     let all = reached can.0 can.1 s can.2 in
     let ready = comes-ready can.2.0 can.0 can.1 s can.2.1 in
-    let meant = comes-meant can.2.0 can.0 can.1 s can.2.1 in
-    let lone = direct-lone event s all ready meant rests in
-    let F : Going → Type 0 = λ g. length g.firings ≤ most_firings n in
-    let twice : selections (swept limit (direct event s)).firings ≤ 2 =
-    subst (λ (g : Going). selections g.firings ≤ 2) (sym h.order)
-    (selects-twice event limit s t settled mask can rests h) in
+    let kept = direct_holds (λ v. IsKept v.ports) (λ v. Keeps) kept_walks.moves event s all.kept in
+    let P : ℕ → Type 0 = λ k. Passed k limit 0 (record { tree = direct event s; firings = [] }) in
+    let first = subst P same (passed-first event limit s can rests) in
+    let F : Going → Type 0 = λ g. length g.firings ≤ most_firings (length s.ports) in
+    let each = direct_holds EachReady (λ s. Readies) ready_walks.moves event s ready in
     subst F h.order
-    (few-firings n (128 * n * n + 306 * n + 44) (IsLone (place_at event)) (rule-lone (place_at event))
-    (λ v len lone. lone-size n (place_at event) v len lone) limit (direct event s) some same lone twice)
+    (few-firings (length s.ports) limit (direct event s)
+    (first, ((kept, each, orderly-direct event s all.orderly, same, some), omega arith)))

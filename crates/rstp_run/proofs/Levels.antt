@@ -94,12 +94,12 @@ same_turn true o h k = refl
 same_turn false true h k = no (sym h)
 same_turn false false h k = k
 
-not_true : (b : Bool) → not b ≡ true → b ≡ false
-not_true true h = no h
-not_true false h = refl
+pub not-true : (b : Bool) → not b ≡ true → b ≡ false
+not-true true h = no h
+not-true false h = refl
 
-false_not_true : {A : Type 0} (b : Bool) → b ≡ false → b ≡ true → A
-false_not_true b h k = no (sym h ∙ k)
+false_not-true : {A : Type 0} (b : Bool) → b ≡ false → b ≡ true → A
+false_not-true b h k = no (sym h ∙ k)
 
 -- ---- rules that a port with this fact never meets
 
@@ -129,24 +129,24 @@ pub idle-off : (rule : InformationRule) (port : PortState) → is_idle rule ≡ 
     → information_asks rule port ≡ true → ⊥
 idle-off information_rule.Disabled port is h g = turned port.enabled (is_out port.information) g h.2
 idle-off information_rule.Drop port is h g =
-    false_not_true port.received_message h.1 (right (is_out port.information) port.received_message g)
+    false_not-true port.received_message h.1 (right (is_out port.information) port.received_message g)
 idle-off information_rule.Enabled port is h g = turned_up port.enabled (is_out port.information) g h.2
 idle-off information_rule.Update port is h g = no is
 idle-off information_rule.Aged port is h g = no is
 idle-off information_rule.Superior port is h g =
-    false_not_true port.received_message h.1 (waits port (left (info.may_take port) _ g))
+    false_not-true port.received_message h.1 (waits port (left (info.may_take port) _ g))
 idle-off information_rule.Repeated port is h g =
-    false_not_true port.received_message h.1 (waits port (left (info.may_take port) _ g))
+    false_not-true port.received_message h.1 (waits port (left (info.may_take port) _ g))
 idle-off information_rule.Inferior port is h g =
-    false_not_true port.received_message h.1 (waits port (left (info.may_take port) _ g))
+    false_not-true port.received_message h.1 (waits port (left (info.may_take port) _ g))
 idle-off information_rule.NotDesignated port is h g =
-    false_not_true port.received_message h.1 (waits port (left (info.may_take port) _ g))
+    false_not-true port.received_message h.1 (waits port (left (info.may_take port) _ g))
 idle-off information_rule.Other port is h g =
-    false_not_true port.received_message h.1 (waits port (left (info.may_take port) _ g))
+    false_not-true port.received_message h.1 (waits port (left (info.may_take port) _ g))
 
 pub receive-off : (port : PortState) → IsTaken port → receive_guard port ≡ true → ⊥
 receive-off port h g =
-    false_not_true port.received_bpdu h.0
+    false_not-true port.received_bpdu h.0
     (left port.received_bpdu port.enabled (left (port.received_bpdu && port.enabled) (not port.received_message) g))
 
 -- ---- Discard, Update and Aged
@@ -156,7 +156,7 @@ discard-taken port h = (refl, refl, h.2, h.3, h.4)
 
 update_out : (port : PortState) → info.update_guard port ≡ true → is_out port.information ≡ false
 update_out port g =
-    not_true (is_out port.information)
+    not-true (is_out port.information)
     (left (not (is_out port.information)) port.selected
     (left (not (is_out port.information) && port.selected) port.update_info g))
 
@@ -207,7 +207,7 @@ aged-young port g (h, free) = (
 pub aged-off : (port : PortState) → IsYoung port → info.aged_guard port ≡ true → ⊥
 aged-off port (h, young) g =
     let third = left _ _ (left _ _ g) in
-    false_not_true (port.received_info_while == 0)
+    false_not-true (port.received_info_while == 0)
     (young (right (is_current port.information) (is_received port.info_is) (left _ _ third)))
     (right (is_current port.information && is_received port.info_is) (port.received_info_while == 0) third)
 
@@ -258,7 +258,7 @@ receive_off true true false g h k = no (sym g)
 pub receive-stays : (port : PortState) → receive_guard port ≡ false → IsHeard port → IsFaced port
 receive-stays port g (h, down) = (
   receive_off port.received_bpdu port.enabled port.received_message g h.2 down,
-  λ m. false_not_true port.received_message h.2 m,
+  λ m. false_not-true port.received_message h.2 m,
   h.0,
   h.3,
   h.4,
@@ -343,8 +343,8 @@ update-open port g h = (
 pub aged-open : (port : PortState) → info.aged_guard port ≡ true → IsOpen port → IsOpen (info.aged_effect port)
 aged-open port g h = (
   h.0,
-  λ m. false_not_true port.received_message
-      (not_true port.received_message (right _ (not port.received_message) g)) m,
+  λ m. false_not-true port.received_message
+      (not-true port.received_message (right _ (not port.received_message) g)) m,
   same_turn port.enabled (is_out port.information) (current_not_out port.information (aged_current port g)) h.2,
   refl,
   λ r. no r,
@@ -402,7 +402,7 @@ abbrev pub IsTried : (PortState → Type 0) → PortState → Type 0
 IsTried off port = IsOpen port × (port.received_message ≡ true → off port)
 
 pub tried-free : (off : PortState → Type 0) (port : PortState) → IsFree port → IsTried off port
-tried-free off port (h, none) = (h, λ m. false_not_true port.received_message none m)
+tried-free off port (h, none) = (h, λ m. false_not-true port.received_message none m)
 
 abbrev pub Off1 : PortState → Type 0
 Off1 port = info.superior_guard port ≡ false

@@ -29,7 +29,7 @@ IsFull limit g = limit ≤ length g.firings
 pub tries-full : (rule : Rule) (p limit : ℕ) (g : Going) → IsFull limit g → tries rule p limit g ≡ g
 tries-full rule p limit g full = rw (le-ltb (length g.firings) limit full) refl
 
-tries_all-full : (rules : List Rule) (p limit : ℕ) (g : Going) → IsFull limit g → tries_all rules p limit g ≡ g
+pub tries_all-full : (rules : List Rule) (p limit : ℕ) (g : Going) → IsFull limit g → tries_all rules p limit g ≡ g
 tries_all-full [] p limit g full = refl
 tries_all-full (rule ∷ rules) p limit g full =
     ap (tries_all rules p limit) (tries-full rule p limit g full) ∙ tries_all-full rules p limit g full

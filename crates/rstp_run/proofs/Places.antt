@@ -156,6 +156,16 @@ stage-as c n limit P Q g by h = (h.0, h.1, go h.2)
         inr (λ q x at. (let within = slice_get_within g.tree.ports q x at in
         by q x (omega (arith, within, h.1)) (all q x at)))
 
+-- one more fact of each port
+pub stage-with : (c n limit : ℕ) (P Q : ℕ → PortState → Type 0) (g : Going) → AtAll Q g.tree.ports
+    → Stage c n P limit g → Stage c n (λ q x. P q x × Q q x) limit g
+stage-with c n limit P Q g more h = (h.0, h.1, go h.2)
+  where
+    go : (limit ≤ length g.firings) ⊎ AtAll P g.tree.ports
+        → (limit ≤ length g.firings) ⊎ AtAll (λ q x. P q x × Q q x) g.tree.ports
+    go (inl full) = inl full
+    go (inr all) = inr (λ q x at. (all q x at, more q x at))
+
 -- a rule other than Select is reached
 pub stage-tries : (c n limit : ℕ) (P Q : ℕ → PortState → Type 0) (rule : Rule) (p : ℕ) (g : Going)
     → is_select rule ≡ false
@@ -320,12 +330,11 @@ main_rest = drop 1 main_order
 
 -- Select is reached once, and then each port is visited
 pub pass-by : (rest : List Rule) (c d n limit : ℕ) (B U V : PortState → Type 0)
-    → ((g : Going) → Stage c n (λ q. B) limit g → Stage d n (λ q. U) limit (tries rules.Select 0 limit g))
     → ((p : ℕ) (g : Going) → Stage d n (Zone V U U p) limit g
     → Stage d n (Zone V V U p) limit (tries_all rest p limit g))
-    → c ≤ d → (g : Going) → Stage c n (λ q. B) limit g
+    → c ≤ d → (g : Going) → Stage d n (λ q. U) limit (tries rules.Select 0 limit g) → Stage c n (λ q. B) limit g
     → Stage d n (λ q. V) limit (pass (rules.Select ∷ rest) limit g)
-pass-by rest c d n limit B U V first visit less g h = go (length g.tree.ports) refl
+pass-by rest c d n limit B U V visit less g first h = go (length g.tree.ports) refl
   where
     enter : (p : ℕ) (x : Going) → Stage d n (Half V U p) limit x
         → Stage d n (Half V U (suc p)) limit (tries_all rest p limit x)
@@ -338,7 +347,7 @@ pass-by rest c d n limit B U V first visit less g h = go (length g.tree.ports) r
     below zero =
         enter 0 (tries rules.Select 0 limit g)
         (stage-as d n limit (λ q. U) (Half V U 0) (tries rules.Select 0 limit g)
-        (λ q y within u. (λ none. absurd (omega (arith, none)), λ from. u)) (first g h))
+        (λ q y within u. (λ none. absurd (omega (arith, none)), λ from. u)) first)
     below (suc m) =
         enter (suc m) (tries rules.Select (suc m) limit (tries_below (rules.Select ∷ rest) (suc m) limit g))
         (stage-later d n limit (Half V U (suc m)) m (tries_below (rules.Select ∷ rest) (suc m) limit g) (below m))

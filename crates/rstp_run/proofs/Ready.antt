@@ -41,7 +41,7 @@ use Rattle.rstp_run.proofs.Quiet.{IsQuiet, Known, answer_quiet, inferior_quiet, 
 use Rattle.rstp_run.proofs.Reached.{IsReached}
 use Rattle.rstp_run.proofs.Resting.{informed, taken_by, updated, waits_not}
 use Rattle.rstp_run.proofs.Roots.{is_off, is_selected, unasked}
-use Rattle.rstp_run.proofs.Sound.{left}
+use Rattle.rstp_run.proofs.Sound.{is_down, left}
 use Rattle.rstp_run.proofs.Walk.{Walks, comes_holds}
 
 -- ---- the invariant
@@ -66,8 +66,12 @@ IsToldOf known =
     known.selected ≡ true → known.update_info ≡ false → is_received known.info_is ≡ true
     → (is_designated known.selected_role || is_disabled known.selected_role) ≡ false
 
+-- a port that has no information has the selected role Disabled
+abbrev pub IsOffOf : Known → Type 0
+IsOffOf known = is_down known.info_is ≡ true → known.selected ≡ true → is_disabled known.selected_role ≡ true
+
 abbrev pub IsReadyOf : Known → Type 0
-IsReadyOf known = IsDueOf known × IsToldOf known
+IsReadyOf known = IsDueOf known × IsToldOf known × IsOffOf known
 
 abbrev pub IsReady : PortState → Type 0
 IsReady port = IsReadyOf (known_of port)
@@ -85,7 +89,8 @@ current_not_old information.Current h k = no k
 
 -- a port whose role isn't selected, and whose machine is current
 current_ready : (known : Known) → is_current known.information ≡ true → known.selected ≡ false → IsReadyOf known
-current_ready known h k = (λ o. absurd (current_not_old known.information h o), λ s. no (sym k ∙ s))
+current_ready known h k =
+    (λ o. absurd (current_not_old known.information h o), λ s. no (sym k ∙ s), λ d s. no (sym k ∙ s))
 
 taken_ready : (m : Option Bpdu) (port : PortState) → is_current port.information ≡ true → port.selected ≡ false
     → IsReady (info.handled (info.with_info_time (info.with_info_of m port)))
@@ -98,11 +103,11 @@ taken_ready (Some (Rst message)) port h k =
 
 informed_readies : (rule : InformationRule) (port : PortState) → information_asks rule port ≡ true
     → Readies port (information_does rule port)
-informed_readies information_rule.Disabled port g = λ h. (λ o. no o, λ s. no s)
+informed_readies information_rule.Disabled port g = λ h. (λ o. no o, λ s. no s, λ d s. no s)
 informed_readies information_rule.Drop port g = λ h. h
-informed_readies information_rule.Enabled port g = λ h. (λ o. (refl, λ s. no s), λ s. no s)
-informed_readies information_rule.Update port g = λ h. (λ o. no o, λ s u r. no r)
-informed_readies information_rule.Aged port g = λ h. (λ o. (refl, λ s. no s), λ s. no s)
+informed_readies information_rule.Enabled port g = λ h. (λ o. (refl, λ s. no s), λ s. no s, λ d. no d)
+informed_readies information_rule.Update port g = λ h. (λ o. no o, λ s u r. no r, λ d. no d)
+informed_readies information_rule.Aged port g = λ h. (λ o. (refl, λ s. no s), λ s. no s, λ d. no d)
 informed_readies information_rule.Superior port g =
     let current = left (is_current port.information) _ (left _ _ (left _ _ g)) in λ h.
     taken_ready port.message (info.with_superior_flags (info.with_change_flags (info.with_proposal port))) current refl
@@ -130,6 +135,12 @@ told_role info_is.Received false true o s u r = no (sym u)
 told_role info_is.Received false false true s u r = refl
 told_role info_is.Received false false false s u r = refl
 
+down_role : (i : InfoIs) (t b o : Bool) → is_down i ≡ true → is_disabled (role_by i t b o) ≡ true
+down_role info_is.Disabled t b o d = refl
+down_role info_is.Aged t b o d = no d
+down_role info_is.Mine t b o d = no d
+down_role info_is.Received t b o d = no d
+
 choices_ready : (s : Settings) (root : Root) (path : Path) (n : ℕ) (ports : List PortState) → EachIs IsReady ports
     → EachIs IsReady (map (λ e. with_choice s root (is_through path e.0) e.1) (enumerate_from n ports))
 choices_ready s root path n [] h = tt
@@ -139,6 +150,7 @@ choices_ready s root path n (x ∷ xs) h = (
         let aged = (h.0.0 o).0 in
         (aged, λ k. aged_updates x.info_is (is_through path n) (is_better s root x) (is_same s root x) aged),
     λ k u r. told_role x.info_is (is_through path n) (is_better s root x) (is_own s x) (is_same s root x) u r,
+    λ d k. down_role x.info_is (is_through path n) (is_better s root x) (is_own s x) d,
   ),
   choices_ready s root path (n + 1) xs h.1,
 )
@@ -148,7 +160,7 @@ selection_ready : (s : Settings) (ports : List PortState) → EachIs IsReady por
 unfolding selected_ports
 selection_ready s ports h = choices_ready s (selected_root s ports) (best_path s ports) 0 ports h
 
-ready_walks : Walks (λ s. EachIs IsReady s.ports) (λ s. Readies)
+pub ready_walks : Walks (λ s. EachIs IsReady s.ports) (λ s. Readies)
 ready_walks = record {
   moves = record {
     by = λ s ports h k. each_is Readies IsReady (λ a b by. by) s.ports ports h k;
@@ -161,7 +173,8 @@ ready_walks = record {
 
 start_ready : (n : ℕ) (settings : Settings) (ports : List PortSettings) → EachIs IsReady (ports_from n settings ports)
 start_ready n settings [] = tt
-start_ready n settings (x ∷ xs) = ((λ o. no o, λ s u r. no r), start_ready (n + 1) settings xs)
+start_ready n settings (x ∷ xs) =
+    ((λ o. no o, λ s u r. no r, λ d s. refl), start_ready (n + 1) settings xs)
 
 abbrev pub AreReady : Tree → Type 0
 AreReady s = EachIs IsReady s.ports

@@ -5,9 +5,14 @@ use Rattle.std.proofs.lemmas.Bool.{cases_lt, eqb-true, eqb-false}
 use Rattle.rstp_state.specs.declared.port.PortState.{PortState}
 use Rattle.rstp_run.specs.declared.rule.Rule.{Rule}
 use Rattle.rstp_run.specs.declared.rule.Rule.TheVariants as rules
+use Rattle.rstp_run.specs.declared.event.Event.{Event}
 use Rattle.rstp_run.specs.Events.{direct}
 use Rattle.rstp_run.specs.Firings.{SelectsTwice, selections}
-use Rattle.rstp_run.specs.Sweep.{Going, main_order, pass, passes, round, sending_order, swept, tries_all, until_idle}
+use Rattle.rstp_run.specs.Rules.{Tree}
+use Rattle.rstp_run.specs.Runs.{IsSettled}
+use Rattle.rstp_run.specs.Settled.{IsReached}
+use Rattle.rstp_run.specs.Sweep.{Going, main_order, pass, passes, round, sending_order, swept, tries, tries_all}
+use Rattle.rstp_run.specs.Sweep.{until_idle}
 use Rattle.rstp_run.proofs.Levels.{IsCalm, IsCalmOf, IsChosen, IsFirst, IsTaken, IsYoung, stays}
 use Rattle.rstp_run.proofs.Ordered.{pass-full, pass-off, until-more, until-once}
 use Rattle.rstp_run.proofs.Places.{Stage, main_rest, pass-by, stage-plain, stage-rests, stage-select}
@@ -26,52 +31,59 @@ Passed n limit (suc (suc zero)) g = Stage 1 n (λ q. IsYoung) limit g
 Passed n limit (suc (suc (suc k))) g = Stage 2 n (λ q. IsCalm) limit g
 
 -- a fact after a pass of Select and the rules after it
-whole_pass : (c n limit : ℕ) (P : ℕ → PortState → Type 0) (g : Going)
+pub whole-pass : (c n limit : ℕ) (P : ℕ → PortState → Type 0) (g : Going)
     → Stage c n P limit (pass (rules.Select ∷ main_rest) limit g) → Stage c n P limit (pass main_order limit g)
-whole_pass c n limit P g h =
+whole-pass c n limit P g h =
     let same : rules.Select ∷ main_rest ≡ main_order = refl in
     let R : List Rule → Type 0 = λ l. Stage c n P limit (pass l limit g) in
     subst R same h
 
-first_pass : (n limit : ℕ) (g : Going) → Stage 0 n (λ q. IsFirst) limit g
+pub first-pass : (n limit : ℕ) (g : Going) → Stage 0 n (λ q. IsFirst) limit g
     → Stage 0 n (λ q. IsTaken) limit (pass main_order limit g)
-first_pass n limit g h =
-    whole_pass 0 n limit (λ q. IsTaken) g
-    (pass-by main_rest 0 0 n limit IsFirst IsFirst IsTaken
-    (λ x k. stage-rests 0 n limit (λ q. IsFirst) 0 x (λ q y f. f.1) k)
-    (λ p x k. visit-first n limit p x k) (omega arith) g h)
+first-pass n limit g h =
+    whole-pass 0 n limit (λ q. IsTaken) g
+    (pass-by main_rest 0 0 n limit IsFirst IsFirst IsTaken (λ p x k. visit-first n limit p x k) (omega arith) g
+    (stage-rests 0 n limit (λ q. IsFirst) 0 g (λ q y f. f.1) h) h)
 
-second_pass : (n limit : ℕ) (g : Going) → Stage 0 n (λ q. IsTaken) limit g
+pub second-pass : (n limit : ℕ) (g : Going) → Stage 0 n (λ q. IsTaken) limit g
     → Stage 1 n (λ q. IsYoung) limit (pass main_order limit g)
-second_pass n limit g h =
-    whole_pass 1 n limit (λ q. IsYoung) g
-    (pass-by main_rest 0 1 n limit IsTaken IsChosen IsYoung
-    (λ x k. stage-select 0 n limit (λ q. IsTaken) (λ q. IsChosen) x
-    (λ s root q y through t. ((t.0, t.1, t.2, refl, t.4), refl)) (λ q y none t. (t, none)) k)
-    (λ p x k. visit-second n limit p x k) (omega arith) g h)
+second-pass n limit g h =
+    whole-pass 1 n limit (λ q. IsYoung) g
+    (pass-by main_rest 0 1 n limit IsTaken IsChosen IsYoung (λ p x k. visit-second n limit p x k) (omega arith) g
+    (stage-select 0 n limit (λ q. IsTaken) (λ q. IsChosen) g
+    (λ s root q y through t. ((t.0, t.1, t.2, refl, t.4), refl)) (λ q y none t. (t, none)) h) h)
 
-third_pass : (n limit : ℕ) (g : Going) → Stage 1 n (λ q. IsYoung) limit g
-    → Stage 2 n (λ q. IsCalm) limit (pass main_order limit g)
-third_pass n limit g h =
-    whole_pass 2 n limit (λ q. IsCalm) g
-    (pass-by main_rest 1 2 n limit IsYoung IsCalm IsCalm
-    (λ x k. stage-select 1 n limit (λ q. IsYoung) (λ q. IsCalm) x
-    (λ s root q y through t. (((t.0.0, t.0.1, t.0.2, refl, t.0.4), t.1), refl)) (λ q y none t. (t, none)) k)
-    (λ p x k. visit-later n limit p x k) (omega arith) g h)
+-- Select is reached in the third pass
+pub third-select : (n limit : ℕ) (g : Going) → Stage 1 n (λ q. IsYoung) limit g
+    → Stage 2 n (λ q. IsCalm) limit (tries rules.Select 0 limit g)
+third-select n limit g h =
+    stage-select 1 n limit (λ q. IsYoung) (λ q. IsCalm) g
+    (λ s root q y through t. (((t.0.0, t.0.1, t.0.2, refl, t.0.4), t.1), refl)) (λ q y none t. (t, none)) h
 
-later_pass : (n limit : ℕ) (g : Going) → Stage 2 n (λ q. IsCalm) limit g
-    → Stage 2 n (λ q. IsCalm) limit (pass main_order limit g)
-later_pass n limit g h =
-    whole_pass 2 n limit (λ q. IsCalm) g
-    (pass-by main_rest 2 2 n limit IsCalm IsCalm IsCalm
-    (λ x k. stage-rests 2 n limit (λ q. IsCalm) 0 x (λ q y t. t.1) k)
-    (λ p x k. visit-later n limit p x k) (omega arith) g h)
+-- a pass after that
+pub calm-pass : (c d n limit : ℕ) (B : PortState → Type 0) (g : Going) → c ≤ d
+    → Stage d n (λ q. IsCalm) limit (tries rules.Select 0 limit g) → Stage c n (λ q. B) limit g
+    → Stage d n (λ q. IsCalm) limit (pass main_order limit g)
+calm-pass c d n limit B g less first h =
+    whole-pass d n limit (λ q. IsCalm) g
+    (pass-by main_rest c d n limit B IsCalm IsCalm (λ p x k. visit-later d n limit p x k) less g first h)
+
+pub later-pass : (c n limit : ℕ) (g : Going) → Stage c n (λ q. IsCalm) limit g
+    → Stage c n (λ q. IsCalm) limit (pass main_order limit g)
+later-pass c n limit g h =
+    calm-pass c c n limit IsCalm g (omega arith) (stage-rests c n limit (λ q. IsCalm) 0 g (λ q y t. t.1) h) h
+
+pub sends-calm : (c n limit p : ℕ) (g : Going) → Stage c n (λ q. IsCalm) limit g
+    → Stage c n (λ q. IsCalm) limit (tries_all sending_order p limit g)
+sends-calm c n limit p g h =
+    stage-plain c n limit (λ q. IsCalm) (λ q x y e. stays IsCalmOf x y e) sending_order refl p g h
 
 next_pass : (n limit k : ℕ) (g : Going) → Passed n limit k g → Passed n limit (suc k) (pass main_order limit g)
-next_pass n limit zero g h = first_pass n limit g h
-next_pass n limit (suc zero) g h = second_pass n limit g h
-next_pass n limit (suc (suc zero)) g h = third_pass n limit g h
-next_pass n limit (suc (suc (suc k))) g h = later_pass n limit g h
+next_pass n limit zero g h = first-pass n limit g h
+next_pass n limit (suc zero) g h = second-pass n limit g h
+next_pass n limit (suc (suc zero)) g h =
+    calm-pass 1 2 n limit IsYoung g (omega arith) (third-select n limit g h) h
+next_pass n limit (suc (suc (suc k))) g h = later-pass 2 n limit g h
 
 -- at the limit nothing is claimed of the ports
 at_limit : (n limit k : ℕ) (g : Going) → limit ≤ length g.firings → Passed n limit k g → Passed n limit 3 g
@@ -80,14 +92,6 @@ at_limit n limit (suc zero) g full h = let few = h.0 in (omega (arith, few), h.1
 at_limit n limit (suc (suc zero)) g full h = let few = h.0 in (omega (arith, few), h.1, inl full)
 at_limit n limit (suc (suc (suc k))) g full h = h
 
--- a pass that fires nothing changes nothing, so the facts after later passes hold too
-if_idle : (n limit k : ℕ) (g : Going) → pass main_order limit g ≡ g → Passed n limit k g → Passed n limit 3 g
-if_idle n limit k g same h =
-    let once : Passed n limit (suc k) g = subst (Passed n limit (suc k)) same (next_pass n limit k g h) in
-    let twice : Passed n limit (suc (suc k)) g =
-    subst (Passed n limit (suc (suc k))) same (next_pass n limit (suc k) g once) in
-    subst (Passed n limit (suc (suc (suc k)))) same (next_pass n limit (suc (suc k)) g twice)
-
 idle_same : (limit : ℕ) (g : Going) → length (pass main_order limit g).firings ≡ length g.firings
     → pass main_order limit g ≡ g
 idle_same limit g idle = elim (cases_lt (length g.firings) limit) [
@@ -95,58 +99,75 @@ idle_same limit g idle = elim (cases_lt (length g.firings) limit) [
   | inr full ↦ pass-full main_order limit g full
 ]
 
-until_calm : (n limit m k : ℕ) (g : Going) → limit ≤ m + length g.firings → Passed n limit k g
-    → Passed n limit 3 (until_idle m (pass main_order limit) g)
-until_calm n limit zero k g enough h = at_limit n limit k g (omega (arith, enough)) h
-until_calm n limit (suc m) k g enough h =
-    go (length (pass main_order limit g).firings == length g.firings) refl
-    (λ more. until_calm n limit m (suc k) (pass main_order limit g) more (next_pass n limit k g h))
-  where
-    go : (b : Bool) → (length (pass main_order limit g).firings == length g.firings) ≡ b
-        → (limit ≤ m + length (pass main_order limit g).firings
-        → Passed n limit 3 (until_idle m (pass main_order limit) (pass main_order limit g)))
-        → Passed n limit 3 (until_idle (suc m) (pass main_order limit) g)
-    go true is later =
-        let same = idle_same limit g (eqb-true (length (pass main_order limit g).firings) (length g.firings) is) in
-        subst (Passed n limit 3) (sym (until-once m (pass main_order limit) g is ∙ same))
-        (if_idle n limit k g same h)
-    go false is later =
-        let other = eqb-false (length (pass main_order limit g).firings) (length g.firings) is in
-        let grown = pass-grows limit (length g.firings) main_order g
-        (let itself : length g.firings ≤ length g.firings = omega arith in itself) in
-        let more : length g.firings < length (pass main_order limit g).firings = omega (arith, grown, other) in
-        subst (Passed n limit 3) (sym (until-more m (pass main_order limit) g more))
-        (later (omega (arith, enough, more)))
+-- ---- facts that change with each pass up to the one of this number, and then stay
 
--- ---- the whole sweep
+abbrev plus : ℕ → ℕ → ℕ
+plus zero k = k
+plus (suc j) k = suc (plus j k)
 
-sends_calm : (n limit p : ℕ) (g : Going) → Passed n limit 3 g → Passed n limit 3 (tries_all sending_order p limit g)
-sends_calm n limit p g h =
-    stage-plain 2 n limit (λ q. IsCalm) (λ q x y e. stays IsCalmOf x y e) sending_order refl p g h
+module _ (limit end : ℕ) (F : ℕ → Going → Type 0)
+    (next : (k : ℕ) (g : Going) → F k g → F (suc k) (pass main_order limit g))
+    (full : (k : ℕ) (g : Going) → limit ≤ length g.firings → F k g → F end g)
+    (last : (k : ℕ) (g : Going) → F (plus end k) g → F end g)
+    (sends : (p : ℕ) (g : Going) → F end g → F end (tries_all sending_order p limit g)) where
+  -- a pass that fires nothing changes nothing, so the facts after later passes hold too
+  idle_on : (j k : ℕ) (g : Going) → pass main_order limit g ≡ g → F k g → F (plus j k) g
+  idle_on zero k g same h = h
+  idle_on (suc j) k g same h = subst (F (suc (plus j k))) same (next (plus j k) g (idle_on j k g same h))
 
-round_calm : (n limit k : ℕ) (g : Going) → Passed n limit k g → Passed n limit 3 (round limit g)
-round_calm n limit k g h =
-    passes-keeps (Passed n limit 3) limit sending_order (sends_calm n limit) (passes main_order limit g)
-    (until_calm n limit limit k g (omega arith) h)
+  until_calm : (m k : ℕ) (g : Going) → limit ≤ m + length g.firings → F k g
+      → F end (until_idle m (pass main_order limit) g)
+  until_calm zero k g enough h = full k g (omega (arith, enough)) h
+  until_calm (suc m) k g enough h =
+      go (length (pass main_order limit g).firings == length g.firings) refl
+      (λ more. until_calm m (suc k) (pass main_order limit g) more (next k g h))
+    where
+      go : (b : Bool) → (length (pass main_order limit g).firings == length g.firings) ≡ b
+          → (limit ≤ m + length (pass main_order limit g).firings
+          → F end (until_idle m (pass main_order limit) (pass main_order limit g)))
+          → F end (until_idle (suc m) (pass main_order limit) g)
+      go true is later =
+          let same = idle_same limit g (eqb-true (length (pass main_order limit g).firings) (length g.firings) is) in
+          subst (F end) (sym (until-once m (pass main_order limit) g is ∙ same)) (last k g (idle_on end k g same h))
+      go false is later =
+          let other = eqb-false (length (pass main_order limit g).firings) (length g.firings) is in
+          let grown = pass-grows limit (length g.firings) main_order g
+          (let itself : length g.firings ≤ length g.firings = omega arith in itself) in
+          let more : length g.firings < length (pass main_order limit g).firings = omega (arith, grown, other) in
+          subst (F end) (sym (until-more m (pass main_order limit) g more)) (later (omega (arith, enough, more)))
 
-abbrev Begun : ℕ → ℕ → Going → Type 0
-Begun n limit g = Passed n limit 0 g ⊎ Passed n limit 3 g
+  round_calm : (k : ℕ) (g : Going) → F k g → F end (round limit g)
+  round_calm k g h =
+      passes-keeps (F end) limit sending_order sends (passes main_order limit g)
+      (until_calm limit k g (omega arith) h)
 
-round_begun : (n limit : ℕ) (g : Going) → Begun n limit g → Begun n limit (round limit g)
-round_begun n limit g (inl h) = inr (round_calm n limit 0 g h)
-round_begun n limit g (inr h) = inr (round_calm n limit 3 g h)
+  round_begun : (g : Going) → F 0 g ⊎ F end g → F 0 (round limit g) ⊎ F end (round limit g)
+  round_begun g (inl h) = inr (round_calm 0 g h)
+  round_begun g (inr h) = inr (round_calm end g h)
 
-few : (n limit : ℕ) (g : Going) → Begun n limit g → selections g.firings ≤ 2
+  -- the whole sweep
+  pub sweep-reaches : (s : Tree) → F 0 (record { tree = s; firings = [] })
+      → F 0 (swept limit s) ⊎ F end (swept limit s)
+  sweep-reaches s h =
+      until-keeps (λ g. F 0 g ⊎ F end g) (round limit) round_begun limit (record { tree = s; firings = [] }) (inl h)
+
+-- ---- an event of a settled bridge
+
+-- the facts right after the event
+pub passed-first : (event : Event) (limit : ℕ) (s : Tree) → IsReached s → IsSettled s
+    → Passed (length (direct event s).ports) limit 0 (record { tree = direct event s; firings = [] })
+passed-first event limit s can rests =
+    let ready = comes-ready can.2.0 can.0 can.1 s can.2.1 in
+    (omega arith, refl, inr (direct-first event s (reached can.0 can.1 s can.2) ready rests))
+
+few : (n limit : ℕ) (g : Going) → Passed n limit 0 g ⊎ Passed n limit 3 g → selections g.firings ≤ 2
 few n limit g (inl h) = let k = h.0 in omega (arith, k)
 few n limit g (inr h) = h.0
 
 pub selects-twice : SelectsTwice
 selects-twice event limit s t settled mask can rests h =
-    let ready = comes-ready can.2.0 can.0 can.1 s can.2.1 in
-    let first = direct-first event s (reached can.0 can.1 s can.2) ready rests in
     let n : ℕ = length (direct event s).ports in
-    let begun : Begun n limit (swept limit (direct event s)) =
-    until-keeps (Begun n limit) (round limit) (round_begun n limit) limit
-    (record { tree = direct event s; firings = [] }) (inl (omega arith, refl, inr first)) in
+    let reached_end = sweep-reaches limit 3 (Passed n limit) (next_pass n limit) (at_limit n limit) (λ k g z. z)
+    (sends-calm 2 n limit) (direct event s) (passed-first event limit s can rests) in
     let F : Going → Type 0 = λ g. selections g.firings ≤ 2 in
-    subst F h.order (few n limit (swept limit (direct event s)) begun)
+    subst F h.order (few n limit (swept limit (direct event s)) reached_end)

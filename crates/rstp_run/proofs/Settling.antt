@@ -25,6 +25,7 @@ use Rattle.rstp_run.specs.Sweep.{Going, fired, main_order, sending_order, tries,
 use Rattle.rstp_run.proofs.Bounds.{measure, measure-falls, measure-bound}
 use Rattle.rstp_run.proofs.Falls.{IsAfterDiscard}
 use Rattle.rstp_run.proofs.Ordered.{tries-full, tries-on, tries_all-append}
+use Rattle.rstp_run.proofs.Places.{main_rest}
 use Rattle.rstp_run.proofs.Steps.{length-change_at}
 use Rattle.rstp_run.proofs.Whole.{swept-keeps, tries-cases}
 
@@ -148,13 +149,13 @@ after_discard =
     ∷ rules.Migration migration_rule.ToRstp ∷ rules.Migration migration_rule.ToStp ∷ []
 
 abbrev before_edge : List Rule
-before_edge = rules.Select ∷ rules.Receive receive_rule.Discard ∷ after_discard
+before_edge = rules.Receive receive_rule.Discard ∷ after_discard
 
 abbrev after_edge : List Rule
 after_edge = drop 9 main_order
 
-main_parts : before_edge ++ (rules.Detection detection_rule.Edge ∷ after_edge) ≡ main_order
-main_parts = refl
+rest_parts : before_edge ++ (rules.Detection detection_rule.Edge ∷ after_edge) ≡ main_rest
+rest_parts = refl
 
 -- ---- an invariant of each firing, if Edge fires only at a port at which Discard isn't enabled
 
@@ -183,19 +184,26 @@ module _ (W : Going → Type 0) (steps : (rule : Rule) (p : ℕ) (g : Going) →
   parts_hold p limit g h =
       let mid : Going = tries_all before_edge p limit g in
       let off : IsOffAt p limit mid = off-all after_discard p limit
-      (tries (rules.Receive receive_rule.Discard) p limit (tries rules.Select p limit g)) refl
-      (off-discard p limit (tries rules.Select p limit g)) in
+      (tries (rules.Receive receive_rule.Discard) p limit g) refl (off-discard p limit g) in
       let first : W mid = all_holds before_edge p limit g refl h in
       subst W (sym (tries_all-append before_edge (rules.Detection detection_rule.Edge ∷ after_edge) p limit g))
       (all_holds after_edge p limit (tries (rules.Detection detection_rule.Edge) p limit mid) refl
       (edge_holds p limit mid off first))
 
-  main_holds : (p limit : ℕ) (g : Going) → W g → W (tries_all main_order p limit g)
-  main_holds p limit g h = subst (λ list. W (tries_all list p limit g)) main_parts (parts_hold p limit g h)
+  -- the rules after Select
+  pub rest-holds : (p limit : ℕ) (g : Going) → W g → W (tries_all main_rest p limit g)
+  rest-holds p limit g h = subst (λ list. W (tries_all list p limit g)) rest_parts (parts_hold p limit g h)
+
+  pub main-holds : (p limit : ℕ) (g : Going) → W g → W (tries_all main_order p limit g)
+  main-holds p limit g h =
+      rest-holds p limit (tries rules.Select p limit g) (tries_holds rules.Select p limit g tt h)
+
+  pub sends-hold : (p limit : ℕ) (g : Going) → W g → W (tries_all sending_order p limit g)
+  sends-hold p limit g h = all_holds sending_order p limit g refl h
 
   pub sweep-holds : (limit : ℕ) (s : Tree) → W (record { tree = s; firings = [] }) → W (swept limit s)
   sweep-holds limit s h =
-      swept-keeps W limit (λ p g. main_holds p limit g) (λ p g. all_holds sending_order p limit g refl) s h
+      swept-keeps W limit (λ p g. main-holds p limit g) (λ p g. sends-hold p limit g) s h
 
 -- ---- the whole sweep
 

@@ -25,12 +25,12 @@ use Rattle.rstp_run.proofs.Quiet.{Still, still_of}
 
 -- ---- lists of rules
 
-one_then : (P Q R : Going → Type 0) (rule : Rule) (rest : List Rule) (p limit : ℕ)
+pub one_then : (P Q R : Going → Type 0) (rule : Rule) (rest : List Rule) (p limit : ℕ)
     → ((g : Going) → P g → Q (tries rule p limit g)) → ((g : Going) → Q g → R (tries_all rest p limit g))
     → (g : Going) → P g → R (tries_all (rule ∷ rest) p limit g)
 one_then P Q R rule rest p limit step later g h = later (tries rule p limit g) (step g h)
 
-all_then : (P Q R : Going → Type 0) (first rest : List Rule) (p limit : ℕ)
+pub all_then : (P Q R : Going → Type 0) (first rest : List Rule) (p limit : ℕ)
     → ((g : Going) → P g → Q (tries_all first p limit g)) → ((g : Going) → Q g → R (tries_all rest p limit g))
     → (g : Going) → P g → R (tries_all (first ++ rest) p limit g)
 all_then P Q R first rest p limit step later g h =
@@ -278,7 +278,7 @@ module _ (V U A B C : Still → Type 0) (c n limit p : ℕ)
         (all_then (Later A) (Later A) (Later C) moves from_disabled p limit (plainly V U c n limit p A moves refl)
         turn_later))
 
-    visit_later : (g : Going) → Later A g → Later C (tries_all main_rest p limit g)
+    pub visit_later : (g : Going) → Later A g → Later C (tries_all main_rest p limit g)
     visit_later g h =
         let R : List Rule → Type 0 = λ l. Later C (tries_all l p limit g) in
         subst R discard_first (begin_later g h)
@@ -293,10 +293,10 @@ visit-second n limit p g h =
     (λ x on b. (levels.aged-taken x on b.0, λ r. no r)) g h
 
 -- all later passes
-pub visit-later : (n limit p : ℕ) (g : Going) → Stage 2 n (Zone IsCalm IsCalm IsCalm p) limit g
-    → Stage 2 n (Zone IsCalm IsCalm IsCalm p) limit (tries_all main_rest p limit g)
-visit-later n limit p g h =
-    visit_later IsCalmOf IsCalmOf IsCalmOf IsCalmOf IsCalmOf 2 n limit p (λ x a. a.0.0) (λ x a. a.0.0)
+pub visit-later : (c n limit p : ℕ) (g : Going) → Stage c n (Zone IsCalm IsCalm IsCalm p) limit g
+    → Stage c n (Zone IsCalm IsCalm IsCalm p) limit (tries_all main_rest p limit g)
+visit-later c n limit p g h =
+    visit_later IsCalmOf IsCalmOf IsCalmOf IsCalmOf IsCalmOf c n limit p (λ x a. a.0.0) (λ x a. a.0.0)
     (λ x a. ((levels.discard-taken x a.0.0, a.0.1), a.1)) (λ x off a. a)
     (λ x on a. ((levels.update-taken x on a.0.0, λ r. no r), a.1)) (λ x off a. a)
     (λ x on a. absurd (levels.aged-off x a.0 on)) g h

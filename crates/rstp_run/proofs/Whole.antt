@@ -30,7 +30,7 @@ module _ (P : Going → Type 0) (limit : ℕ) (rules : List Rule)
   below-keeps zero g h = h
   below-keeps (suc n) g h = keeps n (tries_below rules n limit g) (below-keeps n g h)
 
-  pass-keeps : (g : Going) → P g → P (pass rules limit g)
+  pub pass-keeps : (g : Going) → P g → P (pass rules limit g)
   pass-keeps g h = below-keeps (length g.tree.ports) g h
 
   pub passes-keeps : (g : Going) → P g → P (passes rules limit g)

@@ -1,10 +1,8 @@
-use Rattle.std.proofs.Common.{◌≡◌, ◌∷◌, ◌++◌, [], ℕ, List, ◌∙◌}
+use Rattle.std.proofs.Common.{◌∙◌, ap₂}
+use Rattle.std.specs.List.{push}
 use Rattle.ev_book.proofs.tests.originators.Goals as goal
-
-pushed : (xs ys new : List ℕ) (a b : ℕ) → new ≡ xs ++ a ∷ [] → xs ≡ ys → a ≡ b → new ≡ ys ++ b ∷ []
-pushed xs ys new a b e p q = e ∙ λ i. p i ++ q i ∷ []
 
 pub returns : goal.returns
 returns c =
-    let one = pushed _ [] _ _ 0x0a00_0001 c.push.ensures.items c.new-originators.ensures c.new.ensures in
-    pushed _ _ _ _ 0x0a00_0002 c.push-2.ensures.items one c.new-2.ensures
+    let one = c.push.ensures.items ∙ ap₂ push c.new-originators.ensures c.new.ensures in
+    c.push-2.ensures.items ∙ ap₂ push one c.new-2.ensures

@@ -1,5 +1,5 @@
-use Rattle.std.proofs.Common.{◌≡◌, ◌∷◌, ◌++◌, [], ℕ, List, refl, sym, subst, ◌∙◌, lit<, lit≤}
-use Rattle.std.specs.List.{IsDistinct}
+use Rattle.std.proofs.Common.{◌≡◌, ◌∷◌, [], ℕ, List, refl, sym, ap₂, subst, ◌∙◌, lit<, lit≤}
+use Rattle.std.specs.List.{IsDistinct, push}
 use Rattle.route_join.specs.Table.{AreOriginators}
 use Rattle.ev_tunnel.proofs.tests.new_table.Goals as goal
 
@@ -14,14 +14,10 @@ four_listed = record {
   distinct = ((refl, (refl, (refl, tt))), ((refl, (refl, tt)), ((refl, tt), (tt, tt))));
 }
 
-pushed : (xs ys new : List ℕ) (a b : ℕ) → new ≡ xs ++ a ∷ [] → xs ≡ ys → a ≡ b → new ≡ ys ++ b ∷ []
-pushed xs ys new a b e p q = e ∙ λ i. p i ++ q i ∷ []
-
 pub new-requires-5 : goal.new-requires-5
 new-requires-5 c =
-    let one = pushed _ [] _ _ 0x0a00_0001 c.push.ensures.items c.new-originators.ensures c.new.ensures in
-    let two = pushed _ _ _ _ 0x0a00_0002 c.push-2.ensures.items one c.new-2.ensures in
-    let three = pushed _ _ _ _ 0x0a00_0003 c.push-3.ensures.items two c.new-3.ensures in
-    let items : c.push-4.new.self.items ≡ four = pushed _ _ _ _ 0x0a00_0004 c.push-4.ensures.items three
-    c.new-4.ensures in
+    let one = c.push.ensures.items ∙ ap₂ push c.new-originators.ensures c.new.ensures in
+    let two = c.push-2.ensures.items ∙ ap₂ push one c.new-2.ensures in
+    let three = c.push-3.ensures.items ∙ ap₂ push two c.new-3.ensures in
+    let items : c.push-4.new.self.items ≡ four = c.push-4.ensures.items ∙ ap₂ push three c.new-4.ensures in
     subst AreOriginators (sym items) four_listed

@@ -1,50 +1,61 @@
-use Rattle.std.proofs.Common.{◌≡◌, ◌≤◌, length, Some, Ok, Err, sym, subst, arith}
+use Rattle.std.proofs.Common.{◌≡◌, ℕ, ◌-◌, ◌≤◌, get_or, length, Some, Ok, Err, sym, subst, arith}
+use Rattle.ev_edge.specs.declared.config.EdgeConfig.{EdgeConfig}
 use Rattle.ev_edge.specs.Config.{IsConfig}
+use Rattle.ev_edge.specs.Edge.{Edge}
 use Rattle.ev_edge.specs.Opening.{IsOpening}
 use Rattle.ev_edge.specs.Steps.{nothing}
 use Rattle.ev_fabric.specs.declared.refusal.FabricRefusal.TheVariants.{NoHigher, NoMemory}
 use Rattle.ev_fabric.specs.declared.step.Step.TheVariants.{Restart}
-use Rattle.ev_fabric.specs.Fabric.{fabric_of, nth}
+use Rattle.ev_fabric.specs.Fabric.{Fabric, fabric_of, nth}
+use Rattle.ev_fabric.specs.Sound.{IsSound}
 use Rattle.ev_fabric.specs.Steps.{FabricSteps, in_incarnation, with_opened}
 use Rattle.ev_fabric.proofs.Places.{at_index, there_nth, same_nth}
 use Rattle.ev_fabric.proofs.Calls.{Does, not_higher, not_opened, restart_does, incarnation_is, config_fits}
 use Rattle.ev_fabric.proofs.fabric.Fabric.restart.Goals as goal
 
+-- the edge that restarts, and the configuration with which it was opened
+record Restarts (f : Fabric) (e : ℕ) (config : EdgeConfig) : Type 0 where
+  edge : Edge
+  there : nth f.edges e ≡ Some edge
+  opened : nth f.configs e ≡ Some config
+
+restarts : (f : Fabric) (e : ℕ) (c : EdgeConfig) → IsSound f → (e ≡ 0 → ⊥) → e ≤ length f.edges
+    → c ≡ get_or f.configs (e - 1) c → Restarts f e c
+restarts f e c h some within is = record {
+  edge = a.0;
+  there = a.1;
+  opened = at_index f.configs e c c some (let same = h.count in omega (arith, within, same)) is;
+}
+  where
+    a : (a : Edge) × (nth f.edges e ≡ Some a)
+    a = there_nth f.edges e some within
+
 pub returns-then-n-index : goal.returns-then-n-index
 returns-then-n-index c =
     let f = fabric_of c.self.inside.edges.items c.self.inside.configs.items c.self.inside.pool.items in
-    let within : c.args.e ≤ length f.edges = omega (arith, c.if-e-len.false, c.len.ensures) in
-    let a = there_nth f.edges c.args.e c.if-e-eq0.false within in
-    let config : nth f.configs c.args.e ≡ Some c.index.result.now =
-    at_index f.configs c.args.e c.index.result.now c.index.result.now c.if-e-eq0.false (let same =
-    c.self.invariant.count in omega (arith, within, same)) c.index.ensures in
-    let life = incarnation_is f c.args.e a.0 c.index.result.now c.self.invariant a.1 config in
+    let r = restarts f c.args.e c.index.result.now c.self.invariant c.if-e-eq0.false
+    (omega (arith, c.if-e-len.false, c.len.ensures)) c.index.ensures in
+    let life = incarnation_is f c.args.e r.edge c.index.result.now c.self.invariant r.there r.opened in
     subst (λ x. FabricSteps x (Restart c.args.e c.args.n) (Err NoHigher) x) c.self.view_is
-    (not_higher f c.args.e c.args.n a.0 c.self.invariant a.1 (let low = c.if-n-index.true in
+    (not_higher f c.args.e c.args.n r.edge c.self.invariant r.there (let low = c.if-n-index.true in
     omega (arith, life, low))).steps
 
 pub open-requires : goal.open-requires
 open-requires c =
     let f = fabric_of c.self.inside.edges.items c.self.inside.configs.items c.self.inside.pool.items in
-    let within : c.args.e ≤ length f.edges = omega (arith, c.if-e-len.false, c.len.ensures) in
-    let a = there_nth f.edges c.args.e c.if-e-eq0.false within in
-    let config : nth f.configs c.args.e ≡ Some c.index-2.result.now =
-    at_index f.configs c.args.e c.index-2.result.now c.index-2.result.now c.if-e-eq0.false (let same =
-    c.self.invariant.count in omega (arith, within, same)) c.index-2.ensures in
-    subst IsConfig (sym c.in_incarnation-config.ensures) (config_fits f c.args.e c.args.n a.0 c.index-2.result.now
-    c.self.invariant a.1 config)
+    let r = restarts f c.args.e c.index-2.result.now c.self.invariant c.if-e-eq0.false
+    (omega (arith, c.if-e-len.false, c.len.ensures)) c.index-2.ensures in
+    subst IsConfig (sym c.in_incarnation-config.ensures) (config_fits f c.args.e c.args.n r.edge c.index-2.result.now
+    c.self.invariant r.there r.opened)
 
 pub returns-in_default : goal.returns-in_default
 returns-in_default c =
     let f = fabric_of c.self.inside.edges.items c.self.inside.configs.items c.self.inside.pool.items in
-    let within : c.args.e ≤ length f.edges = omega (arith, c.if-e-len.false, c.len.ensures) in
-    let a = there_nth f.edges c.args.e c.if-e-eq0.false within in
-    let config : nth f.configs c.args.e ≡ Some c.index.result.now =
-    at_index f.configs c.args.e c.index.result.now c.index.result.now c.if-e-eq0.false (let same =
-    c.self.invariant.count in omega (arith, within, same)) c.index.ensures in
-    let life = incarnation_is f c.args.e a.0 c.index.result.now c.self.invariant a.1 config in
+    let r = restarts f c.args.e c.index.result.now c.self.invariant c.if-e-eq0.false
+    (omega (arith, c.if-e-len.false, c.len.ensures)) c.index.ensures in
+    let life = incarnation_is f c.args.e r.edge c.index.result.now c.self.invariant r.there r.opened in
     subst (λ x. FabricSteps x (Restart c.args.e c.args.n) (Err NoMemory) x) c.self.view_is
-    (not_opened f c.args.e c.args.n a.0 c.self.invariant a.1 (let high = c.if-n-index.false in
+    (not_opened f c.args.e c.args.n r.edge c.self.invariant r.there (let high = c.if-n-index.false in
     omega (arith, life, high))).steps
 
 opens : (c : goal.After-nothing) → let f = fabric_of c.self.inside.edges.items c.self.inside.configs.items
@@ -54,20 +65,14 @@ opens : (c : goal.After-nothing) → let f = fabric_of c.self.inside.edges.items
 opens c =
     let f = fabric_of c.self.inside.edges.items c.self.inside.configs.items c.self.inside.pool.items in
     let within : c.args.e ≤ length f.edges = omega (arith, c.if-e-len.false, c.len.ensures) in
-    let a = there_nth f.edges c.args.e c.if-e-eq0.false within in
-    let there : c.args.e ≤ length f.configs = (let same = c.self.invariant.count in omega (arith, within, same)) in
-    let first : nth f.configs c.args.e ≡ Some c.index.result.now =
-    at_index f.configs c.args.e c.index.result.now c.index.result.now c.if-e-eq0.false there c.index.ensures in
-    let second : nth f.configs c.args.e ≡ Some c.index-2.result.now =
-    at_index f.configs c.args.e c.index-2.result.now c.index-2.result.now c.if-e-eq0.false there
-    c.index-2.ensures in
-    let third : nth f.configs c.args.e ≡ Some c.index_mut-2.result.now =
-    at_index f.configs c.args.e c.index_mut-2.result.now c.index_mut-2.result.now c.if-e-eq0.false there
+    let first = restarts f c.args.e c.index.result.now c.self.invariant c.if-e-eq0.false within c.index.ensures in
+    let second = restarts f c.args.e c.index-2.result.now c.self.invariant c.if-e-eq0.false within c.index-2.ensures in
+    let third = restarts f c.args.e c.index_mut-2.result.now c.self.invariant c.if-e-eq0.false within
     c.index_mut-2.ensures.value in
-    let life = incarnation_is f c.args.e a.0 c.index.result.now c.self.invariant a.1 first in
-    let same = same_nth f.configs c.args.e c.index-2.result.now c.index_mut-2.result.now second third in
-    restart_does f c.args.e c.args.n a.0 c.in-Ok.edge c.index_mut-2.result.now c.self.invariant a.1 third (let high =
-    c.if-n-index.false in omega (arith, life, high))
+    let life = incarnation_is f c.args.e first.edge c.index.result.now c.self.invariant first.there first.opened in
+    let same = same_nth f.configs c.args.e c.index-2.result.now c.index_mut-2.result.now second.opened third.opened in
+    restart_does f c.args.e c.args.n first.edge c.in-Ok.edge c.index_mut-2.result.now c.self.invariant first.there
+    third.opened (let high = c.if-n-index.false in omega (arith, life, high))
     (subst (λ d. IsOpening (in_incarnation d c.args.n) c.in-Ok.edge) same
     (subst (λ d. IsOpening d c.in-Ok.edge) c.in_incarnation-config.ensures c.in-Ok.ensures)) c.always_good.ensures
 

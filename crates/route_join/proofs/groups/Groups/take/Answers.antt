@@ -15,12 +15,10 @@ use Rattle.route_join.proofs.groups.Groups.take.Goals as goal
 
 pub take-requires : goal.take-requires
 take-requires c =
-    let u = c.args.update.now in
-    let now = c.args.self.now in
-    let h = found_of c.self.inside.order.keys c.self.inside.index.entries now c.self.invariant c.self.view_is
-    c.subject_of-subject.result _ u.register (Some c.in-Some.group.now) c.subject_of-subject.ensures c.register.ensures
-    c.in-Some.ensures.value in
-    about_there (subject_of u.register.key) now c.in-Some.group.now c.requires h
+    let h = found_of c.self.inside.order.keys c.self.inside.index.entries c.args.self.now c.self.invariant
+    c.self.view_is c.subject_of-subject.result _ c.args.update.now.register (Some c.in-Some.group.now)
+    c.subject_of-subject.ensures c.register.ensures c.in-Some.ensures.value in
+    about_there (subject_of c.args.update.now.register.key) c.args.self.now c.in-Some.group.now c.requires h
 
 pub invariant_of-self : goal.invariant_of-self
 invariant_of-self c =
@@ -69,52 +67,43 @@ enter-requires c =
 
 pub returns-in_default-clause-takes : goal.returns-in_default-clause-takes
 returns-in_default-clause-takes c =
-    let u = c.args.update.now in
-    let now = c.args.self.now in
-    let h = found_of c.self.inside.order.keys c.self.inside.index.entries now c.self.invariant c.self.view_is
-    c.subject_of-subject.result _ u.register None c.subject_of-subject.ensures c.register.ensures
-    c.in-None.ensures.value in
-    refused_takes (entries_of (updates_in now)) u (absent_in now u c.requires h) c.args.held.now _ _
+    let h = found_of c.self.inside.order.keys c.self.inside.index.entries c.args.self.now c.self.invariant
+    c.self.view_is c.subject_of-subject.result _ c.args.update.now.register None c.subject_of-subject.ensures
+    c.register.ensures c.in-None.ensures.value in
+    refused_takes (entries_of (updates_in c.args.self.now)) c.args.update.now
+    (absent_in c.args.self.now c.args.update.now c.requires h) c.args.held.now _ _
 
 pub returns-in_err-enter-in-None-clause-takes : goal.returns-in_err-enter-in-None-clause-takes
 returns-in_err-enter-in-None-clause-takes c =
-    let u = c.args.update.now in
-    let now = c.args.self.now in
-    let h = found_of c.self.inside.order.keys c.self.inside.index.entries now c.self.invariant c.self.view_is
-    c.subject_of-subject.result _ u.register None c.subject_of-subject.ensures c.register.ensures
-    c.in-None.ensures.value in
-    refused_by (entries_of (updates_in now)) u (absent_in now u c.requires h) c.args.held.now c.from_residual.result _ _
+    let h = found_of c.self.inside.order.keys c.self.inside.index.entries c.args.self.now c.self.invariant
+    c.self.view_is c.subject_of-subject.result _ c.args.update.now.register None c.subject_of-subject.ensures
+    c.register.ensures c.in-None.ensures.value in
+    refused_by (entries_of (updates_in c.args.self.now)) c.args.update.now
+    (absent_in c.args.self.now c.args.update.now c.requires h) c.args.held.now c.from_residual.result _ _
     c.from_residual.ensures.1
+
+module _ (c : goal.In_ok-enter-in-None) where
+  absent : group_at (subject_of c.args.update.now.register.key) c.args.self.now ≡ None
+  absent = found_of c.self.inside.order.keys c.self.inside.index.entries c.args.self.now c.self.invariant
+      c.self.view_is c.subject_of-subject.result _ c.args.update.now.register None c.subject_of-subject.ensures
+      c.register.ensures c.in-None.ensures.value
+
+  entered : c.enter.new.self ≡ insert_entry subject_cmp c.args.self.now
+      (subject_of c.args.update.now.register.key) (c.args.update.now ∷ [])
+  entered = c.in_ok-enter-in-None.ensures.ok
+      ∙ (λ i. insert_entry subject_cmp (groups_along c.self.inside.order.keys
+      (c.get_mut.follows.holds-at-none i).entries) ((c.subject_of-subject.ensures
+      ∙ ap (λ (r : Register). subject_of r.key) c.register.ensures) i) (c.args.update.now ∷ []))
+      ∙ ap (λ gs. insert_entry subject_cmp gs (subject_of c.args.update.now.register.key) (c.args.update.now ∷ []))
+      c.self.view_is
 
 pub returns-in_ok-enter-in-None-clause-takes : goal.returns-in_ok-enter-in-None-clause-takes
 returns-in_ok-enter-in-None-clause-takes c =
-    let u = c.args.update.now in
-    let now = c.args.self.now in
-    let s : c.subject_of-subject.result ≡ subject_of u.register.key = c.subject_of-subject.ensures
-    ∙ ap (λ (r : Register). subject_of r.key) c.register.ensures in
-    let h = found_of c.self.inside.order.keys c.self.inside.index.entries now c.self.invariant c.self.view_is
-    c.subject_of-subject.result _ u.register None c.subject_of-subject.ensures c.register.ensures
-    c.in-None.ensures.value in
-    let w : c.enter.new.self ≡ insert_entry subject_cmp now (subject_of u.register.key) (u ∷ []) =
-    c.in_ok-enter-in-None.ensures.ok
-    ∙ (λ i. insert_entry subject_cmp (groups_along c.self.inside.order.keys (c.get_mut.follows.holds-at-none i).entries)
-    (s i) (u ∷ []))
-    ∙ ap (λ gs. insert_entry subject_cmp gs (subject_of u.register.key) (u ∷ [])) c.self.view_is in
-    made_takes now u c.requires h (u ∷ []) refl c.enter.new.self w c.args.held.now c.in-Some-checked_add.more
+    made_takes c.args.self.now c.args.update.now c.requires (absent c) (c.args.update.now ∷ []) refl c.enter.new.self
+    (entered c) c.args.held.now c.in-Some-checked_add.more
     c.in-Some-checked_add.ensures.1 (omega (arith, c.in-Some-checked_add.ensures.0))
 
 pub returns-in_ok-enter-in-None-clause-groups : goal.returns-in_ok-enter-in-None-clause-groups
 returns-in_ok-enter-in-None-clause-groups c =
-    let u = c.args.update.now in
-    let now = c.args.self.now in
-    let s : c.subject_of-subject.result ≡ subject_of u.register.key = c.subject_of-subject.ensures
-    ∙ ap (λ (r : Register). subject_of r.key) c.register.ensures in
-    let h = found_of c.self.inside.order.keys c.self.inside.index.entries now c.self.invariant c.self.view_is
-    c.subject_of-subject.result _ u.register None c.subject_of-subject.ensures c.register.ensures
-    c.in-None.ensures.value in
-    let w : c.enter.new.self ≡ insert_entry subject_cmp now (subject_of u.register.key) (u ∷ []) =
-    c.in_ok-enter-in-None.ensures.ok
-    ∙ (λ i. insert_entry subject_cmp (groups_along c.self.inside.order.keys (c.get_mut.follows.holds-at-none i).entries)
-    (s i) (u ∷ []))
-    ∙ ap (λ gs. insert_entry subject_cmp gs (subject_of u.register.key) (u ∷ [])) c.self.view_is in
-    groups_made now u c.requires h (u ∷ []) refl c.enter.new.self w
+    groups_made c.args.self.now c.args.update.now c.requires (absent c) (c.args.update.now ∷ []) refl c.enter.new.self
+    (entered c)

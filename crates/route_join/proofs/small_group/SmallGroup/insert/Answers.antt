@@ -1,21 +1,29 @@
-use Rattle.std.proofs.Common.{◌≡◌, ◌<◌, ◌≤◌, ◌^◌, length, ap, refl, sym, subst, ◌∙◌, arith}
+use Rattle.std.proofs.Common.{◌≡◌, ◌<◌, ◌≤◌, ◌^◌, ℕ, Err, List, length, ap, refl, sym, subst, ◌∙◌, arith}
 use Rattle.std.proofs.Common.{[]}
 use Rattle.std.specs.List.{insert}
 use Rattle.std.specs.FinMap.Entries.{put}
+use Rattle.route_wire.specs.Fields.{Fields}
 use Rattle.route_wire.specs.Order.{register_cmp}
 use Rattle.route_join.specs.Table.{entries_of, IsOrdered}
 use Rattle.route_join.specs.Inner.Place.{place_of}
 use Rattle.route_join.specs.Inner.Group.{told, better_place, moved, IsGroup}
-use Rattle.route_join.proofs.Places.{gapped}
+use Rattle.route_join.proofs.Places.{IsGap, gapped}
 use Rattle.route_join.proofs.Edits.{inserted, ordered_put}
 use Rattle.route_join.proofs.Leaders.{winner_inserted, winner_movable}
 use Rattle.route_join.proofs.small_group.SmallGroup.insert.Goals as goal
 
+module _ (us now : List Fields) (u : Fields) (at : ℕ) (k : IsOrdered us) (view : us ≡ now)
+    (h : place_of now u.register ≡ Err at) where
+  gap : IsGap us u.register at
+  gap = gapped us u.register at k (ap (λ x. place_of x u.register) view ∙ h)
+
+  in_order : IsOrdered (insert us at u)
+  in_order = ordered_put [] us (insert us at u) u k (gap.write u refl)
+
 pub insert_at-requires : goal.insert_at-requires
 insert_at-requires c =
-    let p = gapped c.self.inside.updates.items c.args.update.now.register c.args.at c.self.invariant.ordered
-    (ap (λ us. place_of us c.args.update.now.register) c.self.view_is ∙ c.requires) in
-    let w : c.args.at ≤ length c.self.inside.updates.items = p.within in
+    let w : c.args.at ≤ length c.self.inside.updates.items =
+    (gap _ _ c.args.update.now c.args.at c.self.invariant.ordered c.self.view_is c.requires).within in
     omega arith
 
 pub moved-requires : goal.moved-requires
@@ -26,21 +34,14 @@ moved-requires c =
 
 pub better_place-self-inside-requires : goal.better_place-self-inside-requires
 better_place-self-inside-requires c =
-    let us = c.self.inside.updates.items in
-    let u = c.args.update.now in
-    let p = gapped us u.register c.args.at c.self.invariant.ordered (ap (λ x. place_of x u.register) c.self.view_is
-    ∙ c.requires) in
-    let there : c.insert_at.new.updates.items ≡ insert us c.args.at u =
-    inserted c.insert_at.new.updates.items _ _ _ c.insert_at.ensures c.if-is_err.ensures.negation in
+    let there = inserted c.insert_at.new.updates.items _ _ _ c.insert_at.ensures c.if-is_err.ensures.negation in
     subst IsOrdered (sym (c.deref.ensures.value ∙ there))
-    (ordered_put [] us (insert us c.args.at u) u c.self.invariant.ordered (p.write u refl))
+    (in_order _ _ c.args.update.now c.args.at c.self.invariant.ordered c.self.view_is c.requires)
 
 pub invariant_of-self-2 : goal.invariant_of-self-2
 invariant_of-self-2 c =
     let us = c.self.inside.updates.items in
     let u = c.args.update.now in
-    let p = gapped us u.register c.args.at c.self.invariant.ordered (ap (λ x. place_of x u.register) c.self.view_is
-    ∙ c.requires) in
     let there : c.insert_at.new.updates.items ≡ insert us c.args.at u =
     inserted c.insert_at.new.updates.items _ _ _ c.insert_at.ensures c.if-is_err.ensures.negation in
     let place : c.better_place-self-inside.result ≡ better_place (insert us c.args.at u) c.args.at
@@ -49,15 +50,14 @@ invariant_of-self-2 c =
     ∙ there) ∙ ap (better_place (insert us c.args.at u) c.args.at) c.moved.ensures in
     subst (λ x. IsGroup x c.better_place-self-inside.result) (sym there)
     (subst (IsGroup (insert us c.args.at u)) (sym place) record {
-      ordered = ordered_put [] us (insert us c.args.at u) u c.self.invariant.ordered (p.write u refl);
-      winner = winner_inserted us c.args.at u c.self.inside.winner p c.self.invariant.winner;
+      ordered = in_order us _ u c.args.at c.self.invariant.ordered c.self.view_is c.requires;
+      winner = winner_inserted us c.args.at u c.self.inside.winner
+          (gap us _ u c.args.at c.self.invariant.ordered c.self.view_is c.requires) c.self.invariant.winner;
     })
 
 pub returns-clause-ok : goal.returns-clause-ok
 returns-clause-ok c =
-    let us = c.self.inside.updates.items in
     let u = c.args.update.now in
-    let p = gapped us u.register c.args.at c.self.invariant.ordered (ap (λ x. place_of x u.register) c.self.view_is
-    ∙ c.requires) in
     ap entries_of (inserted c.insert_at.new.updates.items _ _ _ c.insert_at.ensures c.if-is_err.ensures.negation)
-    ∙ p.write u refl ∙ ap (λ x. put register_cmp u.register u.value (entries_of x)) c.self.view_is
+    ∙ (gap _ _ u c.args.at c.self.invariant.ordered c.self.view_is c.requires).write u refl
+    ∙ ap (λ x. put register_cmp u.register u.value (entries_of x)) c.self.view_is

@@ -19,7 +19,7 @@ use Rattle.ev_fabric.specs.declared.step.Step.{Step}
 use Rattle.ev_fabric.specs.declared.step.Step.TheVariants.{Deliver, Restart}
 use Rattle.ev_fabric.specs.Fabric.{Fabric, IsEdge, incarnation_of}
 use Rattle.ev_fabric.specs.Steps.{FabricSteps}
-use Rattle.ev_fabric.specs.Runs.{Runs}
+use Rattle.ev_fabric.specs.Runs.{Runs, StaysOpen}
 use Rattle.ev_fabric.specs.Sound.{update_of, IsSound}
 use Rattle.ev_fabric.specs.Laws.{IsBehindPort}
 
@@ -42,10 +42,6 @@ Took i u (step ∷ steps) old new run = Gives i u old step run.1 ⊎ Took i u st
 -- the edge at place i has the update in its table
 abbrev pub Holds : Fabric → ℕ → Fields → Type 0
 Holds f i u = (a : Edge) × IsEdge f i a × (value_at (table_of a) u.register ≡ Some u.value)
-
--- the edge at place i isn't opened again in these steps
-abbrev pub StaysOpen : ℕ → List Step → Type 0
-StaysOpen i steps = (n : ℕ) → Contains steps (Restart (suc i) n) → ⊥
 
 -- ---- a session
 

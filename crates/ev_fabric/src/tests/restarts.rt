@@ -49,8 +49,8 @@ fn older_advert_that_comes_back_first_is_withdrawn(rt: HostRuntime) -> Result<()
     Ok(())
 }
 
-// The law on sessions excludes this order: edge 3 lacks an update of the earlier life that edge 1
-// takes and keeps.
+// The law on sessions, in `ev_sites`, excludes this order: edge 3 lacks an update of the earlier
+// life that edge 1 takes and keeps.
 #[test]
 fn older_advert_stays_if_its_withdrawal_comes_back_first(rt: HostRuntime) -> Result<(), Fail> {
     let mut fabric = three(rt.alloc())?;

@@ -1,6 +1,6 @@
 //! Laws on sessions between processes of edges, as functions that do nothing: the contract is the
 //! law.
-ghost use Rattle.ev_fabric.specs.Sessions.{SessionsAgree, AllSessionsAgree, BegunAnew};
+ghost use Rattle.ev_sites.specs.Sessions.{SessionsAgree, AllSessionsAgree, BegunAnew};
 
 /// States that, after a session, the edges of two processes have equal values at each register of
 /// either. Each advert is of the present life of an edge that has learnt its station. The same

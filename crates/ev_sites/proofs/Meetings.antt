@@ -3,6 +3,7 @@ use Rattle.std.proofs.Common.{◌≡◌, ◌≢◌, ◌⊎◌, inl, inr, ℕ, su
 use Rattle.std.proofs.Common.{Result, Ok, Err, List, [], ◌∷◌, refl, sym, ap, subst, ◌∙◌, arith}
 use Rattle.std.proofs.lemmas.Bool.{cases_eq}
 use Rattle.std.proofs.lemmas.List.Elements.{Contains-append_left, Contains-append_right, Contains-append_cases}
+use Rattle.std.proofs.lemmas.Option.{slice_get_within}
 use Rattle.std.specs.Prelude.{Contains, slice_get, slice_set}
 use Rattle.route_wire.specs.declared.update.Key.{Key}
 use Rattle.route_wire.specs.declared.update.Key.TheVariants.{Mac}
@@ -30,12 +31,10 @@ use Rattle.ev_fabric.specs.declared.step.Step.TheVariants.{Local, Announce, Deli
 use Rattle.ev_fabric.specs.Fabric.{Fabric, IsEdge, incarnation_of}
 use Rattle.ev_fabric.specs.Local.{event_of}
 use Rattle.ev_fabric.specs.Steps.{of_edge, StepsAt, AnnouncesAt, RestartsAt, FabricSteps}
-use Rattle.ev_fabric.specs.Runs.{Runs}
+use Rattle.ev_fabric.specs.Runs.{Runs, StaysOpen}
 use Rattle.ev_fabric.specs.Sound.{update_of, IsBehind, IsSound}
 use Rattle.ev_fabric.specs.Later.{IsLaterFabric}
-use Rattle.ev_fabric.specs.Sessions.{Gives, Took, Holds, StaysOpen, Parts, TookIn, IsSent, Sends, Knows}
-use Rattle.ev_fabric.specs.Sessions.{SessionsAgree, AllSessionsAgree, BegunAnew}
-use Rattle.ev_fabric.proofs.Places.{minus, set_cases, there_at, below_length}
+use Rattle.ev_fabric.proofs.Places.{minus, set_cases, there_at}
 use Rattle.ev_fabric.proofs.Cases.{at_edge, at_delivery}
 use Rattle.ev_fabric.proofs.Voices.{Talks, Quiet, Says}
 use Rattle.ev_fabric.proofs.Events.{local_talks}
@@ -46,6 +45,8 @@ use Rattle.ev_fabric.proofs.ConvergingMoves.{sound_kept}
 use Rattle.ev_fabric.proofs.ConvergingRounds.{Has, answered, given_ok}
 use Rattle.ev_fabric.proofs.StationTaken.{first_open, rest_open, open_has}
 use Rattle.ev_fabric.proofs.Goings.{one_there, fabric_further, runs_lead, opened_there}
+use Rattle.ev_sites.specs.Sessions.{Gives, Took, Holds, Parts, TookIn, IsSent, Sends, Knows}
+use Rattle.ev_sites.specs.Sessions.{SessionsAgree, AllSessionsAgree, BegunAnew}
 
 -- ---- an update that an edge has, and hasn't made in its present life: it had it before, or takes it
 
@@ -304,7 +305,7 @@ module _ (i j : ℕ) (old : Fabric) (steps : List Step) (new : Fabric) (parts : 
     there v is = elim (Contains-append_cases old.pool parts_lead.more (update_of r v)
         (subst (λ l. Contains l (update_of r v)) parts_lead.pool
         ((parts_sound.told i a at_a).own r v mine is s.quiet))) [
-          | inl in' ↦ let x = there_at old.edges i (let low = below_length new.edges i a at_a in
+          | inl in' ↦ let x = there_at old.edges i (let low = slice_get_within new.edges i a at_a in
               let count = parts_lead.count in omega (arith, low, count)) in
               before v is in' x.0 x.1
           | inr in' ↦ taken j (update_of r v) open_j (s.since parts_lead.more v parts_lead.pool in') b at_b

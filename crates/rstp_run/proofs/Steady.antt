@@ -1,0 +1,84 @@
+-- From the third pass of an event on information rests: no message waits, no role is to be selected, and nothing is to
+-- be taken over.
+use Rattle.std.proofs.Common.{◌≡◌, ℕ, Bool, true, false, not, ◌&&◌, ◌||◌}
+use Rattle.std.proofs.Common.{refl, sym, ◌∙◌}
+use Rattle.rstp_state.specs.declared.port.PortState.{PortState}
+use Rattle.rstp_state.specs.Port.{is_out, may_act}
+use Rattle.rstp_run.specs.declared.rule.InformationRule.{InformationRule}
+use Rattle.rstp_run.specs.declared.rule.InformationRule.TheVariants as information_rule
+use Rattle.rstp_run.specs.Machines.{information_asks}
+use Rattle.rstp_run.specs.Sweep.{Going, tries_all}
+use Rattle.rstp_run.proofs.Informed.{no}
+use Rattle.rstp_run.proofs.Levels as levels
+use Rattle.rstp_run.proofs.Levels.{IsCalmOf}
+use Rattle.rstp_run.proofs.Places.{Stage, Zone, main_rest}
+use Rattle.rstp_run.proofs.Quiet.{Still, still_of}
+use Rattle.rstp_run.proofs.Ready.{IsReadyOf}
+use Rattle.rstp_run.proofs.Sound.{IsSoundOf, right}
+use Rattle.rstp_run.proofs.Visits.{visit_later}
+
+-- ---- information rests
+
+-- no message waits, no role is to be selected, nothing is to be taken over, and nothing is too old
+abbrev pub IsSteadyOf : Still → Type 0
+IsSteadyOf x = IsCalmOf x × IsSoundOf x.known × IsReadyOf x.known × (x.known.update_info ≡ false)
+
+abbrev pub IsSteady : PortState → Type 0
+IsSteady x = IsSteadyOf (still_of x)
+
+-- the same, but something may still be to be taken over
+abbrev IsBaseOf : Still → Type 0
+IsBaseOf x = IsCalmOf x × IsSoundOf x.known × IsReadyOf x.known
+
+abbrev pub IsBase : PortState → Type 0
+IsBase x = IsBaseOf (still_of x)
+
+free_of : (o s u r : Bool) → not o && s && u ≡ false → s || r ≡ true → r ≡ false
+    → not u || (not s || not o) ≡ true → u ≡ false
+free_of o s false r g h n k = refl
+free_of o s true true g h n k = no (sym n)
+free_of o false true false g h n k = no h
+free_of true true true false g h n k = no k
+free_of false true true false g h n k = no (sym g)
+
+-- the visit of a port in the third pass
+pub visit-steady : (c n limit p : ℕ) (g : Going) → Stage c n (Zone IsSteady IsBase IsBase p) limit g
+    → Stage c n (Zone IsSteady IsSteady IsBase p) limit (tries_all main_rest p limit g)
+visit-steady c n limit p g h =
+    visit_later IsSteadyOf IsBaseOf IsBaseOf IsSteadyOf IsSteadyOf c n limit p (λ x a. a.0.0.0) (λ x y. y.0.0.0)
+    (λ x a. (((levels.discard-taken x a.0.0.0, a.0.0.1), a.0.1), a.1, a.2))
+    (λ x off a. (
+      a.0,
+      a.1,
+      a.2,
+      free_of (is_out x.information) x.selected x.update_info x.reselect off a.0.0.0.3 a.0.1
+          a.1.2,
+    ))
+    (λ x on a. (
+      ((levels.update-taken x on a.0.0.0, λ r. no r), a.0.1),
+      (a.1.0, refl, refl),
+      (λ o. no o, λ s u r. no r, λ d. no d),
+      refl,
+    ))
+    (λ x off b. b) (λ x on b. absurd (levels.aged-off x b.0.0 on)) g h
+
+pub steady-informs : (rule : InformationRule) (x : PortState) → IsSteady x → information_asks rule x ≡ true → ⊥
+steady-informs information_rule.Update x h g = no (sym h.3 ∙ right _ x.update_info g)
+steady-informs information_rule.Aged x h g = levels.aged-off x h.0.0 g
+steady-informs information_rule.Disabled x h g = levels.idle-off information_rule.Disabled x refl h.0.0.0 g
+steady-informs information_rule.Drop x h g = levels.idle-off information_rule.Drop x refl h.0.0.0 g
+steady-informs information_rule.Enabled x h g = levels.idle-off information_rule.Enabled x refl h.0.0.0 g
+steady-informs information_rule.Superior x h g = levels.idle-off information_rule.Superior x refl h.0.0.0 g
+steady-informs information_rule.Repeated x h g = levels.idle-off information_rule.Repeated x refl h.0.0.0 g
+steady-informs information_rule.Inferior x h g = levels.idle-off information_rule.Inferior x refl h.0.0.0 g
+steady-informs information_rule.NotDesignated x h g = levels.idle-off information_rule.NotDesignated x refl h.0.0.0 g
+steady-informs information_rule.Other x h g = levels.idle-off information_rule.Other x refl h.0.0.0 g
+
+may : (s r u : Bool) → s || r ≡ true → r ≡ false → u ≡ false → s && not u ≡ true
+may true r true h k l = no (sym l)
+may true r false h k l = refl
+may false true u h k l = no (sym k)
+may false false u h k l = no h
+
+pub steady-acts : (x : PortState) → IsSteady x → may_act x ≡ true
+steady-acts x h = may x.selected x.reselect x.update_info h.0.0.0.3 h.0.1 h.3
