@@ -12,3 +12,7 @@ pub mod Moved
 pub mod Trio
 pub mod Traffic
 pub mod Meetings
+pub mod Anew
+pub mod Sendings
+pub mod Returned
+pub mod Stale

@@ -1,9 +1,10 @@
 //! Fabrics that meet the premises of laws, here and in `ev_fabric`, as functions that do nothing:
 //! the contract states that there is one.
 
-ghost use Rattle.ev_sites.specs.Witnesses.{FrameOfAFabric, MoveInTraffic, MoveOfAFabric};
-ghost use Rattle.ev_sites.specs.Witnesses.{SitesOfAFabric};
+ghost use Rattle.ev_sites.specs.Witnesses.{AdvertStays, FrameOfAFabric, MoveInTraffic};
+ghost use Rattle.ev_sites.specs.Witnesses.{MoveOfAFabric, SessionOfAFabric, SitesOfAFabric};
 
+use crate::sessions::{begun_anew, sessions_agree};
 use ev_fabric::{
     agrees_on, every_run, frames_meanwhile, from_port_to_port, starts, station_agrees,
     station_agrees_after_a_move, station_moves_anyhow, taken_stays,
@@ -61,4 +62,34 @@ pub fn fabric_moves_in_traffic()
     station_moves_anyhow();
     taken_stays();
     frames_meanwhile();
+}
+
+/// A witness of `sessions_agree` and `begun_anew`: two processes of edges, one with two and one
+/// with one. After a run from their opening the edges of the first process begin anew. The other
+/// process has an advert of an earlier life, of a station that its edge hasn't learnt since. A
+/// session follows, in which an edge learns another station. At its end the advert is gone, and
+/// both processes have the other station's advert.
+pub fn a_session_can_be()
+    ensures { SessionOfAFabric }
+{
+    settled_by_lists();
+    runs_happen();
+    starts();
+    every_run();
+    sessions_agree();
+    begun_anew();
+}
+
+/// A counterexample to `sessions_agree` without its last premise (`alike`). Of two edges whose
+/// registers are delivered as in a session, one began anew. It takes a withdrawal of its earlier
+/// life first. Then an older advert comes back to it, and is no news. So it announces nothing, and
+/// the other edge keeps that advert.
+pub fn an_advert_can_stay()
+    ensures { AdvertStays }
+{
+    settled_by_lists();
+    runs_happen();
+    starts();
+    every_run();
+    sessions_agree();
 }
