@@ -4,9 +4,9 @@ Each round draws some events: a host's cable goes elsewhere, a station behind a 
 a leaf gets a station's address, a link is away, a part is killed and begins anew. There are two networks with the same MACs.
 At rest all have to agree within 15 s: each edge's owner, `show evpn mac` and the kernel's entry at each leaf, and a ping
 from each host to each other one of its network. The audit (tools/evpnd_audit.py) judges each leaf by its own routes, so a
-round that doesn't agree names whose fault it is. The same seed gives the same history, as far as pins are taken alike. FRR 8.4.4 takes
-one that replaces an entry of zebra's own as sticky in zebra, but its bgpd announces the station as dynamic, so that it may move:
-such a pin is taken back.
+round that doesn't agree names whose fault it is. The same seed gives the same history, as far as pins are taken alike. With
+8.4.4 and 10.3 a pin that replaces an entry of zebra's own is sticky in zebra, but bgpd announces the station as dynamic, so that it may
+move: such a pin is taken back.
 
 Status 0: each round agreed, or differed only at a leaf that contradicts its own routes, which is FRR's fault. What FRR 8.4.4
 does so: zebra is killed, and meanwhile a route ends whose entry it has made. The next zebra leaves this entry in the kernel; the
