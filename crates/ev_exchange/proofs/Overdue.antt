@@ -86,7 +86,7 @@ module _ (edge t : ℕ) where
 pub overdue_after_hold : OverdueAfterHold
 overdue_after_hold edge t now hold all since few apart =
     let ended = All-map (Ended edge t) (at_edge edge (Ends t)) all
-        (λ k d there. end_one edge t (slice_index_or all k d) (few k d there)) in
+    (λ k d there. end_one edge t (slice_index_or all k d) (few k d there)) in
     λ k d there same.
     let p = all_more edge t since apart (after_end edge t all) ended k d there same in
     λ i. eqb (p.0 i) 0 && not (eqb hold 0) && nat_le hold (now - p.1 i)
