@@ -4,18 +4,16 @@ use Rattle.std.proofs.Common.{◌≡◌, ℕ, Bool, true, false, not, ◌&&◌, 
 use Rattle.std.proofs.Common.{refl, sym, ◌∙◌}
 use Rattle.rstp_state.specs.declared.port.PortState.{PortState}
 use Rattle.rstp_state.specs.Port.{is_out, may_act}
+use Rattle.rstp_machines.specs.Information as info
 use Rattle.rstp_run.specs.declared.rule.InformationRule.{InformationRule}
 use Rattle.rstp_run.specs.declared.rule.InformationRule.TheVariants as information_rule
 use Rattle.rstp_run.specs.Machines.{information_asks}
-use Rattle.rstp_run.specs.Sweep.{Going, tries_all}
 use Rattle.rstp_run.proofs.Informed.{no}
 use Rattle.rstp_run.proofs.Levels as levels
 use Rattle.rstp_run.proofs.Levels.{IsCalmOf}
-use Rattle.rstp_run.proofs.Places.{Stage, Zone, main_rest}
 use Rattle.rstp_run.proofs.Quiet.{Still, still_of}
 use Rattle.rstp_run.proofs.Ready.{IsReadyOf}
 use Rattle.rstp_run.proofs.Sound.{IsSoundOf, right}
-use Rattle.rstp_run.proofs.Visits.{visit_later}
 
 -- ---- information rests
 
@@ -27,7 +25,7 @@ abbrev pub IsSteady : PortState → Type 0
 IsSteady x = IsSteadyOf (still_of x)
 
 -- the same, but something may still be to be taken over
-abbrev IsBaseOf : Still → Type 0
+abbrev pub IsBaseOf : Still → Type 0
 IsBaseOf x = IsCalmOf x × IsSoundOf x.known × IsReadyOf x.known
 
 abbrev pub IsBase : PortState → Type 0
@@ -41,26 +39,23 @@ free_of o false true false g h n k = no h
 free_of true true true false g h n k = no k
 free_of false true true false g h n k = no (sym g)
 
--- the visit of a port in the third pass
-pub visit-steady : (c n limit p : ℕ) (g : Going) → Stage c n (Zone IsSteady IsBase IsBase p) limit g
-    → Stage c n (Zone IsSteady IsSteady IsBase p) limit (tries_all main_rest p limit g)
-visit-steady c n limit p g h =
-    visit_later IsSteadyOf IsBaseOf IsBaseOf IsSteadyOf IsSteadyOf c n limit p (λ x a. a.0.0.0) (λ x y. y.0.0.0)
-    (λ x a. (((levels.discard-taken x a.0.0.0, a.0.0.1), a.0.1), a.1, a.2))
-    (λ x off a. (
-      a.0,
-      a.1,
-      a.2,
-      free_of (is_out x.information) x.selected x.update_info x.reselect off a.0.0.0.3 a.0.1
-          a.1.2,
-    ))
-    (λ x on a. (
-      ((levels.update-taken x on a.0.0.0, λ r. no r), a.0.1),
-      (a.1.0, refl, refl),
-      (λ o. no o, λ s u r. no r, λ d. no d),
-      refl,
-    ))
-    (λ x off b. b) (λ x on b. absurd (levels.aged-off x b.0.0 on)) g h
+-- after Update nothing is to be taken over
+pub rests-steady : (x : PortState) → info.update_guard x ≡ false → IsBase x → IsSteady x
+rests-steady x off a = (
+  a.0,
+  a.1,
+  a.2,
+  free_of (is_out x.information) x.selected x.update_info x.reselect off a.0.0.0.3 a.0.1
+      a.1.2,
+)
+
+pub update-steady : (x : PortState) → info.update_guard x ≡ true → IsBase x → IsSteady (info.update_effect x)
+update-steady x on a = (
+  ((levels.update-taken x on a.0.0.0, λ r. no r), a.0.1),
+  (a.1.0, refl, refl),
+  (λ o. no o, λ s u r. no r, λ d. no d),
+  refl,
+)
 
 pub steady-informs : (rule : InformationRule) (x : PortState) → IsSteady x → information_asks rule x ≡ true → ⊥
 steady-informs information_rule.Update x h g = no (sym h.3 ∙ right _ x.update_info g)
