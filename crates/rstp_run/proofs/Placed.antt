@@ -27,7 +27,6 @@ use Rattle.rstp_run.specs.Lasting.{is_select}
 use Rattle.rstp_run.specs.Rules.{Tree, asks, timing_in}
 use Rattle.rstp_run.proofs.Informed.{no}
 use Rattle.rstp_run.proofs.Levels as levels
-use Rattle.rstp_run.proofs.Levels.{IsCalmOf}
 use Rattle.rstp_run.proofs.Own.{Nothing, Reroots, Spread, Syncs, Tells, own, own_role, own_topology, spread_by}
 use Rattle.rstp_run.proofs.Quiet.{IsStill, Still}
 use Rattle.rstp_run.proofs.RoleParts.{same_designated, same_disabled, same_itself, same_root}
