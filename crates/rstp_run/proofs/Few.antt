@@ -1,4 +1,4 @@
--- A bound of the firings at an event of a settled bridge: each rule at most once at each port in each of the first six
+-- A bound of the firings at an event of a settled bridge: each rule at most once at each port in each of the first five
 -- passes, and then no more than a number that each firing lowers.
 use Rattle.std.proofs.Common.{◌≡◌, ℕ, zero, suc, ◌+◌, ◌*◌, ◌≤◌, ◌⊎◌, inl, inr, Bool, true, false, List, [], ◌∷◌}
 use Rattle.std.proofs.Common.{◌||◌, Some, length, map, slice_get, refl, sym, ap, subst, ◌∙◌, arith}
@@ -29,8 +29,8 @@ use Rattle.rstp_run.proofs.Settling.{length-direct, main-holds, sends-hold}
 use Rattle.rstp_run.proofs.Sound as sound
 use Rattle.rstp_run.proofs.Sound.{Keeps}
 use Rattle.rstp_run.proofs.Steps.{length-ports_after}
-use Rattle.rstp_run.proofs.Steady.{IsBase, IsSteady, visit-steady}
-use Rattle.rstp_run.proofs.Takes.{IsRested, visit-takes}
+use Rattle.rstp_run.proofs.Steady.{IsBase, IsSteady}
+use Rattle.rstp_run.proofs.Takes.{IsRested, IsTakenUp, visit-takes}
 use Rattle.rstp_run.proofs.Flags.{Bits, after_roles, core1, core2, due, first_visit, second_visit, shut}
 use Rattle.rstp_run.proofs.Fixed.{IsFixed}
 use Rattle.rstp_run.proofs.Heard.{lit}
@@ -97,11 +97,11 @@ module _ (n limit : ℕ) where
       (all-keeps IsWell limit (λ rule p x k. tries-cases IsWell rule p limit x (λ below on. well_fires rule p x on k) k)
       main_order) g h
 
-  -- ---- after six passes
+  -- ---- after five passes
 
   abbrev Spends : Going → Type 0
   Spends g =
-      IsWell g × AtAll (λ q. IsLate) g.tree.ports × (length g.firings + remains n g.tree ≤ 475 * n)
+      IsWell g × AtAll (λ q. IsLate) g.tree.ports × (length g.firings + remains n g.tree ≤ 421 * n)
 
   spends : (rule : Rule) (p : ℕ) (g : Going) → IsAfterDiscard rule g.tree p → guard rule g.tree p ≡ true → Spends g
       → Spends (fired rule p g)
@@ -128,7 +128,7 @@ module _ (n limit : ℕ) where
           (well_fires rule p g on h.0, late-after rule g.tree p is on h.1, omega (arith, less, few))
 
   abbrev IsLast : Going → Type 0
-  IsLast g = ((limit ≤ length g.firings) × (length g.firings ≤ 324 * n)) ⊎ Spends g
+  IsLast g = ((limit ≤ length g.firings) × (length g.firings ≤ 270 * n)) ⊎ Spends g
 
   -- ---- the facts after this many passes
 
@@ -139,10 +139,9 @@ module _ (n limit : ℕ) where
   Spent zero g = Passed n limit 0 g × Counted 0 g
   Spent (suc zero) g = Passed n limit 1 g × Counted 1 g
   Spent (suc (suc zero)) g = Passed n limit 2 g × Counted 2 g
-  Spent (suc (suc (suc zero))) g = Stage 2 n (λ q. IsSteady) limit g × Counted 3 g
-  Spent (suc (suc (suc (suc zero)))) g = Stage 2 n (λ q x. IsSteady x × IsRested x) limit g × Counted 4 g
-  Spent (suc (suc (suc (suc (suc zero))))) g = Stage 2 n (λ q x. IsFixed x × Ends core1 x) limit g × Counted 5 g
-  Spent (suc (suc (suc (suc (suc (suc k)))))) g = IsLast g
+  Spent (suc (suc (suc zero))) g = Stage 2 n (λ q x. IsSteady x × IsRested x) limit g × Counted 3 g
+  Spent (suc (suc (suc (suc zero)))) g = Stage 2 n (λ q x. IsFixed x × Ends core1 x) limit g × Counted 4 g
+  Spent (suc (suc (suc (suc (suc k))))) g = IsLast g
 
   adds : (k : ℕ) (g : Going) → Counted k g → Counted (suc k) (pass main_order limit g)
   adds k g h =
@@ -152,30 +151,23 @@ module _ (n limit : ℕ) where
       let few = h.1 in
       (well_pass g h.0, omega (arith, more, few, times))
 
-  -- Select is reached in the third pass, and then information rests
-  third : (g : Going) → Spent 2 g → Stage 2 n (λ q. IsSteady) limit (pass main_order limit g)
+  -- Select is reached in the third pass, and then information rests, and each port takes its role
+  third : (g : Going) → Spent 2 g → Stage 2 n (λ q x. IsSteady x × IsRested x) limit (pass main_order limit g)
   third g h =
       let x : Going = tries rules.Select 0 limit g in
       let well : IsWell x = tries-cases IsWell rules.Select 0 limit g
       (λ below on. well_fires rules.Select 0 g on h.1.0) h.1.0 in
-      let first : Stage 2 n (λ q. IsBase) limit x =
-      stage-as 2 n limit (λ q y. IsCalm y × (sound.IsSound y × IsReady y)) (λ q. IsBase) x
-      (λ q y within k. (k.0, k.1.0, k.1.1))
+      let first : Stage 2 n (λ q y. IsBase y × IsBase y) limit x =
+      stage-as 2 n limit (λ q y. IsCalm y × (sound.IsSound y × IsReady y)) (λ q y. IsBase y × IsBase y) x
+      (λ q y within k. ((k.0, k.1.0, k.1.1), (k.0, k.1.0, k.1.1)))
       (stage-with 2 n limit (λ q. IsCalm) (λ q y. sound.IsSound y × IsReady y) x
       (λ q y at. (each_at sound.IsSound x.tree.ports q y at well.0.sound, each_at IsReady x.tree.ports q y at well.1))
       (third-select n limit g h.0)) in
-      whole-pass 2 n limit (λ q. IsSteady) g
-      (pass-by main_rest 1 2 n limit IsYoung IsBase IsSteady (λ p y k. visit-steady 2 n limit p y k) (omega arith) g
-      first h.0)
-
-  -- each port takes its role
-  fourth : (g : Going) → Spent 3 g → Stage 2 n (λ q x. IsSteady x × IsRested x) limit (pass main_order limit g)
-  fourth g h =
-      whole-pass 2 n limit (λ q x. IsSteady x × IsRested x) g
-      (pass-by main_rest 2 2 n limit IsSteady (λ x. IsSteady x × IsSteady x) (λ x. IsSteady x × IsRested x)
-      (λ p y k. visit-takes 2 n limit p y k) (omega arith) g
-      (stage-rests 2 n limit (λ q x. IsSteady x × IsSteady x) 0 g (λ q x z. z.0.0.1)
-      (stage-as 2 n limit (λ q. IsSteady) (λ q x. IsSteady x × IsSteady x) g (λ q x within z. (z, z)) h.0)) h.0)
+      stage-as 2 n limit (λ q y. IsBase y × IsTakenUp y) (λ q y. IsSteady y × IsRested y) (pass main_order limit g)
+      (λ q y within k. k.1)
+      (whole-pass 2 n limit (λ q y. IsBase y × IsTakenUp y) g
+      (pass-by main_rest 1 2 n limit IsYoung (λ y. IsBase y × IsBase y) (λ y. IsBase y × IsTakenUp y)
+      (λ p y k. visit-takes 2 n limit p y k) (omega arith) g first h.0))
 
   begins : (core : Bits → Bool) (start : Bool → Bool → Bits → Bool)
       (visits : (dark inactive active : Bool) (b : Bits) → b.learn || dark ≡ true → start inactive active b ≡ true
@@ -191,23 +183,23 @@ module _ (n limit : ℕ) where
   orderly : (g : Going) → IsWell g → AtAll (λ q. IsOrderly) g.tree.ports
   orderly g h q x at = at_place IsOrderly g.tree.ports q x at h.2
 
-  fifth : (g : Going) → Spent 4 g → Stage 2 n (λ q x. IsFixed x × Ends core1 x) limit (pass main_order limit g)
-  fifth g h =
+  fourth : (g : Going) → Spent 3 g → Stage 2 n (λ q x. IsFixed x × Ends core1 x) limit (pass main_order limit g)
+  fourth g h =
       begins core1 (λ inactive active b. true) (λ dark inactive active b k any. first_visit dark inactive active b k) g
       (stage-as 2 n limit (λ q x. (IsSteady x × IsRested x) × IsOrderly x)
       (λ q x. IsFixed x × Begins (λ inactive active b. true) x) g
       (λ q x within z. ((z.0.0, z.0.1.0), (z.0.1.1, lit x z.1 z.0.1.2, λ e. refl)))
       (stage-with 2 n limit (λ q x. IsSteady x × IsRested x) (λ q. IsOrderly) g (orderly g h.1.0) h.0))
 
-  sixth : (g : Going) → Spent 5 g → Stage 2 n (λ q x. IsFixed x × Ends core2 x) limit (pass main_order limit g)
-  sixth g h =
+  fifth : (g : Going) → Spent 4 g → Stage 2 n (λ q x. IsFixed x × Ends core2 x) limit (pass main_order limit g)
+  fifth g h =
       begins core2 (shut core1) (λ dark inactive active b k h. second_visit dark inactive active b k h) g
       (stage-as 2 n limit (λ q x. (IsFixed x × Ends core1 x) × IsOrderly x)
       (λ q x. IsFixed x × Begins (shut core1) x) g
       (λ q x within z. (z.0.0, (z.0.1.0, lit x z.1 z.0.1.1, z.0.1.2)))
       (stage-with 2 n limit (λ q x. IsFixed x × Ends core1 x) (λ q. IsOrderly) g (orderly g h.1.0) h.0))
 
-  last_of : (g : Going) → Counted 6 g → Stage 2 n (λ q x. IsFixed x × Ends core2 x) limit g → IsLast g
+  last_of : (g : Going) → Counted 5 g → Stage 2 n (λ q x. IsFixed x × Ends core2 x) limit g → IsLast g
   last_of g h stage = go stage.2
     where
       go : (limit ≤ length g.firings) ⊎ AtAll (λ q x. IsFixed x × Ends core2 x) g.tree.ports → IsLast g
@@ -224,34 +216,31 @@ module _ (n limit : ℕ) where
   next (suc zero) g h = (second-pass n limit g h.0, adds 1 g h.1)
   next (suc (suc zero)) g h = (third g h, adds 2 g h.1)
   next (suc (suc (suc zero))) g h = (fourth g h, adds 3 g h.1)
-  next (suc (suc (suc (suc zero)))) g h = (fifth g h, adds 4 g h.1)
-  next (suc (suc (suc (suc (suc zero))))) g h = last_of (pass main_order limit g) (adds 5 g h.1) (sixth g h)
-  next (suc (suc (suc (suc (suc (suc k)))))) g (inl h) =
-      subst IsLast (sym (pass-full main_order limit g h.0)) (inl h)
-  next (suc (suc (suc (suc (suc (suc k)))))) g (inr h) =
+  next (suc (suc (suc (suc zero)))) g h = last_of (pass main_order limit g) (adds 4 g h.1) (fifth g h)
+  next (suc (suc (suc (suc (suc k))))) g (inl h) = subst IsLast (sym (pass-full main_order limit g h.0)) (inl h)
+  next (suc (suc (suc (suc (suc k))))) g (inr h) =
       inr (pass-keeps Spends limit main_order (λ p x k. main-holds Spends spends p limit x k) g h)
 
-  full : (k : ℕ) (g : Going) → limit ≤ length g.firings → Spent k g → Spent 6 g
+  full : (k : ℕ) (g : Going) → limit ≤ length g.firings → Spent k g → Spent 5 g
   full zero g all h = let few = h.1.1 in inl (all, omega (arith, few))
   full (suc zero) g all h = let few = h.1.1 in inl (all, omega (arith, few))
   full (suc (suc zero)) g all h = let few = h.1.1 in inl (all, omega (arith, few))
   full (suc (suc (suc zero))) g all h = let few = h.1.1 in inl (all, omega (arith, few))
   full (suc (suc (suc (suc zero)))) g all h = let few = h.1.1 in inl (all, omega (arith, few))
-  full (suc (suc (suc (suc (suc zero))))) g all h = let few = h.1.1 in inl (all, omega (arith, few))
-  full (suc (suc (suc (suc (suc (suc k)))))) g all h = h
+  full (suc (suc (suc (suc (suc k))))) g all h = h
 
-  sends : (p : ℕ) (g : Going) → Spent 6 g → Spent 6 (tries_all sending_order p limit g)
+  sends : (p : ℕ) (g : Going) → Spent 5 g → Spent 5 (tries_all sending_order p limit g)
   sends p g (inl h) = subst IsLast (sym (tries_all-full sending_order p limit g h.0)) (inl h)
   sends p g (inr h) = inr (sends-hold Spends spends p limit g h)
 
-  count : (g : Going) → Spent 0 g ⊎ Spent 6 g → length g.firings ≤ 475 * n
+  count : (g : Going) → Spent 0 g ⊎ Spent 5 g → length g.firings ≤ 421 * n
   count g (inl h) = let few = h.1.1 in omega (arith, few)
   count g (inr (inl h)) = let few = h.1 in omega (arith, few)
   count g (inr (inr h)) = let few = h.2 in omega (arith, few)
 
   pub few-firings : (s : Tree) → Spent 0 (record { tree = s; firings = [] })
-      → length (swept limit s).firings ≤ 475 * n
-  few-firings s h = count (swept limit s) (sweep-reaches limit 6 Spent next full (λ k g z. z) sends s h)
+      → length (swept limit s).firings ≤ 421 * n
+  few-firings s h = count (swept limit s) (sweep-reaches limit 5 Spent next full (λ k g z. z) sends s h)
 
 -- ---- events of a settled bridge
 

@@ -1,4 +1,4 @@
--- The facts of each port after six passes. From then on only the root port tells others of a change.
+-- The facts of each port after five passes. From then on only the root port tells others of a change.
 use Rattle.std.proofs.Common.{◌≡◌, ℕ, ◌⊎◌, inl, inr, Bool, true, false, not, ◌&&◌, ◌||◌}
 use Rattle.std.proofs.Common.{◌==◌, refl, sym, ap, ◌∙◌, arith}
 use Rattle.rstp_state.specs.declared.port.PortState.{PortState}

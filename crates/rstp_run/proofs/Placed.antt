@@ -27,7 +27,6 @@ use Rattle.rstp_run.specs.Lasting.{is_select}
 use Rattle.rstp_run.specs.Rules.{Tree, asks, timing_in}
 use Rattle.rstp_run.proofs.Informed.{no}
 use Rattle.rstp_run.proofs.Levels as levels
-use Rattle.rstp_run.proofs.Levels.{IsCalmOf}
 use Rattle.rstp_run.proofs.Own.{Nothing, Reroots, Spread, Syncs, Tells, own, own_role, own_topology, spread_by}
 use Rattle.rstp_run.proofs.Quiet.{IsStill, Still}
 use Rattle.rstp_run.proofs.RoleParts.{same_designated, same_disabled, same_itself, same_root}
@@ -138,17 +137,17 @@ transmit_moves transmit_rule.SendConfig s x = (refl, λ h. h)
 transmit_moves transmit_rule.SendTcn s x = (refl, λ h. h)
 transmit_moves transmit_rule.SendRst s x = (refl, λ h. h)
 
-plain_moves : (rule : Rule) (s : Tree) (p : ℕ) (x : PortState) → is_plain rule ≡ true → asks rule s p x ≡ true
+pub plain-moves : (rule : Rule) (s : Tree) (p : ℕ) (x : PortState) → is_plain rule ≡ true → asks rule s p x ≡ true
     → Moves x (own rule (timing_in s) x)
-plain_moves rules.Select s p x n g = no n
-plain_moves (rules.Receive rule) s p x n g = no n
-plain_moves (rules.Information rule) s p x n g = no n
-plain_moves (rules.Migration rule) s p x n g = migration_moves rule s x
-plain_moves (rules.Detection rule) s p x n g = detection_moves rule s x
-plain_moves (rules.Role rule) s p x n g = role_moves rule s p x g (role-kind rule s p x g)
-plain_moves (rules.State rule) s p x n g = state_moves rule s x
-plain_moves (rules.Topology rule) s p x n g = topology_moves rule (timing_in s) x
-plain_moves (rules.Transmit rule) s p x n g = transmit_moves rule s x
+plain-moves rules.Select s p x n g = no n
+plain-moves (rules.Receive rule) s p x n g = no n
+plain-moves (rules.Information rule) s p x n g = no n
+plain-moves (rules.Migration rule) s p x n g = migration_moves rule s x
+plain-moves (rules.Detection rule) s p x n g = detection_moves rule s x
+plain-moves (rules.Role rule) s p x n g = role_moves rule s p x g (role-kind rule s p x g)
+plain-moves (rules.State rule) s p x n g = state_moves rule s x
+plain-moves (rules.Topology rule) s p x n g = topology_moves rule (timing_in s) x
+plain-moves (rules.Transmit rule) s p x n g = transmit_moves rule s x
 
 -- `learning` and `forwarding` follow `learn` and `forward`
 abbrev pub IsEven : PortState → Type 0
@@ -186,17 +185,17 @@ steady-goes (rules.Receive receive_rule.Discard) s p x n g h =
 steady-goes (rules.Receive receive_rule.Receive) s p x n g h = absurd (levels.receive-off x h.0.0.0 g)
 steady-goes (rules.Information rule) s p x n g h = absurd (steady-informs rule x h g)
 steady-goes (rules.Migration rule) s p x n g h =
-    by_moves x (own (rules.Migration rule) (timing_in s) x) h (plain_moves (rules.Migration rule) s p x refl g)
+    by_moves x (own (rules.Migration rule) (timing_in s) x) h (plain-moves (rules.Migration rule) s p x refl g)
 steady-goes (rules.Detection rule) s p x n g h =
-    by_moves x (own (rules.Detection rule) (timing_in s) x) h (plain_moves (rules.Detection rule) s p x refl g)
+    by_moves x (own (rules.Detection rule) (timing_in s) x) h (plain-moves (rules.Detection rule) s p x refl g)
 steady-goes (rules.Role rule) s p x n g h =
-    by_moves x (own (rules.Role rule) (timing_in s) x) h (plain_moves (rules.Role rule) s p x refl g)
+    by_moves x (own (rules.Role rule) (timing_in s) x) h (plain-moves (rules.Role rule) s p x refl g)
 steady-goes (rules.State rule) s p x n g h =
-    by_moves x (own (rules.State rule) (timing_in s) x) h (plain_moves (rules.State rule) s p x refl g)
+    by_moves x (own (rules.State rule) (timing_in s) x) h (plain-moves (rules.State rule) s p x refl g)
 steady-goes (rules.Topology rule) s p x n g h =
-    by_moves x (own (rules.Topology rule) (timing_in s) x) h (plain_moves (rules.Topology rule) s p x refl g)
+    by_moves x (own (rules.Topology rule) (timing_in s) x) h (plain-moves (rules.Topology rule) s p x refl g)
 steady-goes (rules.Transmit rule) s p x n g h =
-    by_moves x (own (rules.Transmit rule) (timing_in s) x) h (plain_moves (rules.Transmit rule) s p x refl g)
+    by_moves x (own (rules.Transmit rule) (timing_in s) x) h (plain-moves (rules.Transmit rule) s p x refl g)
 
 pub spread-goes : (k : Spread) (x : PortState) → IsSteady x → Goes x (spread_by k x)
 spread-goes Nothing x h = (h, refl, λ z. z)

@@ -1,21 +1,19 @@
 -- From the third pass of an event on information rests: no message waits, no role is to be selected, and nothing is to
 -- be taken over.
-use Rattle.std.proofs.Common.{◌≡◌, ℕ, Bool, true, false, not, ◌&&◌, ◌||◌}
+use Rattle.std.proofs.Common.{◌≡◌, Bool, true, false, not, ◌&&◌, ◌||◌}
 use Rattle.std.proofs.Common.{refl, sym, ◌∙◌}
 use Rattle.rstp_state.specs.declared.port.PortState.{PortState}
 use Rattle.rstp_state.specs.Port.{is_out, may_act}
+use Rattle.rstp_machines.specs.Information as info
 use Rattle.rstp_run.specs.declared.rule.InformationRule.{InformationRule}
 use Rattle.rstp_run.specs.declared.rule.InformationRule.TheVariants as information_rule
 use Rattle.rstp_run.specs.Machines.{information_asks}
-use Rattle.rstp_run.specs.Sweep.{Going, tries_all}
 use Rattle.rstp_run.proofs.Informed.{no}
 use Rattle.rstp_run.proofs.Levels as levels
-use Rattle.rstp_run.proofs.Levels.{IsCalmOf}
-use Rattle.rstp_run.proofs.Places.{Stage, Zone, main_rest}
+use Rattle.rstp_run.proofs.Levels.{IsCalmOf, IsTaken}
 use Rattle.rstp_run.proofs.Quiet.{Still, still_of}
 use Rattle.rstp_run.proofs.Ready.{IsReadyOf}
 use Rattle.rstp_run.proofs.Sound.{IsSoundOf, right}
-use Rattle.rstp_run.proofs.Visits.{visit_later}
 
 -- ---- information rests
 
@@ -27,7 +25,7 @@ abbrev pub IsSteady : PortState → Type 0
 IsSteady x = IsSteadyOf (still_of x)
 
 -- the same, but something may still be to be taken over
-abbrev IsBaseOf : Still → Type 0
+abbrev pub IsBaseOf : Still → Type 0
 IsBaseOf x = IsCalmOf x × IsSoundOf x.known × IsReadyOf x.known
 
 abbrev pub IsBase : PortState → Type 0
@@ -41,38 +39,48 @@ free_of o false true false g h n k = no h
 free_of true true true false g h n k = no k
 free_of false true true false g h n k = no (sym g)
 
--- the visit of a port in the third pass
-pub visit-steady : (c n limit p : ℕ) (g : Going) → Stage c n (Zone IsSteady IsBase IsBase p) limit g
-    → Stage c n (Zone IsSteady IsSteady IsBase p) limit (tries_all main_rest p limit g)
-visit-steady c n limit p g h =
-    visit_later IsSteadyOf IsBaseOf IsBaseOf IsSteadyOf IsSteadyOf c n limit p (λ x a. a.0.0.0) (λ x y. y.0.0.0)
-    (λ x a. (((levels.discard-taken x a.0.0.0, a.0.0.1), a.0.1), a.1, a.2))
-    (λ x off a. (
-      a.0,
-      a.1,
-      a.2,
-      free_of (is_out x.information) x.selected x.update_info x.reselect off a.0.0.0.3 a.0.1
-          a.1.2,
-    ))
-    (λ x on a. (
-      ((levels.update-taken x on a.0.0.0, λ r. no r), a.0.1),
-      (a.1.0, refl, refl),
-      (λ o. no o, λ s u r. no r, λ d. no d),
-      refl,
-    ))
-    (λ x off b. b) (λ x on b. absurd (levels.aged-off x b.0.0 on)) g h
+-- after Update nothing is to be taken over
+pub rests-steady : (x : PortState) → info.update_guard x ≡ false → IsBase x → IsSteady x
+rests-steady x off a = (
+  a.0,
+  a.1,
+  a.2,
+  free_of (is_out x.information) x.selected x.update_info x.reselect off a.0.0.0.3 a.0.1
+      a.1.2,
+)
+
+pub update-steady : (x : PortState) → info.update_guard x ≡ true → IsBase x → IsSteady (info.update_effect x)
+update-steady x on a = (
+  ((levels.update-taken x on a.0.0.0, λ r. no r), a.0.1),
+  (a.1.0, refl, refl),
+  (λ o. no o, λ s u r. no r, λ d. no d),
+  refl,
+)
+
+-- without a pending message only Update and Aged fire
+pub informs-taken : (P : InformationRule → Type 0) (rule : InformationRule) (x : PortState) → IsTaken x
+    → (info.update_guard x ≡ true → P information_rule.Update) → (info.aged_guard x ≡ true → P information_rule.Aged)
+    → information_asks rule x ≡ true → P rule
+informs-taken P information_rule.Update x h update aged g = update g
+informs-taken P information_rule.Aged x h update aged g = aged g
+informs-taken P information_rule.Disabled x h update aged g =
+    absurd (levels.idle-off information_rule.Disabled x refl h g)
+informs-taken P information_rule.Drop x h update aged g = absurd (levels.idle-off information_rule.Drop x refl h g)
+informs-taken P information_rule.Enabled x h update aged g =
+    absurd (levels.idle-off information_rule.Enabled x refl h g)
+informs-taken P information_rule.Superior x h update aged g =
+    absurd (levels.idle-off information_rule.Superior x refl h g)
+informs-taken P information_rule.Repeated x h update aged g =
+    absurd (levels.idle-off information_rule.Repeated x refl h g)
+informs-taken P information_rule.Inferior x h update aged g =
+    absurd (levels.idle-off information_rule.Inferior x refl h g)
+informs-taken P information_rule.NotDesignated x h update aged g =
+    absurd (levels.idle-off information_rule.NotDesignated x refl h g)
+informs-taken P information_rule.Other x h update aged g = absurd (levels.idle-off information_rule.Other x refl h g)
 
 pub steady-informs : (rule : InformationRule) (x : PortState) → IsSteady x → information_asks rule x ≡ true → ⊥
-steady-informs information_rule.Update x h g = no (sym h.3 ∙ right _ x.update_info g)
-steady-informs information_rule.Aged x h g = levels.aged-off x h.0.0 g
-steady-informs information_rule.Disabled x h g = levels.idle-off information_rule.Disabled x refl h.0.0.0 g
-steady-informs information_rule.Drop x h g = levels.idle-off information_rule.Drop x refl h.0.0.0 g
-steady-informs information_rule.Enabled x h g = levels.idle-off information_rule.Enabled x refl h.0.0.0 g
-steady-informs information_rule.Superior x h g = levels.idle-off information_rule.Superior x refl h.0.0.0 g
-steady-informs information_rule.Repeated x h g = levels.idle-off information_rule.Repeated x refl h.0.0.0 g
-steady-informs information_rule.Inferior x h g = levels.idle-off information_rule.Inferior x refl h.0.0.0 g
-steady-informs information_rule.NotDesignated x h g = levels.idle-off information_rule.NotDesignated x refl h.0.0.0 g
-steady-informs information_rule.Other x h g = levels.idle-off information_rule.Other x refl h.0.0.0 g
+steady-informs rule x h =
+    informs-taken (λ r. ⊥) rule x h.0.0.0 (λ g. no (sym h.3 ∙ right _ x.update_info g)) (levels.aged-off x h.0.0)
 
 may : (s r u : Bool) → s || r ≡ true → r ≡ false → u ≡ false → s && not u ≡ true
 may true r true h k l = no (sym l)

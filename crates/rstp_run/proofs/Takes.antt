@@ -1,5 +1,5 @@
--- In the fourth pass of an event each port takes its role and answers its proposal, so no rule asks all ports to sync
--- or to leave the old root any more.
+-- In the third pass of an event each port takes over what is to be taken over, takes its role and answers its proposal.
+-- So information rests, and no rule asks all ports to sync or to leave the old root any more.
 use Rattle.std.proofs.Common.{◌≡◌, ℕ, ◌<◌, inl, inr, Bool, true, false, not, ◌&&◌, ◌||◌, List, [], ◌∷◌, ◌++◌}
 use Rattle.std.proofs.Common.{take, drop, refl, sym, ap, subst, arith}
 use Rattle.std.proofs.lemmas.Bool.{cases_lt}
@@ -9,23 +9,30 @@ use Rattle.rstp_state.specs.Port.{same_role}
 use Rattle.rstp_roles.specs.RoleTransitions as roles
 use Rattle.rstp_roles.specs.declared.rule.RoleRule.TheVariants as role_rule
 use Rattle.rstp_roles.specs.declared.rule.StateRule.TheVariants as state_rule
+use Rattle.rstp_run.specs.declared.rule.InformationRule.TheVariants as information_rule
+use Rattle.rstp_run.specs.declared.rule.ReceiveRule.TheVariants as receive_rule
 use Rattle.rstp_run.specs.declared.rule.Rule.{Rule}
 use Rattle.rstp_run.specs.declared.rule.Rule.TheVariants as rules
 use Rattle.rstp_run.specs.declared.rule.TopologyRule.TheVariants as topology_rule
 use Rattle.rstp_run.specs.Lasting.{is_select}
+use Rattle.rstp_run.specs.Machines.{information_does}
 use Rattle.rstp_run.specs.Rules.{Tree, asks, timing_in}
 use Rattle.rstp_run.specs.Sweep.{Going, main_order, tries, tries_all}
 use Rattle.rstp_run.proofs.Informed.{no}
-use Rattle.rstp_run.proofs.Own.{Now, Spread, own, spread_by}
+use Rattle.rstp_run.proofs.Levels as levels
+use Rattle.rstp_run.proofs.Own.{Nothing, Now, Reroots, Spread, Syncs, Tells, own, spread_by}
 use Rattle.rstp_run.proofs.Own.{all_keep, step, steps}
-use Rattle.rstp_run.proofs.Places.{Stage, Zone, main_rest, stage-as}
+use Rattle.rstp_run.proofs.Places.{Stage, Zone, main_rest}
 use Rattle.rstp_run.proofs.RoleParts.{same_designated, same_disabled, same_itself, same_root}
 use Rattle.rstp_run.proofs.Sound.{or_true}
 use Rattle.rstp_run.proofs.Visits.{all_then, one_then}
-use Rattle.rstp_run.proofs.Steady.{IsSteady, steady-acts}
+use Rattle.rstp_run.proofs.Steady.{IsBase, IsBaseOf, IsSteady, informs-taken, rests-steady, steady-acts}
+use Rattle.rstp_run.proofs.Steady.{update-steady}
 use Rattle.rstp_run.proofs.RoleKinds.{as-designated, as-root, as_blocked, as_disabled, both_designated, both_disabled}
 use Rattle.rstp_run.proofs.RoleKinds.{both_root, kind, kind_lt, role-kind, same-test}
-use Rattle.rstp_run.proofs.Placed.{IsEven, IsPlaced, spread-goes, spread_same, steady-goes, topology-even}
+use Rattle.rstp_run.proofs.Placed.{IsEven, IsPlaced, plain-moves, spread-goes, spread_same, steady-goes}
+use Rattle.rstp_run.proofs.Placed.{topology-even}
+use Rattle.rstp_run.proofs.Walk.{is_plain}
 
 -- ---- a rule that would fire if the fact didn't hold
 
@@ -127,38 +134,89 @@ topology_keeps (rules.Transmit rule) s x n h = no n
 abbrev is_any : Rule → Bool
 is_any rule = true
 
+-- ---- before Update
+
+base_still : (rule : Rule) (s : Tree) (p : ℕ) (x : PortState) → is_plain rule ≡ true → asks rule s p x ≡ true
+    → IsBase x → IsBase (own rule (timing_in s) x)
+base_still rule s p x plain on h =
+    levels.stays IsBaseOf x (own rule (timing_in s) x) (plain-moves rule s p x plain on).0 h
+
+base_goes : (rule : Rule) (s : Tree) (p : ℕ) (x : PortState) → is_select rule ≡ false → asks rule s p x ≡ true
+    → IsBase x → IsBase (own rule (timing_in s) x)
+base_goes rules.Select s p x other g h = no (sym other)
+base_goes (rules.Receive receive_rule.Discard) s p x other g h =
+    (((levels.discard-taken x h.0.0.0, h.0.0.1), h.0.1), h.1, h.2)
+base_goes (rules.Receive receive_rule.Receive) s p x other g h = absurd (levels.receive-off x h.0.0.0 g)
+base_goes (rules.Information rule) s p x other g h =
+    informs-taken (λ r. IsBase (information_does r x)) rule x h.0.0.0
+    (λ on. (let k = update-steady x on h in (k.0, k.1, k.2))) (λ on. absurd (levels.aged-off x h.0.0 on)) g
+base_goes (rules.Migration rule) s p x other g h = base_still (rules.Migration rule) s p x refl g h
+base_goes (rules.Detection rule) s p x other g h = base_still (rules.Detection rule) s p x refl g h
+base_goes (rules.Role rule) s p x other g h = base_still (rules.Role rule) s p x refl g h
+base_goes (rules.State rule) s p x other g h = base_still (rules.State rule) s p x refl g h
+base_goes (rules.Topology rule) s p x other g h = base_still (rules.Topology rule) s p x refl g h
+base_goes (rules.Transmit rule) s p x other g h = base_still (rules.Transmit rule) s p x refl g h
+
+spread_base : (k : Spread) (x : PortState) → IsBase x → IsBase (spread_by k x)
+spread_base Nothing x h = h
+spread_base Syncs x h = h
+spread_base Reroots x h = h
+spread_base Tells x h = h
+
+-- after its visit
+abbrev pub IsTakenUp : PortState → Type 0
+IsTakenUp x = IsSteady x × IsRested x
+
 module _ (c n limit p : ℕ) where
+  abbrev Base : (PortState → Type 0) → Going → Type 0
+  Base H g = Now IsBase IsTakenUp IsBase c n limit p H g
+
+  -- after Update
   abbrev At : (PortState → Type 0) → Going → Type 0
-  At H g = Now IsSteady IsRested IsSteady c n limit p H g
+  At H g = Base (λ x. IsSteady x × H x) g
 
-  early : (k : Spread) (x : PortState) → true ≡ true → IsSteady x × IsRested x
-      → IsSteady (spread_by k x) × IsRested (spread_by k x)
+  early : (k : Spread) (x : PortState) → true ≡ true → IsBase x × IsTakenUp x
+      → IsBase (spread_by k x) × IsTakenUp (spread_by k x)
   early k x any h =
-      let goes = spread-goes k x h.0 in
+      let goes = spread-goes k x h.1.0 in
       let same = spread_same k x in
-      (goes.0, (goes.2 h.1.0, same.0 h.1.1, same.1 h.1.2))
+      (spread_base k x h.0, (goes.0, (goes.2 h.1.1.0, same.0 h.1.1.1, same.1 h.1.1.2)))
 
-  late : (k : Spread) (x : PortState) → true ≡ true → IsSteady x × IsSteady x
-      → IsSteady (spread_by k x) × IsSteady (spread_by k x)
-  late k x any h = let goes = spread-goes k x h.0 in (goes.0, goes.0)
+  late : (k : Spread) (x : PortState) → true ≡ true → IsBase x × IsBase x
+      → IsBase (spread_by k x) × IsBase (spread_by k x)
+  late k x any h = (spread_base k x h.0, spread_base k x h.1)
 
   abbrev any : Spread → Bool
   any k = true
 
-  calm : (rule : Rule) (s : Tree) (x : PortState) → is_select rule ≡ false → asks rule s p x ≡ true → IsSteady x
+  calm : (rule : Rule) (s : Tree) (x : PortState) → is_select rule ≡ false → asks rule s p x ≡ true → IsBase x
       → true ≡ true
   calm rule s x other on h = refl
 
-  stays : (rule : Rule) (s : Tree) (x : PortState) → is_select rule ≡ false → asks rule s p x ≡ true → IsSteady x
-      → IsSteady (own rule (timing_in s) x)
-  stays rule s x other on h = (steady-goes rule s p x other on h).0
+  stays : (rule : Rule) (s : Tree) (x : PortState) → is_select rule ≡ false → asks rule s p x ≡ true → IsBase x
+      → IsBase (own rule (timing_in s) x)
+  stays rule s x other on h = base_goes rule s p x other on h
 
   act : (H K : PortState → Type 0) (rule : Rule) → is_select rule ≡ false
       → ((s : Tree) (x : PortState) → IsSteady x → asks rule s p x ≡ false → H x → K x)
       → ((s : Tree) (x : PortState) → IsSteady x → asks rule s p x ≡ true → H x → K (own rule (timing_in s) x))
       → (g : Going) → At H g → At K (tries rule p limit g)
   act H K rule other rests fires =
-      step IsSteady IsRested IsSteady c n limit p any early late calm stays H K rule other rests fires
+      step IsBase IsTakenUp IsBase c n limit p any early late calm stays (λ x. IsSteady x × H x)
+      (λ x. IsSteady x × K x) rule other (λ s x base off d. (d.0, rests s x d.0 off d.1))
+      (λ s x base on d. ((steady-goes rule s p x other on d.0).0, fires s x d.0 on d.1))
+
+  -- rules that keep a fact
+  all_act : (H : PortState → Type 0) (keeps : Rule → Bool)
+      → ((rule : Rule) (s : Tree) (x : PortState) → is_select rule ≡ false → keeps rule ≡ true → IsSteady x
+      → asks rule s p x ≡ true → H x → H (own rule (timing_in s) x))
+      → (list : List Rule) → all_keep keeps list ≡ true → (g : Going) → At H g → At H (tries_all list p limit g)
+  all_act H keeps fires =
+      steps IsBase IsTakenUp IsBase c n limit p any early late calm stays (λ x. IsSteady x × H x) keeps
+      (λ rule s x other is base on d. (
+        (steady-goes rule s p x other on d.0).0,
+        fires rule s x other is d.0 on d.1,
+      ))
 
   -- a rule, and the rules after it up to the end of the visit
   next : (H K : PortState → Type 0) (rule : Rule) (rest : List Rule) → is_select rule ≡ false
@@ -178,8 +236,7 @@ module _ (c n limit p : ℕ) where
   keep : (j : ℕ) (list : List Rule) → all_keep is_any list ≡ true → (g : Going) → At (Done j) g
       → At (Done j) (tries_all list p limit g)
   keep j list ok =
-      steps IsSteady IsRested IsSteady c n limit p any early late calm stays (Done j) is_any
-      (λ rule s x other any h on d. done_goes j rule s x other h on d) list ok
+      all_act (Done j) is_any (λ rule s x other any h on d. done_goes j rule s x other h on d) list ok
 
   abbrev DoneEven : PortState → Type 0
   DoneEven x = Done 4 x × IsEven x
@@ -191,7 +248,7 @@ module _ (c n limit p : ℕ) where
       (next (Done 4) DoneEven (rules.State state_rule.ToDiscarding) (drop 44 main_order) refl (λ s x h off d. (d, off))
       (λ s x h on d. (done_goes 4 (rules.State state_rule.ToDiscarding) s x refl h on d, refl))
       (all_then (At DoneEven) (At DoneEven) (At IsRested) (take 9 (drop 44 main_order)) (drop 53 main_order) p limit
-      (steps IsSteady IsRested IsSteady c n limit p any early late calm stays DoneEven is_topology
+      (all_act DoneEven is_topology
       (λ rule s x other is h on d. (
         done_goes 4 rule s x other h on d.0,
         topology_keeps rule s x is d.1,
@@ -324,21 +381,29 @@ module _ (c n limit p : ℕ) where
       (all_then (At (Done 1)) (At (Done 1)) (At IsRested) (take 1 (drop 21 main_order)) (drop 22 main_order) p limit
       (keep 1 (take 1 (drop 21 main_order)) refl) root)
 
-  taken : (g : Going) → At IsSteady g → At IsRested (tries_all (take 19 main_rest ++ drop 19 main_rest) p limit g)
-  taken g h =
-      all_then (At (Done 0)) (At (Done 0)) (At IsRested) (take 19 main_rest) (drop 19 main_rest) p limit
-      (keep 0 (take 19 main_rest) refl) disable g
-      (stage-as c n limit (Zone (λ x. IsSteady x × IsRested x) (λ x. IsSteady x × IsSteady x)
-      (λ x. IsSteady x × IsSteady x) p) (Zone (λ x. IsSteady x × IsRested x) (λ x. IsSteady x × Done 0 x)
-      (λ x. IsSteady x × IsSteady x) p) g
-      (λ q x within z. (z.0, λ e. ((z.1 e).0, λ less. absurd (omega (arith, less))), z.2)) h)
+  -- up to Update, and up to the rules of roles
+  updated : (g : Going) → Base IsBase g → At IsRested (tries_all (drop 13 main_order) p limit g)
+  updated =
+      one_then (Base IsBase) (At (Done 0)) (At IsRested) (rules.Information information_rule.Update)
+      (drop 14 main_order) p limit
+      (step IsBase IsTakenUp IsBase c n limit p any early late calm stays IsBase (λ x. IsSteady x × Done 0 x)
+      (rules.Information information_rule.Update) refl
+      (λ s x base off d. (rests-steady x off d, λ less. absurd (omega (arith, less))))
+      (λ s x base on d. (update-steady x on d, λ less. absurd (omega (arith, less)))))
+      (all_then (At (Done 0)) (At (Done 0)) (At IsRested) (take 6 (drop 14 main_order)) (drop 20 main_order) p limit
+      (keep 0 (take 6 (drop 14 main_order)) refl) disable)
+
+  taken : (g : Going) → Base IsBase g → At IsRested (tries_all (take 12 main_rest ++ drop 12 main_rest) p limit g)
+  taken =
+      all_then (Base IsBase) (Base IsBase) (At IsRested) (take 12 main_rest) (drop 12 main_rest) p limit
+      (steps IsBase IsTakenUp IsBase c n limit p any early late calm stays IsBase is_any
+      (λ rule s x other any base on d. base_goes rule s p x other on d) (take 12 main_rest) refl) updated
 
   pub visit-takes : (g : Going)
-      → Stage c n (Zone (λ x. IsSteady x × IsRested x) (λ x. IsSteady x × IsSteady x) (λ x. IsSteady x × IsSteady x) p)
-      limit g
-      → Stage c n (Zone (λ x. IsSteady x × IsRested x) (λ x. IsSteady x × IsRested x) (λ x. IsSteady x × IsSteady x) p)
+      → Stage c n (Zone (λ x. IsBase x × IsTakenUp x) (λ x. IsBase x × IsBase x) (λ x. IsBase x × IsBase x) p) limit g
+      → Stage c n (Zone (λ x. IsBase x × IsTakenUp x) (λ x. IsBase x × IsTakenUp x) (λ x. IsBase x × IsBase x) p)
       limit (tries_all main_rest p limit g)
   visit-takes g h =
-      let same : take 19 main_rest ++ drop 19 main_rest ≡ main_rest = refl in
+      let same : take 12 main_rest ++ drop 12 main_rest ≡ main_rest = refl in
       let Q : List Rule → Type 0 = λ l. At IsRested (tries_all l p limit g) in
       subst Q same (taken g h)

@@ -1,4 +1,4 @@
--- The rest of an event, after six passes: each firing lowers a number of the ports.
+-- The rest of an event, after five passes: each firing lowers a number of the ports.
 use Rattle.std.proofs.Common.{◌≡◌, ℕ, zero, suc, ◌+◌, ◌*◌, ◌≤◌, ◌<◌, Bool, true, false, not, ◌&&◌, ◌||◌}
 use Rattle.std.proofs.Common.{◌==◌, is_none, List, [], ◌∷◌, Some, length, map, slice_get, refl, sym, ap, subst, ◌∙◌}
 use Rattle.std.proofs.Common.{arith}
