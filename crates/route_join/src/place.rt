@@ -26,7 +26,7 @@ fn cmp_ips(one: Option<Ip>, other: Option<Ip>) -> Ordering
 /// walk to the first register most other registers have lower originators, so this case is checked
 /// first.
 #[tactic(auto, using(crate::proofs::Within::within, crate::proofs::Within::behind_lower))]
-fn cmp_within(one: &Register, other: &Register) -> Ordering
+pub(crate) fn cmp_within(one: &Register, other: &Register) -> Ordering
     requires { subject_of one.now.key ≡ subject_of other.now.key }
     ensures { result ≡ register_cmp one.now other.now }
 {

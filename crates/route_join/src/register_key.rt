@@ -1,6 +1,8 @@
 //! A register as it is stored in lists and maps: contracts see the register itself.
 ghost use Rattle.std.specs.Prelude.{◌≡◌, refl, Some};
 
+use crate::place::cmp_within;
+use crate::subject::subject_of;
 use route_wire::Register;
 use std::cmp::Ordering;
 use std::marker::Model;
@@ -50,8 +52,15 @@ impl Ord for RegisterKey {
 
     ghost matches_eq = { tied_registers };
 
+    // In a search in a tree of one subject, two numbers are compared and then mostly the originators.
+    #[tactic(auto, using(crate::proofs::Subjects::less_by_subject, crate::proofs::Subjects::greater_by_subject, crate::specs::Inner::Ranks::subject_exact))]
     fn cmp(&self, other: &RegisterKey) -> Ordering {
-        self.register.cmp(&other.register)
+        let subject = subject_of(&self.register.key);
+        match subject.cmp(&subject_of(&other.register.key)) {
+            Ordering::Less => Ordering::Less,
+            Ordering::Equal => cmp_within(&self.register, &other.register),
+            Ordering::Greater => Ordering::Greater,
+        }
     }
 }
 
