@@ -1,4 +1,4 @@
--- Registers that differ by `==` are those that differ in report order.
+-- Registers that are equal by `==` are the same.
 use Rattle.std.proofs.Common.{◌≡◌, true, sym, ◌∙◌}
 use Rattle.route_wire.specs.declared.update.Register.{Register}
 use Rattle.route_wire.specs.contracts.update.RegisterPartialEq.TheImpl as register
