@@ -101,6 +101,7 @@ impl Edge {
     }
 
     /// Decides where a frame of a network goes, in the place of another decision or of none.
+    #[inline(always)]
     fn send_if(
         &self,
         passes: bool,

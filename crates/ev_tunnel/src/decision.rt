@@ -215,6 +215,7 @@ pub fn decide(
 /// Decides the same, but gives no frame to the edges that are away: an address that such an edge
 /// owns is unknown, and no frame is flooded to such an edge. It overwrites another decision: a
 /// caller that reuses one decision avoids copies of a whole list of edges.
+#[inline(always)]
 pub fn decide_into(frame: Forwarding<'_>, members: u64, passing: u64, decision: &mut Decision)
     requires from { IsFrom frame.from }
     requires entry { ForSome frame.learnt IsPort }

@@ -289,6 +289,7 @@ impl MacTable {
     }
 
     /// Learns a station that is known.
+    #[inline(always)]
     fn learn_again(&mut self, node: usize, learned: &Learned, port: u8, second: u64) -> Learnt
         requires some { 0 < port }
         requires port { port ≤ length self.old.ports }

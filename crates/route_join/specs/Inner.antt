@@ -1,6 +1,6 @@
+pub mod Equals
 pub mod Group
 pub mod Groups
-pub mod Hashes
 pub mod LargeGroup
 pub mod Lines
 pub mod Names

@@ -1,6 +1,6 @@
 //! The place of a register in a group.
 ghost use Rattle.std.specs.Prelude.{◌≡◌};
-ghost use Rattle.route_wire.specs.Order.{ip_cmp, register_cmp};
+ghost use Rattle.route_wire.specs.Order.{ip_cmp, ip_order, register_cmp};
 ghost use Rattle.route_join.specs.Group.{AreAbout};
 ghost use Rattle.route_join.specs.Inner.Place.{place_of};
 ghost use Rattle.route_join.specs.Subject.{subject_of};
@@ -8,6 +8,22 @@ ghost use Rattle.route_join.specs.Table.{entries_of, IsOrdered};
 
 use route_wire::{Ip, Register, Update};
 use std::cmp::Ordering;
+
+/// Returns the order of two IP addresses. Those of one version are compared by their numbers alone.
+fn cmp_numbers(one: Ip, other: Ip) -> Ordering
+    ensures { result ≡ ip_order one other }
+{
+    match one {
+        Ip::V4(one) => match other {
+            Ip::V4(other) => one.cmp(&other),
+            Ip::V6(_) => Ordering::Less,
+        },
+        Ip::V6(one) => match other {
+            Ip::V4(_) => Ordering::Greater,
+            Ip::V6(other) => one.cmp(&other),
+        },
+    }
+}
 
 /// Returns the order of two IP addresses, none first.
 #[tactic(auto, using(crate::proofs::Within::none_first, crate::proofs::Within::none_last))]
@@ -18,7 +34,7 @@ fn cmp_ips(one: Option<Ip>, other: Option<Ip>) -> Ordering
         (None, None) => Ordering::Equal,
         (None, Some(_)) => Ordering::Less,
         (Some(_), None) => Ordering::Greater,
-        (Some(one), Some(other)) => one.cmp(&other),
+        (Some(one), Some(other)) => cmp_numbers(one, other),
     }
 }
 
@@ -26,7 +42,7 @@ fn cmp_ips(one: Option<Ip>, other: Option<Ip>) -> Ordering
 /// walk to the first register most other registers have lower originators, so this case is checked
 /// first.
 #[tactic(auto, using(crate::proofs::Within::within, crate::proofs::Within::behind_lower))]
-fn cmp_within(one: &Register, other: &Register) -> Ordering
+pub(crate) fn cmp_within(one: &Register, other: &Register) -> Ordering
     requires { subject_of one.now.key ≡ subject_of other.now.key }
     ensures { result ≡ register_cmp one.now other.now }
 {

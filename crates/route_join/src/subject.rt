@@ -87,11 +87,11 @@ impl Subject {
 // One write; a derived implementation would make two.
 impl Hash for Subject {
     ghost use Rattle.std.specs.Hash as fed;
-    ghost use Rattle.route_join.specs.Inner.Hashes.{same_hashes};
+    ghost use Rattle.route_join.specs.Inner.Ranks.{same_subject};
 
     ghost hash_input = { λ s. fed.u128 (subject_number s) };
 
-    ghost respects_eq = { same_hashes };
+    ghost respects_eq = { λ x y e i. fed.u128 (subject_number (same_subject x y e i)) };
 
     fn hash<H: Hasher>(&self, state: &mut H) {
         state.write_u128(self.number());

@@ -236,6 +236,7 @@ impl Table {
     /// it. Of the originators that advertise it, with any IP address or none, a static one comes
     /// first, then the one with the higher sequence number, then the one with the lower address
     /// (RFC 7432, section 15).
+    #[inline(always)]
     pub fn owner(&self, vni: Vni, mac: Mac) -> Option<Addr>
         ensures value { result ≡ owner self.now vni mac }
         ensures best { MatchOption result (IsUnowned self.now vni mac) (IsOwner self.now vni mac) }

@@ -248,7 +248,7 @@ fn write_update(header: &Header, route: &[u8], ip_octets: usize, update: &mut Up
 }
 
 /// Writes the update of a record, or returns its refusal, the first that applies.
-// Inlined: a caller that knows some of the route makes the tests of it for nothing.
+// Inlined, as `refusal` is: a caller that knows some of the route makes no tests of it.
 #[inline(always)]
 fn read_route(header: &Header, route: &[u8], ip_octets: usize, update: &mut Update) -> Option<u8>
     requires octets { ip_octets ≡ ip_len route.now }

@@ -139,6 +139,8 @@ fn has_bad_mac(route: &[u8]) -> bool
 }
 
 /// Returns the first refusal of a whole record that applies. `ip_octets` is what `ip_len` returns.
+// Inlined: a caller that knows the type and `ip_octets` makes no tests of them.
+#[inline(always)]
 pub(crate) fn refusal(header: &Header, route: &[u8], ip_octets: usize) -> Option<u8>
     requires octets { ip_octets ≡ ip_len route.now }
     ensures value { result ≡ refusal_of header.now route.now }
