@@ -1,4 +1,5 @@
 pub mod Walking
 pub mod Counting
+pub mod Adding
 pub mod Opening
 pub mod Lines

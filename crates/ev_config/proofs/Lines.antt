@@ -13,8 +13,8 @@ use Rattle.ev_config.specs.declared.faults.FaultyKey.{FaultyKey}
 use Rattle.ev_config.specs.declared.whole.Use.{Use}
 use Rattle.ev_config.specs.Faults.{Faulty, faults_in}
 use Rattle.ev_config.specs.Inner.Faults.{faulty_of, faults_view}
-use Rattle.ev_config.specs.Told.{line_text, lines_text, spot_text, range_text, is_plain, IsShown, IsAbout, AreAbout, TellsEach}
-use Rattle.ev_config.specs.Told.{TellsRefusal, AreFaultLines}
+use Rattle.ev_config.specs.Told.{line_text, lines_text, spot_text, range_text, is_plain, IsShown, IsAbout, AreAbout}
+use Rattle.ev_config.specs.Told.{TellsEach, TellsRefusal, AreFaultLines}
 use Rattle.ev_config.specs.Inner.Told.{TellsFault, TellsFaults}
 
 -- one line more

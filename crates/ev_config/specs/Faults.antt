@@ -12,8 +12,8 @@ use Rattle.ev_config.specs.declared.whole.Use.{Use}
 use Rattle.ev_config.specs.declared.whole.Use.TheVariants.{Any, Run, Serve}
 use Rattle.ev_config.specs.Schema.{Key, Row, hello, max_age, forward_delay}
 use Rattle.ev_config.specs.Schema.{file_rows, served_rows, edge_rows, port_rows, peer_rows}
-use Rattle.ev_config.specs.Keys.{number_in, flag_in, addr_in, bridge_in, endpoint_in, path_in, vni_in, new_among, vnis_in}
-use Rattle.ev_config.specs.Keys.{tables_in, tables_beside, count_of, spelt, known_number, tables_at, keys_of, times_fit}
+use Rattle.ev_config.specs.Keys.{number_in, flag_in, addr_in, bridge_in, endpoint_in, path_in, vni_in, new_among}
+use Rattle.ev_config.specs.Keys.{vnis_in, tables_in, tables_beside, count_of, spelt, known_number, tables_at, keys_of, times_fit}
 
 -- a table of the document; edges, ports of an edge, and peers count from 1
 pub data Spot : Type 0 where
@@ -34,7 +34,7 @@ pub record Names : Type 0 where
 abbrev pub no_names : Names
 no_names = record { addresses = []; bridges = [] }
 
--- what the values of a table depend on: whether the document is for a run, the names of the tables before, the VNIs
+-- the conditions on the values of a table: whether the document is for a run, the names of the tables before, the VNIs
 -- of the edge, if they are known, and the number of edges
 pub record Context : Type 0 where
   pub for_run : Bool

@@ -69,7 +69,7 @@ row_text (Some row) = kind_text row.1
 abbrev pub range_text : Use → Faulty → List ℕ
 range_text wanted fault = row_text (find_row (rows_at wanted fault.0) fault.1)
 
--- where the fault is, its key, what was found there, the range that is allowed, and some advice
+-- the place of the fault, its key, the value found, the allowed range, and some advice
 abbrev pub IsAbout : Use → Faulty → List ℕ → Type 0
 IsAbout wanted fault words =
     (shown found advice : List ℕ) × IsShown fault.1 shown

@@ -1,8 +1,8 @@
 //! The allowed values of a key, by its row of the schema.
-ghost use Rattle.std.specs.Prelude.{◌≡◌, map, option_map};
+ghost use Rattle.std.specs.Prelude.{◌≡◌, ◌++◌, map, option_map};
 ghost use Rattle.ether_wire.specs.Ends.{IsOpen, Puts};
 ghost use Rattle.ev_config.specs.Faults.{rows_at};
-ghost use Rattle.ev_config.specs.Told.{steps_text, span_text, row_text};
+ghost use Rattle.ev_config.specs.Told.{numbered, steps_text, span_text, kind_text, row_text};
 ghost use Rattle.ev_config.specs.Inner.Faults.{spot_of, row_of};
 
 use crate::faults::row_at;
@@ -24,8 +24,18 @@ pub(crate) fn rows_of(wanted: Use, place: Place<'_>) -> &'static [Row]
     }
 }
 
+/// Writes a name and a number: `edge 2`.
+#[tactic(auto, using(ether_wire::proofs::Appending::with_text_twice))]
+pub(crate) fn put_number<N: Out>(notes: &mut N, name: &[u8], number: usize) -> Result<(), Device>
+    requires { IsOpen (N.end notes.old) }
+    ensures { Puts (N.end notes.old) (N.end notes.new) (numbered name.now number) result }
+{
+    notes.put(name)?;
+    put_decimal(notes, number as u64)
+}
+
 /// Writes the steps of a range, if it has any: ` in steps of 16`.
-#[tactic(auto, using(ether_wire::proofs::Appending::with_text_twice, ether_wire::proofs::Appending::with_text_none))]
+#[tactic(auto, using(ether_wire::proofs::Appending::with_text_none))]
 fn put_steps<N: Out>(notes: &mut N, step: u64) -> Result<(), Device>
     requires { IsOpen (N.end notes.old) }
     ensures { Puts (N.end notes.old) (N.end notes.new) (steps_text step) result }
@@ -33,8 +43,7 @@ fn put_steps<N: Out>(notes: &mut N, step: u64) -> Result<(), Device>
     if step == 0 {
         return Ok(());
     }
-    notes.put(b" in steps of ")?;
-    put_decimal(notes, step)
+    put_number(notes, b" in steps of ", step as usize)
 }
 
 /// Writes a range: `0 to 240 in steps of 16`.
@@ -49,22 +58,38 @@ fn put_span<N: Out>(notes: &mut N, range: Range) -> Result<(), Device>
     put_steps(notes, range.2)
 }
 
+/// Writes words and a range.
+#[tactic(auto, using(ether_wire::proofs::Appending::with_text_twice))]
+fn put_lead<N: Out>(notes: &mut N, words: &[u8], range: Range) -> Result<(), Device>
+    requires { IsOpen (N.end notes.old) }
+    ensures { Puts (N.end notes.old) (N.end notes.new) (words.now ++ span_text range) result }
+{
+    notes.put(words)?;
+    put_span(notes, range)
+}
+
+/// Writes the values that a kind allows, if that is a range.
+#[tactic(auto, using(ether_wire::proofs::Appending::with_text_none))]
+fn put_kind<N: Out>(notes: &mut N, kind: Kind) -> Result<(), Device>
+    requires { IsOpen (N.end notes.old) }
+    ensures { Puts (N.end notes.old) (N.end notes.new) (kind_text kind) result }
+{
+    match kind {
+        Kind::Number(range) => put_lead(notes, b"allowed are ", range),
+        Kind::Vnis => put_lead(notes, b"allowed are 1 to 64 different numbers, ", VNI),
+        _ => Ok(()),
+    }
+}
+
 /// Writes the range that a row allows, if it has one.
-#[tactic(auto, using(ether_wire::proofs::Appending::with_text_twice, ether_wire::proofs::Appending::with_text_none))]
+#[tactic(auto, using(ether_wire::proofs::Appending::with_text_none))]
 pub(crate) fn put_range<N: Out>(notes: &mut N, row: Option<Row>) -> Result<(), Device>
     requires { IsOpen (N.end notes.old) }
     ensures { Puts (N.end notes.old) (N.end notes.new) (row_text (option_map row_of row)) result }
 {
     match row {
-        Some(Row(_, Kind::Number(range), _)) => {
-            notes.put(b"allowed are ")?;
-            put_span(notes, range)
-        }
-        Some(Row(_, Kind::Vnis, _)) => {
-            notes.put(b"allowed are 1 to 64 different numbers, ")?;
-            put_span(notes, VNI)
-        }
-        _ => Ok(()),
+        Some(Row(_, kind, _)) => put_kind(notes, kind),
+        None => Ok(()),
     }
 }
 

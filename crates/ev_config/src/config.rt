@@ -12,7 +12,7 @@ use crate::edges::edges_of;
 use crate::faults::FaultyKey;
 use crate::schema::{IDLE, PEER_HOLD};
 use crate::values::{number, path_at, tables_at};
-use crate::walk::{Walk, walk};
+use crate::walk::walk;
 use crate::whole::{Config, Served, Use};
 use arrayvec::ArrayVec;
 use ether_wire::Addr;
@@ -78,14 +78,13 @@ fn edges_in(
 }
 
 /// Returns the configuration of a document for a use.
-#[tactic(auto, using(crate::proofs::Opening::opens))]
 fn whole_in(alloc: Global, wanted: Use, document: &Table) -> Result<Config, ConfigRefusal>
     ensures value { Gives view_of (whole_in wanted (table_view document.now)) result }
     ensures opens { IfOk result (λ c. AreConfigs c.edges.items) }
 {
-    let Walk { faults, names } = walk(alloc, wanted, document)?;
-    refuse(alloc, faults.as_slice())?;
-    Ok(edges_in(alloc, &names.addresses, document)?)
+    let found = walk(alloc, wanted, document)?;
+    refuse(alloc, found.faults.as_slice())?;
+    Ok(edges_in(alloc, &found.names.addresses, document)?)
 }
 
 /// Returns the configuration of a document of edges that answer queries while they run.

@@ -6,7 +6,7 @@ ghost use Rattle.ev_config.specs.ConfigPort.{port_of, link_of};
 ghost use Rattle.ev_config.specs.ConfigEdge.{tree_of, edge_of, links_of};
 ghost use Rattle.ev_config.specs.Config.{edges_of, view_of};
 
-use crate::endpoint::PortEndpoints;
+use crate::endpoint::{Endpoint, PortEndpoints};
 use crate::schema::{
     AGEING, BUCKETS, CAPACITY, COST, FORWARD_DELAY, HELLO, HOLD, INCARNATION, MAX_AGE,
     PORT_PRIORITY, PRIORITY, SALT,
@@ -44,45 +44,61 @@ fn port_of(table: &Table) -> PortConfig
 fn link_of(table: &Table) -> PortEndpoints
     ensures { result ≡ link_of (table_view table.now) }
 {
-    PortEndpoints {
-        local: endpoint_at(table, "local"),
-        remote: endpoint_at(table, "remote"),
-    }
+    let local: Option<Endpoint> = endpoint_at(table, "local");
+    let remote: Option<Endpoint> = endpoint_at(table, "remote");
+    PortEndpoints { local, remote }
 }
 
-/// Returns the ports of an edge's table.
+/// Returns the ports of these tables.
 #[tactic(auto, using(crate::proofs::Walking::items_more))]
-fn ports_of(table: &Table) -> ArrayVec<PortConfig, 64>
-    ensures { result.items
-        ≡ map port_of (tables_of (tables_at (codes "port") (table_view table.now))) }
+fn ports_of(tables: &Array) -> ArrayVec<PortConfig, 64>
+    requires { length tables.now.items ≤ 64 }
+    ensures { result.items ≡ map port_of (tables_of (array_view tables.now)) }
 {
     let mut ports = ArrayVec::new();
-    let Some(tables) = tables_at(table, "port") else {
-        return ports;
-    };
     for value in tables {
-        if let Some(one) = value.as_table() {
-            ports.push(port_of(one));
+        if let Some(table) = value.as_table() {
+            ports.push(port_of(table));
         }
     }
     ports
 }
 
-/// Returns the endpoints of the ports of an edge's table.
+/// Returns the ports of an edge's table.
+fn ports_at(table: &Table) -> ArrayVec<PortConfig, 64>
+    ensures { result.items
+        ≡ map port_of (tables_of (tables_at (codes "port") (table_view table.now))) }
+{
+    match tables_at(table, "port") {
+        Some(tables) => ports_of(tables),
+        None => ArrayVec::new(),
+    }
+}
+
+/// Returns the endpoints of these tables of ports.
 #[tactic(auto, using(crate::proofs::Walking::items_more))]
-fn links_of(table: &Table) -> ArrayVec<PortEndpoints, 64>
-    ensures { result ≡ links_of (table_view table.now) }
+fn links_of(tables: &Array) -> ArrayVec<PortEndpoints, 64>
+    requires { length tables.now.items ≤ 64 }
+    ensures { result.items ≡ map link_of (tables_of (array_view tables.now)) }
 {
     let mut links = ArrayVec::new();
-    let Some(tables) = tables_at(table, "port") else {
-        return links;
-    };
     for value in tables {
-        if let Some(one) = value.as_table() {
-            links.push(link_of(one));
+        if let Some(table) = value.as_table() {
+            let PortEndpoints { local, remote } = link_of(table);
+            links.push(PortEndpoints { local, remote });
         }
     }
     links
+}
+
+/// Returns the endpoints of the ports of an edge's table.
+fn links_at(table: &Table) -> ArrayVec<PortEndpoints, 64>
+    ensures { result ≡ links_of (table_view table.now) }
+{
+    match tables_at(table, "port") {
+        Some(tables) => links_of(tables),
+        None => ArrayVec::new(),
+    }
 }
 
 /// Returns the identifier and the times of an edge's bridge.
@@ -124,7 +140,7 @@ fn edge_of(listed: &ArrayVec<Addr, 64>, table: &Table) -> EdgeConfig
         capacity: capacity as usize,
         buckets: number_or(capacity, table, "buckets", BUCKETS) as usize,
         salt: number(table, "salt", SALT),
-        ports: ports_of(table),
+        ports: ports_at(table),
     }
 }
 
@@ -144,7 +160,7 @@ pub(crate) fn edges_of(
     for value in tables {
         if let Some(table) = value.as_table() {
             edges.push(edge_of(listed, table))?;
-            links.push(links_of(table))?;
+            links.push(links_at(table))?;
         }
     }
     Ok(Config { edges, links })

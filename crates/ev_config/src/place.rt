@@ -1,4 +1,4 @@
-//! The tables of a document, and what their values depend on.
+//! The tables of a document, and the conditions on their values.
 ghost use Rattle.std.specs.Prelude.{◌≤◌};
 
 use crate::names::Names;
@@ -19,7 +19,7 @@ pub(crate) enum Place<'a> {
     Peer(usize, &'a Table),
 }
 
-/// What the values of a table depend on.
+/// The conditions on the values of a table.
 #[derive(Drop)]
 pub(crate) struct Context<'a> {
     /// Whether the document is for a run.

@@ -6,18 +6,18 @@ ghost use Rattle.toml.specs.View.{table_view};
 ghost use Rattle.ether_wire.specs.Ends.{IsOpen, Puts};
 ghost use Rattle.ev_config.specs.Faults.{Port};
 ghost use Rattle.ev_config.specs.Inner.Faults.{spot_of, faulty_of, faults_view, row_of};
-ghost use Rattle.ev_config.specs.Told.{line_text, numbered, spot_text, row_text, is_odd, is_plain, TellsEach, TellsRefusal};
+ghost use Rattle.ev_config.specs.Told.{line_text, spot_text, row_text, is_odd, is_plain, TellsEach, TellsRefusal};
 ghost use Rattle.ev_config.specs.Inner.Told.{PutsKey, TellsFault, TellsFaults, line_at};
 
 use crate::advice::{advice_line, found_line};
-use crate::allowed::{put_range, rows_of};
+use crate::allowed::{put_number, put_range, rows_of};
 use crate::faults::{FaultyKey, row_at};
 use crate::line::Line;
 use crate::place::Place;
 use crate::schema::Row;
 use crate::walk::walk;
 use crate::whole::Use;
-use ether_wire::{Device, Out, put_decimal};
+use ether_wire::{Device, Out};
 use std::alloc::Global;
 use toml::Table;
 use toml::de::Error;
@@ -69,16 +69,6 @@ fn put_line<N: Out>(notes: &mut N, line: &Line) -> Result<(), Device>
 {
     notes.put(line.octets())?;
     notes.put(b"\n")
-}
-
-/// Writes the number of a table of this name: `edge 2`.
-#[tactic(auto, using(ether_wire::proofs::Appending::with_text_twice))]
-fn put_number<N: Out>(notes: &mut N, name: &[u8], number: usize) -> Result<(), Device>
-    requires { IsOpen (N.end notes.old) }
-    ensures { Puts (N.end notes.old) (N.end notes.new) (numbered name.now number) result }
-{
-    notes.put(name)?;
-    put_decimal(notes, number as u64)
 }
 
 /// Writes the place of a port: `edge 2, port 3: `.
@@ -228,7 +218,7 @@ fn put_faults<N: Out>(
         result }
 {
     match walk(alloc, wanted, document) {
-        Ok(walk) => put_lines(notes, alloc, wanted, document, walk.faults.as_slice()),
+        Ok(found) => put_lines(notes, alloc, wanted, document, found.faults.as_slice()),
         Err(_) => put_line(notes, &plain_line(key)),
     }
 }

@@ -1,8 +1,8 @@
 //! The faults of a document: one walk over its tables.
 ghost use Rattle.std.specs.Prelude.{◌≡◌, ◌+◌, ◌≤◌, map, length, codes, Some, IfOk, IfSome, OnOk};
-ghost use Rattle.toml.specs.View.{table_view};
+ghost use Rattle.toml.specs.View.{table_view, array_view};
 ghost use Rattle.ev_config.specs.Keys.{times_fit, count_of};
-ghost use Rattle.ev_config.specs.Faults.{times_in, ports_faults, edge_faults, edges_faults, peer_faults, peers_faults, after_all, rows_for, own_faults, peers_beside, faults_in, names_in};
+ghost use Rattle.ev_config.specs.Faults.{times_in, is_odd, ports_faults, edge_faults_by, edge_faults, edges_faults, peer_faults, peers_faults, after_all, rows_for, is_run, own_faults, peers_beside, faults_in, names_in};
 ghost use Rattle.ev_config.specs.Inner.Faults.{faults_view, Adds, row_of, names_view, context_view, items_at};
 
 use crate::faults::{FaultyKey, add_if, add_table};
@@ -34,9 +34,41 @@ fn times_in(table: &Table) -> Option<bool>
     Some(times_fit(hello, max_age, forward_delay))
 }
 
-/// Collects the faults of these ports of an edge, if there are any.
+/// Returns `true` if the times of an edge are right and don't fit together.
+fn has_odd_times(table: &Table) -> bool
+    ensures { result ≡ is_odd (times_in (table_view table.now)) }
+{
+    match times_in(table) {
+        Some(fit) => !fit,
+        None => false,
+    }
+}
+
+/// Collects the faults of these ports of an edge.
 #[tactic(auto, using(crate::proofs::Walking::items_more))]
 fn add_ports<'a>(
+    faults: &mut Vec<FaultyKey<'a>>,
+    context: &Context<'_>,
+    edge: usize,
+    tables: &'a Array,
+) -> Result<(), AllocError>
+    requires { length tables.now.items ≤ 64 }
+    ensures { Adds (ports_faults (context_view context.now) edge 1 (array_view tables.now))
+        faults.old.items faults.new.items result }
+{
+    let mut port = 1usize;
+    for value in tables {
+        if let Some(table) = value.as_table() {
+            let place = Place::Port(edge, port, table);
+            add_table(faults, context, place, &PORT, table)?;
+        }
+        port += 1;
+    }
+    Ok(())
+}
+
+/// Collects the faults of these ports of an edge, if there are any.
+fn add_ports_at<'a>(
     faults: &mut Vec<FaultyKey<'a>>,
     context: &Context<'_>,
     edge: usize,
@@ -46,23 +78,26 @@ fn add_ports<'a>(
     ensures { Adds (ports_faults (context_view context.now) edge 1 (items_at tables.entry))
         faults.old.items faults.new.items result }
 {
-    let Some(array) = tables else {
-        return Ok(());
-    };
-    let mut port = 1usize;
-    for value in array {
-        if let Some(table) = value.as_table() {
-            add_table(
-                faults,
-                context,
-                Place::Port(edge, port, table),
-                &PORT,
-                table,
-            )?;
-        }
-        port += 1;
+    match tables {
+        Some(array) => add_ports(faults, context, edge, array),
+        None => Ok(()),
     }
-    Ok(())
+}
+
+/// Collects the faults of an edge, under these conditions.
+fn add_edge_by<'a>(
+    faults: &mut Vec<FaultyKey<'a>>,
+    context: &Context<'_>,
+    edge: usize,
+    table: &'a Table,
+) -> Result<(), AllocError>
+    ensures { Adds (edge_faults_by (context_view context.now) edge (table_view table.now))
+        faults.old.items faults.new.items result }
+{
+    let place = Place::Edge(edge, table);
+    add_table(faults, context, place, &EDGE, table)?;
+    add_if(has_odd_times(table), faults, place, "max_age")?;
+    add_ports_at(faults, context, edge, tables_at(table, "port"))
 }
 
 /// Collects the faults of an edge, given the names of the edges before it.
@@ -82,10 +117,7 @@ fn add_edge<'a>(
         vnis: vnis_at(table),
         edges: 0,
     };
-    let place = Place::Edge(edge, table);
-    add_table(faults, &context, place, &EDGE, table)?;
-    add_if(times_in(table) == Some(false), faults, place, "max_age")?;
-    add_ports(faults, &context, edge, tables_at(table, "port"))
+    add_edge_by(faults, &context, edge, table)
 }
 
 /// Returns the number of tables.
@@ -101,16 +133,46 @@ fn count_of(tables: Option<&Array>) -> usize
     }
 }
 
-/// Collects the faults of these edges, if there are any, and adds the names that they spell.
-#[tactic(auto, using(crate::proofs::Walking::items_more, crate::proofs::Walking::count_of_view))]
+/// Collects the faults of these edges, and adds the names that they spell.
+#[tactic(auto, using(crate::proofs::Walking::items_more))]
 fn add_edges<'a>(
+    faults: &mut Vec<FaultyKey<'a>>,
+    for_run: bool,
+    names: &mut Names,
+    tables: &'a Array,
+) -> Result<(), AllocError>
+    requires addresses { length names.old.addresses.items + length tables.now.items ≤ 64 }
+    requires bridges { length names.old.bridges.items + length tables.now.items ≤ 64 }
+    ensures faults { Adds (edges_faults for_run (names_view names.old) 1 (array_view tables.now))
+        faults.old.items faults.new.items result }
+    ensures names { OnOk result (names_view names.new
+        ≡ after_all (names_view names.old) (array_view tables.now)) }
+    ensures addresses { OnOk result (length names.new.addresses.items
+        ≤ length names.old.addresses.items + length tables.now.items) }
+    ensures bridges { OnOk result (length names.new.bridges.items
+        ≤ length names.old.bridges.items + length tables.now.items) }
+{
+    let mut edge = 1usize;
+    for value in tables {
+        if let Some(table) = value.as_table() {
+            add_edge(faults, for_run, names, edge, table)?;
+            names.join(table);
+        }
+        edge += 1;
+    }
+    Ok(())
+}
+
+/// Collects the faults of these edges, if there are any, and adds the names that they spell.
+#[tactic(auto, using(crate::proofs::Walking::count_of_view))]
+fn add_edges_at<'a>(
     faults: &mut Vec<FaultyKey<'a>>,
     for_run: bool,
     names: &mut Names,
     tables: Option<&'a Array>,
 ) -> Result<(), AllocError>
-    requires addresses { length names.old.addresses.items + count_of (items_at tables.entry) ≤ 64 }
-    requires bridges { length names.old.bridges.items + count_of (items_at tables.entry) ≤ 64 }
+    requires addresses { length names.old.addresses.items + count_of (items_at tables) ≤ 64 }
+    requires bridges { length names.old.bridges.items + count_of (items_at tables) ≤ 64 }
     ensures faults { Adds (edges_faults for_run (names_view names.old) 1 (items_at tables.entry))
         faults.old.items faults.new.items result }
     ensures names { OnOk result (names_view names.new
@@ -120,18 +182,10 @@ fn add_edges<'a>(
     ensures bridges { OnOk result (length names.new.bridges.items
         ≤ length names.old.bridges.items + count_of (items_at tables.entry)) }
 {
-    let Some(array) = tables else {
-        return Ok(());
-    };
-    let mut edge = 1usize;
-    for value in array {
-        if let Some(table) = value.as_table() {
-            add_edge(faults, for_run, names, edge, table)?;
-            names.join(table);
-        }
-        edge += 1;
+    match tables {
+        Some(array) => add_edges(faults, for_run, names, array),
+        None => Ok(()),
     }
-    Ok(())
 }
 
 /// Collects the faults of a peer, given the names of the tables before it.
@@ -153,25 +207,22 @@ fn add_peer<'a>(
     add_table(faults, &context, Place::Peer(peer, table), &PEER, table)
 }
 
-/// Collects the faults of these peers, if there are any, and adds the names that they spell.
-#[tactic(auto, using(crate::proofs::Walking::items_more, crate::proofs::Walking::count_of_view))]
+/// Collects the faults of these peers, and adds the names that they spell.
+#[tactic(auto, using(crate::proofs::Walking::items_more))]
 fn add_peers<'a>(
     faults: &mut Vec<FaultyKey<'a>>,
     names: &mut Names,
-    tables: Option<&'a Array>,
+    tables: &'a Array,
 ) -> Result<(), AllocError>
-    requires addresses { length names.old.addresses.items + count_of (items_at tables.entry) ≤ 64 }
-    requires bridges { length names.old.bridges.items + count_of (items_at tables.entry) ≤ 64 }
-    ensures faults { Adds (peers_faults (names_view names.old) 1 (items_at tables.entry))
+    requires addresses { length names.old.addresses.items + length tables.now.items ≤ 64 }
+    requires bridges { length names.old.bridges.items + length tables.now.items ≤ 64 }
+    ensures faults { Adds (peers_faults (names_view names.old) 1 (array_view tables.now))
         faults.old.items faults.new.items result }
     ensures names { OnOk result (names_view names.new
-        ≡ after_all (names_view names.old) (items_at tables.entry)) }
+        ≡ after_all (names_view names.old) (array_view tables.now)) }
 {
-    let Some(array) = tables else {
-        return Ok(());
-    };
     let mut peer = 1usize;
-    for value in array {
+    for value in tables {
         if let Some(table) = value.as_table() {
             add_peer(faults, names, peer, table)?;
             names.join(table);
@@ -179,6 +230,36 @@ fn add_peers<'a>(
         peer += 1;
     }
     Ok(())
+}
+
+/// Collects the faults of these peers, if there are any, and adds the names that they spell.
+#[tactic(auto, using(crate::proofs::Walking::count_of_view))]
+fn add_peers_at<'a>(
+    faults: &mut Vec<FaultyKey<'a>>,
+    names: &mut Names,
+    tables: Option<&'a Array>,
+) -> Result<(), AllocError>
+    requires addresses { length names.old.addresses.items + count_of (items_at tables) ≤ 64 }
+    requires bridges { length names.old.bridges.items + count_of (items_at tables) ≤ 64 }
+    ensures faults { Adds (peers_faults (names_view names.old) 1 (items_at tables.entry))
+        faults.old.items faults.new.items result }
+    ensures names { OnOk result (names_view names.new
+        ≡ after_all (names_view names.old) (items_at tables.entry)) }
+{
+    match tables {
+        Some(array) => add_peers(faults, names, array),
+        None => Ok(()),
+    }
+}
+
+/// Returns `true` if ports need their endpoints for this use.
+fn is_run(wanted: Use) -> bool
+    ensures { result ≡ is_run wanted }
+{
+    match wanted {
+        Use::Any => false,
+        Use::Run | Use::Serve => true,
+    }
 }
 
 /// Returns the rows of the document's own keys.
@@ -232,7 +313,7 @@ fn peers_at<'a>(wanted: Use, document: &'a Table, edges: usize) -> Option<&'a Ar
 
 /// The faults of a document, and the names of its edges and peers.
 #[derive(Drop)]
-pub(crate) struct Walk<'a> {
+pub(crate) struct Findings<'a> {
     /// Its faults, in their order.
     pub(crate) faults: Vec<FaultyKey<'a>>,
     /// The names of its edges and peers.
@@ -249,7 +330,7 @@ pub(crate) fn walk<'a>(
     alloc: Global,
     wanted: Use,
     document: &'a Table,
-) -> Result<Walk<'a>, AllocError>
+) -> Result<Findings<'a>, AllocError>
     ensures faults { IfOk result (λ w. faults_view w.faults.items
         ≡ faults_in wanted (table_view document.now)) }
     ensures names { IfOk result (λ w. names_view w.names
@@ -261,7 +342,7 @@ pub(crate) fn walk<'a>(
     let count = count_of(edges);
     let peers = peers_at(wanted, document, count);
     add_own(&mut faults, wanted, count, document)?;
-    add_edges(&mut faults, wanted != Use::Any, &mut names, edges)?;
-    add_peers(&mut faults, &mut names, peers)?;
-    Ok(Walk { faults, names })
+    add_edges_at(&mut faults, is_run(wanted), &mut names, edges)?;
+    add_peers_at(&mut faults, &mut names, peers)?;
+    Ok(Findings { faults, names })
 }

@@ -19,7 +19,8 @@ PutsKey key old new result = (shown : List ℕ) × IsShown key shown × Puts old
 
 -- a line about the fault, or a call failed
 abbrev pub TellsFault : Use → Faulty → End → End → Result (Unit {0}) Device → Type 0
-TellsFault wanted fault old new result = (words : List ℕ) × IsAbout wanted fault words × Puts old new (line_text words) result
+TellsFault wanted fault old new result =
+    (words : List ℕ) × IsAbout wanted fault words × Puts old new (line_text words) result
 
 -- the line of the octet at a place of a text, from 1: one line more for each line feed (10) before it
 abbrev pub line_at : List ℕ → ℕ → ℕ

@@ -7,6 +7,7 @@ use Rattle.ev_config.proofs.faults.add_rows.Given as goal
 abbrev pub invariant-loop-row : goal.invariant-loop-row
 invariant-loop-row l =
     faults_view l.faults.items
-    ++ rows_faults (context_view l.context) (spot_of l.place) (map row_of (drop l.row-index l.rows)) (table_view l.table)
+    ++ rows_faults (context_view l.context) (spot_of l.place) (map row_of (drop l.row-index l.rows))
+    (table_view l.table)
     ≡ faults_view l.initial.faults.items
     ++ rows_faults (context_view l.context) (spot_of l.place) (map row_of l.rows) (table_view l.table)

@@ -17,4 +17,6 @@ loop-fault-preserved g c =
 pub returns : goal.returns
 returns g c =
     let before = c.loop-fault.invariant in
-    (before.0, lines_all c.args.wanted c.args.faults.now c.loop-fault.fault-index before.0 c.loop-fault-test.false before.1, before.2)
+    let all = lines_all c.args.wanted c.args.faults.now c.loop-fault.fault-index before.0 c.loop-fault-test.false
+    before.1 in
+    (before.0, all, before.2)

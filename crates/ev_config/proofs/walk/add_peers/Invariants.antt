@@ -9,10 +9,10 @@ invariant-loop-value l = record {
   count : l.peer ≡ l.value-index + 1;
   addresses : length l.names.addresses.items ≤ length l.initial.names.addresses.items + l.value-index;
   bridges : length l.names.bridges.items ≤ length l.initial.names.bridges.items + l.value-index;
-  names : after_all (names_view l.names) (items_view (drop l.value-index l.array.items))
-      ≡ after_all (names_view l.initial.names) (items_view l.array.items);
+  names : after_all (names_view l.names) (items_view (drop l.value-index l.tables.items))
+      ≡ after_all (names_view l.initial.names) (items_view l.tables.items);
   value : faults_view l.faults.items
-      ++ peers_faults (names_view l.names) l.peer (items_view (drop l.value-index l.array.items))
+      ++ peers_faults (names_view l.names) l.peer (items_view (drop l.value-index l.tables.items))
       ≡ faults_view l.initial.faults.items
-      ++ peers_faults (names_view l.initial.names) 1 (items_view l.array.items);
+      ++ peers_faults (names_view l.initial.names) 1 (items_view l.tables.items);
 }

@@ -8,7 +8,7 @@ abbrev pub invariant-loop-value : goal.invariant-loop-value
 invariant-loop-value l = record {
   count : l.port ≡ l.value-index + 1;
   value : faults_view l.faults.items
-      ++ ports_faults (context_view l.context) l.edge l.port (items_view (drop l.value-index l.array.items))
+      ++ ports_faults (context_view l.context) l.edge l.port (items_view (drop l.value-index l.tables.items))
       ≡ faults_view l.initial.faults.items
-      ++ ports_faults (context_view l.context) l.edge 1 (items_view l.array.items);
+      ++ ports_faults (context_view l.context) l.edge 1 (items_view l.tables.items);
 }
