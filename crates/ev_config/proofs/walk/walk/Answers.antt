@@ -10,7 +10,7 @@ returns-clause-faults c =
     all_added c.args.wanted (table_view c.args.document.now) c.new-faults.result.items c.add_own.new.faults.items
     c.add_edges_at.new.faults.items c.add_peers_at.new.faults.items (names_view c.new-names.result)
     (names_view c.add_edges_at.new.names) c.is_run.result c.count_of-count.result (items_at c.tables_at-edges.result)
-    (items_at c.peers_at-peers.result) c.new-faults.ensures c.new-names.ensures c.is_run.ensures
+    (items_at c.peers_at-peers.result) c.new-faults.ensures.items c.new-names.ensures c.is_run.ensures
     c.tables_at-edges.ensures.value c.count_of-count.ensures.value c.peers_at-peers.ensures.value
     c.in_ok-add_own.ensures c.in_ok-add_edges_at.ensures.faults c.in_ok-add_edges_at.ensures.names
     c.in_ok-add_peers_at.ensures.faults
