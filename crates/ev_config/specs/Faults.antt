@@ -13,7 +13,8 @@ use Rattle.ev_config.specs.declared.whole.Use.TheVariants.{Any, Run, Serve}
 use Rattle.ev_config.specs.Schema.{Key, Row, hello, max_age, forward_delay}
 use Rattle.ev_config.specs.Schema.{file_rows, served_rows, edge_rows, port_rows, peer_rows}
 use Rattle.ev_config.specs.Keys.{number_in, flag_in, addr_in, bridge_in, endpoint_in, path_in, vni_in, new_among}
-use Rattle.ev_config.specs.Keys.{vnis_in, tables_in, tables_beside, count_of, spelt, known_number, tables_at, keys_of, times_fit}
+use Rattle.ev_config.specs.Keys.{vnis_in, tables_in, tables_beside, count_of, spelt, known_number, tables_at}
+use Rattle.ev_config.specs.Keys.{keys_of, times_fit}
 
 -- a table of the document; edges, ports of an edge, and peers count from 1
 pub data Spot : Type 0 where

@@ -19,10 +19,6 @@ use Rattle.ev_config.specs.Schema.{Key, vni}
 abbrev pub is_within : Range → ℕ → Bool
 is_within range n = nat_le range.0 n && nat_le n range.1 && (range.2 == 0 || n % range.2 == 0)
 
--- the default is between the least and the greatest
-abbrev pub is_default : Range → Bool
-is_default range = nat_le range.0 range.3 && nat_le range.3 range.1
-
 abbrev pub within : Range → Option ℤ → Option ℕ
 within range (Some (pos n)) = if is_within range n then Some n else None
 within range (Some (negsuc n)) = None

@@ -4,7 +4,7 @@ ghost use Rattle.std.specs.List.{list_any, IsDistinct};
 ghost use Rattle.std.specs.Option.{option_map_or, unwrap_or};
 ghost use Rattle.toml.specs.Data.{get_member, no_items};
 ghost use Rattle.toml.specs.View.{view, table_view, array_view};
-ghost use Rattle.ev_config.specs.Keys.{is_within, is_default, number_in, known_number, number_or, flag_in, addr_in, bridge_in, endpoint_in, is_path, path_in, vni_in, vnis_in, new_among, numbers_from, is_few, are_tables, tables_in, tables_beside, spelt, number_at, flag_at, tables_at};
+ghost use Rattle.ev_config.specs.Keys.{is_within, number_in, known_number, number_or, flag_in, addr_in, bridge_in, endpoint_in, is_path, path_in, vni_in, vnis_in, new_among, numbers_from, is_few, are_tables, tables_in, tables_beside, spelt, number_at, flag_at, tables_at};
 
 use crate::endpoint::{Endpoint, read_endpoint};
 use crate::schema::{Range, VNI};
@@ -49,7 +49,7 @@ pub(crate) fn number_in(value: &Value, range: Range) -> Option<u64>
 
 /// Returns the number at a key, or the default if the key is missing; `None` if it is wrong.
 pub(crate) fn known_number(table: &Table, key: &str, range: Range) -> Option<u64>
-    requires { IsTrue (is_default range) }
+    requires { IsTrue (nat_le range.0 range.3 && nat_le range.3 range.1) }
     ensures value { result ≡ known_number key.now range (table_view table.now) }
     ensures high { IfSome result (λ n. n ≤ range.1) }
 {
@@ -75,7 +75,7 @@ pub(crate) fn number_or(default: u64, table: &Table, key: &str, range: Range) ->
 
 /// Returns the number at a key, or the default of its range.
 pub(crate) fn number(table: &Table, key: &str, range: Range) -> u64
-    requires { IsTrue (is_default range) }
+    requires { IsTrue (nat_le range.0 range.3 && nat_le range.3 range.1) }
     ensures value { result ≡ number_at key.now range (table_view table.now) }
     ensures low { range.0 ≤ result }
     ensures high { result ≤ range.1 }
