@@ -1,55 +1,48 @@
 -- Faults that are collected one after the other.
-use Rattle.std.proofs.Common.{◌≡◌, ℕ, List, ◌++◌, Ok, Err, ap, ◌∙◌, append_assoc}
+use Rattle.std.proofs.Common.{◌≡◌, ℕ, Bool, List, [], ◌++◌, Ok, Err, ap, ◌∙◌, append_assoc}
 use Rattle.std.specs.Prelude.{Result}
-use Rattle.ev_config.specs.declared.keys.Fault.{Fault}
-use Rattle.ev_config.specs.declared.keys.Fault.TheVariants as fault
+use Rattle.toml.specs.Data.{Items, Members}
 use Rattle.ev_config.specs.declared.faults.FaultyKey.{FaultyKey}
-use Rattle.ev_config.specs.Keys.{Key}
-use Rattle.ev_config.specs.Inner.Keys.{Gives}
-use Rattle.ev_config.specs.Faults.{Spot, Faulty, fault_at}
-use Rattle.ev_config.specs.Inner.Faults.{faults_view, HasFault, Adds}
-
--- the result of reading has its fault
-pub gives_fault : {X V : Type 0} (spot : Spot) (view : X → V) (wanted : Result V Key) (r : Result X Fault)
-    → Gives view wanted r → HasFault spot r (fault_at spot wanted)
-gives_fault spot view wanted (Ok x) g = ap (fault_at spot) g
-gives_fault spot view wanted (Err (fault.Key k)) g = ap (fault_at spot) g
-gives_fault spot view wanted (Err fault.NoMemory) g = tt
+use Rattle.ev_config.specs.declared.whole.Use.{Use}
+use Rattle.ev_config.specs.Keys.{count_of}
+use Rattle.ev_config.specs.Faults.{Faulty, Names, no_names, after_all, edges_faults, peers_faults, own_faults}
+use Rattle.ev_config.specs.Faults.{edge_items, is_run, peers_beside, peer_items, edge_names, names_in, faults_in}
+use Rattle.ev_config.specs.Inner.Faults.{faults_view, Adds}
 
 -- these, and then the rest
-pub adds_then : {Y : Type 0} (some rest : List Faulty) (v0 v1 vn : List FaultyKey) (end : Result Y Fault)
+pub adds_then : {Y E : Type 0} (some rest : List Faulty) (v0 v1 vn : List FaultyKey) (end : Result Y E)
     → faults_view v1 ≡ faults_view v0 ++ some → Adds rest v1 vn end → Adds (some ++ rest) v0 vn end
 adds_then some rest v0 v1 vn (Ok y) e more =
     more ∙ ap (λ l. l ++ rest) e ∙ append_assoc (faults_view v0) some rest
 adds_then some rest v0 v1 vn (Err any) e more = tt
 
--- the fault of a result is collected
-abbrev Notes : {X : Type 0} → Spot → Result X Fault → List FaultyKey → List FaultyKey → Type 0
-Notes spot r old new = (some : List Faulty) → HasFault spot r some → faults_view new ≡ faults_view old ++ some
+-- the names of all edges
+pub names_of_edges : (t : Members) (n0 n1 : Names) (es : Items) → n0 ≡ no_names → es ≡ edge_items t
+    → n1 ≡ after_all n0 es → n1 ≡ edge_names t
+names_of_edges t n0 n1 es zn ze k = k ∙ ap (λ (n : Names). after_all n es) zn ∙ ap (after_all no_names) ze
 
--- the fault of a result, and then the rest
-pub noted : {X V Y : Type 0} (spot : Spot) (view : X → V) (wanted : Result V Key) (r : Result X Fault)
-    (rest : List Faulty) (v0 v1 vn : List FaultyKey) (end : Result Y Fault)
-    → Notes spot r v0 v1 → Gives view wanted r → Adds rest v1 vn end → Adds (fault_at spot wanted ++ rest) v0 vn end
-noted spot view wanted r rest v0 v1 vn end adds g more =
-    adds_then (fault_at spot wanted) rest v0 v1 vn end
-    (adds (fault_at spot wanted) (gives_fault spot view wanted r g)) more
+-- the tables of all peers
+pub tables_of_peers : (w : Use) (t : Members) (count : ℕ) (es ps : Items) → es ≡ edge_items t → count ≡ count_of es
+    → ps ≡ peers_beside w count t → ps ≡ peer_items w t
+tables_of_peers w t count es ps ze zc zp = zp ∙ ap (λ (n : ℕ). peers_beside w n t) (zc ∙ ap count_of ze)
 
--- five numbers that are read, whose faults are collected one after the other
-pub five : {Y : Type 0} (spot : Spot) (a b c d e : Result ℕ Key) (ra rb rc rd re : Result ℕ Fault)
-    (v0 v1 v2 v3 v4 v5 : List FaultyKey) (end : Result Y Fault)
-    → Gives (λ n. n) a ra → Gives (λ n. n) b rb → Gives (λ n. n) c rc → Gives (λ n. n) d rd → Gives (λ n. n) e re
-    → Notes spot ra v0 v1 → Notes spot rb v1 v2 → Notes spot rc v2 v3 → Notes spot rd v3 v4
-    → ((some : List Faulty) → HasFault spot re some → Adds some v4 v5 end)
-    → Adds (fault_at spot a ++ (fault_at spot b ++ (fault_at spot c ++ (fault_at spot d ++ fault_at spot e)))) v0 v5 end
-five spot a b c d e ra rb rc rd re v0 v1 v2 v3 v4 v5 end ga gb gc gd ge na nb nc nd ne =
-    let r5 = fault_at spot e in
-    let r4 = fault_at spot d ++ r5 in
-    let r3 = fault_at spot c ++ r4 in
-    let r2 = fault_at spot b ++ r3 in
-    let id : ℕ → ℕ = λ n. n in
-    noted spot id a ra r2 v0 v1 v5 end na ga (
-    noted spot id b rb r3 v1 v2 v5 end nb gb (
-    noted spot id c rc r4 v2 v3 v5 end nc gc (
-    noted spot id d rd r5 v3 v4 v5 end nd gd (
-    ne r5 (gives_fault spot id e re ge)))))
+-- the faults of a document's own keys, of its edges and of its peers
+pub all_added : (w : Use) (t : Members) (v0 v1 v2 v3 : List FaultyKey) (n0 n1 : Names) (run : Bool) (count : ℕ)
+    (es ps : Items) → v0 ≡ [] → n0 ≡ no_names → run ≡ is_run w → es ≡ edge_items t → count ≡ count_of es
+    → ps ≡ peers_beside w count t → faults_view v1 ≡ faults_view v0 ++ own_faults w count t
+    → faults_view v2 ≡ faults_view v1 ++ edges_faults run n0 1 es → n1 ≡ after_all n0 es
+    → faults_view v3 ≡ faults_view v2 ++ peers_faults n1 1 ps → faults_view v3 ≡ faults_in w t
+all_added w t v0 v1 v2 v3 n0 n1 run count es ps z0 zn zr ze zc zp h1 h2 k1 h3 =
+    let own = own_faults w (count_of (edge_items t)) t in
+    let edges = edges_faults (is_run w) no_names 1 (edge_items t) in
+    let peers = peers_faults (edge_names t) 1 (peer_items w t) in
+    let e1 : faults_view v1 ≡ own = h1 ∙ ap (λ (l : List FaultyKey). faults_view l ++ own_faults w count t) z0
+    ∙ ap (λ (n : ℕ). own_faults w n t) (zc ∙ ap count_of ze) in
+    let e2 : faults_view v2 ≡ own ++ edges = h2 ∙ ap (λ (l : List Faulty). l ++ edges_faults run n0 1 es) e1
+    ∙ ap (λ (b : Bool). own ++ edges_faults b n0 1 es) zr
+    ∙ ap (λ (n : Names). own ++ edges_faults (is_run w) n 1 es) zn
+    ∙ ap (λ (ds : Items). own ++ edges_faults (is_run w) no_names 1 ds) ze in
+    h3 ∙ ap (λ (l : List Faulty). l ++ peers_faults n1 1 ps) e2
+    ∙ ap (λ (n : Names). (own ++ edges) ++ peers_faults n 1 ps) (names_of_edges t n0 n1 es zn ze k1)
+    ∙ ap (λ (ds : Items). (own ++ edges) ++ peers_faults (edge_names t) 1 ds) (tables_of_peers w t count es ps ze zc zp)
+    ∙ append_assoc own edges peers

@@ -1,6 +1,5 @@
 pub mod Walking
-pub mod Fitting
-pub mod Lines
-pub mod Agreeing
-pub mod Adding
 pub mod Counting
+pub mod Adding
+pub mod Opening
+pub mod Lines

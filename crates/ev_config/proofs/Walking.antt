@@ -1,9 +1,7 @@
 -- Lemmas on the items and the keys of a TOML table.
 use Rattle.std.proofs.Common.{◌≡◌, ℕ, ◌+◌, ◌<◌, List, [], ◌∷◌, length, map, drop, get_or, String, Global, string_bytes}
-use Rattle.std.proofs.Common.{refl, ap, arith, Bor}
-use Rattle.std.specs.List.{list_any}
+use Rattle.std.proofs.Common.{refl, ap, arith}
 use Rattle.std.specs.Map.{keys_of}
-use Rattle.std.specs.Str.{bytes_eq}
 use Rattle.toml.specs.Data.{item}
 use Rattle.toml.specs.View.{view, items_view, members_view}
 use Rattle.toml.specs.declared.value.Value.{Value}
@@ -21,8 +19,3 @@ count_of_view (v ∷ vs) = grind (arith, count_of_view vs)
 pub items_more : (vs : List Value) (i : ℕ) (d : Value) → i < length vs
     → items_view (drop i vs) ≡ item (view (get_or vs i d)) (items_view (drop (i + 1) vs))
 items_more = items_view-drop
-
-pub among-map : (key : List ℕ) (ks : List (Bor (List ℕ)))
-    → keys.is_among (map (λ k. k.now) ks) key ≡ list_any (λ k. bytes_eq k.now key) ks
-among-map key [] = refl
-among-map key (k ∷ ks) = rw (among-map key ks)

@@ -1,73 +1,54 @@
 -- The configuration that a document gives, or its first fault.
-use Rattle.std.specs.Prelude.{◌≡◌, ℕ, Bool, true, false, List, [], ◌∷◌, ◌++◌, map, codes, string_bytes, String}
+use Rattle.std.specs.Prelude.{◌≡◌, ℕ, Bool, true, false, List, [], ◌∷◌, map, codes, string_bytes, String}
 use Rattle.std.specs.Prelude.{Some, None, Result, Ok, Err}
+use Rattle.std.specs.Option.{unwrap_or}
 use Rattle.std.specs.declared.alloc.Global.{Global}
-use Rattle.toml.specs.Data.{Items, no_items, item, Members, as_table}
+use Rattle.toml.specs.Data.{Items, no_items, Members}
 use Rattle.toml.specs.Parse.{parse_document}
 use Rattle.arrayvec.specs.ArrayVec.{ArrayVec}
 use Rattle.ev_edge.specs.declared.config.EdgeConfig.{EdgeConfig}
 use Rattle.ev_config.specs.declared.endpoint.PortEndpoints.{PortEndpoints}
-use Rattle.ev_config.specs.declared.edge.Described.{Described}
 use Rattle.ev_config.specs.declared.whole.Config.{Config}
 use Rattle.ev_config.specs.declared.whole.Served.{Served}
 use Rattle.ev_config.specs.declared.whole.Use.{Use}
 use Rattle.ev_config.specs.declared.whole.Use.TheVariants.{Any, Run, Serve}
 use Rattle.ev_config.specs.declared.config.ConfigRefusal.{ConfigRefusal}
 use Rattle.ev_config.specs.declared.config.ConfigRefusal.TheVariants as refusal
-use Rattle.ev_config.specs.Keys.{Key, ◌>>=◌, read_or, required, optional, tables_in, count_of, tables_beside}
-use Rattle.ev_config.specs.Keys.{path_in, number_in, only}
-use Rattle.ev_config.specs.ConfigEdge.{edge_of}
-use Rattle.ev_config.specs.ConfigPeer.{listed_from}
-
--- the edges read so far
-pub record Edges : Type 0 where
-  pub addresses : List ℕ
-  pub bridges : List ℕ
-  pub configs : List EdgeConfig
-  pub links : List (ArrayVec PortEndpoints)
-
-abbrev pub no_edges : Edges
-no_edges = record { addresses = []; bridges = []; configs = []; links = [] }
-
-abbrev pub with_edge : Edges → Described → Edges
-with_edge before edge = record {
-  addresses = before.addresses ++ edge.config.address ∷ [];
-  bridges = before.bridges ++ edge.bridge ∷ [];
-  configs = before.configs ++ edge.config ∷ [];
-  links = before.links ++ edge.links ∷ [];
-}
-
--- the edges of the tables, after those before
-abbrev pub edges_from : Bool → Edges → Items → Result Edges Key
-edges_from for_run before no_items = Ok before
-edges_from for_run before (item d ds) = do
-  t ← read_or (codes "edge") (as_table d)
-  edge ← edge_of for_run before.addresses before.bridges t
-  edges_from for_run (with_edge before edge) ds
-
--- the edge lists these addresses
-abbrev pub listening : List ℕ → EdgeConfig → EdgeConfig
-listening addresses c = record c { originators = record { items = addresses } }
+use Rattle.ev_config.specs.Schema.{Key, idle, peer_hold}
+use Rattle.ev_config.specs.Keys.{path_in, spelt, number_at, tables_of}
+use Rattle.ev_config.specs.ConfigEdge.{edge_of, links_of}
+use Rattle.ev_config.specs.Faults.{Faulty, edge_items, names_in, faults_in}
 
 -- edges, and the links of each one's ports
 abbrev pub Whole : Type 0
 Whole = List EdgeConfig × List (ArrayVec PortEndpoints)
 
--- the edges, each of which lists these addresses, and the links of each one's ports
-abbrev pub told : List ℕ → Edges → Whole
-told addresses edges = (map (listening addresses) edges.configs, edges.links)
+-- the edges of these tables, each of which lists these addresses
+abbrev pub edges_of : List ℕ → Items → Whole
+edges_of listed edges = (map (edge_of listed) (tables_of edges), map links_of (tables_of edges))
 
--- the edges of these tables, each of which lists all
-abbrev pub described : Bool → Items → Result Whole Key
-described for_run tables = do
-  edges ← edges_from for_run no_edges tables
-  Ok (told edges.addresses edges)
+-- the edges of a document for a use; each lists all edges and all peers
+abbrev pub whole_of : Use → Members → Whole
+whole_of wanted t = edges_of (names_in wanted t).addresses (edge_items t)
+
+-- if there is no fault, the value; otherwise the first faulty key
+abbrev pub unless_faulty : {X : Type 0} → List Faulty → X → Result X Key
+unless_faulty [] x = Ok x
+unless_faulty (first ∷ more) x = Err first.1
+
+-- the configuration of a document for a use
+abbrev pub whole_in : Use → Members → Result Whole Key
+whole_in wanted t = unless_faulty (faults_in wanted t) (whole_of wanted t)
+
+abbrev pub use_for : Bool → Use
+use_for true = Run
+use_for false = Any
+
+abbrev pub config_faults : Bool → Members → List Faulty
+config_faults for_run = faults_in (use_for for_run)
 
 abbrev pub config_in : Bool → Members → Result Whole Key
-config_in for_run t = do
-  tables ← required (codes "edge") tables_in t
-  _ ← only (codes "edge" ∷ []) t
-  described for_run tables
+config_in for_run = whole_in (use_for for_run)
 
 abbrev pub view_of : Config → Whole
 view_of c = (c.edges.items, c.links.items)
@@ -90,33 +71,20 @@ ConfigOf for_run = TextGives view_of (config_in for_run)
 abbrev pub ServedWhole : Type 0
 ServedWhole = Whole × (List ℕ × (ℕ × ℕ))
 
-abbrev pub idle_of : Members → Result ℕ Key
-idle_of t = optional (codes "idle") (number_in 1 86400) 300 t
+abbrev pub served_whole : Members → ServedWhole
+served_whole t = (
+  whole_of Serve t,
+  (
+    unwrap_or (spelt (codes "control") path_in t) [],
+    (number_at (codes "idle") idle t, number_at (codes "peer_hold") peer_hold t),
+  ),
+)
 
--- with 0 none is ever away
-abbrev pub hold_of : Members → Result ℕ Key
-hold_of t = optional (codes "peer_hold") (number_in 0 86400) 90 t
-
-abbrev pub served_keys : List Key
-served_keys = codes "edge" ∷ codes "control" ∷ codes "idle" ∷ codes "peer_hold" ∷ codes "peer" ∷ []
-
--- each of these edges lists all edges, and the peers of these tables
-abbrev pub with_peers : Items → Edges → Result Whole Key
-with_peers peers edges = do
-  addresses ← listed_from edges.addresses peers
-  Ok (told addresses edges)
+abbrev pub served_faults : Members → List Faulty
+served_faults = faults_in Serve
 
 abbrev pub served_in : Members → Result ServedWhole Key
-served_in t = do
-  tables ← required (codes "edge") tables_in t
-  path ← required (codes "control") path_in t
-  idle ← idle_of t
-  hold ← hold_of t
-  peers ← optional (codes "peer") (tables_beside (count_of tables)) no_items t
-  _ ← only served_keys t
-  edges ← edges_from true no_edges tables
-  all ← with_peers peers edges
-  Ok (all, (path, (idle, hold)))
+served_in t = unless_faulty (served_faults t) (served_whole t)
 
 abbrev pub served_view : Served → ServedWhole
 served_view s = (view_of s.config, (string_bytes s.control, (s.idle, s.hold)))
@@ -137,3 +105,20 @@ abbrev pub ConfigFor : Use → List ℕ → Result Config ConfigRefusal → Type
 ConfigFor Any = ConfigOf false
 ConfigFor Run = ConfigOf true
 ConfigFor Serve = ServedEdgesOf
+
+-- ---- faults and the result of reading
+
+-- the first of these faults is at this key
+abbrev pub StartAt : Key → List Faulty → Type 0
+StartAt key [] = ⊥
+StartAt key (first ∷ more) = first.1 ≡ key
+
+-- There is no fault exactly if reading gives a value; otherwise the first fault is the one that reading returns.
+abbrev pub Agree : {X : Type 0} → Result X Key → List Faulty → Type 0
+Agree (Ok x) faults = faults ≡ []
+Agree (Err key) faults = StartAt key faults
+
+-- the faults and the reading agree for each use
+pub record ReadingsAgree : Type 0 where
+  pub config : (for_run : Bool) (t : Members) → Agree (config_in for_run t) (config_faults for_run t)
+  pub served : (t : Members) → Agree (served_in t) (served_faults t)

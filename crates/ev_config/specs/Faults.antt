@@ -1,15 +1,20 @@
 -- All faults of a document: its faulty keys, each with its table, in the order in which they are printed.
-use Rattle.std.specs.Prelude.{◌≡◌, ℕ, ◌+◌, Bool, true, false, if◌then◌else◌, List, [], ◌∷◌, ◌++◌, codes}
-use Rattle.std.specs.Prelude.{Option, Some, None, option_and_then, Result, Ok, Err}
+use Rattle.std.specs.Prelude.{ℕ, ◌+◌, Bool, true, false, not, ◌==◌, if◌then◌else◌, List, [], ◌∷◌, ◌++◌, codes}
+use Rattle.std.specs.Prelude.{is_some, is_none, Option, Some, None}
+use Rattle.std.specs.Option.{unwrap_or}
+use Rattle.ether_wire.specs.Parse.{◌>>=◌}
+use Rattle.std.specs.List.{list_any}
+use Rattle.std.specs.Str.{bytes_eq}
 use Rattle.toml.specs.Data.{Data, Items, no_items, item, Members, get_member, as_table}
+use Rattle.ev_config.specs.declared.schema.Kind.{Kind}
+use Rattle.ev_config.specs.declared.schema.Kind.TheVariants as kind
 use Rattle.ev_config.specs.declared.whole.Use.{Use}
 use Rattle.ev_config.specs.declared.whole.Use.TheVariants.{Any, Run, Serve}
-use Rattle.ev_config.specs.Keys.{Key, ◌>>=◌, required, optional, addr_in, bridge_in, vni_in, path_in, tables_in}
-use Rattle.ev_config.specs.Keys.{count_of, tables_beside, is_among, keys_of}
-use Rattle.ev_config.specs.ConfigPort as port
-use Rattle.ev_config.specs.ConfigEdge as edge
-use Rattle.ev_config.specs.ConfigPeer.{peer_keys}
-use Rattle.ev_config.specs.Config.{config_in, idle_of, hold_of, served_keys, served_in}
+use Rattle.ev_config.specs.Schema.{Key, Row, hello, max_age, forward_delay}
+use Rattle.ev_config.specs.Schema.{file_rows, served_rows, edge_rows, port_rows, peer_rows}
+use Rattle.ev_config.specs.Keys.{number_in, flag_in, addr_in, bridge_in, endpoint_in, path_in, vni_in, new_among}
+use Rattle.ev_config.specs.Keys.{vnis_in, tables_in, tables_beside, count_of, spelt, known_number, tables_at}
+use Rattle.ev_config.specs.Keys.{keys_of, times_fit}
 
 -- a table of the document; edges, ports of an edge, and peers count from 1
 pub data Spot : Type 0 where
@@ -22,208 +27,208 @@ pub data Spot : Type 0 where
 abbrev pub Faulty : Type 0
 Faulty = Spot × Key
 
--- the key is faulty if reading it gives no value
-abbrev pub fault_at : {X : Type 0} → Spot → Result X Key → List Faulty
-fault_at spot (Ok x) = []
-fault_at spot (Err k) = (spot, k) ∷ []
+-- the addresses and the bridges that tables spell
+pub record Names : Type 0 where
+  pub addresses : List ℕ
+  pub bridges : List ℕ
+
+abbrev pub no_names : Names
+no_names = record { addresses = []; bridges = [] }
+
+-- the conditions on the values of a table: whether the document is for a run, the names of the tables before, the VNIs
+-- of the edge, if they are known, and the number of edges
+pub record Context : Type 0 where
+  pub for_run : Bool
+  pub names : Names
+  pub vnis : Option (List ℕ)
+  pub edges : ℕ
+
+-- ---- a key
+
+-- one of these, if they are known
+abbrev pub is_known : Option (List ℕ) → Option ℕ → Bool
+is_known known None = false
+is_known None (Some n) = true
+is_known (Some vnis) (Some n) = list_any (λ x. x == n) vnis
+
+-- the value is one of this kind
+abbrev pub is_right : Context → Kind → Data → Bool
+is_right c kind.Address d = is_some (new_among c.names.addresses (addr_in d))
+is_right c kind.Bridge d = is_some (new_among c.names.bridges (bridge_in d))
+is_right c kind.Vnis d = is_some (vnis_in d)
+is_right c kind.Vni d = is_known c.vnis (vni_in d)
+is_right c (kind.Number range) d = is_some (number_in range d)
+is_right c (kind.Flag default) d = is_some (flag_in d)
+is_right c kind.Endpoint d = is_some (endpoint_in d)
+is_right c kind.Path d = is_some (path_in d)
+is_right c kind.Tables d = is_some (tables_in d)
+is_right c kind.Peers d = is_some (tables_beside c.edges d)
+
+-- the key may not be missing
+abbrev pub is_needed : Context → Kind → Bool
+is_needed c (kind.Number range) = false
+is_needed c (kind.Flag default) = false
+is_needed c kind.Peers = false
+is_needed c kind.Endpoint = c.for_run
+is_needed c kind.Address = true
+is_needed c kind.Bridge = true
+is_needed c kind.Vnis = true
+is_needed c kind.Vni = true
+is_needed c kind.Path = true
+is_needed c kind.Tables = true
+
+abbrev pub is_faulty_at : Context → Kind → Option Data → Bool
+is_faulty_at c k None = is_needed c k
+is_faulty_at c k (Some d) = not (is_right c k d)
+
+-- the key of this row is faulty
+abbrev pub is_faulty : Context → Row → Members → Bool
+is_faulty c row t = is_faulty_at c row.1 (get_member row.0 t)
 
 -- ---- a table
 
--- the faults of the keys that aren't among the known ones
-abbrev pub unknown : Spot → List Key → List Key → List Faulty
-unknown spot known [] = []
-unknown spot known (k ∷ ks) = if is_among known k then unknown spot known ks else (spot, k) ∷ unknown spot known ks
+-- a fault at this key, if there is one
+abbrev pub fault_if : Bool → Spot → Key → List Faulty
+fault_if b spot key = if b then (spot, key) ∷ [] else []
 
-abbrev pub others : Spot → List Key → Members → List Faulty
-others spot known t = unknown spot known (keys_of t)
+-- the faulty keys of these rows
+abbrev pub rows_faults : Context → Spot → List Row → Members → List Faulty
+rows_faults c spot [] t = []
+rows_faults c spot (row ∷ rows) t = fault_if (is_faulty c row t) spot row.0 ++ rows_faults c spot rows t
 
--- ---- a port
+-- the row with this key
+abbrev pub find_row : List Row → Key → Option Row
+find_row [] k = None
+find_row (row ∷ rows) k = if bytes_eq row.0 k then Some row else find_row rows k
 
--- a port's VNI: one of the edge's, if these are known
-abbrev pub network_of : Option (List ℕ) → Members → Result ℕ Key
-network_of (Some vnis) t = port.vni_of vnis t
-network_of None t = required (codes "vni") vni_in t
+-- the keys that no row has
+abbrev pub unknown : Spot → List Row → List Key → List Faulty
+unknown spot rows [] = []
+unknown spot rows (k ∷ ks) = fault_if (is_none (find_row rows k)) spot k ++ unknown spot rows ks
 
-abbrev pub port_faults : Bool → Option (List ℕ) → Spot → Members → List Faulty
-port_faults for_run vnis spot t = fault_at spot (network_of vnis t)
-    ++ (fault_at spot (port.cost_of t)
-    ++ (fault_at spot (port.priority_of t)
-    ++ (fault_at spot (port.admin_edge_of t)
-    ++ (fault_at spot (port.auto_edge_of t)
-    ++ (fault_at spot (port.point_to_point_of t)
-    ++ (fault_at spot (port.endpoint_of for_run (codes "local") t)
-    ++ (fault_at spot (port.endpoint_of for_run (codes "remote") t)
-    ++ others spot port.port_keys t)))))))
-
-abbrev pub port_at : Bool → Option (List ℕ) → ℕ → ℕ → Option Members → List Faulty
-port_at for_run vnis n m None = (Edge n, codes "port") ∷ []
-port_at for_run vnis n m (Some t) = port_faults for_run vnis (Port n m) t
-
--- the faults of the ports of an edge, the first of which has this number
-abbrev pub ports_faults : Bool → Option (List ℕ) → ℕ → ℕ → Items → List Faulty
-ports_faults for_run vnis n m no_items = []
-ports_faults for_run vnis n m (item d ds) = port_at for_run vnis n m (as_table d)
-    ++ ports_faults for_run vnis n (m + 1) ds
+-- the faults of a table with these rows
+abbrev pub table_faults : Context → Spot → List Row → Members → List Faulty
+table_faults c spot rows t = rows_faults c spot rows t ++ unknown spot rows (keys_of t)
 
 -- ---- an edge
 
--- the value, if there is one
-abbrev pub found : {X : Type 0} → Result X Key → Option X
-found (Ok x) = Some x
-found (Err k) = None
+-- whether the times of an edge fit together, if each is right
+abbrev pub times_in : Members → Option Bool
+times_in t = do
+  hello ← known_number (codes "hello") hello t
+  max_age ← known_number (codes "max_age") max_age t
+  forward_delay ← known_number (codes "forward_delay") forward_delay t
+  Some (times_fit hello max_age forward_delay)
 
-abbrev pub names_faults : List ℕ → List ℕ → Spot → Members → List Faulty
-names_faults addresses bridges spot t = fault_at spot (edge.address_of addresses t)
-    ++ (fault_at spot (edge.bridge_of bridges t)
-    ++ fault_at spot (edge.networks_of t))
+abbrev pub is_odd : Option Bool → Bool
+is_odd None = false
+is_odd (Some fit) = not fit
 
-abbrev pub tree_faults : Spot → Members → List Faulty
-tree_faults spot t = fault_at spot (edge.priority_of t)
-    ++ (fault_at spot (edge.hello_of t)
-    ++ (fault_at spot (edge.max_age_of t)
-    ++ (fault_at spot (edge.forward_delay_of t)
-    ++ fault_at spot (edge.hold_of t))))
+abbrev pub port_faults : Context → ℕ → ℕ → Option Members → List Faulty
+port_faults c n m None = []
+port_faults c n m (Some t) = table_faults c (Port n m) port_rows t
 
--- any default for the buckets
-abbrev pub limits_faults : Spot → Members → List Faulty
-limits_faults spot t = fault_at spot (edge.ageing_of t)
-    ++ (fault_at spot (edge.capacity_of t)
-    ++ (fault_at spot (edge.buckets_of 1024 t)
-    ++ (fault_at spot (edge.salt_of t)
-    ++ fault_at spot (edge.incarnation_of t))))
+-- the faults of the ports of an edge, the first of which has this number
+abbrev pub ports_faults : Context → ℕ → ℕ → Items → List Faulty
+ports_faults c n m no_items = []
+ports_faults c n m (item d ds) = port_faults c n m (as_table d) ++ ports_faults c n (m + 1) ds
 
--- whether an edge's times fit together, if each of them is valid
-abbrev pub times_of : Members → Result Bool Key
-times_of t = do
-  hello ← edge.hello_of t
-  max_age ← edge.max_age_of t
-  forward_delay ← edge.forward_delay_of t
-  Ok (edge.times_fit hello max_age forward_delay)
+-- its keys, the relation of its times, its ports
+abbrev pub edge_faults_by : Context → ℕ → Members → List Faulty
+edge_faults_by c n t = table_faults c (Edge n) edge_rows t
+    ++ (fault_if (is_odd (times_in t)) (Edge n) (codes "max_age")
+    ++ ports_faults c n 1 (tables_at (codes "port") t))
 
--- the fault of times that are valid and don't fit together
-abbrev pub odd_times : Spot → Result Bool Key → List Faulty
-odd_times spot (Ok true) = []
-odd_times spot (Ok false) = (spot, codes "max_age") ∷ []
-odd_times spot (Err k) = []
+-- the faults of an edge with this number, given the names before it
+abbrev pub edge_faults : Bool → Names → ℕ → Option Members → List Faulty
+edge_faults for_run names n None = []
+edge_faults for_run names n (Some t) =
+    edge_faults_by (record { for_run = for_run; names = names; vnis = spelt (codes "vnis") vnis_in t; edges = 0 }) n t
 
-abbrev pub ports_at : Bool → ℕ → Members → Result Items Key → List Faulty
-ports_at for_run n t (Ok tables) = ports_faults for_run (found (edge.networks_of t)) n 1 tables
-ports_at for_run n t (Err k) = []
-
--- the faults of an edge with this number, given the addresses and bridges of the edges before it
-abbrev pub edge_faults : Bool → List ℕ → List ℕ → ℕ → Members → List Faulty
-edge_faults for_run addresses bridges n t = names_faults addresses bridges (Edge n) t
-    ++ (tree_faults (Edge n) t
-    ++ (limits_faults (Edge n) t
-    ++ (fault_at (Edge n) (required (codes "port") tables_in t)
-    ++ (others (Edge n) edge.edge_keys t
-    ++ (odd_times (Edge n) (times_of t)
-    ++ ports_at for_run n t (required (codes "port") tables_in t))))))
-
--- ---- all edges
-
--- the value of a table at a key
-abbrev pub spelt : Key → (Data → Option ℕ) → Members → Option ℕ
-spelt key read t = option_and_then read (get_member key t)
+-- ---- edges and peers
 
 -- one more after these, if there is one
-abbrev pub joined : {X : Type 0} → List X → Option X → List X
+abbrev pub joined : List ℕ → Option ℕ → List ℕ
 joined before None = before
 joined before (Some n) = before ++ n ∷ []
 
--- with the table's value, if it is one
-abbrev pub behind : Key → (Data → Option ℕ) → List ℕ → Option Members → List ℕ
-behind key read before None = before
-behind key read before (Some t) = joined before (spelt key read t)
+-- with the names that a table spells
+abbrev pub after : Names → Option Members → Names
+after names None = names
+after names (Some t) = record {
+  addresses = joined names.addresses (spelt (codes "address") addr_in t);
+  bridges = joined names.bridges (spelt (codes "bridge") bridge_in t);
+}
 
-abbrev pub addresses_behind : List ℕ → Option Members → List ℕ
-addresses_behind = behind (codes "address") addr_in
-
-abbrev pub bridges_behind : List ℕ → Option Members → List ℕ
-bridges_behind = behind (codes "bridge") bridge_in
-
--- the addresses that tables spell, after those before
-abbrev pub all_addresses : List ℕ → Items → List ℕ
-all_addresses before no_items = before
-all_addresses before (item d ds) = all_addresses (addresses_behind before (as_table d)) ds
-
-abbrev pub edge_at : Bool → List ℕ → List ℕ → ℕ → Option Members → List Faulty
-edge_at for_run addresses bridges n None = (File, codes "edge") ∷ []
-edge_at for_run addresses bridges n (Some t) = edge_faults for_run addresses bridges n t
+-- with those of all tables
+abbrev pub after_all : Names → Items → Names
+after_all names no_items = names
+after_all names (item d ds) = after_all (after names (as_table d)) ds
 
 -- the faults of the edges, the first of which has this number
-abbrev pub edges_faults : Bool → List ℕ → List ℕ → ℕ → Items → List Faulty
-edges_faults for_run addresses bridges n no_items = []
-edges_faults for_run addresses bridges n (item d ds) = edge_at for_run addresses bridges n (as_table d)
-    ++ edges_faults for_run (addresses_behind addresses (as_table d)) (bridges_behind bridges (as_table d)) (n + 1) ds
+abbrev pub edges_faults : Bool → Names → ℕ → Items → List Faulty
+edges_faults for_run names n no_items = []
+edges_faults for_run names n (item d ds) = edge_faults for_run names n (as_table d)
+    ++ edges_faults for_run (after names (as_table d)) (n + 1) ds
 
--- ---- peers
+abbrev pub peer_faults : Names → ℕ → Option Members → List Faulty
+peer_faults names n None = []
+peer_faults names n (Some t) =
+    table_faults (record { for_run = true; names = names; vnis = None; edges = 0 }) (Peer n) peer_rows t
 
-abbrev pub peer_faults : List ℕ → Spot → Members → List Faulty
-peer_faults before spot t = fault_at spot (edge.address_of before t) ++ others spot peer_keys t
-
-abbrev pub peer_at : List ℕ → ℕ → Option Members → List Faulty
-peer_at before n None = (File, codes "peer") ∷ []
-peer_at before n (Some t) = peer_faults before (Peer n) t
-
--- the faults of the peers, the first of which has this number, given the addresses before it
-abbrev pub peers_faults : List ℕ → ℕ → Items → List Faulty
-peers_faults before n no_items = []
-peers_faults before n (item d ds) = peer_at before n (as_table d)
-    ++ peers_faults (addresses_behind before (as_table d)) (n + 1) ds
+-- the faults of the peers, the first of which has this number, given the names before it
+abbrev pub peers_faults : Names → ℕ → Items → List Faulty
+peers_faults names n no_items = []
+peers_faults names n (item d ds) = peer_faults names n (as_table d)
+    ++ peers_faults (after names (as_table d)) (n + 1) ds
 
 -- ---- a document
 
--- the tables that were read, or none
-abbrev pub tables_or_none : Result Items Key → Items
-tables_or_none (Ok tables) = tables
-tables_or_none (Err k) = no_items
+abbrev pub rows_for : Use → List Row
+rows_for Any = file_rows
+rows_for Run = file_rows
+rows_for Serve = served_rows
 
-abbrev pub edge_tables : Members → Result Items Key
-edge_tables t = required (codes "edge") tables_in t
+-- the rows of a table
+abbrev pub rows_at : Use → Spot → List Row
+rows_at wanted File = rows_for wanted
+rows_at wanted (Edge n) = edge_rows
+rows_at wanted (Port n m) = port_rows
+rows_at wanted (Peer n) = peer_rows
+
+-- whether ports need their endpoints
+abbrev pub is_run : Use → Bool
+is_run Any = false
+is_run Run = true
+is_run Serve = true
+
+-- the faults of the document's own keys, given the number of edges
+abbrev pub own_faults : Use → ℕ → Members → List Faulty
+own_faults wanted edges t =
+    table_faults (record { for_run = true; names = no_names; vnis = None; edges = edges }) File (rows_for wanted) t
 
 abbrev pub edge_items : Members → Items
-edge_items t = tables_or_none (edge_tables t)
+edge_items t = tables_at (codes "edge") t
 
-abbrev pub peer_tables : Members → Result Items Key
-peer_tables t = optional (codes "peer") (tables_beside (count_of (edge_items t))) no_items t
+-- the tables of the peers, given the number of edges
+abbrev pub peers_beside : Use → ℕ → Members → Items
+peers_beside Any edges t = no_items
+peers_beside Run edges t = no_items
+peers_beside Serve edges t = unwrap_or (spelt (codes "peer") (tables_beside edges) t) no_items
 
--- the faults of a document for any use, or for a run
-abbrev pub config_faults : Bool → Members → List Faulty
-config_faults for_run t = fault_at File (edge_tables t)
-    ++ (others File (codes "edge" ∷ []) t
-    ++ edges_faults for_run [] [] 1 (edge_items t))
+abbrev pub peer_items : Use → Members → Items
+peer_items wanted t = peers_beside wanted (count_of (edge_items t)) t
 
--- the faults of a document of edges that answer queries while they run
-abbrev pub served_faults : Members → List Faulty
-served_faults t = fault_at File (edge_tables t)
-    ++ (fault_at File (required (codes "control") path_in t)
-    ++ (fault_at File (idle_of t)
-    ++ (fault_at File (hold_of t)
-    ++ (fault_at File (peer_tables t)
-    ++ (others File served_keys t
-    ++ (edges_faults true [] [] 1 (edge_items t)
-    ++ peers_faults (all_addresses [] (edge_items t)) 1 (tables_or_none (peer_tables t))))))))
+-- the names of all edges
+abbrev pub edge_names : Members → Names
+edge_names t = after_all no_names (edge_items t)
 
--- the faults of a document for a use
+-- the names of all edges and all peers
+abbrev pub names_in : Use → Members → Names
+names_in wanted t = after_all (edge_names t) (peer_items wanted t)
+
+-- the faults of a document for a use: of its own keys, of its edges, of its peers
 abbrev pub faults_in : Use → Members → List Faulty
-faults_in Any = config_faults false
-faults_in Run = config_faults true
-faults_in Serve = served_faults
-
--- ---- faults and the result of reading
-
--- the first of these faults is at this key
-abbrev pub StartAt : Key → List Faulty → Type 0
-StartAt key [] = ⊥
-StartAt key (first ∷ more) = first.1 ≡ key
-
--- There is no fault exactly if reading gives a value; otherwise the first fault is the one that reading returns.
-abbrev pub Agree : {X : Type 0} → Result X Key → List Faulty → Type 0
-Agree (Ok x) faults = faults ≡ []
-Agree (Err key) faults = StartAt key faults
-
--- the faults and the reading agree for each use
-pub record ReadingsAgree : Type 0 where
-  pub config : (for_run : Bool) (t : Members) → Agree (config_in for_run t) (config_faults for_run t)
-  pub served : (t : Members) → Agree (served_in t) (served_faults t)
+faults_in wanted t = own_faults wanted (count_of (edge_items t)) t
+    ++ (edges_faults (is_run wanted) no_names 1 (edge_items t)
+    ++ peers_faults (edge_names t) 1 (peer_items wanted t))

@@ -1,65 +1,32 @@
--- The value of each key of a table, or the key as the fault.
-use Rattle.std.specs.Prelude.{ℕ, ℤ, pos, negsuc, ◌+◌, ◌%◌, Bool, true, not, ◌&&◌, ◌==◌, nat_lt, nat_le}
+-- The values of the keys of a table.
+use Rattle.std.specs.Prelude.{ℕ, ℤ, pos, negsuc, ◌+◌, ◌-◌, ◌*◌, ◌%◌, Bool, true, not, ◌&&◌, ◌||◌, ◌==◌, nat_lt, nat_le}
 use Rattle.std.specs.Prelude.{if◌then◌else◌, List, [], ◌∷◌, ◌++◌, length, is_some, Option, Some, None}
-use Rattle.std.specs.Prelude.{option_and_then, Result, Ok, Err}
-use Rattle.std.specs.Str.{bytes_eq}
+use Rattle.std.specs.Prelude.{option_and_then}
+use Rattle.std.specs.Option.{unwrap_or}
 use Rattle.std.specs.List.{list_any}
 use Rattle.toml.specs.Data.{Data, Items, no_items, item, Members, no_members, member, get_member, as_integer, as_bool}
 use Rattle.toml.specs.Data.{as_str, as_array, as_table}
 use Rattle.ether_wire.specs.Addr.{is_group}
 use Rattle.ether_wire.specs.Parse.{addr_of_text, mac_of_text}
 use Rattle.ev_config.specs.declared.endpoint.Endpoint.{Endpoint}
+use Rattle.ev_config.specs.declared.schema.Range.{Range}
 use Rattle.ev_config.specs.Endpoint.{endpoint_of_text}
-
--- a key's octets
-abbrev pub Key : Type 0
-Key = List ℕ
-
--- in a `do` block, what Rust's `?` does to a `Result`
-infixl 10 ◌>>=◌
-abbrev pub ◌>>=◌ : {X Y : Type 0} → Result X Key → (X → Result Y Key) → Result Y Key
-Ok x >>= f = f x
-Err k >>= f = Err k
-
--- the value that was found at a key
-abbrev pub read_or : {X : Type 0} → Key → Option X → Result X Key
-read_or key (Some x) = Ok x
-read_or key None = Err key
-
--- a required key
-abbrev pub required_at : {X : Type 0} → Key → (Data → Option X) → Option Data → Result X Key
-required_at key read None = Err key
-required_at key read (Some d) = read_or key (read d)
-
-abbrev pub required : {X : Type 0} → Key → (Data → Option X) → Members → Result X Key
-required key read t = required_at key read (get_member key t)
-
--- an optional key
-abbrev pub optional_at : {X : Type 0} → Key → (Data → Option X) → X → Option Data → Result X Key
-optional_at key read default None = Ok default
-optional_at key read default (Some d) = read_or key (read d)
-
-abbrev pub optional : {X : Type 0} → Key → (Data → Option X) → X → Members → Result X Key
-optional key read default t = optional_at key read default (get_member key t)
+use Rattle.ev_config.specs.Schema.{Key, vni}
 
 -- ---- values
 
-abbrev pub within : ℕ → ℕ → Option ℤ → Option ℕ
-within low high (Some (pos n)) = if nat_le low n && nat_le n high then Some n else None
-within low high (Some (negsuc n)) = None
-within low high None = None
+-- a number in a range; step 0 is none
+abbrev pub is_within : Range → ℕ → Bool
+is_within range n = nat_le range.0 n && nat_le n range.1 && (range.2 == 0 || n % range.2 == 0)
 
--- an integer from low to high
-abbrev pub number_in : ℕ → ℕ → Data → Option ℕ
-number_in low high d = within low high (as_integer d)
+abbrev pub within : Range → Option ℤ → Option ℕ
+within range (Some (pos n)) = if is_within range n then Some n else None
+within range (Some (negsuc n)) = None
+within range None = None
 
--- an integer from 0 to high in steps
-abbrev pub in_steps : ℕ → Option ℕ → Option ℕ
-in_steps step None = None
-in_steps step (Some n) = if n % step == 0 then Some n else None
-
-abbrev pub steps_in : ℕ → ℕ → Data → Option ℕ
-steps_in step high d = in_steps step (number_in 0 high d)
+-- an integer in a range
+abbrev pub number_in : Range → Data → Option ℕ
+number_in range d = within range (as_integer d)
 
 abbrev pub flag_in : Data → Option Bool
 flag_in d = as_bool d
@@ -89,17 +56,17 @@ abbrev pub path_in : Data → Option (List ℕ)
 path_in d = option_and_then path_of (as_str d)
 
 abbrev pub vni_in : Data → Option ℕ
-vni_in d = number_in 0 16777215 d
+vni_in d = number_in vni d
 
 -- one that isn't among those before
 abbrev pub new_among : List ℕ → Option ℕ → Option ℕ
 new_among before None = None
 new_among before (Some n) = if list_any (λ x. x == n) before then None else Some n
 
--- one of these
-abbrev pub one_of : List ℕ → Option ℕ → Option ℕ
-one_of known None = None
-one_of known (Some n) = if list_any (λ x. x == n) known then Some n else None
+-- 2 * (forward_delay - 1) >= max_age >= 2 * (hello + 1)
+abbrev pub times_fit : ℕ → ℕ → ℕ → Bool
+times_fit hello max_age forward_delay =
+    nat_le max_age (2 * (forward_delay - 1)) && nat_le (2 * (hello + 1)) max_age
 
 -- ---- arrays
 
@@ -137,20 +104,45 @@ abbrev pub tables_beside : ℕ → Data → Option Items
 tables_beside others d =
     option_and_then (λ ds. if nat_le (others + count_of ds) 64 then Some ds else None) (tables_in d)
 
--- ---- other keys
+-- ---- a table
 
-abbrev pub is_among : List Key → Key → Bool
-is_among keys k = list_any (λ x. bytes_eq x k) keys
+-- the value of a table at a key, if it is there and right
+abbrev pub spelt : {X : Type 0} → Key → (Data → Option X) → Members → Option X
+spelt key read t = option_and_then read (get_member key t)
+
+abbrev pub or_default : ℕ → Range → Option Data → Option ℕ
+or_default default range None = Some default
+or_default default range (Some d) = number_in range d
+
+-- the number at a key, or the default if it is missing; none if it is wrong
+abbrev pub known_number : Key → Range → Members → Option ℕ
+known_number key range t = or_default range.3 range (get_member key t)
+
+-- the number at a key, or this one
+abbrev pub number_or : ℕ → Key → Range → Members → ℕ
+number_or default key range t = unwrap_or (spelt key (number_in range) t) default
+
+-- the number at a key, or the default
+abbrev pub number_at : Key → Range → Members → ℕ
+number_at key range t = number_or range.3 key range t
+
+abbrev pub flag_at : Key → Bool → Members → Bool
+flag_at key default t = unwrap_or (spelt key flag_in t) default
+
+-- the tables at a key, or none
+abbrev pub tables_at : Key → Members → Items
+tables_at key t = unwrap_or (spelt key tables_in t) no_items
+
+abbrev pub with_table : Option Members → List Members → List Members
+with_table None ts = ts
+with_table (Some t) ts = t ∷ ts
+
+-- the tables among the items
+abbrev pub tables_of : Items → List Members
+tables_of no_items = []
+tables_of (item d ds) = with_table (as_table d) (tables_of ds)
 
 -- the keys of a table, in the order of their octets
 abbrev pub keys_of : Members → List Key
 keys_of no_members = []
 keys_of (member k d ms) = k ∷ keys_of ms
-
--- nothing, or the first key that isn't among the known ones
-abbrev pub all_known : List Key → List Key → Result Bool Key
-all_known known [] = Ok true
-all_known known (k ∷ ks) = if is_among known k then all_known known ks else Err k
-
-abbrev pub only : List Key → Members → Result Bool Key
-only known t = all_known known (keys_of t)

@@ -1,10 +1,10 @@
 pub mod Endpoint
+pub mod Schema
 pub mod Keys
 pub mod ConfigPort
 pub mod ConfigEdge
-pub mod ConfigPeer
-pub mod Config
 pub mod Faults
+pub mod Config
 pub mod Told
 pub mod Summary
 pub mod Inner

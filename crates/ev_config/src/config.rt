@@ -1,14 +1,22 @@
 //! The configuration: the edges that a TOML text describes.
-ghost use Rattle.std.specs.Prelude.{IfOk};
+ghost use Rattle.std.specs.Prelude.{◌≡◌, ◌≤◌, IfOk, length};
 ghost use Rattle.toml.specs.View.{table_view};
 ghost use Rattle.ev_fabric.specs.Opening.{AreConfigs};
-ghost use Rattle.ev_config.specs.Config.{ConfigOf, ServedOf, ServedEdgesOf, ConfigFor};
-ghost use Rattle.ev_config.specs.Inner.Config.{Reads, Tells};
+ghost use Rattle.ev_config.specs.Config.{ConfigOf, ServedOf, ServedEdgesOf, ConfigFor, view_of, whole_in, edges_of, served_in, served_view};
+ghost use Rattle.ev_config.specs.Faults.{edge_items};
+ghost use Rattle.ev_config.specs.Inner.Config.{Reads, IsFirst, Gives};
+ghost use Rattle.ev_config.specs.Inner.Faults.{faults_view};
+ghost use Rattle.ev_config.specs.declared.config.ConfigRefusal.TheVariants.{NoMemory};
 
-use crate::edges::{config_in, served_in};
-use crate::keys::Fault;
+use crate::edges::edges_of;
+use crate::faults::FaultyKey;
+use crate::schema::{IDLE, PEER_HOLD};
+use crate::values::{number, path_at, tables_at};
+use crate::walk::walk;
 use crate::whole::{Config, Served, Use};
-use std::alloc::Global;
+use arrayvec::ArrayVec;
+use ether_wire::Addr;
+use std::alloc::{AllocError, Global};
 use toml::Table;
 
 /// Why a text is no configuration.
@@ -22,6 +30,14 @@ pub enum ConfigRefusal {
     NoMemory,
 }
 
+impl From<AllocError> for ConfigRefusal {
+    ghost from_gives = { λ _ e. e ≡ NoMemory };
+
+    fn from(_error: AllocError) -> ConfigRefusal {
+        ConfigRefusal::NoMemory
+    }
+}
+
 /// Returns the document that a text spells.
 fn document_of(alloc: Global, text: &str) -> Result<Table, ConfigRefusal>
     ensures { Reads table_view text.now result }
@@ -33,17 +49,57 @@ fn document_of(alloc: Global, text: &str) -> Result<Table, ConfigRefusal>
     }
 }
 
-/// Returns a document's fault for printing, with its key in memory of its own.
-fn refusal_of(alloc: Global, fault: Fault<'_>) -> ConfigRefusal
-    ensures { Tells fault.entry result }
+/// Refuses a document with faults, by the key of the first.
+fn refuse(alloc: Global, faults: &[FaultyKey<'_>]) -> Result<(), ConfigRefusal>
+    ensures { IsFirst (faults_view faults.now) result }
 {
-    match fault {
-        Fault::Key(key) => match String::from_str(alloc, key) {
-            Ok(key) => ConfigRefusal::Key(key),
-            Err(_) => ConfigRefusal::NoMemory,
-        },
-        Fault::NoMemory => ConfigRefusal::NoMemory,
+    match faults {
+        [] => Ok(()),
+        [first, ..] => Err(ConfigRefusal::Key(String::from_str(alloc, first.key)?)),
     }
+}
+
+/// Returns the edges of a document, each of which lists these addresses.
+fn edges_in(
+    alloc: Global,
+    listed: &ArrayVec<Addr, 64>,
+    document: &Table,
+) -> Result<Config, AllocError>
+    ensures { IfOk result (λ c. view_of c
+        ≡ edges_of listed.now.items (edge_items (table_view document.now))) }
+{
+    match tables_at(document, "edge") {
+        Some(tables) => edges_of(alloc, listed, tables),
+        None => Ok(Config {
+            edges: Vec::new(alloc),
+            links: Vec::new(alloc),
+        }),
+    }
+}
+
+/// Returns the configuration of a document for a use.
+fn whole_in(alloc: Global, wanted: Use, document: &Table) -> Result<Config, ConfigRefusal>
+    ensures value { Gives view_of (whole_in wanted (table_view document.now)) result }
+    ensures opens { IfOk result (λ c. AreConfigs c.edges.items) }
+{
+    let found = walk(alloc, wanted, document)?;
+    refuse(alloc, found.faults.as_slice())?;
+    Ok(edges_in(alloc, &found.names.addresses, document)?)
+}
+
+/// Returns the configuration of a document of edges that answer queries while they run.
+fn served_in(alloc: Global, document: &Table) -> Result<Served, ConfigRefusal>
+    ensures value { Gives served_view (served_in (table_view document.now)) result }
+    ensures opens { IfOk result (λ s. AreConfigs s.config.edges.items) }
+{
+    let config = whole_in(alloc, Use::Serve, document)?;
+    let control = String::from_str(alloc, path_at(document, "control").unwrap_or(""))?;
+    Ok(Served {
+        config,
+        control,
+        idle: number(document, "idle", IDLE),
+        hold: number(document, "peer_hold", PEER_HOLD),
+    })
 }
 
 /// Returns the configuration that a text spells; for a run each port needs its endpoints.
@@ -56,11 +112,8 @@ pub fn config_of(alloc: Global, text: &str, for_run: bool) -> Result<Config, Con
     ensures value { ConfigOf for_run text.now result }
     ensures opens { IfOk result (λ c. AreConfigs c.edges.items) }
 {
-    let table = document_of(alloc, text)?;
-    match config_in(alloc, for_run, &table) {
-        Ok(config) => Ok(config),
-        Err(fault) => Err(refusal_of(alloc, fault)),
-    }
+    let document = document_of(alloc, text)?;
+    whole_in(alloc, if for_run { Use::Run } else { Use::Any }, &document)
 }
 
 /// Returns the configuration of a text for edges that answer queries while they run: that of a run,
@@ -76,11 +129,8 @@ pub fn served_config_of(alloc: Global, text: &str) -> Result<Served, ConfigRefus
     ensures value { ServedOf text.now result }
     ensures opens { IfOk result (λ s. AreConfigs s.config.edges.items) }
 {
-    let table = document_of(alloc, text)?;
-    match served_in(alloc, &table) {
-        Ok(served) => Ok(served),
-        Err(fault) => Err(refusal_of(alloc, fault)),
-    }
+    let document = document_of(alloc, text)?;
+    served_in(alloc, &document)
 }
 
 /// Returns the edges of the configuration of `served_config_of`.

@@ -1,222 +1,167 @@
-//! The edges of a document.
-ghost use Rattle.std.specs.Prelude.{◌≡◌, ◌+◌, ◌≤◌, ◌<◌, length, map, Ok, eqb, false, vec_len, codes, IfOk, IfSome, OnOk};
-ghost use Rattle.std.specs.List.{list_any};
-ghost use Rattle.std.specs.Option.{option_map_or};
-ghost use Rattle.toml.specs.Data.{no_items};
+//! The edges of a document: the values of their tables.
+ghost use Rattle.std.specs.Prelude.{◌≡◌, ◌≤◌, length, map, codes, IfOk};
 ghost use Rattle.toml.specs.View.{table_view, array_view};
-ghost use Rattle.ev_fabric.specs.Opening.{AreConfigs};
-ghost use Rattle.ev_config.specs.Inner.Fitting.{Fits, FitTogether};
-ghost use Rattle.ev_config.specs.Keys.{optional, tables_beside, count_of};
-ghost use Rattle.ev_config.specs.Inner.Keys.{Gives};
-ghost use Rattle.ev_config.specs.Config.{no_edges, with_edge, edges_from, listening, described, config_in, view_of, with_peers, idle_of, hold_of, served_in, served_view};
-ghost use Rattle.ev_config.specs.Inner.Config.{edges_view};
+ghost use Rattle.ev_config.specs.Keys.{tables_at, tables_of};
+ghost use Rattle.ev_config.specs.ConfigPort.{port_of, link_of};
+ghost use Rattle.ev_config.specs.ConfigEdge.{tree_of, edge_of, links_of};
+ghost use Rattle.ev_config.specs.Config.{edges_of, view_of};
 
-use crate::edge::{Described, edge_of};
-use crate::endpoint::PortEndpoints;
-use crate::keys::{Fault, number, only, path_at, tables_at, tables_beside};
-use crate::peers::listed_with;
-use crate::whole::{Config, Served};
+use crate::endpoint::{Endpoint, PortEndpoints};
+use crate::schema::{
+    AGEING, BUCKETS, CAPACITY, COST, FORWARD_DELAY, HELLO, HOLD, INCARNATION, MAX_AGE,
+    PORT_PRIORITY, PRIORITY, SALT,
+};
+use crate::values::{
+    address_at, bridge_at, endpoint_at, flag, number, number_or, tables_at, vni_at, vnis_at,
+};
+use crate::whole::Config;
 use arrayvec::ArrayVec;
-use ether_wire::{Addr, Mac};
-use ev_edge::EdgeConfig;
-use std::alloc::Global;
+use bpdu_wire::BridgeId;
+use ether_wire::{Addr, Mac, Vni};
+use ev_edge::{EdgeConfig, PortConfig};
+use rstp_state::start::{PortSettings, Settings};
+use std::alloc::{AllocError, Global};
 use toml::Table;
 use toml::value::Array;
 
-/// The document's own keys.
-pub(crate) const FILE_KEYS: [&'static str; 1] = ["edge"];
-
-/// The edges of a document whose edges answer queries while they run.
-pub(crate) const SERVED_KEYS: [&'static str; 5] = ["edge", "control", "idle", "peer_hold", "peer"];
-
-/// The edges read so far, with their addresses and bridges. They have no lists of originators yet.
-#[derive(Drop)]
-struct Edges {
-    addresses: ArrayVec<Addr, 64>,
-    bridges: ArrayVec<Mac, 64>,
-    configs: Vec<EdgeConfig>,
-    links: Vec<ArrayVec<PortEndpoints, 64>>,
-}
-
-/// Adds one edge.
-fn add_edge<'a>(edges: &mut Edges, edge: Described) -> Result<(), Fault<'a>>
-    requires addresses { length edges.old.addresses.items < 64 }
-    requires bridges { length edges.old.bridges.items < 64 }
-    requires fits { Fits edge.config }
-    requires together { FitTogether (edges_view edges.old) }
-    requires new { list_any (λ x. eqb x edge.config.address) edges.old.addresses.items ≡ false }
-    ensures value { Gives (λ _. edges_view edges.new)
-        (Ok (with_edge (edges_view edges.old) edge)) result }
-    ensures together { OnOk result (FitTogether (edges_view edges.new)) }
-    ensures configs { OnOk result (vec_len edges.new.configs ≡ vec_len edges.old.configs + 1) }
-    ensures links { OnOk result (vec_len edges.new.links ≡ vec_len edges.old.links + 1) }
+/// Returns the port of a table.
+fn port_of(table: &Table) -> PortConfig
+    ensures { result ≡ port_of (table_view table.now) }
 {
-    let Described {
-        bridge,
-        config,
-        links,
-    } = edge;
-    edges.addresses.push(config.address);
-    edges.bridges.push(bridge);
-    edges.configs.push(config)?;
-    edges.links.push(links)?;
-    Ok(())
+    PortConfig {
+        vni: vni_at(table).unwrap_or(Vni::new(0)),
+        settings: PortSettings {
+            priority: number(table, "priority", PORT_PRIORITY) as u8,
+            cost: number(table, "cost", COST) as u32,
+            admin_edge: flag(table, "admin_edge", false),
+            auto_edge: flag(table, "auto_edge", true),
+            point_to_point: flag(table, "point_to_point", true),
+        },
+    }
 }
 
-/// Returns the edges of these tables.
-#[tactic(auto, using(crate::proofs::Walking::items_more, crate::proofs::Fitting::none_fit))]
-fn edges_of<'a>(alloc: Global, for_run: bool, tables: &'a Array) -> Result<Edges, Fault<'a>>
+/// Returns the endpoints of a port's table.
+fn link_of(table: &Table) -> PortEndpoints
+    ensures { result ≡ link_of (table_view table.now) }
+{
+    let local: Option<Endpoint> = endpoint_at(table, "local");
+    let remote: Option<Endpoint> = endpoint_at(table, "remote");
+    PortEndpoints { local, remote }
+}
+
+/// Returns the ports of these tables.
+#[tactic(auto, using(crate::proofs::Walking::items_more))]
+fn ports_of(tables: &Array) -> ArrayVec<PortConfig, 64>
     requires { length tables.now.items ≤ 64 }
-    ensures value { Gives edges_view (edges_from for_run no_edges (array_view tables.now)) result }
-    ensures count { IfOk result (λ e. length e.addresses.items ≡ length tables.now.items) }
-    ensures together { IfOk result (λ e. FitTogether (edges_view e)) }
-    ensures each { IfOk result (λ e. vec_len e.links ≡ vec_len e.configs) }
+    ensures { result.items ≡ map port_of (tables_of (array_view tables.now)) }
 {
-    let mut edges = Edges {
-        addresses: ArrayVec::new(),
-        bridges: ArrayVec::new(),
-        configs: Vec::new(alloc),
-        links: Vec::new(alloc),
-    };
+    let mut ports = ArrayVec::new();
     for value in tables {
-        match value.as_table() {
-            Some(table) => {
-                let addresses = edges.addresses.as_slice();
-                let edge = edge_of(for_run, addresses, edges.bridges.as_slice(), table)?;
-                add_edge(&mut edges, edge)?;
-            }
-            None => return Err(Fault::Key("edge")),
+        if let Some(table) = value.as_table() {
+            ports.push(port_of(table));
         }
     }
-    Ok(edges)
+    ports
 }
 
-/// Sets the list of originators of an edge to these addresses.
-fn listen(edge: &mut EdgeConfig, addresses: &ArrayVec<Addr, 64>)
-    ensures { edge.new ≡ listening addresses.now.items edge.old }
+/// Returns the ports of an edge's table.
+fn ports_at(table: &Table) -> ArrayVec<PortConfig, 64>
+    ensures { result.items
+        ≡ map port_of (tables_of (tables_at (codes "port") (table_view table.now))) }
 {
-    let mut originators = ArrayVec::new();
-    let _fits = originators.try_extend_from_slice(addresses.as_slice());
-    edge.originators = originators;
-}
-
-/// Sets the list of originators of each edge to these addresses.
-fn listen_all(edges: &mut [EdgeConfig], addresses: &ArrayVec<Addr, 64>)
-    ensures { edges.new ≡ map (listening addresses.now.items) edges.old }
-{
-    for edge in edges.iter_mut() {
-        listen(edge, addresses);
+    match tables_at(table, "port") {
+        Some(tables) => ports_of(tables),
+        None => ArrayVec::new(),
     }
 }
 
-/// Returns the configuration of these edges, each of which lists these addresses.
-fn told(
-    configs: Vec<EdgeConfig>,
-    links: Vec<ArrayVec<PortEndpoints, 64>>,
-    addresses: &ArrayVec<Addr, 64>,
-) -> Config
-    requires each { vec_len links ≡ vec_len configs }
-    requires few { vec_len configs ≤ 64 }
-    ensures { view_of result ≡ (map (listening addresses.now.items) configs.items, links.items) }
+/// Returns the endpoints of these tables of ports.
+#[tactic(auto, using(crate::proofs::Walking::items_more))]
+fn links_of(tables: &Array) -> ArrayVec<PortEndpoints, 64>
+    requires { length tables.now.items ≤ 64 }
+    ensures { result.items ≡ map link_of (tables_of (array_view tables.now)) }
 {
-    let mut edges = configs;
-    listen_all(edges.as_mut_slice(), addresses);
-    Config { edges, links }
+    let mut links = ArrayVec::new();
+    for value in tables {
+        if let Some(table) = value.as_table() {
+            let PortEndpoints { local, remote } = link_of(table);
+            links.push(PortEndpoints { local, remote });
+        }
+    }
+    links
 }
 
-/// Returns the configuration of these edges: each lists all edges, and the peers in these tables,
-/// if there are any.
-fn with_peers<'a>(edges: Edges, peers: Option<&'a Array>) -> Result<Config, Fault<'a>>
-    requires each { vec_len edges.links ≡ vec_len edges.configs }
-    requires some { 0 < length edges.addresses.items }
-    requires few { length edges.addresses.items ≤ 64 }
-    requires room { IfSome peers (λ a. length edges.addresses.items + length a.now.items ≤ 64) }
-    requires together { FitTogether (edges_view edges) }
-    ensures value { Gives view_of
-        (with_peers (option_map_or (λ a. array_view a.now) peers.entry no_items)
-        (edges_view edges)) result }
-    ensures opens { IfOk result (λ c. AreConfigs c.edges.items) }
+/// Returns the endpoints of the ports of an edge's table.
+fn links_at(table: &Table) -> ArrayVec<PortEndpoints, 64>
+    ensures { result ≡ links_of (table_view table.now) }
 {
-    let Edges {
-        addresses,
-        bridges: _,
-        configs,
-        links,
-    } = edges;
-    let listed = listed_with(addresses, peers)?;
-    Ok(told(configs, links, &listed))
+    match tables_at(table, "port") {
+        Some(tables) => links_of(tables),
+        None => ArrayVec::new(),
+    }
 }
 
-/// Returns the configuration of these tables.
-fn described<'a>(alloc: Global, for_run: bool, tables: &'a Array) -> Result<Config, Fault<'a>>
-    requires some { 0 < length tables.now.items }
-    requires few { length tables.now.items ≤ 64 }
-    ensures value { Gives view_of (described for_run (array_view tables.now)) result }
-    ensures opens { IfOk result (λ c. AreConfigs c.edges.items) }
+/// Returns the identifier and the times of an edge's bridge.
+fn tree_of(table: &Table) -> Settings
+    ensures { result ≡ tree_of (table_view table.now) }
 {
-    let edges = edges_of(alloc, for_run, tables)?;
-    with_peers(edges, None)
+    let priority = number(table, "priority", PRIORITY) as u16;
+    let bridge = bridge_at(table).unwrap_or(Mac::new(0));
+    Settings {
+        identifier: BridgeId::from_parts(priority, bridge.number()),
+        hello: number(table, "hello", HELLO) as u16,
+        max_age: number(table, "max_age", MAX_AGE) as u16,
+        forward_delay: number(table, "forward_delay", FORWARD_DELAY) as u16,
+        hold: number(table, "hold", HOLD) as u32,
+    }
 }
 
-/// Returns the configuration of a document.
-pub(crate) fn config_in<'a>(
+/// Returns a copy of these addresses.
+fn copied(addresses: &ArrayVec<Addr, 64>) -> ArrayVec<Addr, 64>
+    ensures { result.items ≡ addresses.now.items }
+{
+    let mut copy = ArrayVec::new();
+    let _fits = copy.try_extend_from_slice(addresses.as_slice());
+    copy
+}
+
+/// Returns the edge of a table, which lists these addresses.
+fn edge_of(listed: &ArrayVec<Addr, 64>, table: &Table) -> EdgeConfig
+    ensures { result ≡ edge_of listed.now.items (table_view table.now) }
+{
+    let capacity = number(table, "capacity", CAPACITY);
+    EdgeConfig {
+        address: address_at(table).unwrap_or(Addr::new(0)),
+        incarnation: number(table, "incarnation", INCARNATION) as u32,
+        originators: copied(listed),
+        vnis: vnis_at(table).unwrap_or(ArrayVec::new()),
+        tree: tree_of(table),
+        ageing: number(table, "ageing", AGEING),
+        capacity: capacity as usize,
+        buckets: number_or(capacity, table, "buckets", BUCKETS) as usize,
+        salt: number(table, "salt", SALT),
+        ports: ports_at(table),
+    }
+}
+
+/// Returns the configuration of these tables, each edge of which lists these addresses.
+#[tactic(auto, using(crate::proofs::Walking::items_more))]
+pub(crate) fn edges_of(
     alloc: Global,
-    for_run: bool,
-    table: &'a Table,
-) -> Result<Config, Fault<'a>>
-    ensures value { Gives view_of (config_in for_run (table_view table.now)) result }
-    ensures opens { IfOk result (λ c. AreConfigs c.edges.items) }
+    listed: &ArrayVec<Addr, 64>,
+    tables: &Array,
+) -> Result<Config, AllocError>
+    requires { length tables.now.items ≤ 64 }
+    ensures { IfOk result (λ c. view_of c
+        ≡ edges_of listed.now.items (array_view tables.now)) }
 {
-    let tables = tables_at(table, "edge")?;
-    only(table, &FILE_KEYS)?;
-    described(alloc, for_run, tables)
-}
-
-/// Returns the tables of the peers of these edges, if there are any.
-#[tactic(auto, using(crate::proofs::Walking::count_of_view))]
-pub(crate) fn peers_at<'a>(table: &'a Table, edges: &Array) -> Result<Option<&'a Array>, Fault<'a>>
-    requires { length edges.now.items ≤ 64 }
-    ensures value { Gives (λ v. option_map_or (λ a. array_view a.now) v no_items)
-        (optional (codes "peer") (tables_beside (count_of (array_view edges.now))) no_items
-        (table_view table.now)) result }
-    ensures room { IfOk result
-        (λ v. IfSome v (λ a. length edges.now.items + length a.now.items ≤ 64)) }
-{
-    tables_beside(table, "peer", edges.len())
-}
-
-/// Returns the number of seconds after which a console is ended that sends nothing.
-pub(crate) fn idle_of<'a>(table: &'a Table) -> Result<u64, Fault<'a>>
-    ensures { Gives (λ n. n) (idle_of (table_view table.now)) result }
-{
-    number(table, "idle", 1, 86_400, 300)
-}
-
-/// Returns the number of seconds without a session after which an edge elsewhere is away, or 0.
-pub(crate) fn hold_of<'a>(table: &'a Table) -> Result<u64, Fault<'a>>
-    ensures { Gives (λ n. n) (hold_of (table_view table.now)) result }
-{
-    number(table, "peer_hold", 0, 86_400, 90)
-}
-
-/// Returns the configuration of a document of edges that answer queries while they run.
-pub(crate) fn served_in<'a>(alloc: Global, table: &'a Table) -> Result<Served, Fault<'a>>
-    ensures value { Gives served_view (served_in (table_view table.now)) result }
-    ensures opens { IfOk result (λ s. AreConfigs s.config.edges.items) }
-{
-    let tables = tables_at(table, "edge")?;
-    let path = path_at(table, "control")?;
-    let idle = idle_of(table)?;
-    let hold = hold_of(table)?;
-    let peers = peers_at(table, tables)?;
-    only(table, &SERVED_KEYS)?;
-    let edges = edges_of(alloc, true, tables)?;
-    let config = with_peers(edges, peers)?;
-    let control = String::from_str(alloc, path)?;
-    Ok(Served {
-        config,
-        control,
-        idle,
-        hold,
-    })
+    let mut edges = Vec::new(alloc);
+    let mut links = Vec::new(alloc);
+    for value in tables {
+        if let Some(table) = value.as_table() {
+            edges.push(edge_of(listed, table))?;
+            links.push(links_at(table))?;
+        }
+    }
+    Ok(Config { edges, links })
 }

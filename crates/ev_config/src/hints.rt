@@ -1,11 +1,9 @@
 //! Hints about the wrong part of a value, and about the key that was meant. Their texts are tested,
 //! not proved.
-ghost use Rattle.std.specs.Prelude.{◌≡◌, OnOk};
-ghost use Rattle.ether_wire.specs.Ends.{IsOpen};
-ghost use Rattle.ether_wire.specs.Memory.{page_end};
 
-use crate::advice::Line;
-use ether_wire::{Device, Mac, Out, parted, put_decimal, read_decimal};
+use crate::line::Line;
+use crate::schema::Row;
+use ether_wire::{Mac, parted, read_decimal};
 use std::alloc::Global;
 use strsim::levenshtein;
 
@@ -124,30 +122,24 @@ fn hint_of<'a>(key: &str, text: &'a [u8]) -> Option<Hint<'a>> {
 }
 
 /// Writes the fault of a part.
-fn put_flaw(line: &mut Line, flaw: Flaw) -> Result<(), Device>
-    requires { IsOpen (page_end line.old) }
-    ensures { OnOk result ((page_end line.new).failures ≡ (page_end line.old).failures) }
-{
+fn put_flaw(line: &mut Line, flaw: Flaw) {
     match flaw {
         Flaw::LeadingZero => line.put(b" has a leading zero"),
         Flaw::UpperCase => line.put(b" isn't in lower case"),
         Flaw::Above(max) => {
-            line.put(b" is above ")?;
-            put_decimal(line, max)
+            line.put(b" is above ");
+            line.put_number(max);
         }
     }
 }
 
 /// Writes which part of a text is wrong: `, whose octet 02 has a leading zero`.
-fn put_part(line: &mut Line, hint: Hint<'_>) -> Result<(), Device>
-    requires { IsOpen (page_end line.old) }
-    ensures { OnOk result ((page_end line.new).failures ≡ (page_end line.old).failures) }
-{
-    line.put(b", whose ")?;
-    line.put(hint.name.as_bytes())?;
-    line.put(b" ")?;
-    line.put(hint.part)?;
-    put_flaw(line, hint.flaw)
+fn put_part(line: &mut Line, hint: Hint<'_>) {
+    line.put(b", whose ");
+    line.put(hint.name.as_bytes());
+    line.put(b" ");
+    line.put(hint.part);
+    put_flaw(line, hint.flaw);
 }
 
 /// Returns `true` if the text spells a MAC address of a group.
@@ -159,29 +151,24 @@ fn is_group(text: &[u8]) -> bool {
 }
 
 /// Writes the fault of a text at a key, if it is known.
-pub(crate) fn put_hint(line: &mut Line, key: &str, text: &str) -> Result<(), Device>
-    requires { IsOpen (page_end line.old) }
-    ensures { OnOk result ((page_end line.new).failures ≡ (page_end line.old).failures) }
-{
+pub(crate) fn put_hint(line: &mut Line, key: &str, text: &str) {
     if key == "bridge" && is_group(text.as_bytes()) {
-        return line.put(b", the address of a group");
-    }
-    match hint_of(key, text.as_bytes()) {
-        Some(hint) => put_part(line, hint),
-        None => Ok(()),
+        line.put(b", the address of a group");
+    } else if let Some(hint) = hint_of(key, text.as_bytes()) {
+        put_part(line, hint);
     }
 }
 
 /// Returns the key that an unknown one resembles: the nearest by edits, if there are at most a
 /// third as many edits as its length.
-pub(crate) fn meant(alloc: Global, keys: &[&'static str], key: &str) -> Option<&'static str> {
+pub(crate) fn meant(alloc: Global, rows: &[Row], key: &str) -> Option<&'static str> {
     let mut least = key.len() / 3 + 1;
     let mut found = None;
-    for known in keys {
-        if let Ok(edits) = levenshtein(alloc, key, *known) {
+    for row in rows {
+        if let Ok(edits) = levenshtein(alloc, key, row.0) {
             if edits < least {
                 least = edits;
-                found = Some(*known);
+                found = Some(row.0);
             }
         }
     }

@@ -2,23 +2,23 @@
 #![tactic(auto)]
 
 mod advice;
+mod allowed;
 mod config;
-mod document;
-mod edge;
 mod edges;
 mod endpoint;
 mod faults;
 mod hints;
-mod keys;
 mod laws;
-mod peers;
+mod line;
+mod names;
 mod place;
-mod port;
 mod refusal;
+mod schema;
 mod summary;
+mod values;
+mod walk;
 mod whole;
 
-pub use advice::Line;
 pub use config::{ConfigRefusal, config_for, config_of, served_config_of};
 pub use endpoint::{Endpoint, PortEndpoints};
 pub use laws::readings_agree;

@@ -1,35 +1,26 @@
-//! The messages for a text that is no configuration: the place and the key of each fault, and
-//! advice. The text of the advice is tested, not proved.
-ghost use Rattle.std.specs.Prelude.{◌≡◌, ◌+◌, OnOk};
+//! The messages for a text that is no configuration: the place and the key of each fault, the range
+//! that is allowed, and advice.
+ghost use Rattle.std.specs.Prelude.{◌≡◌, ◌++◌, codes, option_map};
 ghost use Rattle.std.specs.List.{list_any};
 ghost use Rattle.toml.specs.View.{table_view};
 ghost use Rattle.ether_wire.specs.Ends.{IsOpen, Puts};
-ghost use Rattle.ether_wire.specs.Memory.{page_end, page_octets};
 ghost use Rattle.ev_config.specs.Faults.{Port};
-ghost use Rattle.ev_config.specs.Inner.Faults.{spot_of, faulty_of, faults_view};
-ghost use Rattle.ev_config.specs.Told.{line_text, numbered, spot_text, is_odd, is_plain, TellsEach, TellsRefusal};
+ghost use Rattle.ev_config.specs.Inner.Faults.{spot_of, faulty_of, faults_view, row_of};
+ghost use Rattle.ev_config.specs.Told.{line_text, spot_text, row_text, is_odd, is_plain, TellsEach, TellsRefusal};
 ghost use Rattle.ev_config.specs.Inner.Told.{PutsKey, TellsFault, TellsFaults, line_at};
 
-use crate::advice::{Line, advice_line, put_shown};
-use crate::document::faults_of;
-use crate::faults::FaultyKey;
+use crate::advice::{advice_line, found_line};
+use crate::allowed::{put_number, put_range, rows_of};
+use crate::faults::{FaultyKey, row_at};
+use crate::line::Line;
 use crate::place::Place;
+use crate::schema::Row;
+use crate::walk::walk;
 use crate::whole::Use;
-use ether_wire::{Device, Out, put_decimal};
+use ether_wire::{Device, Out};
 use std::alloc::Global;
 use toml::Table;
 use toml::de::Error;
-
-/// Writes in which line the text is no TOML, and why.
-fn put_syntax(line: &mut Line, text: &str, error: &Error) -> Result<(), Device>
-    requires { IsOpen (page_end line.old) }
-    ensures { OnOk result ((page_end line.new).failures ≡ (page_end line.old).failures) }
-{
-    line.put(b"line ")?;
-    put_decimal(line, line_of(text, error))?;
-    line.put(b": ")?;
-    put_shown(line, error.message())
-}
 
 /// Returns the line of an error in a text, from 1.
 fn line_of(text: &str, error: &Error) -> u64 {
@@ -52,47 +43,32 @@ fn line_at(text: &[u8], place: usize) -> u64
     number
 }
 
-/// Returns the message with the line in which a text is no TOML document.
+/// Returns the message with the line in which a text is no TOML document, and why.
 fn syntax_line(text: &str, error: &Error) -> Line {
     let mut line = Line::new();
-    let _fits = put_syntax(&mut line, text, error);
+    line.put(b"line ");
+    line.put_number(line_of(text, error));
+    line.put(b": ");
+    line.put_shown(error.message());
     line
 }
 
-/// Returns the message if there is no memory for more.
+/// Returns the message if there is no memory for more: only the faulty key.
 fn plain_line(key: Option<&str>) -> Line {
     let mut line = Line::new();
-    let _fits = put_plain(&mut line, key.unwrap_or("text"));
+    line.put(b"config ");
+    line.put_shown(key.unwrap_or("text"));
     line
-}
-
-/// Writes only the faulty key.
-fn put_plain(line: &mut Line, key: &str) -> Result<(), Device>
-    requires { IsOpen (page_end line.old) }
-    ensures { OnOk result ((page_end line.new).failures ≡ (page_end line.old).failures) }
-{
-    line.put(b"config ")?;
-    put_shown(line, key)
 }
 
 /// Writes a line.
 #[tactic(auto, using(ether_wire::proofs::Appending::with_text_twice))]
 fn put_line<N: Out>(notes: &mut N, line: &Line) -> Result<(), Device>
     requires { IsOpen (N.end notes.old) }
-    ensures { Puts (N.end notes.old) (N.end notes.new) (line_text (page_octets line.now)) result }
+    ensures { Puts (N.end notes.old) (N.end notes.new) (line_text line.now.octets.items) result }
 {
     notes.put(line.octets())?;
     notes.put(b"\n")
-}
-
-/// Writes the number of a table of this name: `edge 2`.
-#[tactic(auto, using(ether_wire::proofs::Appending::with_text_twice))]
-fn put_number<N: Out>(notes: &mut N, name: &[u8], number: usize) -> Result<(), Device>
-    requires { IsOpen (N.end notes.old) }
-    ensures { Puts (N.end notes.old) (N.end notes.new) (numbered name.now number) result }
-{
-    notes.put(name)?;
-    put_decimal(notes, number as u64)
 }
 
 /// Writes the place of a port: `edge 2, port 3: `.
@@ -156,7 +132,7 @@ fn is_plain(key: &[u8]) -> bool
 /// could control a terminal.
 fn shown_line(key: &str) -> Line {
     let mut line = Line::new();
-    let _fits = put_shown(&mut line, key);
+    line.put_shown(key);
     line
 }
 
@@ -172,7 +148,26 @@ fn put_key<N: Out>(notes: &mut N, key: &str) -> Result<(), Device>
     }
 }
 
-/// Writes the line of a fault: its place, its key, and advice.
+/// Writes what was found, the range that a row allows, and advice.
+#[tactic(auto, using(ether_wire::proofs::Appending::with_text_twice))]
+fn put_advice<N: Out>(
+    notes: &mut N,
+    found: &Line,
+    row: Option<Row>,
+    advice: &Line,
+) -> Result<(), Device>
+    requires { IsOpen (N.end notes.old) }
+    ensures { Puts (N.end notes.old) (N.end notes.new)
+        (line_text (found.now.octets.items ++ codes ", " ++ row_text (option_map row_of row)
+        ++ advice.now.octets.items)) result }
+{
+    notes.put(found.octets())?;
+    notes.put(b", ")?;
+    put_range(notes, row)?;
+    put_line(notes, advice)
+}
+
+/// Writes the line of a fault: its place, its key, what was found, and advice.
 fn put_fault<N: Out>(
     notes: &mut N,
     alloc: Global,
@@ -181,11 +176,15 @@ fn put_fault<N: Out>(
     fault: FaultyKey<'_>,
 ) -> Result<(), Device>
     requires { IsOpen (N.end notes.old) }
-    ensures { TellsFault (faulty_of fault.entry) (N.end notes.old) (N.end notes.new) result }
+    ensures { TellsFault wanted (faulty_of fault.entry) (N.end notes.old) (N.end notes.new) result }
 {
-    put_place(notes, fault.place)?;
-    put_key(notes, fault.key)?;
-    put_line(notes, &advice_line(alloc, wanted, document, fault))
+    let FaultyKey { place, key } = fault;
+    let row = row_at(rows_of(wanted, place), key);
+    let found = found_line(document, place, key);
+    let advice = advice_line(alloc, wanted, place, key);
+    put_place(notes, place)?;
+    put_key(notes, key)?;
+    put_advice(notes, &found, row, &advice)
 }
 
 /// Writes a line for each of these faults.
@@ -197,7 +196,7 @@ fn put_lines<N: Out>(
     faults: &[FaultyKey<'_>],
 ) -> Result<(), Device>
     requires { IsOpen (N.end notes.old) }
-    ensures { TellsEach (faults_view faults.now) (N.end notes.old) (N.end notes.new) result }
+    ensures { TellsEach wanted (faults_view faults.now) (N.end notes.old) (N.end notes.new) result }
 {
     for fault in faults {
         put_fault(notes, alloc, wanted, document, *fault)?;
@@ -218,8 +217,8 @@ fn put_faults<N: Out>(
     ensures { TellsFaults wanted (table_view document.now) (N.end notes.old) (N.end notes.new)
         result }
 {
-    match faults_of(alloc, wanted, document) {
-        Ok(faults) => put_lines(notes, alloc, wanted, document, faults.as_slice()),
+    match walk(alloc, wanted, document) {
+        Ok(found) => put_lines(notes, alloc, wanted, document, found.faults.as_slice()),
         Err(_) => put_line(notes, &plain_line(key)),
     }
 }

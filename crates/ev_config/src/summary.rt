@@ -4,7 +4,7 @@ ghost use Rattle.std.specs.List.{list_any};
 ghost use Rattle.ether_wire.specs.Ends.{IsOpen, Puts};
 ghost use Rattle.ev_config.specs.Summary.{port_count, count_different, all_vnis, vni_count, peer_count, counted, peers_text, ports_text, vnis_text, summary_text};
 
-use crate::keys::has_vni;
+use crate::values::has_vni;
 use crate::whole::Config;
 use ether_wire::{Device, Out, Vni, put_decimal};
 use ev_edge::EdgeConfig;

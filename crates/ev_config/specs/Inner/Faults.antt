@@ -1,12 +1,20 @@
 -- All faults of a document: its faulty keys, each with its table, in the order in which they are printed.
-use Rattle.std.specs.Prelude.{◌≡◌, List, [], ◌∷◌, ◌++◌, map}
-use Rattle.std.specs.Prelude.{Result, Ok, Err}
-use Rattle.ev_config.specs.declared.keys.Fault.{Fault}
-use Rattle.ev_config.specs.declared.keys.Fault.TheVariants as fault
+use Rattle.std.specs.Prelude.{◌≡◌, List, ◌++◌, map, Option, option_map}
+use Rattle.std.specs.Prelude.{Result, Ok, Err, Vec}
+use Rattle.std.specs.Borrow.{Bor}
+use Rattle.std.specs.Option.{option_map_or}
+use Rattle.std.specs.declared.alloc.Global.{Global}
+use Rattle.toml.specs.Data.{Items, no_items}
+use Rattle.toml.specs.View.{array_view}
+use Rattle.toml.specs.declared.value.Value.{Value}
+use Rattle.ev_config.specs.declared.schema.Row.{Row as CodeRow}
 use Rattle.ev_config.specs.declared.place.Place.{Place}
 use Rattle.ev_config.specs.declared.place.Place.TheVariants as place
 use Rattle.ev_config.specs.declared.faults.FaultyKey.{FaultyKey}
-use Rattle.ev_config.specs.Faults.{Spot, File, Edge, Port, Peer, Faulty}
+use Rattle.ev_config.specs.declared.names.Names.{Names as CodeNames}
+use Rattle.ev_config.specs.declared.place.Context.{Context as CodeContext}
+use Rattle.ev_config.specs.Schema.{Row}
+use Rattle.ev_config.specs.Faults.{Spot, File, Edge, Port, Peer, Faulty, Names, Context}
 
 abbrev pub spot_of : Place → Spot
 spot_of (place.File t) = File
@@ -20,13 +28,25 @@ faulty_of f = (spot_of f.place, f.key.now)
 abbrev pub faults_view : List FaultyKey → List Faulty
 faults_view faults = map faulty_of faults
 
--- the result has these faults, none or one; only refused memory is an exception
-abbrev pub HasFault : {X : Type 0} → Spot → Result X Fault → List Faulty → Type 0
-HasFault spot (Ok x) faults = faults ≡ []
-HasFault spot (Err (fault.Key k)) faults = faults ≡ (spot, k.now) ∷ []
-HasFault spot (Err fault.NoMemory) faults = Unit {0}
-
 -- these faults were added, unless memory was refused
-abbrev pub Adds : {X : Type 0} → List Faulty → List FaultyKey → List FaultyKey → Result X Fault → Type 0
+abbrev pub Adds : {X E : Type 0} → List Faulty → List FaultyKey → List FaultyKey → Result X E → Type 0
 Adds more old new (Ok x) = faults_view new ≡ faults_view old ++ more
 Adds more old new (Err any) = Unit {0}
+
+-- a row without its advice
+abbrev pub row_of : CodeRow → Row
+row_of row = (row.0.now, row.1)
+
+abbrev pub names_view : CodeNames → Names
+names_view n = record { addresses = n.addresses.items; bridges = n.bridges.items }
+
+abbrev pub context_view : CodeContext → Context
+context_view c = record {
+  for_run = c.for_run;
+  names = names_view c.names.now;
+  vnis = option_map (λ v. v.items) c.vnis;
+  edges = c.edges;
+}
+
+abbrev pub items_at : Option (Bor (Vec Value Global)) → Items
+items_at tables = option_map_or (λ a. array_view a.now) tables no_items

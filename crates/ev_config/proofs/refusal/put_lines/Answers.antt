@@ -10,11 +10,13 @@ pub loop-fault-preserved : goal.loop-fault-preserved
 loop-fault-preserved g c =
     let before = c.loop-fault.invariant in
     let this = c.in_ok-put_fault.ensures in
-    lines_more c.args.faults.now c.loop-fault.fault-index c.fault-item.result before.0 this.0
+    lines_more c.args.wanted c.args.faults.now c.loop-fault.fault-index c.fault-item.result before.0 this.0
     (g.N.Out.end c.args.notes.now) (g.N.Out.end c.loop-fault.notes) (g.N.Out.end c.put_fault.new.notes)
     c.loop-fault-test.true c.fault-item.is before.1 before.2 this.1 this.2
 
 pub returns : goal.returns
 returns g c =
     let before = c.loop-fault.invariant in
-    (before.0, lines_all c.args.faults.now c.loop-fault.fault-index before.0 c.loop-fault-test.false before.1, before.2)
+    let all = lines_all c.args.wanted c.args.faults.now c.loop-fault.fault-index before.0 c.loop-fault-test.false
+    before.1 in
+    (before.0, all, before.2)
