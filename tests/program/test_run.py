@@ -270,11 +270,13 @@ class TwoEdges(TwoCables):
         self.assertNotIn("02:00:00:00:00:07", report)
 
     def moves_to_and_fro(self) -> None:
-        """A station that is heard at both edges in turn, more than five times at each."""
+        """A station that is heard at both edges in turn, more than five times at each. An edge counts a move only if it has the other
+        one's route, and a frame may arrive before the route does."""
         self.is_carried(self.one, self.two, frame(BROADCAST, station(1), b"first"))
         for _ in range(6):
             for cable, other in ((self.one, self.two), (self.two, self.one)):
                 self.is_carried(cable, other, frame(BROADCAST, station(10), b"here I am"))
+                time.sleep(0.1)
 
     def test_duplicate_is_told_at_once(self) -> None:
         """A station that moves to and fro is told while the edges run, and once. That takes less than a second; a busy machine has a
