@@ -6,7 +6,7 @@ use Rattle.ev_config.specs.declared.faults.FaultyKey.{FaultyKey}
 use Rattle.ev_config.specs.declared.whole.Use.{Use}
 use Rattle.ev_config.specs.Keys.{count_of}
 use Rattle.ev_config.specs.Faults.{Faulty, Names, no_names, after_all, edges_faults, peers_faults, own_faults}
-use Rattle.ev_config.specs.Faults.{edge_items, is_run, peers_beside, peer_items, edge_names, names_in, faults_in}
+use Rattle.ev_config.specs.Faults.{edge_items, is_run, peers_beside, peer_items, edge_names, faults_in}
 use Rattle.ev_config.specs.Inner.Faults.{faults_view, Adds}
 
 -- these, and then the rest

@@ -11,20 +11,18 @@ use Rattle.std.proofs.lemmas.List.Elements.{Contains-append_left}
 use Rattle.std.proofs.lemmas.Map.Views.{Contains-from_any}
 use Rattle.toml.specs.Data.{Data, Items, no_items, item, Members, get_member, as_array, as_table, as_integer}
 use Rattle.ether_wire.proofs.DistinctNumbers.{same_tests, distinct_more, distinct_none}
-use Rattle.ev_edge.specs.declared.config.PortConfig.{PortConfig}
 use Rattle.ev_edge.specs.declared.config.EdgeConfig.{EdgeConfig}
 use Rattle.ev_edge.specs.Config.{IsConfig, vnis_of}
 use Rattle.ev_fabric.specs.Fabric.{addresses_of}
 use Rattle.ev_fabric.specs.Opening.{AreConfigs}
 use Rattle.ev_config.specs.declared.schema.Range.{Range}
-use Rattle.ev_config.specs.declared.schema.Kind.{Kind}
 use Rattle.ev_config.specs.declared.schema.Kind.TheVariants as kind
 use Rattle.ev_config.specs.declared.whole.Use.{Use}
 use Rattle.ev_config.specs.declared.whole.Use.TheVariants.{Any, Run, Serve}
 use Rattle.ev_config.specs.Schema.{Key, Row, edge_rows, port_rows, peer_rows, capacity, buckets, hello}
-use Rattle.ev_config.specs.Keys.{keys_of, is_within, within, number_in, vni_in, new_among, numbers_from}
+use Rattle.ev_config.specs.Keys.{keys_of, within, number_in, vni_in, new_among, numbers_from}
 use Rattle.ev_config.specs.Keys.{count_of, is_few, few}
-use Rattle.ev_config.specs.Keys.{vnis_in, are_tables, tables_in, tables_beside, spelt, number_or, number_at, tables_at}
+use Rattle.ev_config.specs.Keys.{vnis_in, are_tables, tables_in, tables_beside, spelt, number_at, tables_at}
 use Rattle.ev_config.specs.Keys.{with_table, tables_of, addr_in}
 use Rattle.ev_config.specs.ConfigPort.{port_of}
 use Rattle.ev_config.specs.ConfigEdge.{edge_of}
@@ -32,8 +30,8 @@ use Rattle.ev_config.specs.Faults.{Spot, File, Edge, Port, Peer, Faulty, Names, 
 use Rattle.ev_config.specs.Faults.{is_faulty_at, is_faulty}
 use Rattle.ev_config.specs.Faults.{fault_if, rows_faults, table_faults, unknown, times_in, is_odd, ports_faults}
 use Rattle.ev_config.specs.Faults.{port_faults}
-use Rattle.ev_config.specs.Faults.{edge_faults_by, edge_faults, joined, after, after_all, edges_faults, peer_faults}
-use Rattle.ev_config.specs.Faults.{peers_faults, own_faults, edge_items, peers_beside, peer_items, edge_names, names_in}
+use Rattle.ev_config.specs.Faults.{edge_faults, joined, after, after_all, edges_faults, peer_faults}
+use Rattle.ev_config.specs.Faults.{peers_faults, own_faults, edge_items, peer_items, edge_names, names_in}
 use Rattle.ev_config.specs.Faults.{faults_in, is_run, rows_for}
 use Rattle.ev_config.specs.Config.{whole_of}
 

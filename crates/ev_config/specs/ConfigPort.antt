@@ -1,5 +1,5 @@
 -- The ports of an edge: the values of their tables.
-use Rattle.std.specs.Prelude.{ℕ, true, false, codes, Option}
+use Rattle.std.specs.Prelude.{true, false, codes}
 use Rattle.std.specs.Option.{unwrap_or}
 use Rattle.toml.specs.Data.{Members}
 use Rattle.ev_edge.specs.declared.config.PortConfig.{PortConfig}

@@ -1,4 +1,4 @@
-use Rattle.std.proofs.Common.{◌≡◌, List, [], ◌∷◌, refl}
+use Rattle.std.proofs.Common.{List, [], ◌∷◌, refl}
 use Rattle.ev_config.specs.Faults.{Faulty, faults_in}
 use Rattle.ev_config.specs.declared.whole.Use.TheVariants.{Serve}
 use Rattle.ev_config.specs.Config.{Agree, unless_faulty, use_for, whole_of, served_whole}
