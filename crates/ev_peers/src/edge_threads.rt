@@ -16,7 +16,7 @@ use crate::shared_edge::SharedEdge;
 use ether_wire::Mac;
 use ev_book::{Book, Pass};
 use ev_edge::EdgeConfig;
-use ev_links::{LinkIn, LinkOut};
+use ev_links::{LinkIn, LinkOut, PromptOut};
 use ev_mailboxes::Peers;
 use std::alloc::{AllocError, Global};
 use std::marker::Model;
@@ -42,7 +42,7 @@ struct ReadyThreads<'x, L: Ledger, I: Drop, O: Drop, G, R> {
     fresh: Vec<Pass<L>>,
     /// The pass of the worker of other edges' records.
     peer: Pass<L>,
-    workplace: &'x Workplace<'x, L, G, R>,
+    workplace: &'x Workplace<'x, L, O, G, R>,
 }
 
 impl<'x, L: Ledger, I: Drop, O: Drop, G, R> Model for ReadyThreads<'x, L, I, O, G, R> {
@@ -70,7 +70,7 @@ fn run_within<
     'x: 's,
     L: Ledger + Send + Sync + 'x,
     I: LinkIn + Drop + Send + 'x,
-    O: LinkOut + Drop + Send + 'x,
+    O: LinkOut + PromptOut + Drop + Send + 'x,
     G: Gate + Sync + 'x,
     R: Threads + Wait + Sync + 'x,
 >(
@@ -93,7 +93,7 @@ fn run_within<
     } = threads;
     let (rt, outlet) = (workplace.shared_edge.rt, &workplace.outlet);
     let (sending, no_sent) = start_sending(scope, rt, workplace.shared, outputs, sending);
-    let peer = start_peer::<L, I, G, R>(scope, workplace, peer);
+    let peer = start_peer::<L, I, O, G, R>(scope, workplace, peer);
     let (entering, begun) = start_entering(scope, workplace, tasks, fresh, entering);
     if no_sent.memory || begun.memory || peer.is_err() {
         report_refused(rt, outlet.peers);
@@ -129,12 +129,12 @@ pub struct Host<'x, G, R> {
 }
 
 /// The book, the lines and the shared data of an edge's workers.
-fn workplace_of<'x, L: Ledger, G, R>(
+fn workplace_of<'x, L: Ledger, K, G, R>(
     host: &Host<'x, G, R>,
     bridge: Mac,
     book: &'x Mutex<Book<L>>,
-    shared: &'x Shared,
-) -> Workplace<'x, L, G, R>
+    shared: &'x Shared<K>,
+) -> Workplace<'x, L, K, G, R>
     ensures shared { result.shared.now ≡ shared.now }
     ensures book { result.shared_edge.book.now ≡ book.now }
     ensures edge { result.shared_edge.edge ≡ host.now.number }
@@ -167,7 +167,7 @@ fn run_workers<
     'x,
     L: Ledger + Send + Sync + 'x,
     I: LinkIn + Drop + Send + 'x,
-    O: LinkOut + Drop + Send + 'x,
+    O: LinkOut + PromptOut + Drop + Send + 'x,
     G: Gate + Sync + 'x,
     R: Threads + Wait + Sync + 'x,
 >(rt: &'x R, ready_threads: ReadyThreads<'x, L, I, O, G, R>) -> (Vec<Pass<L>>, Faults)
@@ -196,7 +196,7 @@ fn run_workers<
 pub fn edge_worker<
     L: Ledger + Send + Sync,
     I: LinkIn + Drop + Send,
-    O: LinkOut + Drop + Send,
+    O: LinkOut + PromptOut + Drop + Send,
     G: Gate + Sync,
     R: Threads + Wait + Sync,
 >(
