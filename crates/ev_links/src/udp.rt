@@ -194,8 +194,8 @@ fn where_to(destination: Destination, to: Addr) -> (Addr, u16)
 /// The size of the system's form of an IPv4 address and a UDP port (`sockaddr_in`).
 const ADDRESS_SIZE: u32 = 16;
 
-/// Returns the system's form of an IPv4 address and a UDP port: the family AF_INET, which is 2, with
-/// the low octet first, and then the port and the address, each with the high octet first.
+/// Returns the system's form of an IPv4 address and a UDP port: the family AF_INET, which is 2,
+/// with the low octet first, and then the port and the address, each with the high octet first.
 fn system_address(address: Addr, port: u16) -> [u8; 128]
     ensures { take 8 result ≡ 2 ∷ 0 ∷ to_be_bytes w16 port ++ to_be_bytes w32 address }
 {

@@ -28,8 +28,8 @@ abbrev pub has_pending : BookState → Bool
 has_pending b = is_some (slice_get b.edge.routes.speaker.pending 0)
 
 -- A call of some book, and whether an announcement is pending in that book after the call.
-pub record Leaves (p : PassState) (event : Event) (answer : Result Reply BookRefusal) (pending : Bool) (p' : PassState) :
-    Type 0 where
+pub record Leaves (p : PassState) (event : Event) (answer : Result Reply BookRefusal) (pending : Bool)
+    (p' : PassState) : Type 0 where
   pub entered : Entered p event answer p'
   pub pending_is : pending ≡ has_pending entered.after
 

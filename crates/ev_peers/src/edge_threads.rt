@@ -1,5 +1,5 @@
 //! An edge with all its workers, each on a thread of its own.
-ghost use Rattle.std.specs.Prelude.{◌≡◌, ◌+◌, ◌≤◌, vec_len, vec_capacity};
+ghost use Rattle.std.specs.Prelude.{◌≡◌, ◌+◌, ◌<◌, ◌≤◌, length, vec_len, vec_capacity};
 ghost use Rattle.bpdu_wire.specs.Id.{bridge_address};
 ghost use Rattle.ev_edge.specs.Config.{IsConfig};
 ghost use Rattle.ev_peers.specs.EdgeThreads.{IsRanOf};
@@ -14,8 +14,8 @@ use crate::plan::{EdgeThreads, Shared, planned};
 use crate::sending::{all_dropped, join_sending, start_sending, stop_sending};
 use crate::shared_edge::SharedEdge;
 use ether_wire::Mac;
-use ev_book::{Book, Pass};
-use ev_edge::EdgeConfig;
+use ev_book::{Book, Pass, Totals};
+use ev_edge::{Edge, EdgeConfig};
 use ev_links::{LinkIn, LinkOut, PromptOut};
 use ev_mailboxes::Peers;
 use std::alloc::{AllocError, Global};
@@ -182,6 +182,16 @@ fn run_workers<
     )
 }
 
+/// Closes a book that no worker holds any more, with the passes that its workers returned. Returns
+/// its edge, and a count of calls for each part of the ledger.
+fn closed<L: Ledger>(book: Mutex<Book<L>>, passes: Vec<Pass<L>>) -> (Edge, Totals)
+    requires all { vec_len passes ≡ L.parts }
+    requires some { (0 < vec_len passes) × (vec_len passes ≤ 256) }
+    ensures { length result.1 ≡ L.parts }
+{
+    book.into_inner().close(passes)
+}
+
 /// Opens an edge's book under a ledger of its own, runs the edge's workers, and closes the book
 /// with the passes that they return: passes 0, 1 .. are those of the ports, then of the tunnel,
 /// the clock and the other edges' records.
@@ -232,7 +242,7 @@ pub fn edge_worker<
         workplace: &workplace,
     };
     let (passes, faults) = run_workers(rt, ready_threads);
-    let (edge, totals) = book.into_inner().close(passes);
+    let (edge, totals) = closed(book, passes);
     let out_of_memory = shared.out_of_memory.load(Ordering::SeqCst);
     Ok(Outcome {
         number: host.number,
