@@ -2,3 +2,4 @@ pub mod Backlogs
 pub mod Behind
 pub mod Coming
 pub mod Lines
+pub mod Orders

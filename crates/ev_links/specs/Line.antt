@@ -1,5 +1,6 @@
 -- The BPDUs and frames that wait to be sent over a link, and the number of those that were dropped for lack of room.
-use Rattle.std.specs.Prelude.{◌≡◌, ℕ, ◌+◌, ◌-◌, ◌^◌, ◌≤◌, min, ◌&&◌, Bool, false, true, nat_lt, nat_le, if◌then◌else◌}
+use Rattle.std.specs.Prelude.{◌≡◌, ℕ, ◌+◌, ◌-◌, ◌^◌, ◌≤◌, ◌==◌, min, ◌&&◌, Bool, false, true, nat_lt, nat_le}
+use Rattle.std.specs.Prelude.{if◌then◌else◌}
 use Rattle.std.specs.Prelude.{List, [], ◌∷◌, ◌++◌, length, take, drop, Option, Some, None}
 use Rattle.ev_links.specs.Links.{Packet, packet}
 use Rattle.ev_links.specs.declared.line.Head.{Head}
@@ -22,6 +23,10 @@ waiting_of bpdus frames dropped has_ended = record {
 -- nothing waits, nothing was dropped, and the line has not ended
 abbrev pub nothing_waits : Waiting
 nothing_waits = waiting_of [] [] 0 false
+
+-- nothing waits
+abbrev pub is_empty : Waiting → Bool
+is_empty w = length w.bpdus == 0 && length w.frames == 0
 
 -- the number of octets of these frames
 abbrev pub octets_of : List Packet → ℕ
@@ -68,6 +73,12 @@ first_of w = first_in w.bpdus w.frames
 abbrev pub frames_left : List (List ℕ) → List Packet → List Packet
 frames_left (bpdu ∷ bpdus) frames = frames
 frames_left [] frames = drop 1 frames
+
+-- the frame that goes first, if no BPDU does
+abbrev pub frames_in_front : List (List ℕ) → List Packet → List Packet
+frames_in_front (bpdu ∷ bpdus) frames = []
+frames_in_front [] [] = []
+frames_in_front [] (frame ∷ frames) = frame ∷ []
 
 abbrev pub after_take : Waiting → Waiting
 after_take w = waiting_of (drop 1 w.bpdus) (frames_left w.bpdus w.frames) w.dropped w.has_ended

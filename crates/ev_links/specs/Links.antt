@@ -1,5 +1,5 @@
 -- Datagrams that come over a link, and datagrams that are sent over one.
-use Rattle.std.specs.Prelude.{ℕ, List, [], ◌∷◌, take, Option, Some, None, Result, Ok, Err}
+use Rattle.std.specs.Prelude.{ℕ, Bool, List, [], ◌∷◌, take, Option, Some, None, Result, Ok, Err}
 use Rattle.ether_wire.specs.declared.ends.Device.{Device}
 
 -- a received datagram: its sender's address and its octets
@@ -33,3 +33,11 @@ packet to octets = record { to = to; octets = octets }
 abbrev pub sent_by : ℕ → List ℕ → Result (Unit {0}) Device → List Packet
 sent_by to octets (Ok done) = packet to octets ∷ []
 sent_by to octets (Err failure) = []
+
+-- a datagram that a link was to send without waiting, and whether it was sent
+pub record Try : Type 0 where
+  pub packet : Packet
+  pub is_sent : Bool
+
+abbrev pub a_try : Packet → Bool → Try
+a_try p is_sent = record { packet = p; is_sent = is_sent }

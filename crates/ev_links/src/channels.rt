@@ -1,7 +1,7 @@
 //! Links over channels.
 ghost use Rattle.std.specs.Prelude.{◌≡◌, ◌≤◌, length, take, min, IfOk};
 
-use crate::links::{LinkIn, LinkOut};
+use crate::links::{LinkIn, LinkOut, PromptOut};
 use crossbeam_channel::{Receiver, Sender};
 use ether_wire::{Addr, Device};
 use std::alloc::{AllocError, Global};
@@ -137,5 +137,30 @@ impl<R: Wait> LinkOut for ChannelOut<'_, R> {
             return Err(Device);
         }
         Ok(())
+    }
+}
+
+impl<R> Clone for ChannelOut<'_, R> {
+    fn clone(&self) -> Result<Self, AllocError> {
+        Ok(ChannelOut {
+            rt: self.rt,
+            alloc: self.alloc,
+            from: self.from,
+            datagrams: self.datagrams.clone()?,
+            failures: self.failures,
+        })
+    }
+}
+
+impl<R: Wait> PromptOut for ChannelOut<'_, R> {
+    ghost use Rattle.std.specs.Prelude.{None};
+
+    ghost tried = { λ c. None };
+
+    fn send_now(&mut self, to: Addr, octets: &[u8]) -> bool {
+        match addressed(self.alloc, self.from, to, octets) {
+            Ok(datagram) => self.datagrams.try_send(self.rt, datagram).is_ok(),
+            Err(_) => false,
+        }
     }
 }

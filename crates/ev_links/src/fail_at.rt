@@ -2,13 +2,13 @@
 ghost use Rattle.std.specs.Prelude.{◌≡◌, ◌≢◌, ◌+◌, ◌^◌, ◌<◌, ◌≤◌, true, false, is_err, length, if◌then◌else◌, IfOk, IfSome};
 ghost use Rattle.ev_links.specs.FailAt.{inner_link, calls_of, fails_at, counted};
 
-use crate::links::{LinkIn, LinkOut};
+use crate::links::{LinkIn, LinkOut, PromptOut};
 use ether_wire::{Addr, Device};
 
 /// A link that wraps another one. Its call of one number, counted from 1, fails and does not reach
 /// the wrapped link; all other calls go to the wrapped link. With the number 0 no call fails in
 /// this way.
-#[derive(Drop)]
+#[derive(Clone, Drop)]
 pub struct FailAt<K> {
     inner: K,
     at: u64,
@@ -129,5 +129,17 @@ impl<K: LinkOut> LinkOut for FailAt<K> {
             return Err(Device);
         }
         self.inner.send(to, octets)
+    }
+}
+
+/// A link of which a call will fail sends nothing without waiting, so that each datagram is a call
+/// of `send` and counts.
+impl<K: PromptOut> PromptOut for FailAt<K> {
+    ghost use Rattle.std.specs.Prelude.{None};
+
+    ghost tried = { λ f. None };
+
+    fn send_now(&mut self, to: Addr, octets: &[u8]) -> bool {
+        self.at == 0 && self.inner.send_now(to, octets)
     }
 }

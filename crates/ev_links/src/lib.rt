@@ -4,13 +4,16 @@
 
 mod backlog;
 mod channels;
+mod direct_line;
 mod fail_at;
+pub mod laws;
 mod line;
 mod links;
 mod udp;
 
 pub use channels::{ChannelIn, ChannelOut, Datagram};
+pub use direct_line::DirectLine;
 pub use fail_at::FailAt;
 pub use line::{LONGEST, Line};
-pub use links::{LinkIn, LinkOut};
+pub use links::{LinkIn, LinkOut, PromptOut};
 pub use udp::{Destination, UdpOut, Wire, socket_address};

@@ -1,7 +1,7 @@
 //! The queue of a link: BPDUs, and frames after them, as far as there is room.
 ghost use Rattle.std.specs.Prelude.{◌≡◌, ◌+◌, ◌≤◌, ◌&&◌, nat_lt, nat_le, length, take, IfOk, IfSome};
 ghost use Rattle.ev_links.specs.Links.{packet};
-ghost use Rattle.ev_links.specs.Line.{nothing_waits, after_frame, after_bpdu, first_of, after_take, handed, after_end};
+ghost use Rattle.ev_links.specs.Line.{nothing_waits, is_empty, after_frame, after_bpdu, first_of, after_take, handed, after_end};
 
 use crate::backlog::{Backlog, OCTETS, put_front};
 use ether_wire::Addr;
@@ -91,6 +91,14 @@ impl Line {
             dropped: 0,
             has_ended: false,
         })
+    }
+
+    /// Returns `true` exactly if nothing waits.
+    #[tactic(auto, using(crate::proofs::Lines::cut_length))]
+    pub fn is_empty(&self) -> bool
+        ensures { result ≡ is_empty self.now }
+    {
+        self.bpdus.len() == 0 && self.heads.len() == 0
     }
 
     /// Appends a frame, or a datagram, to the others. Drops and counts it exactly if it is longer

@@ -1,7 +1,7 @@
 //! Traits of links, which receive and send datagrams: an access port, a tunnel's socket, a clock.
-ghost use Rattle.std.specs.Prelude.{◌≡◌, ℕ, ◌+◌, ◌^◌, ◌<◌, ◌≤◌, Option, List, length, is_err, if◌then◌else◌, IfOk, IfSome};
+ghost use Rattle.std.specs.Prelude.{◌≡◌, ℕ, ◌+◌, ◌^◌, ◌<◌, ◌≤◌, ◌∷◌, [], Option, List, length, is_err, if◌then◌else◌, IfOk, IfSome};
 ghost use Rattle.ev_links.specs.Coming.{behind};
-ghost use Rattle.ev_links.specs.Links.{Call, Packet, brought, sent_by};
+ghost use Rattle.ev_links.specs.Links.{Call, Packet, Try, brought, sent_by, packet, a_try};
 
 use ether_wire::{Addr, Device};
 
@@ -54,4 +54,19 @@ pub trait LinkOut {
         requires { failed self.old + 1 < 2 ^ 64 }
         ensures sent { sent self.new ≡ behind (sent self.old) (sent_by to octets.now result) }
         ensures failed { failed self.new ≡ failed self.old + (if is_err result then 1 else 0) };
+}
+
+/// A link that can send a datagram without waiting, by a handle of its own. A clone is one more
+/// handle of the same link.
+pub trait PromptOut: Clone {
+    /// The history of this handle, in order: each datagram that it was to send, and whether it did.
+    /// A handle may have no history.
+    ghost tried: { Self → Option (List Try) };
+
+    /// Sends a datagram to this address if the link takes it without waiting. Returns `true`
+    /// exactly if it was sent. Otherwise nothing was sent, for whatever reason: a caller that then
+    /// sends the datagram by `LinkOut` finds out whether the link fails.
+    fn send_now(&mut self, to: Addr, octets: &[u8]) -> bool
+        ensures { tried self.new
+            ≡ behind (tried self.old) (a_try (packet to octets.now) result ∷ []) };
 }

@@ -1,13 +1,16 @@
 //! Links over UDP sockets, and over a clock of the system.
-ghost use Rattle.std.specs.Prelude.{◌≡◌, ◌≤◌, length, Some, Ok, IfOk, IsErr, MatchResult};
+ghost use Rattle.std.specs.Int.{w16, w32, to_be_bytes};
+ghost use Rattle.std.specs.Prelude.{◌≡◌, ◌≤◌, ◌∷◌, ◌++◌, length, take, Some, Ok, IfOk, IsErr, MatchResult};
 ghost use Rattle.std.specs.Net.Addr.{IsIpv4OfBits, IsV4And, MatchIp, ipv4_bits};
 ghost use Rattle.std.specs.Net.Socket.{socket_ip, socket_port};
 ghost use Rattle.ev_links.specs.Udp.{destination_of};
 ghost use Rattle.ev_links.specs.Inner.Udp.{address_for, port_for};
 
-use crate::links::{LinkIn, LinkOut};
+use crate::links::{LinkIn, LinkOut, PromptOut};
 use ether_wire::{Addr, Device};
+use libc::net::{MSG_DONTWAIT, MSG_NOSIGNAL, sendto};
 use std::net::{IpAddr, Ipv4Addr, SocketAddr, UdpSocket};
+use std::os::fd::AsRawFd;
 use std::sync::atomic::{AtomicBool, Ordering};
 use std::time::{Clock, Duration};
 use std::{io, thread};
@@ -177,19 +180,34 @@ pub enum Destination {
     At(u16),
 }
 
-/// Returns the socket address that a datagram for this address is sent to.
-fn where_to(destination: Destination, to: Addr) -> SocketAddr
-    ensures ip { IsV4And (socket_ip result) (λ ip. IsIpv4OfBits ip (address_for destination to)) }
-    ensures port { socket_port result ≡ port_for destination }
+/// Returns the address and the UDP port that a datagram for this address is sent to.
+fn where_to(destination: Destination, to: Addr) -> (Addr, u16)
+    ensures address { result.0 ≡ address_for destination to }
+    ensures port { result.1 ≡ port_for destination }
 {
     match destination {
-        Destination::Fixed(address, port) => socket_address(address, port),
-        Destination::At(port) => socket_address(to, port),
+        Destination::Fixed(address, port) => (address, port),
+        Destination::At(port) => (to, port),
     }
 }
 
+/// The size of the system's form of an IPv4 address and a UDP port (`sockaddr_in`).
+const ADDRESS_SIZE: u32 = 16;
+
+/// Returns the system's form of an IPv4 address and a UDP port: the family AF_INET, which is 2,
+/// with the low octet first, and then the port and the address, each with the high octet first.
+fn system_address(address: Addr, port: u16) -> [u8; 128]
+    ensures { take 8 result ≡ 2 ∷ 0 ∷ to_be_bytes w16 port ++ to_be_bytes w32 address }
+{
+    let [high, low] = port.to_be_bytes();
+    let [a, b, c, d] = address.number().to_be_bytes();
+    let mut form = [0u8; 128];
+    form[..8].copy_from_slice(&[2, 0, high, low, a, b, c, d]);
+    form
+}
+
 /// A link that sends datagrams over a socket.
-#[derive(Drop)]
+#[derive(Clone, Drop)]
 pub struct UdpOut<'x> {
     socket: &'x UdpSocket,
     destination: Destination,
@@ -222,11 +240,26 @@ impl LinkOut for UdpOut<'_> {
     }
 
     fn send(&mut self, to: Addr, octets: &[u8]) -> Result<(), Device> {
-        let to = where_to(self.destination, to);
+        let (address, port) = where_to(self.destination, to);
+        let to = socket_address(address, port);
         if self.socket.send_to(octets, to).is_err() {
             self.failures += 1;
             return Err(Device);
         }
         Ok(())
+    }
+}
+
+impl PromptOut for UdpOut<'_> {
+    ghost use Rattle.std.specs.Prelude.{None};
+
+    ghost tried = { λ o. None };
+
+    fn send_now(&mut self, to: Addr, octets: &[u8]) -> bool {
+        let (address, port) = where_to(self.destination, to);
+        let to = system_address(address, port);
+        let flags = MSG_NOSIGNAL | MSG_DONTWAIT;
+        let sent = unsafe { sendto(self.socket.as_raw_fd(), octets, flags, &to, ADDRESS_SIZE) };
+        sent >= 0
     }
 }

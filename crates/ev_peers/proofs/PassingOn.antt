@@ -1,16 +1,9 @@
--- The announcements of a worker, and the event that it passes on, call by call.
-use Rattle.std.proofs.Common.{◌≡◌, ℕ, Bool, true, List, [], ◌∷◌, ◌++◌, Option, Some, None, Result, refl, ap, subst}
-use Rattle.std.proofs.Common.{◌∙◌}
+-- The announcements of a worker, call by call.
+use Rattle.std.proofs.Common.{◌≡◌, Bool, true, List, [], ◌∷◌, ◌++◌, Option, Some, None, refl, ap, ◌∙◌}
 use Rattle.route_wire.specs.Fields.{Fields}
-use Rattle.ev_edge.specs.declared.event.Event.{Event}
-use Rattle.ev_edge.specs.declared.reply.Reply.{Reply}
-use Rattle.ev_book.specs.declared.refusal.BookRefusal.{BookRefusal}
 use Rattle.ev_book.specs.Book.{PassState}
-use Rattle.ev_peers.specs.Giving.{Parcel}
-use Rattle.ev_links.specs.Coming.{behind}
 use Rattle.ev_peers.specs.Passing.{Entered, Asked, AskedEach, Word, Said, said_of, says, sends, announced, has_room}
-use Rattle.ev_peers.specs.Passing.{Stops}
-use Rattle.ev_peers.specs.Passing.{Announces, PassesOn, given_by, signs_of}
+use Rattle.ev_peers.specs.Passing.{Stops, Announces}
 use Rattle.ev_links.proofs.Behind.{behind_none, behind_twice}
 
 -- words after words, and no words
@@ -58,19 +51,3 @@ pub none_left : (p : PassState) (old : Said) (p1 : PassState) (mid : Said) (room
     → Announces p old p2 new
 none_left p old p1 mid room p2 new s told there a =
     ends p old p1 mid true p2 new s (told ∙ ap (λ (r : Bool). says mid (has_room r ∷ [])) there) a
-
--- an event's call, the words for the operator's board, the parcels for the links, and then the announcements
-pub passed_on : (bridge vni : ℕ) (frame : List ℕ) (p : PassState) (event : Event) (answer : Result Reply BookRefusal)
-    (middle p' : PassState) (given given_signs mid given' : Option (List Parcel))
-    (records told mid_records records' : Said) → Entered p event answer middle
-    → told ≡ says records (signs_of vni event answer) → given_signs ≡ given
-    → mid ≡ behind given_signs (given_by bridge vni frame answer) → mid_records ≡ told → given' ≡ mid
-    → Announces middle mid_records p' records' → PassesOn bridge vni frame p event given records p' given' records'
-passed_on bridge vni frame p event answer middle p' given given_signs mid given' records told mid_records records'
-    entered signs still parcels same kept announces = record {
-      answer = answer;
-      middle = middle;
-      entered = entered;
-      parcels = kept ∙ parcels ∙ ap (λ (k : Option (List Parcel)). behind k (given_by bridge vni frame answer)) still;
-      announces = subst (λ (k : Said). Announces middle k p' records') (same ∙ signs) announces;
-    }

@@ -1,6 +1,6 @@
 -- How a worker handles one event: it enters the event into its edge's book, and passes on the book's answer.
 use Rattle.std.specs.Prelude.{◌≡◌, ℕ, Bool, false, true, List, [], ◌∷◌, ◌++◌, Option, Some, None, Result, Ok, Err}
-use Rattle.std.specs.Prelude.{if◌then◌else◌}
+use Rattle.std.specs.Prelude.{is_some, slice_get, if◌then◌else◌}
 use Rattle.route_wire.specs.Fields.{Fields}
 use Rattle.ev_edge.specs.declared.event.Event.{Event}
 use Rattle.ev_edge.specs.declared.event.Event.TheVariants.{Announce}
@@ -22,6 +22,16 @@ pub record Entered (p : PassState) (event : Event) (answer : Result Reply BookRe
   pub before : BookState
   pub after : BookState
   pub calls : CallsBook before p event answer after p'
+
+-- an announcement is pending in the edge of a book
+abbrev pub has_pending : BookState → Bool
+has_pending b = is_some (slice_get b.edge.routes.speaker.pending 0)
+
+-- A call of some book, and whether an announcement is pending in that book after the call.
+pub record Leaves (p : PassState) (event : Event) (answer : Result Reply BookRefusal) (pending : Bool)
+    (p' : PassState) : Type 0 where
+  pub entered : Entered p event answer p'
+  pub pending_is : pending ≡ has_pending entered.after
 
 -- ---- announcements
 
@@ -90,6 +100,11 @@ pub record Announces (p : PassState) (old : Said) (p' : PassState) (new : Said) 
   pub last : Stops had_room middle p'
   pub given : new ≡ says (announced old got) (has_room had_room ∷ [])
 
+-- announcements are requested exactly if one is pending
+abbrev pub AnnouncesIf : Bool → PassState → Said → PassState → Said → Type 0
+AnnouncesIf true p old p' new = Announces p old p' new
+AnnouncesIf false p old p' new = (p' ≡ p) × (new ≡ old)
+
 -- ---- one event
 
 -- the parcels of an answer for the links of its edge
@@ -108,12 +123,13 @@ abbrev pub signs_of : ℕ → Event → Result Reply BookRefusal → List Word
 signs_of vni event answer = (if is_second event then second_passes ∷ [] else []) ++ told_of (alarm_of vni event answer)
 
 -- The worker entered the event once, passed the answer's parcels to the links, passed the words of event and answer to
--- the operator's board, and then announced.
+-- the operator's board, and then announced, if an announcement was pending after the event.
 pub record PassesOn (bridge vni : ℕ) (frame : List ℕ) (p : PassState) (event : Event) (given : Option (List Parcel))
     (records : Said) (p' : PassState) (given' : Option (List Parcel)) (records' : Said) :
     Type 0 where
   pub answer : Result Reply BookRefusal
+  pub pending : Bool
   pub middle : PassState
-  pub entered : Entered p event answer middle
+  pub entered : Leaves p event answer pending middle
   pub parcels : given' ≡ behind given (given_by bridge vni frame answer)
-  pub announces : Announces middle (says records (signs_of vni event answer)) p' records'
+  pub announces : AnnouncesIf pending middle (says records (signs_of vni event answer)) p' records'

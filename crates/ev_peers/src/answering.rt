@@ -60,9 +60,9 @@ fn obey<L: Ledger, O: Outlet + Drop, G: Gate, R: Wait>(
     ensures stays { worker.new.shared_edge ≡ worker.old.shared_edge }
 {
     let event = event_of(command);
-    let answer = worker.give(&event, &Carried::none());
+    let (answer, is_pending) = worker.give(&event, &Carried::none());
     let answer = replied(answer, &mut worker.scratch.reply);
-    worker.announce();
+    worker.announce_if(is_pending);
     answer
 }
 

@@ -1,5 +1,5 @@
 //! An edge with all its workers, each on a thread of its own.
-ghost use Rattle.std.specs.Prelude.{◌≡◌, ◌+◌, ◌≤◌, vec_len, vec_capacity};
+ghost use Rattle.std.specs.Prelude.{◌≡◌, ◌+◌, ◌<◌, ◌≤◌, length, vec_len, vec_capacity};
 ghost use Rattle.bpdu_wire.specs.Id.{bridge_address};
 ghost use Rattle.ev_edge.specs.Config.{IsConfig};
 ghost use Rattle.ev_peers.specs.EdgeThreads.{IsRanOf};
@@ -14,9 +14,9 @@ use crate::plan::{EdgeThreads, Shared, planned};
 use crate::sending::{all_dropped, join_sending, start_sending, stop_sending};
 use crate::shared_edge::SharedEdge;
 use ether_wire::Mac;
-use ev_book::{Book, Pass};
-use ev_edge::EdgeConfig;
-use ev_links::{LinkIn, LinkOut};
+use ev_book::{Book, Pass, Totals};
+use ev_edge::{Edge, EdgeConfig};
+use ev_links::{LinkIn, LinkOut, PromptOut};
 use ev_mailboxes::Peers;
 use std::alloc::{AllocError, Global};
 use std::marker::Model;
@@ -42,7 +42,7 @@ struct ReadyThreads<'x, L: Ledger, I: Drop, O: Drop, G, R> {
     fresh: Vec<Pass<L>>,
     /// The pass of the worker of other edges' records.
     peer: Pass<L>,
-    workplace: &'x Workplace<'x, L, G, R>,
+    workplace: &'x Workplace<'x, L, O, G, R>,
 }
 
 impl<'x, L: Ledger, I: Drop, O: Drop, G, R> Model for ReadyThreads<'x, L, I, O, G, R> {
@@ -70,7 +70,7 @@ fn run_within<
     'x: 's,
     L: Ledger + Send + Sync + 'x,
     I: LinkIn + Drop + Send + 'x,
-    O: LinkOut + Drop + Send + 'x,
+    O: LinkOut + PromptOut + Drop + Send + 'x,
     G: Gate + Sync + 'x,
     R: Threads + Wait + Sync + 'x,
 >(
@@ -93,7 +93,7 @@ fn run_within<
     } = threads;
     let (rt, outlet) = (workplace.shared_edge.rt, &workplace.outlet);
     let (sending, no_sent) = start_sending(scope, rt, workplace.shared, outputs, sending);
-    let peer = start_peer::<L, I, G, R>(scope, workplace, peer);
+    let peer = start_peer::<L, I, O, G, R>(scope, workplace, peer);
     let (entering, begun) = start_entering(scope, workplace, tasks, fresh, entering);
     if no_sent.memory || begun.memory || peer.is_err() {
         report_refused(rt, outlet.peers);
@@ -129,12 +129,12 @@ pub struct Host<'x, G, R> {
 }
 
 /// The book, the lines and the shared data of an edge's workers.
-fn workplace_of<'x, L: Ledger, G, R>(
+fn workplace_of<'x, L: Ledger, K, G, R>(
     host: &Host<'x, G, R>,
     bridge: Mac,
     book: &'x Mutex<Book<L>>,
-    shared: &'x Shared,
-) -> Workplace<'x, L, G, R>
+    shared: &'x Shared<K>,
+) -> Workplace<'x, L, K, G, R>
     ensures shared { result.shared.now ≡ shared.now }
     ensures book { result.shared_edge.book.now ≡ book.now }
     ensures edge { result.shared_edge.edge ≡ host.now.number }
@@ -167,7 +167,7 @@ fn run_workers<
     'x,
     L: Ledger + Send + Sync + 'x,
     I: LinkIn + Drop + Send + 'x,
-    O: LinkOut + Drop + Send + 'x,
+    O: LinkOut + PromptOut + Drop + Send + 'x,
     G: Gate + Sync + 'x,
     R: Threads + Wait + Sync + 'x,
 >(rt: &'x R, ready_threads: ReadyThreads<'x, L, I, O, G, R>) -> (Vec<Pass<L>>, Faults)
@@ -180,6 +180,16 @@ fn run_workers<
             ensures { vec_len result.0 ≡ ready_threads.entry + 1 }
         { run_within(scope, ready_threads) },
     )
+}
+
+/// Closes a book that no worker holds any more, with the passes that its workers returned. Returns
+/// its edge, and a count of calls for each part of the ledger.
+fn closed<L: Ledger>(book: Mutex<Book<L>>, passes: Vec<Pass<L>>) -> (Edge, Totals)
+    requires all { vec_len passes ≡ L.parts }
+    requires some { (0 < vec_len passes) × (vec_len passes ≤ 256) }
+    ensures { length result.1 ≡ L.parts }
+{
+    book.into_inner().close(passes)
 }
 
 /// Opens an edge's book under a ledger of its own, runs the edge's workers, and closes the book
@@ -196,7 +206,7 @@ fn run_workers<
 pub fn edge_worker<
     L: Ledger + Send + Sync,
     I: LinkIn + Drop + Send,
-    O: LinkOut + Drop + Send,
+    O: LinkOut + PromptOut + Drop + Send,
     G: Gate + Sync,
     R: Threads + Wait + Sync,
 >(
@@ -232,7 +242,7 @@ pub fn edge_worker<
         workplace: &workplace,
     };
     let (passes, faults) = run_workers(rt, ready_threads);
-    let (edge, totals) = book.into_inner().close(passes);
+    let (edge, totals) = closed(book, passes);
     let out_of_memory = shared.out_of_memory.load(Ordering::SeqCst);
     Ok(Outcome {
         number: host.number,

@@ -10,7 +10,7 @@ use crate::shared_edge::{Ended, SharedEdge};
 use crate::worker::Worker;
 use crate::workers::{clock_worker, peer_worker, port_worker, tunnel_worker};
 use ev_book::Pass;
-use ev_links::LinkIn;
+use ev_links::{LinkIn, PromptOut};
 use ev_mailboxes::UpdateBox;
 use std::sync::Wait;
 use std::sync::atomic::{AtomicBool, Ordering};
@@ -20,20 +20,20 @@ use std::thread::{JoinHandle, Scope, Threads};
 /// The workplace of the workers of an edge that enter events: the edge, their outlet, and the
 /// values that they share.
 #[derive(Drop)]
-pub(crate) struct Workplace<'x, L: Ledger, G, R> {
+pub(crate) struct Workplace<'x, L: Ledger, K, G, R> {
     /// The edge.
     pub(crate) shared_edge: SharedEdge<'x, L, G, R>,
     /// The outlet for the answers of the edge's book.
-    pub(crate) outlet: Senders<'x, R>,
+    pub(crate) outlet: Senders<'x, K, R>,
     /// The values that all threads of the edge share.
-    pub(crate) shared: &'x Shared,
+    pub(crate) shared: &'x Shared<K>,
 }
 
 /// Runs the worker of other edges' updates over the edge's mailbox, and closes the mailbox. Returns
 /// at once with `Ended::NoMemory` if another worker has the mailbox.
-fn enter_updates<'x, L: Ledger, G: Gate, R: Wait>(
-    worker: &mut Worker<'_, L, WorkerOutlet<'x, R>, G, R>,
-    senders: Senders<'x, R>,
+fn enter_updates<'x, L: Ledger, K: PromptOut, G: Gate, R: Wait>(
+    worker: &mut Worker<'_, L, WorkerOutlet<'x, K, R>, G, R>,
+    senders: Senders<'x, K, R>,
 ) -> Ended {
     let Some(mut updates) = UpdateBox::open(senders.rt, senders.peers) else {
         return Ended::NoMemory;
@@ -45,8 +45,8 @@ fn enter_updates<'x, L: Ledger, G: Gate, R: Wait>(
 
 /// Runs the worker of a task until it ends. Returns at once with `Ended::NoMemory` if the task's
 /// thread was refused.
-fn enter_task<L: Ledger, I: LinkIn + Drop, G: Gate, R: Wait>(
-    workplace: &Workplace<'_, L, G, R>,
+fn enter_task<L: Ledger, I: LinkIn + Drop, K: PromptOut, G: Gate, R: Wait>(
+    workplace: &Workplace<'_, L, K, G, R>,
     pass: Pass<L>,
     task: Task<I>,
     is_refused: &AtomicBool,
@@ -74,11 +74,12 @@ fn start_task<
     'x: 's,
     L: Ledger + Send + Sync + 'x,
     I: LinkIn + Drop + Send + 'x,
+    K: PromptOut + Send + 'x,
     G: Gate + Sync + 'x,
     R: Wait + Sync + 'x,
 >(
     scope: &Scope<'s, &'x ()>,
-    workplace: &'x Workplace<'x, L, G, R>,
+    workplace: &'x Workplace<'x, L, K, G, R>,
     pass: Pass<L>,
     task: Task<I>,
     is_refused: &'x AtomicBool,
@@ -98,11 +99,12 @@ pub(crate) fn start_entering<
     'x: 's,
     L: Ledger + Send + Sync + 'x,
     I: LinkIn + Drop + Send + 'x,
+    K: PromptOut + Send + 'x,
     G: Gate + Sync + 'x,
     R: Wait + Sync + 'x,
 >(
     scope: &Scope<'s, &'x ()>,
-    workplace: &'x Workplace<'x, L, G, R>,
+    workplace: &'x Workplace<'x, L, K, G, R>,
     tasks: Vec<Task<I>>,
     fresh: Vec<Pass<L>>,
     entering: Entering<L>,
@@ -165,11 +167,12 @@ pub(crate) fn start_peer<
     'x: 's,
     L: Ledger + Send + Sync + 'x,
     I: LinkIn + Drop + Send + 'x,
+    K: PromptOut + Send + 'x,
     G: Gate + Sync + 'x,
     R: Wait + Sync + 'x,
 >(
     scope: &Scope<'s, &'x ()>,
-    workplace: &'x Workplace<'x, L, G, R>,
+    workplace: &'x Workplace<'x, L, K, G, R>,
     pass: Pass<L>,
 ) -> Result<JoinHandle<Entered<L>>, Entered<L>> {
     let task: Task<I> = Task::Peer;

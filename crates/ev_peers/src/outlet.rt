@@ -1,4 +1,4 @@
-//! The outlet of an edge's workers: frames go to the lines of its links, records to the other
+//! The outlet of an edge's workers: frames go to its links or their lines, records to the other
 //! edges, alerts and failures of links to the operator.
 ghost use Rattle.std.specs.Prelude.{◌≡◌, ◌∷◌, [], Option, List, slice_get, option_copied};
 ghost use Rattle.ev_peers.specs.Giving.{Parcel, parcel, first_parcel};
@@ -9,6 +9,7 @@ ghost use Rattle.ev_peers.specs.Passing.{Said, said_of, says, sends, has_room, s
 
 use crate::shared_line::SharedLine;
 use ether_wire::Addr;
+use ev_links::PromptOut;
 use ev_mailboxes::{Answer, Peers, Posts};
 use ev_mobility::Alert;
 use ev_notices::{Alarm, Reception};
@@ -36,7 +37,8 @@ pub trait Outlet {
     /// shows these.
     ghost records: { Self → Said };
 
-    /// Takes a frame for a link. If the link's line is full, the line drops and counts the frame.
+    /// Takes a frame for a link. The link sends it at once, or it waits on the link's line. If the
+    /// line is full, it drops and counts the frame.
     fn frame(&mut self, to: Target, octets: &[u8])
         ensures given { parcels self.new
             ≡ behind (parcels self.old) (parcel to octets.now ∷ []) }
@@ -81,22 +83,22 @@ pub trait Outlet {
 
 /// The lines to an edge's links, the mailboxes of the other edges, and the operator's board. It
 /// refers to them, and is copied for each worker.
-pub(crate) struct Senders<'x, R> {
+pub(crate) struct Senders<'x, K, R> {
     /// Waits for a lock.
     pub(crate) rt: &'x R,
     /// To the link of the tunnel, then to those of the access ports, port 1 first.
-    pub(crate) lines: &'x [SharedLine],
+    pub(crate) lines: &'x [SharedLine<K>],
     /// To the other edges, and to the operator.
     pub(crate) peers: Peers<'x>,
 }
 
-impl<'x, R> Clone for Senders<'x, R> {
+impl<'x, K, R> Clone for Senders<'x, K, R> {
     fn clone(&self) -> Result<Self, AllocError> {
         Ok(*self)
     }
 }
 
-impl<'x, R> Copy for Senders<'x, R> {}
+impl<'x, K, R> Copy for Senders<'x, K, R> {}
 
 /// Returns the place of a link's line, and the address that goes with a frame for it.
 fn place_of(to: Target) -> (usize, Addr)
@@ -109,7 +111,7 @@ fn place_of(to: Target) -> (usize, Addr)
 }
 
 /// Returns the line at a place, if there is one.
-fn line_at(lines: &[SharedLine], place: usize) -> Option<&SharedLine>
+fn line_at<K>(lines: &[SharedLine<K>], place: usize) -> Option<&SharedLine<K>>
     ensures { option_copied result ≡ slice_get lines.now place }
 {
     lines.get(place)
@@ -118,20 +120,20 @@ fn line_at(lines: &[SharedLine], place: usize) -> Option<&SharedLine>
 /// The outlet of one worker: the lines, mailboxes and board of its edge, and posts of its own to
 /// the mailboxes of the other edges.
 #[derive(Drop)]
-pub(crate) struct WorkerOutlet<'x, R> {
-    senders: Senders<'x, R>,
+pub(crate) struct WorkerOutlet<'x, K, R> {
+    senders: Senders<'x, K, R>,
     posts: Posts,
 }
 
-impl<'x, R: Wait> WorkerOutlet<'x, R> {
+impl<'x, K, R: Wait> WorkerOutlet<'x, K, R> {
     /// Returns the outlet of a worker that begins. Returns `None` if all workers have theirs.
-    pub(crate) fn new(senders: Senders<'x, R>) -> Option<Self> {
+    pub(crate) fn new(senders: Senders<'x, K, R>) -> Option<Self> {
         let posts = senders.peers.posts(senders.rt)?;
         Some(WorkerOutlet { senders, posts })
     }
 }
 
-impl<R: Wait> Outlet for WorkerOutlet<'_, R> {
+impl<K: PromptOut, R: Wait> Outlet for WorkerOutlet<'_, K, R> {
     ghost use Rattle.std.specs.Prelude.{None};
 
     ghost parcels = { λ o. None };
@@ -141,7 +143,7 @@ impl<R: Wait> Outlet for WorkerOutlet<'_, R> {
     fn frame(&mut self, to: Target, octets: &[u8]) {
         let (place, address) = place_of(to);
         if let Some(line) = line_at(self.senders.lines, place) {
-            line.put(self.senders.rt, address, octets);
+            line.pass(self.senders.rt, address, octets);
         }
     }
 

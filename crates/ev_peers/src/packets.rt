@@ -6,6 +6,7 @@ ghost use Rattle.ev_links.specs.Line.{handed};
 
 use crate::shared_line::SharedLine;
 use ether_wire::Addr;
+use ev_links::PromptOut;
 use std::sync::Wait;
 
 /// A source of datagrams that are to be sent over a link.
@@ -25,12 +26,12 @@ pub trait PacketsIn {
 /// The datagrams that wait on a line. Clauses can't refer to a value under a lock, so this source
 /// has no history.
 #[derive(Drop)]
-pub(crate) struct LineBox<'x, R> {
+pub(crate) struct LineBox<'x, K, R> {
     pub(crate) rt: &'x R,
-    pub(crate) line: &'x SharedLine,
+    pub(crate) line: &'x SharedLine<K>,
 }
 
-impl<R: Wait> PacketsIn for LineBox<'_, R> {
+impl<K: PromptOut, R: Wait> PacketsIn for LineBox<'_, K, R> {
     ghost use Rattle.std.specs.Prelude.{None};
 
     ghost came = { λ b. None };

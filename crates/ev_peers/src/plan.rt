@@ -1,6 +1,6 @@
 //! Prepares the threads of an edge: the link of each thread, the shared data, and room for the
 //! threads and their results. It allocates everything before the first thread starts.
-ghost use Rattle.std.specs.Prelude.{◌≡◌, ◌+◌, ◌<◌, ◌≤◌, ◌∷◌, [], ◌++◌, reverse, vec_len, vec_capacity, IfOk};
+ghost use Rattle.std.specs.Prelude.{◌≡◌, ◌+◌, ◌<◌, ◌≤◌, ◌∷◌, [], ◌++◌, length, reverse, vec_len, vec_capacity, IfOk};
 ghost use Rattle.ev_peers.specs.Inner.EdgeThreads.{HasRoom};
 ghost use Rattle.ev_peers.specs.Inner.Plan.{vni_at, port_tasks, tasks_of, outputs_back, outputs_of};
 ghost use Rattle.ev_peers.specs.declared.plan.Task.TheVariants.{Port, Tunnel, Clock};
@@ -12,6 +12,7 @@ use crate::shared_line::SharedLine;
 use ether_wire::Vni;
 use ev_book::Pass;
 use ev_edge::EdgeConfig;
+use ev_links::PromptOut;
 use std::alloc::{AllocError, Global};
 use std::sync::atomic::AtomicBool;
 use std::sync::ledger::Ledger;
@@ -35,10 +36,9 @@ pub(crate) enum Task<I: Drop> {
 
 /// The data that the threads of an edge share.
 #[derive(Drop)]
-pub(crate) struct Shared {
-    /// The line of frames to the tunnel's link, then the lines to the links of the ports, port 1
-    /// first.
-    pub(crate) lines: Vec<SharedLine>,
+pub(crate) struct Shared<K> {
+    /// The line to the tunnel's link, then the lines to the links of the ports, port 1 first.
+    pub(crate) lines: Vec<SharedLine<K>>,
     /// For each task, whether it got no thread.
     pub(crate) no_entering: Vec<AtomicBool>,
     /// For each link that is sent over, whether it got no thread.
@@ -73,14 +73,16 @@ pub(crate) struct EdgeThreads<L: Ledger, I: Drop, O: Drop> {
     pub(crate) sending: Vec<JoinHandle<Sent>>,
 }
 
-/// Returns `count` empty lines.
-fn empty_lines(alloc: Global, count: usize) -> Result<Vec<SharedLine>, AllocError>
-    ensures { IfOk result (λ lines. vec_len lines ≡ count) }
+/// Returns an empty line to each of these links, which gets a handle of the link.
+fn empty_lines<K: PromptOut>(
+    alloc: Global,
+    links: &[K],
+) -> Result<Vec<SharedLine<K>>, AllocError>
+    ensures { IfOk result (λ lines. vec_len lines ≡ length links.now) }
 {
-    let mut lines = Vec::with_capacity(alloc, count)?;
-    for place in 0..count {
-        let _ = place;
-        lines.push_reserved(SharedLine::new(alloc)?);
+    let mut lines = Vec::with_capacity(alloc, links.len())?;
+    for link in links {
+        lines.push_reserved(SharedLine::new(alloc, link.clone()?)?);
     }
     Ok(lines)
 }
@@ -210,11 +212,11 @@ fn plan_links<I: Drop, O: Drop>(
 }
 
 /// Prepares the threads of an edge with these links and ports.
-pub(crate) fn planned<L: Ledger, I: Drop, O: Drop>(
+pub(crate) fn planned<L: Ledger, I: Drop, O: PromptOut>(
     alloc: Global,
     links: EdgeLinks<I, O>,
     config: &EdgeConfig,
-) -> Result<(EdgeThreads<L, I, O>, Shared), AllocError>
+) -> Result<(EdgeThreads<L, I, O>, Shared<O>), AllocError>
     requires { vec_len links.ports ≤ 253 }
     ensures each_task { IfOk result (λ r. r.0.tasks.items
         ≡ tasks_of config.now.ports.items links.clock links.tunnel.input links.ports.items) }
@@ -233,7 +235,7 @@ pub(crate) fn planned<L: Ledger, I: Drop, O: Drop>(
     let count = links.ports.len();
     let (tasks, outputs) = plan_links(alloc, links, config)?;
     let shared = Shared {
-        lines: empty_lines(alloc, count + 1)?,
+        lines: empty_lines(alloc, outputs.as_slice())?,
         no_entering: no_words(alloc, count + 2)?,
         no_sending: no_words(alloc, count + 1)?,
         no_peer: AtomicBool::new(false),

@@ -11,7 +11,7 @@ use crate::outcome::Outcome;
 use crate::outlet::report_refused;
 use ether_wire::Addr;
 use ev_edge::EdgeConfig;
-use ev_links::{LinkIn, LinkOut};
+use ev_links::{LinkIn, LinkOut, PromptOut};
 use ev_mailboxes::{Boards, Mailboxes, Running};
 use std::alloc::{AllocError, Global};
 use std::marker::{Brand, Model};
@@ -138,7 +138,7 @@ impl<'x, G, R> Common<'x, G, R> {
 /// Runs one edge, under a ledger of its own.
 fn run_one<
     I: LinkIn + Drop + Send,
-    O: LinkOut + Drop + Send,
+    O: LinkOut + PromptOut + Drop + Send,
     G: Gate + Sync,
     R: Threads + Wait + Sync,
 >(host: Host<'_, G, R>, setup: Setup<I, O>) -> Ran
@@ -160,7 +160,7 @@ fn start_edge<
     's,
     'x: 's,
     I: LinkIn + Drop + Send + 'x,
-    O: LinkOut + Drop + Send + 'x,
+    O: LinkOut + PromptOut + Drop + Send + 'x,
     G: Gate + Sync + 'x,
     R: Threads + Wait + Sync + 'x,
 >(scope: &Scope<'s, &'x ()>, common: &Common<'x, G, R>, number: usize, setup: Setup<I, O>) -> Handle
@@ -190,7 +190,7 @@ fn start_edges<
     's,
     'x: 's,
     I: LinkIn + Drop + Send + 'x,
-    O: LinkOut + Drop + Send + 'x,
+    O: LinkOut + PromptOut + Drop + Send + 'x,
     G: Gate + Sync + 'x,
     R: Threads + Wait + Sync + 'x,
 >(
@@ -308,7 +308,7 @@ fn run_within<
     's,
     'x: 's,
     I: LinkIn + Drop + Send + 'x,
-    O: LinkOut + Drop + Send + 'x,
+    O: LinkOut + PromptOut + Drop + Send + 'x,
     G: Gate + Sync + 'x,
     R: Threads + Wait + Sync + 'x,
     F: FnOnce(Running<'_>) -> T + Drop,
@@ -338,7 +338,7 @@ fn run_within<
 fn run_ready<
     'x,
     I: LinkIn + Drop + Send + 'x,
-    O: LinkOut + Drop + Send + 'x,
+    O: LinkOut + PromptOut + Drop + Send + 'x,
     G: Gate + Sync + 'x,
     R: Threads + Wait + Sync + 'x,
     F: FnOnce(Running<'_>) -> T + Drop,
@@ -368,7 +368,7 @@ fn run_ready<
 /// returns.
 pub fn run_all<
     I: LinkIn + Drop + Send,
-    O: LinkOut + Drop + Send,
+    O: LinkOut + PromptOut + Drop + Send,
     G: Gate + Sync,
     R: Threads + Wait + Sync,
     F: FnOnce(Running<'_>) -> T + Drop,

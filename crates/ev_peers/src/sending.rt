@@ -9,17 +9,17 @@ use crate::plan::Shared;
 use crate::shared_edge::Ended;
 use crate::shared_line::SharedLine;
 use crate::workers::out_worker;
-use ev_links::LinkOut;
+use ev_links::{LinkOut, PromptOut};
 use std::sync::Wait;
 use std::sync::atomic::{AtomicBool, Ordering};
 use std::thread::{JoinHandle, Scope, Threads};
 
 /// Runs the worker that sends over a link. Returns at once with `Ended::NoMemory` if the worker's
 /// thread was refused.
-fn send_all<O: LinkOut + Drop, R: Wait>(
+fn send_all<O: LinkOut + PromptOut + Drop, R: Wait>(
     rt: &R,
     link: O,
-    line: &SharedLine,
+    line: &SharedLine<O>,
     is_refused: &AtomicBool,
 ) -> Sent {
     let mut link = link;
@@ -31,10 +31,15 @@ fn send_all<O: LinkOut + Drop, R: Wait>(
 }
 
 /// Starts a thread for each link that frames are sent over.
-pub(crate) fn start_sending<'s, 'x: 's, O: LinkOut + Drop + Send + 'x, R: Wait + Sync + 'x>(
+pub(crate) fn start_sending<
+    's,
+    'x: 's,
+    O: LinkOut + PromptOut + Drop + Send + 'x,
+    R: Wait + Sync + 'x,
+>(
     scope: &Scope<'s, &'x ()>,
     rt: &'x R,
-    shared: &'x Shared,
+    shared: &'x Shared<O>,
     outputs: Vec<O>,
     running: Vec<JoinHandle<Sent>>,
 ) -> (Vec<JoinHandle<Sent>>, Faults)
@@ -60,7 +65,7 @@ pub(crate) fn start_sending<'s, 'x: 's, O: LinkOut + Drop + Send + 'x, R: Wait +
 }
 
 /// Ends the lines, so that the threads that send over links stop.
-pub(crate) fn stop_sending<R: Wait>(outlet: &Senders<'_, R>) {
+pub(crate) fn stop_sending<K: PromptOut, R: Wait>(outlet: &Senders<'_, K, R>) {
     for line in outlet.lines {
         line.end(outlet.rt);
     }
@@ -77,7 +82,11 @@ pub(crate) fn join_sending<R: Threads>(rt: &R, running: Vec<JoinHandle<Sent>>) -
 }
 
 /// Returns the number of frames that found no room, by line.
-pub(crate) fn all_dropped<R: Wait>(rt: &R, lines: &[SharedLine], dropped: Vec<u64>) -> Vec<u64>
+pub(crate) fn all_dropped<K: PromptOut, R: Wait>(
+    rt: &R,
+    lines: &[SharedLine<K>],
+    dropped: Vec<u64>,
+) -> Vec<u64>
     requires { (vec_len dropped ≡ 0) × (length lines.now ≤ vec_capacity dropped) }
     ensures { vec_len result ≡ length lines.now }
 {

@@ -3,7 +3,7 @@
 ghost use Rattle.std.specs.Prelude.{◌≡◌};
 ghost use Rattle.ev_book.specs.Entering.{answered, CallsBook};
 ghost use Rattle.ev_notices.specs.Alarm.{alert_of};
-ghost use Rattle.ev_peers.specs.Passing.{Entered, Asked, announced_by};
+ghost use Rattle.ev_peers.specs.Passing.{Leaves, Asked, has_pending, announced_by};
 ghost use Rattle.ev_peers.specs.Inner.Passing.{is_no_memory};
 
 use crate::gate::{Gate, Point};
@@ -46,17 +46,18 @@ pub struct SharedEdge<'x, L: Ledger, G, R> {
 }
 
 impl<L: Ledger, G: Gate, R: Wait> SharedEdge<'_, L, G, R> {
-    /// Calls the book once, with all three points. Only the call itself holds the lock.
+    /// Calls the book once, with all three points. Only the call itself holds the lock. Returns the
+    /// book's answer, and `true` exactly if an announcement is pending in the book after the call.
     pub(crate) fn enter(
         &self,
         pass: &mut Pass<L>,
         event: &Event<'_>,
         reply: &mut Reply,
-    ) -> Result<(), BookRefusal>
-        ensures { Entered pass.old event.now (answered result reply.new) pass.new }
+    ) -> (Result<(), BookRefusal>, bool)
+        ensures { Leaves pass.old event.now (answered result.0 reply.new) result.1 pass.new }
     {
         self.gate.at(self.edge, Point::Before);
-        let answer = {
+        let (answer, is_pending) = {
             let mut book = self.book.lock(self.rt);
             self.gate.at(self.edge, Point::Inside);
             call(&mut *book, pass, event, reply)
@@ -65,14 +66,14 @@ impl<L: Ledger, G: Gate, R: Wait> SharedEdge<'_, L, G, R> {
         if lacks_memory(&answer, reply) {
             self.out_of_memory.store(true, Ordering::SeqCst);
         }
-        answer
+        (answer, is_pending)
     }
 
     /// Returns the edge's next announcement, or `None` if there is none or the call is refused.
     pub(crate) fn ask(&self, pass: &mut Pass<L>, reply: &mut Reply) -> Option<Update>
         ensures { Asked pass.old result pass.new }
     {
-        let answer = self.enter(pass, &Event::Announce, reply);
+        let (answer, _) = self.enter(pass, &Event::Announce, reply);
         announced_by(&answer, reply)
     }
 }
@@ -95,18 +96,21 @@ fn lacks_memory(answer: &Result<(), BookRefusal>, reply: &Reply) -> bool
     is_no_memory(alert_of(answer, reply))
 }
 
-/// One call of a book.
+/// Calls a book once. Returns its answer, and `true` exactly if an announcement is pending in it
+/// after the call.
 fn call<L: Ledger>(
     book: &mut Book<L>,
     pass: &mut Pass<L>,
     event: &Event<'_>,
     reply: &mut Reply,
-) -> Result<(), BookRefusal>
-    ensures calls { CallsBook book.old pass.old event.now (answered result reply.new) book.new
+) -> (Result<(), BookRefusal>, bool)
+    ensures calls { CallsBook book.old pass.old event.now (answered result.0 reply.new) book.new
         pass.new }
-    ensures entered { Entered pass.old event.now (answered result reply.new) pass.new }
+    ensures pending { result.1 ≡ has_pending book.new }
+    ensures leaves { Leaves pass.old event.now (answered result.0 reply.new) result.1 pass.new }
 {
-    book.enter_into(pass, event, reply)
+    let answer = book.enter_into(pass, event, reply);
+    (answer, book.edge().has_pending())
 }
 
 /// The update that an answer announces.

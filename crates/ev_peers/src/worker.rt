@@ -2,7 +2,7 @@
 ghost use Rattle.std.specs.Prelude.{◌≡◌, ◌≤◌, length};
 ghost use Rattle.ev_book.specs.Entering.{answered};
 ghost use Rattle.ev_links.specs.Coming.{behind};
-ghost use Rattle.ev_peers.specs.Passing.{Entered, Announces, PassesOn, says, given_by, signs_of};
+ghost use Rattle.ev_peers.specs.Passing.{Leaves, Announces, AnnouncesIf, PassesOn, says, given_by, signs_of};
 
 use crate::gate::Gate;
 use crate::giving::{Carried, give_out};
@@ -80,25 +80,39 @@ impl<L: Ledger, O: Outlet + Drop, G: Gate, R: Wait> Worker<'_, L, O, G, R> {
         unreachable!()
     }
 
+    /// Requests the edge's announcements if one is pending.
+    pub(crate) fn announce_if(&mut self, is_pending: bool)
+        ensures announces { AnnouncesIf is_pending self.old.pass (O.records self.old.outlet)
+            self.new.pass (O.records self.new.outlet) }
+        ensures parcels { O.parcels self.new.outlet ≡ O.parcels self.old.outlet }
+        ensures stays { self.new.shared_edge ≡ self.old.shared_edge }
+    {
+        if is_pending {
+            self.announce();
+        }
+    }
+
     /// Enters an event with the frame that it carries, and passes on the answer: frames to the
-    /// links, messages for the operator to the board. Returns the book's answer.
+    /// links, messages for the operator to the board. Returns the book's answer, and `true` exactly
+    /// if an announcement is pending after the event.
     pub(crate) fn give(
         &mut self,
         event: &Event<'_>,
         carried: &Carried<'_>,
-    ) -> Result<(), BookRefusal>
+    ) -> (Result<(), BookRefusal>, bool)
         requires { length carried.now.frame.now ≤ 9018 }
-        ensures entered { Entered self.old.pass event.now
-            (answered result self.new.scratch.reply) self.new.pass }
+        ensures leaves { Leaves self.old.pass event.now
+            (answered result.0 self.new.scratch.reply) result.1 self.new.pass }
         ensures parcels { O.parcels self.new.outlet ≡ behind (O.parcels self.old.outlet)
             (given_by self.old.shared_edge.now.bridge carried.now.vni carried.now.frame.now
-            (answered result self.new.scratch.reply)) }
+            (answered result.0 self.new.scratch.reply)) }
         ensures records { O.records self.new.outlet ≡ says (O.records self.old.outlet)
-            (signs_of carried.now.vni event.now (answered result self.new.scratch.reply)) }
+            (signs_of carried.now.vni event.now (answered result.0 self.new.scratch.reply)) }
         ensures stays { self.new.shared_edge ≡ self.old.shared_edge }
     {
         let shared_edge = self.shared_edge;
-        let answer = shared_edge.enter(&mut self.pass, event, &mut self.scratch.reply);
+        let (answer, is_pending) =
+            shared_edge.enter(&mut self.pass, event, &mut self.scratch.reply);
         let outlet = &mut self.outlet;
         give_signs(outlet, carried.vni, event, &answer, &self.scratch.reply);
         give_answer(
@@ -108,11 +122,12 @@ impl<L: Ledger, O: Outlet + Drop, G: Gate, R: Wait> Worker<'_, L, O, G, R> {
             carried,
             &answer,
         );
-        answer
+        (answer, is_pending)
     }
 
     /// Enters an event with the frame that it carries, and passes on the answer: frames to the
-    /// links, messages for the operator to the board, and then announcements to the other edges.
+    /// links, messages for the operator to the board. If an announcement is pending then, sends
+    /// the announcements to the other edges. So a frame of a known station enters the book once.
     pub(crate) fn act(&mut self, event: &Event<'_>, carried: &Carried<'_>)
         requires { length carried.now.frame.now ≤ 9018 }
         ensures passes { PassesOn self.old.shared_edge.now.bridge
@@ -121,8 +136,8 @@ impl<L: Ledger, O: Outlet + Drop, G: Gate, R: Wait> Worker<'_, L, O, G, R> {
             (O.parcels self.new.outlet) (O.records self.new.outlet) }
         ensures stays { self.new.shared_edge ≡ self.old.shared_edge }
     {
-        let _ = self.give(event, carried);
-        self.announce();
+        let (_, is_pending) = self.give(event, carried);
+        self.announce_if(is_pending);
     }
 }
 

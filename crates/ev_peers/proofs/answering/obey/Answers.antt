@@ -5,7 +5,8 @@ use Rattle.ev_peers.proofs.answering.obey.Goals as goal
 pub returns-clause-obeys : goal.returns-clause-obeys
 returns-clause-obeys g c = record {
   passes = record {
-    answer = answered c.give-answer.result c.give-answer.new.self.scratch.reply;
+    answer = answered c.give-answer.result.0 c.give-answer.new.self.scratch.reply;
+    pending = c.give-answer.result.1;
     middle = c.give-answer.new.self.pass;
     entered = search rules;
     parcels = search rules;

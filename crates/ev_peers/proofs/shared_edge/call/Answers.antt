@@ -1,8 +1,15 @@
+use Rattle.std.proofs.Common.{rules}
 use Rattle.ev_peers.proofs.shared_edge.call.Goals as goal
 
 pub returns-clause-calls : goal.returns-clause-calls
-returns-clause-calls g c = c.enter_into.ensures.calls
+returns-clause-calls g c = c.enter_into-answer.ensures.calls
 
-pub returns-clause-entered : goal.returns-clause-entered
-returns-clause-entered g c =
-    record { before = c.args.book.now; after = c.enter_into.new.self; calls = c.enter_into.ensures.calls }
+pub returns-clause-leaves : goal.returns-clause-leaves
+returns-clause-leaves g c = record {
+  entered = record {
+    before = c.args.book.now;
+    after = c.enter_into-answer.new.self;
+    calls = c.enter_into-answer.ensures.calls;
+  };
+  pending_is = search rules;
+}

@@ -1,0 +1,85 @@
+-- The laws of a link with its line.
+use Rattle.std.specs.Prelude.{◌≡◌, ℕ, ◌+◌, ◌-◌, ◌^◌, ◌≤◌, min, Bool, true, false, nat_lt, if◌then◌else◌}
+use Rattle.std.specs.Prelude.{List, [], ◌∷◌, ◌++◌, length}
+use Rattle.ev_links.specs.Links.{Packet}
+use Rattle.ev_links.specs.Line.{has_room, frames_in_front}
+use Rattle.ev_links.specs.DirectLine.{Direct, is_free, after_pass, with_bpdu_put, after_turn, after_its_end}
+
+-- a call of a link with its line: a frame is passed on, and sent at once or not; a BPDU is put on the line; the link's
+-- worker takes the first datagram; the line ends
+pub data Step : Type 0 where
+  passes : Bool → Packet → Step
+  puts : List ℕ → Step
+  takes : Step
+  ends : Step
+
+abbrev pub after_step : Step → Direct → Direct
+after_step (passes is_sent p) d = after_pass is_sent p d
+after_step (puts bpdu) d = with_bpdu_put bpdu d
+after_step takes d = after_turn d
+after_step ends d = after_its_end d
+
+-- only a free link sends a frame at once
+abbrev pub IsStep : Step → Direct → Type 0
+IsStep (passes true p) d = is_free d ≡ true
+IsStep (passes false p) d = Unit {0}
+IsStep (puts bpdu) d = Unit {0}
+IsStep takes d = Unit {0}
+IsStep ends d = Unit {0}
+
+-- the frames that leave: one that is sent at once, or one that the link's worker takes, which then sends it
+abbrev pub leaving : Step → Direct → List Packet
+leaving (passes true p) d = p ∷ []
+leaving (passes false p) d = []
+leaving (puts bpdu) d = []
+leaving takes d = frames_in_front d.line.bpdus d.line.frames
+leaving ends d = []
+
+-- the frame that is passed on, unless it is dropped
+abbrev pub kept : Step → Direct → List Packet
+kept (passes true p) d = p ∷ []
+kept (passes false p) d = if has_room d.line.frames (length p.octets) then p ∷ [] else []
+kept (puts bpdu) d = []
+kept takes d = []
+kept ends d = []
+
+-- the number of frames and BPDUs that are dropped: a frame for which there is no room, or the oldest of 16 BPDUs
+abbrev pub drops : Step → Direct → ℕ
+drops (passes true p) d = 0
+drops (passes false p) d = if has_room d.line.frames (length p.octets) then 0 else 1
+drops (puts bpdu) d = if nat_lt (length d.line.bpdus) 16 then 0 else 1
+drops takes d = 0
+drops ends d = 0
+
+-- ---- several calls, the first one first
+
+abbrev pub after_steps : List Step → Direct → Direct
+after_steps [] d = d
+after_steps (s ∷ steps) d = after_steps steps (after_step s d)
+
+abbrev pub AreSteps : List Step → Direct → Type 0
+AreSteps [] d = Unit {0}
+AreSteps (s ∷ steps) d = IsStep s d × AreSteps steps (after_step s d)
+
+abbrev pub all_leaving : List Step → Direct → List Packet
+all_leaving [] d = []
+all_leaving (s ∷ steps) d = leaving s d ++ all_leaving steps (after_step s d)
+
+abbrev pub all_kept : List Step → Direct → List Packet
+all_kept [] d = []
+all_kept (s ∷ steps) d = kept s d ++ all_kept steps (after_step s d)
+
+abbrev pub all_drops : List Step → Direct → ℕ
+all_drops [] d = 0
+all_drops (s ∷ steps) d = drops s d + all_drops steps (after_step s d)
+
+-- the frames that waited at first, and then those that were passed on and not dropped, are those that left, and then
+-- those that wait at last, in this order
+abbrev pub FramesKeepTheirOrder : Type 0
+FramesKeepTheirOrder = (steps : List Step) (d : Direct) → AreSteps steps d
+    → d.line.frames ++ all_kept steps d ≡ all_leaving steps d ++ (after_steps steps d).line.frames
+
+-- the count at first, and the dropped ones, are the count at last, which stops at 2^64 - 1
+abbrev pub EachDropIsCounted : Type 0
+EachDropIsCounted = (steps : List Step) (d : Direct) → AreSteps steps d → d.line.dropped ≤ 2 ^ 64 - 1
+    → (after_steps steps d).line.dropped ≡ min (d.line.dropped + all_drops steps d) (2 ^ 64 - 1)

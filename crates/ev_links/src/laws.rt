@@ -1,0 +1,13 @@
+//! Laws, as functions that do nothing: the contract is the law.
+ghost use Rattle.ev_links.specs.Laws.{FramesKeepTheirOrder, EachDropIsCounted};
+
+/// The frames that are passed on to a link leave in that order, each once: no frame leaves before
+/// one that waits. Each leaves, waits on the line, or was dropped for lack of room.
+pub fn frames_keep_their_order()
+    ensures { FramesKeepTheirOrder }
+{}
+
+/// The count of dropped frames and BPDUs grows by one for each that is dropped, up to 2^64 - 1.
+pub fn each_drop_is_counted()
+    ensures { EachDropIsCounted }
+{}
