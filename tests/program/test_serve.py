@@ -451,6 +451,17 @@ class Records(Joined):
         self.hears_station()
         self.ends_well(FLOODS + learnt(1, ONE, 2))
 
+    def test_many_unlisted_edges_leave_room_for_other_lines(self) -> None:
+        """64 edges that no [[peer]] names are told, more aren't, and a refused record is told after them."""
+        others = [f"{HOST}{last}" for last in range(100, 170)]
+        client = self.joined()
+        client.send(b"".join(record_of(update_of_line(f"advert {other} {VNI} flood")) for other in others))
+        octets = bytearray(record_of(update_of_line(f"advert {ONE} {VNI} flood")))
+        octets[14:22] = bytes(8)  # a counter of 0
+        client.send(bytes(octets))
+        told = [f"records of {other}: dropped; no [[edge]] and no [[peer]] has this address\n" for other in others[:64]]
+        self.assertEqual(self.running.note(lines=65).splitlines(True), [*told, "records: refused 14\n"])
+
     def test_clients_that_break_off(self) -> None:
         """In mid-record, and eight at once that read nothing: nothing else is disturbed, and the run ends in its time."""
         octets = record_of(update_of_line(f"advert {ONE} {VNI} flood"))
