@@ -539,6 +539,36 @@ class SentBack(Joined):
 
 
 @needs_program
+class Leftovers(Joined):
+    """Two processes that hold different updates of an earlier life of edge 1."""
+
+    def text(self) -> str:
+        """The configuration, with edges that have begun anew."""
+        return super().text()
+
+    def line(self, answer: Answer) -> str:
+        """An update as a line."""
+        return line_of(answer)
+
+    def joined(self) -> Client:
+        """A client that exchanges records, and has read what the edges say when it begins."""
+        client = self.client().send(b"records\n")
+        self.assertEqual(len(self.lines(client, 2)), 2)
+        return client
+
+    def test_withdrawal_of_an_earlier_life_is_passed_on(self) -> None:
+        """One sends back a withdrawal, and the other one the advert before it, which is no news any more: that one gets the withdrawal."""
+        first, second = self.joined(), self.joined()
+        withdrawal = f"withdraw {ONE} {VNI} {MAC} counter 9"
+        first.send(record_of(update_of_line(withdrawal)))
+        self.assertEqual(self.lines(second, 1), [withdrawal])
+        second.send(record_of(update_of_line(f"advert {ONE} {VNI} {MAC} seq 0 counter 8")))
+        console = self.console()
+        self.assertTrue(is_reached(lambda: f"mac {VNI} {MAC} {ONE} 9 withdrawn\n" in console.ask("2 report")))
+        self.assertEqual(select.select([second.socket], [], [], 0.5)[0], [])
+
+
+@needs_program
 class Deaf(Joined):
     """One that records are told to and that doesn't read them, at edges that learn more stations than its socket has room for."""
 

@@ -23,8 +23,8 @@ is_same (Outlived originator) (Outlived other) = originator == other
 is_same (OwnOutlived originator) (OwnOutlived other) = originator == other
 is_same _ _ = false
 
--- The number of refusals before which this one has a place. Any number of originators may be unlisted: they leave places
--- for all other refusals.
+-- The number of refusals before which this one has a place. Any number of originators may be unlisted: they leave
+-- places for all other refusals.
 abbrev pub places : Refused → ℕ
 places (Record number) = 512
 places (Unlisted originator) = 64
