@@ -246,9 +246,10 @@ class Served:
         vnis: Sequence[int] = (VNI,),
         ports: int = PORTS,
         more: str = "",
+        above: str = "",
     ) -> None:
         self.lab, self.name, self.address = lab, name, address
-        self.vnis, self.ports, self.more = list(vnis), ports, more
+        self.vnis, self.ports, self.more, self.above = list(vnis), ports, more, above
         self.netns = lab.space(name)
         lab.attach(self.netns, address)
         self.control = os.path.join(lab.folder, f"{name}.control")
@@ -266,7 +267,7 @@ class Served:
             for port, vni in ports_of(self.vnis, self.ports)
         )
         peers = "".join(f'[[peer]]\naddress = "{each}"\n' for each in self.peers)
-        return f'control = "{self.control}"\n[[edge]]\n{keys}{ports}{peers}'
+        return f'control = "{self.control}"\n{self.above}[[edge]]\n{keys}{ports}{peers}'
 
     def port(self, number: int) -> Place:
         """Where a cable to a port ends."""
