@@ -30,10 +30,11 @@ class Fabric:
     """Our edge and two leaves, with a host at each and one that moves."""
 
     neighbours = [OURS, ONE, TWO]  # of the route reflector
+    is_numbered = True  # whether our edge's configuration has an incarnation
 
     def __init__(self, lab: Lab, tally: Tally) -> None:
         self.lab, self.tally = lab, tally
-        self.served = Served(lab, "ours", OURS, [ONE, TWO])
+        self.served = Served(lab, "ours", OURS, [ONE, TWO], is_numbered=self.is_numbered)
         self.make_reflector()
         self.near = Gobgpd(entering(self.served.netns), lab.folder, "near", self.near_text())
         lab.keep(self.near)

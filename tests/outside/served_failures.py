@@ -35,6 +35,8 @@ LIFE = 2  # seconds after which all have to agree on an edge that has started ag
 class Varied(Fabric):
     """The fabric with other timers, or with FRR as the route reflector."""
 
+    is_numbered = False
+
     def __init__(self, lab: Lab, tally: Tally, keys: Dict[str, str]) -> None:
         self.keys = {"restart": "0", **keys} if keys.get("gobgpds") == "2" else keys
         self.seconds: List[Child] = []
@@ -184,14 +186,15 @@ class Failures:
         self.fabric.homes = {mac: NOBODY if home == OURS else home for mac, home in homes.items()}
         gone = waited(lambda: not differing([self.fabric.one, self.fabric.two], self.fabric.homes))
         self.tally.see(gone is not None, f"edge killed: the leaves have withdrawn its host after {seconds(gone)}")
-        self.fabric.served.start()
-        self.fabric.homes = homes
         begun = time.monotonic()
+        self.fabric.served.start()
+        answered = time.monotonic() - begun
+        self.fabric.homes = homes
         pings = Pings(self.near_host, [self.one_host], EVERY)
         found = self.agreed()
         took = time.monotonic() - begun
         pings.end()
-        self.tally.see(found is not None and took <= LIFE, f"it begins anew: all agree after {took:.1f} s")
+        self.tally.see(found is not None and took <= LIFE, f"it begins anew: answers after {answered:.1f} s, all agree after {took:.1f} s")
 
     def link(self) -> None:
         """The edge's link is away for some time."""
