@@ -4,7 +4,9 @@ Each round draws some events: a host's cable goes elsewhere, a station behind a 
 a leaf gets a station's address, a link is away, a part is killed and begins anew. There are two networks with the same MACs.
 At rest all have to agree within 15 s: each edge's owner, `show evpn mac` and the kernel's entry at each leaf, and a ping
 from each host to each other one of its network. The audit (tools/evpnd_audit.py) judges each leaf by its own routes, so a
-round that doesn't agree names whose fault it is. The same seed gives the same history.
+round that doesn't agree names whose fault it is. The same seed gives the same history, as far as pins are taken alike. FRR 8.4.4 takes
+one that replaces an entry of zebra's own as sticky in zebra, but its bgpd announces the station as dynamic, so that it may move:
+such a pin is taken back.
 
 Status 0: each round agreed, or differed only at a leaf that contradicts its own routes, which is FRR's fault. What FRR 8.4.4
 does so: zebra is killed, and meanwhile a route ends whose entry it has made. The next zebra leaves this entry in the kernel; the
@@ -27,7 +29,7 @@ from typing import Callable, Dict, List, NamedTuple, Optional, Tuple
 
 from served_lab import HERE, NOBODY, Host, Lab, Leaf, Served, entering
 
-from bgp_fabric import Gateway, Gobgpd, gateway_text, reflector_text  # noqa: E402, isort: skip
+from bgp_fabric import Gateway, Gobgpd, gateway_text, reflector_text, waited  # noqa: E402, isort: skip
 from edge import Trouble, run  # noqa: E402, isort: skip
 from histories import said  # noqa: E402, isort: skip
 
@@ -37,6 +39,7 @@ HOSTS = 3  # in each network
 GUESTS = tuple(f"02:00:00:00:78:{number:02x}" for number in (1, 2, 3))  # stations behind hosts, in each network
 LIMIT = 15  # seconds within which all have to agree
 LATE = 45  # seconds more for which a round that doesn't is watched
+STICKY = 3  # seconds in which a leaf's bgpd has to announce a sticky station as one
 TWICE = 5  # seconds between two looks of the audit, which both have to find a leaf's fault
 START = 60  # seconds in which all have to agree at first
 AGEING = 100000  # longer than any run, in seconds
@@ -71,6 +74,13 @@ class End(NamedTuple):
         told = lambda: {(vni, mac): owner for vni in NETWORKS for mac, owner in self.leaf.told(vni).items()}  # noqa: E731
         kernel = lambda: {(vni, mac): owner for vni in NETWORKS for mac, owner in self.leaf.kernel(vni).items()}  # noqa: E731
         return {f"{self.name}'s zebra": told, f"{self.name}'s kernel": kernel}
+
+
+def own_routes(end: End, vni: int, mac: str) -> List[str]:
+    """A leaf's own routes of a station in a network, as its bgpd shows them."""
+    parts = end.leaf.shell("show bgp l2vpn evpn route type macip").split("Route Distinguisher: ")
+    own = [part for part in parts if part.startswith(f"{end.address}:") and re.search(rf"RT:[0-9]+:{vni}\b", part)]
+    return [route for part in own for route in part.split(":[48]:[")[1:] if route.startswith(mac)]
 
 
 def owners_of(served: Served) -> Owners:
@@ -205,6 +215,9 @@ class History:
                 return f"{key[1]} of {key[0]} isn't pinned at {end.name}: it is static at another edge still"
         else:
             end.leaf.within("bridge", "fdb", "replace", key[1], "dev", f"acc{port}", "master", "static", "sticky")
+            if waited(lambda: any("sticky MAC" in route for route in own_routes(end, *key)), STICKY) is None:
+                self.release(key)
+                return f"{key[1]} of {key[0]} isn't pinned at {end.name}: its bgpd doesn't announce it as sticky"
         return f"{key[1]} of {vni} is pinned at {end.name}"
 
     def unpins(self) -> str:
@@ -377,7 +390,7 @@ class Looks:
             return f"{station}: {THEIRS}: zebra of {leaf.name} doesn't take its kernel's entry"
         ours = {end.name: owners[end.name] for end in self.fabric.ends[:2]}
         zebras = {end: owners[f"{end.name}'s zebra"] for end in self.fabric.ends[2:]}
-        silent = [end.name for end, owner in zebras.items() if owner == end.address and not self.announces(end, *station.split())]
+        silent = [end.name for end, owner in zebras.items() if owner == end.address and not own_routes(end, *station.split())]
         if silent:
             return f"{station}: {THEIRS}: bgpd of {' and '.join(silent)} doesn't know what its zebra has as local"
         if len({*ours.values(), *zebras.values()}) == 1 and home in ("unknown", *ours.values()):
@@ -390,12 +403,6 @@ class Looks:
         if any(f": {vni}: " in line and mac in line for line in told):
             return f"{station}: {THEIRS}"
         return f"{station}: the leaves have different routes: fault of the reflector, a session or who announces"
-
-    def announces(self, end: End, vni: str, mac: str) -> bool:
-        """Whether a leaf's bgpd has a route of its own of a station in a network."""
-        parts = end.leaf.shell("show bgp l2vpn evpn route type macip").split("Route Distinguisher: ")
-        own = [part for part in parts if part.startswith(f"{end.address}:") and re.search(rf"RT:[0-9]+:{vni}\b", part)]
-        return any(f"[{mac}]" in part for part in own)
 
 
 def play(history: History, looks: Looks, number: int) -> Tuple[Optional[float], bool]:

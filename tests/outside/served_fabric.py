@@ -7,7 +7,7 @@ Host N has the address 02:00:00:00:77:0N.
 
 import sys
 import time
-from typing import Callable, List, Optional, Tuple
+from typing import Callable, Dict, List, Optional, Tuple
 
 from served_lab import CONTROLLER, NOBODY, VNI, Host, Lab, Leaf, Pings, Place, Served, differing, entering
 
@@ -18,6 +18,11 @@ from histories import Tally  # noqa: E402, isort: skip
 OURS, REFLECTOR, ONE, TWO = "10.0.0.1", "10.0.0.9", "10.0.0.11", "10.0.0.12"
 LEFT, RIGHT = "10.0.0.21", "10.0.0.22"
 BROADCASTS = 50
+GONE = 20  # seconds after which TCP takes a peer for gone that answers nothing
+# Keepalives find that out while nothing is sent. While octets wait for an answer Linux sends no keepalives: then it is
+# TCP_USER_TIMEOUT (level 6, option 18, in milliseconds).
+WATCHED = f"keepalive,keepidle=5,keepintvl=5,keepcnt=3,setsockopt-int=6:18:{GONE * 1000}"
+AWAY = 3  # seconds without a session after which a peer is away here: the key `peer_hold`
 SILENT = "02:00:00:00:78:01"  # a station that no host has
 
 
@@ -25,10 +30,11 @@ class Fabric:
     """Our edge and two leaves, with a host at each and one that moves."""
 
     neighbours = [OURS, ONE, TWO]  # of the route reflector
+    is_numbered = True  # whether our edge's configuration has an incarnation
 
     def __init__(self, lab: Lab, tally: Tally) -> None:
         self.lab, self.tally = lab, tally
-        self.served = Served(lab, "ours", OURS, [ONE, TWO])
+        self.served = Served(lab, "ours", OURS, [ONE, TWO], is_numbered=self.is_numbered)
         self.make_reflector()
         self.near = Gobgpd(entering(self.served.netns), lab.folder, "near", self.near_text())
         lab.keep(self.near)
@@ -232,9 +238,9 @@ def with_bgp(tally: Tally) -> None:
 class Pair:
     """Two edges in two namespaces, whose records socat carries."""
 
-    def __init__(self, lab: Lab, tally: Tally) -> None:
-        self.lab, self.tally = lab, tally
-        self.left, self.right = Served(lab, "left", LEFT, [RIGHT]), Served(lab, "right", RIGHT, [LEFT])
+    def __init__(self, lab: Lab, tally: Tally, above: str = "", watched: str = WATCHED) -> None:
+        self.lab, self.tally, self.watched = lab, tally, watched
+        self.left, self.right = Served(lab, "left", LEFT, [RIGHT], above=above), Served(lab, "right", RIGHT, [LEFT], above=above)
         self.left.start()
         self.right.start()
         self.hosts = [Host(lab, number) for number in (5, 6, 7)]
@@ -245,7 +251,8 @@ class Pair:
 
     def join(self) -> None:
         """A socat on each side, one of which listens."""
-        ends = ((self.left, f"TCP-LISTEN:7000,bind={LEFT},reuseaddr"), (self.right, f"TCP:{LEFT}:7000,retry=50,interval=0.1"))
+        listening, calling = f"TCP-LISTEN:7000,bind={LEFT},reuseaddr,{self.watched}", f"TCP:{LEFT}:7000,retry=50,interval=0.1,{self.watched}"
+        ends = ((self.left, listening), (self.right, calling))
         self.carriers = []
         for served, end in ends:
             records = f"EXEC:{sys.executable} {CONTROLLER} --control {served.control} records"
@@ -254,7 +261,8 @@ class Pair:
     def part(self) -> None:
         """Both end."""
         for carrier in self.carriers:
-            carrier.kill()
+            if carrier.process.poll() is None:
+                carrier.kill()
 
     def agree(self, what: str, since: Optional[float] = None) -> None:
         """Sees that both soon name the wanted owner of each host."""
@@ -320,12 +328,39 @@ def without_bgp(tally: Tally) -> None:
             print(f"   {each.name} ends with status {each.end()[0]} and has told: {'; '.join(each.noted().splitlines()) or 'nothing'}")
 
 
-def main() -> int:
-    """Both; the last line is `ok` where all passed."""
+def power_lost(tally: Tally) -> None:
+    """The host of one of the two loses power, first while nothing is sent to it, and then while something is."""
+    with Lab() as lab:
+        pair = Pair(lab, tally, above=f"peer_hold = {AWAY}\n")
+        print(f"-- the same, and the host of one loses power; {WATCHED}", flush=True)
+        pair.all_ping("at first")
+        for what, words in (("nothing is sent to it", ("edges",)), ("a route is sent to it", ("1", "pin", str(VNI), SILENT, "2"))):
+            up, away = ([f"1 peer {RIGHT} {state}"] for state in ("up", "away"))
+            waited(lambda: pair.left.ask("1", "peers") == up, 20)
+            run("ip", "-n", pair.right.netns, "link", "set", "up0", "down")
+            pair.right.child.kill()
+            pair.left.ask(*words)
+            found = waited(lambda: pair.left.ask("1", "peers") == away, GONE + AWAY + 20)
+            is_right = found is not None and found < GONE + AWAY + 10
+            tally.see(is_right, f"power lost, {what}: the other edge gives it no frame after {seconds(found)}")
+            pair.part()
+            run("ip", "-n", pair.right.netns, "link", "set", "up0", "up")
+            begun = time.monotonic()
+            pair.right.start()
+            pair.join()
+            waited(lambda: pair.hosts[1].reaches(pair.hosts[0]), 20)
+            pair.agree("power is back", begun)
+            pair.all_ping("then")
+
+
+PARTS: Dict[str, Callable[[Tally], None]] = {"bgp": with_bgp, "joined": without_bgp, "power": power_lost}
+
+
+def main(names: List[str]) -> int:
+    """The parts of these names, or all; the last line is `ok` where all passed."""
     tally = Tally()
-    parts: List[Callable[[Tally], None]] = [with_bgp, without_bgp]
-    for part in parts:
-        part(tally)
+    for name in names or PARTS:
+        PARTS[name](tally)
     print(f"{tally.passed} passed, {tally.failed} failed")
     if tally.failed:
         return 1
@@ -335,7 +370,7 @@ def main() -> int:
 
 if __name__ == "__main__":
     try:
-        sys.exit(main())
+        sys.exit(main(sys.argv[1:]))
     except Trouble as trouble:
         print(f"FAILED: {trouble}")
         sys.exit(1)

@@ -15,7 +15,7 @@ import sys
 import time
 from typing import Callable, Dict, List, Optional
 
-from served_fabric import ONE, OURS, REFLECTOR, Fabric
+from served_fabric import ONE, OURS, REFLECTOR, TWO, Fabric
 from served_lab import NOBODY, Lab, Pings, Reflector, differing, entering
 
 from bgp_fabric import Child, Gateway, Gobgpd, seconds, waited  # noqa: E402, isort: skip
@@ -29,11 +29,14 @@ SETTLED = 25  # seconds that are watched after a daemon has come back: longer th
 POWER = 10  # seconds after which a host without power has to be gone
 UNSAID = 15  # seconds after which a route that ended while gobgpd was away has to be gone at our edge
 GUEST = "02:00:00:00:78:01"  # a station at a leaf that goes away
+RETURNED = 15  # seconds after which all have to agree once the link is back
 LIFE = 2  # seconds after which all have to agree on an edge that has started again
 
 
 class Varied(Fabric):
     """The fabric with other timers, or with FRR as the route reflector."""
+
+    is_numbered = False
 
     def __init__(self, lab: Lab, tally: Tally, keys: Dict[str, str]) -> None:
         self.keys = {"restart": "0", **keys} if keys.get("gobgpds") == "2" else keys
@@ -184,28 +187,37 @@ class Failures:
         self.fabric.homes = {mac: NOBODY if home == OURS else home for mac, home in homes.items()}
         gone = waited(lambda: not differing([self.fabric.one, self.fabric.two], self.fabric.homes))
         self.tally.see(gone is not None, f"edge killed: the leaves have withdrawn its host after {seconds(gone)}")
-        self.fabric.served.start()
-        self.fabric.homes = homes
         begun = time.monotonic()
+        self.fabric.served.start()
+        answered = time.monotonic() - begun
+        self.fabric.homes = homes
         pings = Pings(self.near_host, [self.one_host], EVERY)
         found = self.agreed()
         took = time.monotonic() - begun
         pings.end()
-        self.tally.see(found is not None and took <= LIFE, f"it begins anew: all agree after {took:.1f} s")
+        self.tally.see(found is not None and took <= LIFE, f"it begins anew: answers after {answered:.1f} s, all agree after {took:.1f} s")
 
     def link(self) -> None:
-        """The edge's link is away for some time."""
-        netns, homes = self.fabric.served.netns, dict(self.fabric.homes)
+        """The edge's link is away for some time, in which a host moves from one leaf to the other."""
+        netns, mover = self.fabric.served.netns, self.fabric.mover
         run("ip", "-n", netns, "link", "set", "up0", "down")
-        self.fabric.homes = {mac: NOBODY if home == OURS else home for mac, home in homes.items()}
         begun = time.monotonic()
+        mover.plug(self.fabric.two.port(2))
+        homes = {**self.fabric.homes, mover.mac: TWO}
+        self.fabric.homes = {mac: NOBODY if home == OURS else home for mac, home in homes.items()}
+        waited(lambda: mover.reaches(self.one_host), 20)
         gone = waited(lambda: not differing([self.fabric.one, self.fabric.two], self.fabric.homes), AWAY)
+        gone = None if gone is None else time.monotonic() - begun
         time.sleep(max(0.0, begun + AWAY - time.monotonic()))
         run("ip", "-n", netns, "link", "set", "up0", "up")
         self.fabric.homes = homes
         found = self.agreed()
+        mover.plug(self.fabric.one.port(2))
+        self.fabric.homes[mover.mac] = ONE
+        waited(lambda: mover.reaches(self.two_host), 20)
         said = f"the leaves have withdrawn its host after {seconds(gone)}; back, all agree after {seconds(found)}"
-        self.tally.see(found is not None, f"edge's link away for {AWAY} s: {said}")
+        is_right = found is not None and found <= RETURNED and self.agreed() is not None
+        self.tally.see(is_right, f"edge's link away for {AWAY} s, while a host moves: {said}")
 
     def leaf(self) -> None:
         """A leaf's daemons are killed and begin anew."""

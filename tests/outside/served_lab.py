@@ -246,34 +246,37 @@ class Served:
         vnis: Sequence[int] = (VNI,),
         ports: int = PORTS,
         more: str = "",
+        above: str = "",
+        is_numbered: bool = True,
     ) -> None:
         self.lab, self.name, self.address = lab, name, address
-        self.vnis, self.ports, self.more = list(vnis), ports, more
+        self.vnis, self.ports, self.more, self.above = list(vnis), ports, more, above
         self.netns = lab.space(name)
         lab.attach(self.netns, address)
         self.control = os.path.join(lab.folder, f"{name}.control")
         self.notes = os.path.join(lab.folder, f"{name}.notes")
-        self.peers, self.capacity = list(peers), capacity
+        self.peers, self.capacity, self.is_numbered = list(peers), capacity, is_numbered
         self.child: Optional[Child] = None
         self.incarnation = 0
 
     def text(self) -> str:
         """Its configuration."""
         keys = f'address = "{self.address}"\nbridge = "02:aa:00:00:00:{int(self.address.rpartition(".")[2]):02x}"\n'
-        keys += f"vnis = {self.vnis}\nincarnation = {self.incarnation}\ncapacity = {self.capacity}\n{self.more}"
+        keys += f"vnis = {self.vnis}\ncapacity = {self.capacity}\n{self.more}"
+        keys += f"incarnation = {self.incarnation}\n" if self.is_numbered else ""
         ports = "".join(
             f'[[edge.port]]\nvni = {vni}\nadmin_edge = true\nlocal = "127.0.0.1:2000{port}"\nremote = "127.0.0.1:3000{port}"\n'
             for port, vni in ports_of(self.vnis, self.ports)
         )
         peers = "".join(f'[[peer]]\naddress = "{each}"\n' for each in self.peers)
-        return f'control = "{self.control}"\n[[edge]]\n{keys}{ports}{peers}'
+        return f'control = "{self.control}"\n{self.above}[[edge]]\n{keys}{ports}{peers}'
 
     def port(self, number: int) -> Place:
         """Where a cable to a port ends."""
         return Place(self.netns, f"127.0.0.1:3000{number}", f"127.0.0.1:2000{number}", self.address)
 
     def start(self) -> None:
-        """Starts it, with a higher incarnation than before, until it answers."""
+        """Starts it until it answers, with a higher incarnation than before, or with none in its configuration."""
         self.incarnation += 1
         path = os.path.join(self.lab.folder, f"{self.name}.toml")
         with open(path, "w", encoding="utf-8") as stream:

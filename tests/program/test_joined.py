@@ -13,6 +13,7 @@ from typing import List, Optional
 from test_audit import PROGRAM, needs_program
 from test_records import TOP
 from test_run import BROADCAST, FLOODS, ONE, PATIENCE, STRANGER, TWO, Cable, Running, TwoCables, edge, first_life, frame, is_reached, learnt, station
+from test_serve import Client
 
 TOOL = [sys.executable, os.path.join(TOP, "tools", "evpndctl"), "--control"]
 
@@ -195,7 +196,8 @@ class Joined(TwoCables):
         self.assertEqual((to.receive(), not_to.receive(0.5)), (octets, b""))
 
     def test_peer_without_a_session_gets_no_frame(self) -> None:
-        """`peer_hold` seconds after its session has ended a frame for its station is flooded here, until the session is back."""
+        """`peer_hold` seconds after its session has ended a frame for its station is flooded here, until the session is back. A connection
+        that says nothing is none."""
         beside, seconds = Cable(), 3
         self.addCleanup(beside.here.close)
         self.programs[0].kill()
@@ -217,6 +219,11 @@ class Joined(TwoCables):
         self.sent_from_1(frame(BROADCAST, station(1), b"who is there"), beside, self.two)
         self.assertIn(f"owner 5001 02:00:00:00:00:02 {TWO}", self.report(0))
 
+        silent = Client(self.paths[0]).send(b"records\n")
+        self.addCleanup(silent.close)
+        self.assertNotEqual(silent.socket.recv(9), b"")
+        time.sleep(0.5)
+        self.assertEqual(self.asked(0, "peers"), f"1 peer {TWO} away\n")
         self.join()
         self.assertTrue(is_reached(lambda: self.asked(0, "peers") == f"1 peer {TWO} up\n"))
         self.sent_from_1(to_owned, self.two, beside)

@@ -55,6 +55,12 @@ BOTH_SAY = (
     at(1, "3c") + at(2, "3c")
     + lines("1 local - remote -", "2 local - remote -", "1 pool 1", "1 pool 2", "2 pool 3", "2 pool 4", "2 newer", "2 newer", "2 pool 5")
 )
+# Four frames at an edge with two ports: to a learnt station, to all, to an unknown station, and through the tunnel to the learnt one.
+FOUR = lines(
+    "1 frame 2 02000000000a02000000000c0800", "1 frame 1 ffffffffffff02000000000a0800", "1 frame 1 02000000000d02000000000a0800",
+    "1 tunnel 10.0.0.2 080000000013890002000000000a02000000000b0800",
+)
+FOUR_GO = lines("1 local 1 remote -", "1 local 2 remote 10.0.0.2", "1 local 2 remote 10.0.0.2", "1 local 1 remote -")
 AGREED = FLOODS + lines(f"mac {STATION} 10.0.0.1 2 dynamic 0", f"mac {STATION} 10.0.0.2 3 withdrawn", f"owner {STATION} 10.0.0.1")
 
 
@@ -183,6 +189,13 @@ WORKED = {
             "1 local - remote 10.0.0.3", "1 local - remote 10.0.0.2,10.0.0.3", "1 refused edge 12", "1 refused edge 12",
             "4 refused fabric 18",
         ),
+    ),
+    "an edge that marks itself as away gives and gets the same frames": (
+        edge(1) + "[[edge.port]]\nvni = 5001\nadmin_edge = true\n" + edge(2),
+        lines("1 up 1", "1 up 2", "2 announce", "1 deliver 1", "1 " + HEARD) + FOUR + lines("1 away 10.0.0.1") + FOUR
+        + lines("1 back 10.0.0.1") + FOUR,
+        at(1, "3c") + at(1, "3c").replace("bpdu 1", "bpdu 2").replace("80010000140002", "80020000140002")
+        + lines("2 pool 1", "1 newer", "1 local 2 remote 10.0.0.2") + FOUR_GO * 3,
     ),
     "nothing": (ONE, "", ""),
     "a last line without a line feed": (ONE, "1 report\n1 report", 2 * lines("flood 5001 10.0.0.1 1 up")),

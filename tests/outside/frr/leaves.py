@@ -3,9 +3,9 @@
 
     leaves.py [--keep FOLDER] [--tools FOLDER [--no-empty]] [--moves AUDITS] [ROOT ..]
 
-A ROOT is a folder with a Debian that has frr (debootstrap --include=frr,iproute2 SUITE ROOT); with none, this host's FRR. On
-2026-11-28 bullseye had FRR 7.5.1, bookworm 8.4.4, trixie 10.3 and sid 10.7.1. Debian 12's debootstrap fails to install the frr of
-trixie and sid with --variant=minbase: include only iproute2 there, and run `chroot ROOT apt-get install frr` after it.
+A ROOT is a folder with a Debian that has frr: `debootstrap --variant=minbase --include=iproute2 SUITE ROOT`, and then
+`chroot ROOT apt-get install --no-install-recommends frr`. With none, this host's FRR. On 2026-11-28 bullseye had FRR 7.5.1, bookworm
+8.4.4, trixie 10.3 and sid 10.7.1. With `--include=frr` Debian 12's debootstrap fails for trixie and sid: systemd isn't configured.
 Each case is what an operator has met; with --tools another commit's tools get the same questions (they find evpnd on the path),
 and --no-empty leaves out the VNI without MACs, at which the tools of 04daf64 end before all else.
 --moves plays 20 moves a second of 5,000 MACs while the audits run. Not part of the gate.
