@@ -451,6 +451,17 @@ class Records(Joined):
         self.hears_station()
         self.ends_well(FLOODS + learnt(1, ONE, 2))
 
+    def test_many_unlisted_edges_leave_room_for_other_lines(self) -> None:
+        """64 edges that no [[peer]] names are told, more aren't, and a refused record is told after them."""
+        others = [f"{HOST}{last}" for last in range(100, 170)]
+        client = self.joined()
+        client.send(b"".join(record_of(update_of_line(f"advert {other} {VNI} flood")) for other in others))
+        octets = bytearray(record_of(update_of_line(f"advert {ONE} {VNI} flood")))
+        octets[14:22] = bytes(8)  # a counter of 0
+        client.send(bytes(octets))
+        told = [f"records of {other}: dropped; no [[edge]] and no [[peer]] has this address\n" for other in others[:64]]
+        self.assertEqual(self.running.note(lines=65).splitlines(True), [*told, "records: refused 14\n"])
+
     def test_clients_that_break_off(self) -> None:
         """In mid-record, and eight at once that read nothing: nothing else is disturbed, and the run ends in its time."""
         octets = record_of(update_of_line(f"advert {ONE} {VNI} flood"))
@@ -525,6 +536,36 @@ class SentBack(Joined):
         self.taken(client, 2, 2)
         self.assertEqual(self.console().ask(f"1 pin {VNI} {MAC} 1"), "")
         self.assertEqual(self.lines(client, 1), [f"advert {ONE} {VNI} {MAC} static seq 0 counter 2"])
+
+
+@needs_program
+class Leftovers(Joined):
+    """Two processes that hold different updates of an earlier life of edge 1."""
+
+    def text(self) -> str:
+        """The configuration, with edges that have begun anew."""
+        return super().text()
+
+    def line(self, answer: Answer) -> str:
+        """An update as a line."""
+        return line_of(answer)
+
+    def joined(self) -> Client:
+        """A client that exchanges records, and has read what the edges say when it begins."""
+        client = self.client().send(b"records\n")
+        self.assertEqual(len(self.lines(client, 2)), 2)
+        return client
+
+    def test_withdrawal_of_an_earlier_life_is_passed_on(self) -> None:
+        """One sends back a withdrawal, and the other one the advert before it, which is no news any more: that one gets the withdrawal."""
+        first, second = self.joined(), self.joined()
+        withdrawal = f"withdraw {ONE} {VNI} {MAC} counter 9"
+        first.send(record_of(update_of_line(withdrawal)))
+        self.assertEqual(self.lines(second, 1), [withdrawal])
+        second.send(record_of(update_of_line(f"advert {ONE} {VNI} {MAC} seq 0 counter 8")))
+        console = self.console()
+        self.assertTrue(is_reached(lambda: f"mac {VNI} {MAC} {ONE} 9 withdrawn\n" in console.ask("2 report")))
+        self.assertEqual(select.select([second.socket], [], [], 0.5)[0], [])
 
 
 @needs_program

@@ -4,13 +4,13 @@
 ghost use Rattle.std.specs.Prelude.{◌≡◌, IfOk, OnErr};
 ghost use Rattle.std.specs.List.{list_any};
 ghost use Rattle.route_join.specs.Table.{value_at, is_news};
-ghost use Rattle.ev_exchange.specs.Life.{new_life, with_update, is_present, lacks};
+ghost use Rattle.ev_exchange.specs.Life.{new_life, with_update, is_withdrawn, is_of_earlier, is_left_over, is_present, lacks};
 ghost use Rattle.ev_exchange.specs.Sending.{is_own};
 
 use arrayvec::ArrayVec;
 use ether_wire::Addr;
 use route_join::{Table, TakeError};
-use route_wire::Update;
+use route_wire::{Content, Update};
 use std::alloc::Global;
 
 /// The updates of an edge that were announced in its present life.
@@ -87,6 +87,23 @@ impl Life {
         self.is_present(update) && self.is_news(update)
     }
 
+    /// Returns `true` if the update is a withdrawal that the edge made in an earlier life.
+    fn is_of_earlier(&self, update: &Update) -> bool
+        ensures { result ≡ is_of_earlier self.now update.now }
+    {
+        update.register().originator == self.originator
+            && update.value().incarnation < self.incarnation
+            && is_withdrawn(update.value().content)
+    }
+
+    /// Returns `true` if the update is a withdrawal that the edge made in an earlier life, and no
+    /// update of this life is as new.
+    pub fn is_left_over(&self, update: &Update) -> bool
+        ensures { result ≡ is_left_over self.now update.now }
+    {
+        self.is_of_earlier(update) && self.is_news(update)
+    }
+
     /// Returns `true` if the life lacks one of these updates.
     pub fn lacks_any(&self, updates: &[Update]) -> bool
         ensures { result ≡ list_any (lacks self.now) updates.now }
@@ -97,6 +114,16 @@ impl Life {
             }
         }
         false
+    }
+}
+
+/// Returns `true` if the content is that of a withdrawal.
+fn is_withdrawn(content: Content) -> bool
+    ensures { result ≡ is_withdrawn content }
+{
+    match content {
+        Content::Withdrawn => true,
+        Content::Advert(_) => false,
     }
 }
 

@@ -64,6 +64,11 @@ impl<'x> Running<'x> {
         self.mailboxes.take(rt, update);
     }
 
+    /// Puts an update into the outbox of each connection, as one that an edge announces.
+    pub fn pass_on<R: Wait>(&self, rt: &R, update: &Update) {
+        self.mailboxes.outboxes().put(rt, *update);
+    }
+
     /// Reports to the operator that input from another process was refused. Each refusal is
     /// reported once.
     pub fn refuse<R: Wait>(&self, rt: &R, refused: Refused) {

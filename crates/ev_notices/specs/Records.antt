@@ -23,9 +23,17 @@ is_same (Outlived originator) (Outlived other) = originator == other
 is_same (OwnOutlived originator) (OwnOutlived other) = originator == other
 is_same _ _ = false
 
--- this refusal hasn't come yet, and fewer than 64 refusals came
+-- The number of refusals before which this one has a place. Any number of originators may be unlisted: they leave
+-- places for all other refusals.
+abbrev pub places : Refused → ℕ
+places (Record number) = 512
+places (Unlisted originator) = 64
+places (Outlived originator) = 512
+places (OwnOutlived originator) = 512
+
+-- this refusal hasn't come yet, and it has a place
 abbrev pub is_new : Refused → RefusalsState → Bool
-is_new refused r = nat_lt (length r.came) 64 && not (list_any (is_same refused) r.came)
+is_new refused r = nat_lt (length r.came) (places refused) && not (list_any (is_same refused) r.came)
 
 abbrev pub after_refusal : Refused → RefusalsState → RefusalsState
 after_refusal refused r = if is_new refused r then refusals_of (r.came ++ refused ∷ []) r.told else r

@@ -1,14 +1,19 @@
 //! Refused records of connections: each fault and each refusal is reported once.
 ghost use Rattle.std.specs.Prelude.{◌≡◌};
 ghost use Rattle.std.specs.List.{list_any};
-ghost use Rattle.ev_notices.specs.Records.{no_refusals, is_same, is_new, after_refusal, first_refusal, after_told};
+ghost use Rattle.ev_notices.specs.Records.{no_refusals, is_same, places, is_new, after_refusal, first_refusal, after_told};
 
 use arrayvec::ArrayVec;
 use ether_wire::Addr;
 use std::marker::Model;
 
-/// The greatest number of refusals that are reported.
-const MOST: usize = 64;
+/// The number of places for refusals. With 64 peers, 64 edges and 256 numbers of records each
+/// refusal but those of unlisted originators has one.
+const MOST: usize = 512;
+
+/// The number of refusals before which an unlisted originator is reported: any number of them may
+/// come, and they leave places for the others.
+const UNLISTED: usize = 64;
 
 /// A refusal of records that another process sent.
 #[derive(Clone, Copy, Debug, PartialEq, Eq)]
@@ -82,6 +87,16 @@ fn is_known(refused: &Refused, all: &[Refused]) -> bool
     false
 }
 
+/// Returns the number of refusals before which this one is reported.
+fn places(refused: &Refused) -> usize
+    ensures { result ≡ places refused.now }
+{
+    match refused {
+        Refused::Unlisted(_) => UNLISTED,
+        Refused::Record(_) | Refused::Outlived(_) | Refused::OwnOutlived(_) => MOST,
+    }
+}
+
 impl Refusals {
     /// Returns an empty list of refusals.
     pub fn new() -> Self
@@ -99,7 +114,7 @@ impl Refusals {
         ensures put { result ≡ is_new refused self.old }
         ensures after { self.new ≡ after_refusal refused self.old }
     {
-        if self.came.len() >= MOST || is_known(&refused, self.came.as_slice()) {
+        if self.came.len() >= places(&refused) || is_known(&refused, self.came.as_slice()) {
             return false;
         }
         self.came.push(refused);

@@ -2,7 +2,7 @@
 //! incarnation that isn't higher than before, and reports that to the operator. Both sides do: the
 //! edge's own process, and the process that holds routes of the earlier life.
 ghost use Rattle.std.specs.Prelude.{◌≡◌, None, true, false, []};
-ghost use Rattle.ev_run.specs.Inner.Lives.{has_said};
+ghost use Rattle.ev_run.specs.Inner.Lives.{has_said, is_kept_over};
 
 use crate::records::ServedEdges;
 use ether_wire::Addr;
@@ -189,6 +189,17 @@ impl OwnLives {
             Some(life) => {
                 update.register().originator == life.originator() && !life.lacks(update)
             }
+            None => false,
+        }
+    }
+
+    /// Returns `true` if the update is a withdrawal that the edge whose life is kept made in an
+    /// earlier life, and that was new to the edge when the life was made.
+    pub(crate) fn is_left_over(&self, update: &Update) -> bool
+        ensures { result ≡ is_kept_over self.now.life update.now }
+    {
+        match &self.life {
+            Some(life) => life.is_left_over(update),
             None => false,
         }
     }

@@ -190,6 +190,18 @@ impl<R: Wait> Entered<'_, R> {
         self.peers.compare(edges);
         self.own.compare(edges, update);
     }
+
+    /// Handles an update of an edge of this process that comes back. If it is a withdrawal of an
+    /// earlier life that is new here, it goes to each connection once the edges have it: another
+    /// process may hold the advert before it, which is no news here any more.
+    fn take_back(&mut self, update: &Update) {
+        self.compare(update);
+        let edges = &self.connection.edges;
+        edges.running.take(edges.rt, update);
+        if self.own.is_left_over(update) {
+            edges.running.pass_on(edges.rt, update);
+        }
+    }
 }
 
 impl<R: Wait> Entrance for Entered<'_, R> {
@@ -199,12 +211,12 @@ impl<R: Wait> Entrance for Entered<'_, R> {
 
     fn enter(&mut self, update: &Update) {
         let connection = self.connection;
-        connection.edges.running.take(connection.edges.rt, update);
         let originator = update.register().originator;
         if connection.own.has(originator) {
-            self.compare(update);
+            self.take_back(update);
             return;
         }
+        connection.edges.running.take(connection.edges.rt, update);
         self.peers.add(connection.edges.alloc, update);
         self.own.forget();
         if connection.edges.listed.has(originator) {

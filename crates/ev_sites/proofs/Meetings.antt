@@ -270,8 +270,10 @@ module _ (i j : ℕ) (old : Fabric) (steps : List Step) (new : Fabric) (parts : 
         ]
       where
         had : TookIn old steps new parts i (update_of r v) → is_newest b.routes.speaker (update_of r v) ≡ false
-        had t = kept j (update_of r v) open_j
-            (holds_has parts.held j (update_of r v) (s.alike v less is t)) b at_b
+        had t = elim (s.alike v less is t) [
+          | inl holds ↦ kept j (update_of r v) open_j (holds_has parts.held j (update_of r v) holds) b at_b
+          | inr too ↦ taken j (update_of r v) open_j too b at_b
+        ]
 
     -- a value of the beginning: the edge at i has announced none since
     before : (v : Value) → value_at (table_of a) r ≡ Some v → Contains old.pool (update_of r v)
@@ -320,7 +322,10 @@ module _ (i j : ℕ) (old : Fabric) (steps : List Step) (new : Fabric) (parts : 
               (open_second j open_j) (b, at_b, record { past = λ own. absurd (other own); there = is })) [
                 | inl held ↦ took_has parts.second parts.held new parts.ends i (update_of r w) held_sound
                     (open_second i open_i) (s.delivered.back w (held.0, held.1, held.2.there)) a at_a
-                | inr t ↦ began (update_of r w) (s.delivered.later w less t) a at_a
+                | inr t ↦ elim (s.delivered.later w less t) [
+                  | inl was ↦ began (update_of r w) was a at_a
+                  | inr too ↦ taken i (update_of r w) open_i too a at_a
+                ]
               ]
           | inr known ↦ known
         ]

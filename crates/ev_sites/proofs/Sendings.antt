@@ -205,7 +205,7 @@ module _ (i j x n : ℕ) (old : Fabric) (steps : List Step) (new : Fabric) (s : 
         (looked s.held j h.held h.heard h.edges.2 h.tables.2 v holds));
     later = λ v less took. elim (took_present x n h.late j (update_of r v) s.second s.held new s.ends
         (runs_sound s.first old s.held s.begins sound) h.later took) [
-          | inl is ↦ h.had (update_of r v) is
+          | inl is ↦ inl (h.had (update_of r v) is)
           | inr none ↦
               let past : true ≡ false = sym (past_test x n (update_of r v) named (less_in v less)) ∙ none in
               let no : ⊥ = cc in absurd no
@@ -223,9 +223,10 @@ module _ (i j x n : ℕ) (old : Fabric) (steps : List Step) (new : Fabric) (s : 
 
   -- an update of an earlier life that the edge at i has at the end
   pub alike : Each (λ u. When (is_past x n u) (Holds s.held j u)) h.last → (v : Value)
-      → v.incarnation < incarnation_of a → value_at (table_of a) r ≡ Some v → Holds s.held j (update_of r v)
-  alike each v less is = passed (Holds s.held j (update_of r v)) (is_past x n (update_of r v))
+      → v.incarnation < incarnation_of a → value_at (table_of a) r ≡ Some v
+      → Holds s.held j (update_of r v) ⊎ TookIn old steps new s j (update_of r v)
+  alike each v less is = inl (passed (Holds s.held j (update_of r v)) (is_past x n (update_of r v))
       (past_test x n (update_of r v) named (less_in v less))
       (each_held (λ u. When (is_past x n u) (Holds s.held j u)) h.last each r v
       (sym (found h.last r) ∙ ap (λ t. value_at t r) (sym h.tables.1)
-      ∙ ap (λ (b : Edge). value_at (table_of b) r) same ∙ is))
+      ∙ ap (λ (b : Edge). value_at (table_of b) r) same ∙ is)))

@@ -72,18 +72,19 @@ pub record IsDelivered (i j : ℕ) (a : Edge) (r : Register) (old : Fabric) (ste
   pub quiet : Contains a.routes.speaker.pending r → ⊥
   -- the edge at i takes the value that the edge at j has between the parts
   pub back : (v : Value) → Holds s.held j (update_of r v) → Took i (update_of r v) s.second s.held new s.ends
-  -- Updates of an earlier life of the edge at i come from these two only. The edge at j takes none of them in the
-  -- second part, except those that the edge at i had at the beginning.
+  -- The edge at j takes no update of an earlier life of the edge at i in the second part, except those that the edge
+  -- at i had at the beginning or takes itself.
   pub later : (v : Value) → v.incarnation < incarnation_of a → Took j (update_of r v) s.second s.held new s.ends
-      → Holds old i (update_of r v)
+      → Holds old i (update_of r v) ⊎ TookIn old steps new s i (update_of r v)
 
 -- A register is sent: also, if the edge at i takes an update of an earlier life, and has it at the end, the edge at j
--- has it between the parts.
+-- has it between the parts, or takes it: it is passed on.
 pub record IsSent (i j : ℕ) (a : Edge) (r : Register) (old : Fabric) (steps : List Step) (new : Fabric)
     (s : Parts old steps new) : Type 0 where
   pub delivered : IsDelivered i j a r old steps new s
   pub alike : (v : Value) → v.incarnation < incarnation_of a → value_at (table_of a) r ≡ Some v
-      → TookIn old steps new s i (update_of r v) → Holds s.held j (update_of r v)
+      → TookIn old steps new s i (update_of r v)
+      → Holds s.held j (update_of r v) ⊎ TookIn old steps new s j (update_of r v)
 
 -- each register of p's edges is sent to each edge of q, and sent back
 pub record Sends (p q : Process) (old : Fabric) (steps : List Step) (new : Fabric) : Type 0 where
