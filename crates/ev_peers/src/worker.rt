@@ -111,8 +111,11 @@ impl<L: Ledger, O: Outlet + Drop, G: Gate, R: Wait> Worker<'_, L, O, G, R> {
         ensures stays { self.new.shared_edge ≡ self.old.shared_edge }
     {
         let shared_edge = self.shared_edge;
-        let (answer, is_pending) =
-            shared_edge.enter(&mut self.pass, event, &mut self.scratch.reply);
+        let (answer, is_pending) = shared_edge.enter(
+            &mut self.pass,
+            event,
+            &mut self.scratch.reply,
+        );
         let outlet = &mut self.outlet;
         give_signs(outlet, carried.vni, event, &answer, &self.scratch.reply);
         give_answer(
