@@ -375,9 +375,26 @@ class Looks:
         told += [self.verdict(key, owners, told) for key, owners in found.items() if isinstance(owners, dict)]
         if not any(isinstance(owners, dict) for owners in found.values()):
             told.append("fault of the frames: all name the same owners, and pings are lost")
+            told += self.floods()
         for end in self.fabric.ends[2:]:
             if any(end.name in line and (line.startswith(LEAF_FAULT) or THEIRS in line) for line in told):
                 end.leaf.begin_anew()
+        return told
+
+    def floods(self) -> List[str]:
+        """Where each edge and leaf sends broadcasts, and what each host knows of its neighbours: without both no ping goes."""
+        told = []
+        for end in self.fabric.ends:
+            if end.served:
+                lines = [line for line in end.served.ask("1", "report") if line.startswith("flood ")]
+                told.append(f"{end.name} floods to: {'; '.join(lines)}; peers: {'; '.join(end.served.ask('1', 'peers'))}")
+            else:
+                lists = [end.leaf.within("bridge", "fdb", "show", "dev", f"vxlan{vni}") for vni in NETWORKS]
+                lines = [line for text in lists for line in text.splitlines() if line.startswith("00:00:00:00:00:00")]
+                told.append(f"{end.name} floods to: {'; '.join(lines)}")
+        for (vni, number), host in self.fabric.hosts.items():
+            neighbours = run(*entering(host.netns), "ip", "-4", "neigh").splitlines()
+            told.append(f"host {number} of {vni}, at {host.place.edge}, knows: {'; '.join(neighbours)}")
         return told
 
     def verdict(self, key: str, owners: Owners, told: List[str]) -> str:
