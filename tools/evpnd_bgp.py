@@ -46,7 +46,7 @@ QUIET = 3  # seconds without a new route after which a neighbour that sends no E
 LOOK = 30  # seconds between two looks at what gobgpd and the edges have
 SHARE = 20  # a look that took one second is followed by no other for this many seconds
 TICK = 1  # seconds between two checks for due work
-AGAIN = 1  # seconds between two tries to reach gobgpd
+AGAIN = 0.1  # seconds between two tries to reach gobgpd: it has to have our routes before its sessions are back
 CONNECT = 0.2  # seconds between two tries to reach the edges
 LONGEST = 30  # seconds between two tries, at most, while the edges answer that they are busy
 PATIENCE = 60  # seconds that a gateway takes at most to withdraw its routes, or to wait for an answer
@@ -107,7 +107,7 @@ class Gateway:
                     for place in range(0, len(events), EVENTS):
                         self.hear(events[place : place + EVENTS])
             except (NoDaemon, Declined) as fault:
-                self.told[f"{fault}; tried again each second"] += 1
+                self.told[f"{fault}; tried again"] += 1
             self.lose_daemon()
             self.stopping.wait(AGAIN)
 
@@ -335,7 +335,7 @@ class Gateway:
 
     def announce(self) -> None:
         """Announces what waits, and mends what the daemon has of ours each time that is due, until nothing comes any more."""
-        while (registers := self.announcing.take(TICK)) is not None:
+        while (registers := self.announcing.take(AGAIN)) is not None:
             if not registers and not self.is_look_due():
                 continue
             try:
@@ -345,7 +345,7 @@ class Gateway:
                 if self.stopping.is_set():
                     LOG.error("%s: what was announced stays there until a gateway begins, or --withdraw", fault)
                     return
-                self.told[f"{fault}; tried again each second"] += 1
+                self.told[f"{fault}; tried again"] += 1
                 self.announcing.add(registers)
                 self.stopping.wait(AGAIN)
 
@@ -452,7 +452,7 @@ class Gateway:
                     self.session(connection)
                 trouble, wait = "", CONNECT
             except OSError as fault:
-                wait = min(2 * max(wait, AGAIN), LONGEST) if isinstance(fault, Busy) else CONNECT
+                wait = min(2 * max(wait, TICK), LONGEST) if isinstance(fault, Busy) else CONNECT
                 if str(fault) != trouble:
                     LOG.warning("%s: %s; tried again", path, fault.strerror or fault)
                     trouble = str(fault)
