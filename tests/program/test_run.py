@@ -48,9 +48,9 @@ def frame(to: bytes, of: bytes, text: bytes) -> bytes:
 
 
 def granted_octets() -> int:
-    """Returns the receive buffer that Linux grants to a socket for which 4 MiB are asked: twice the number, up to its limit."""
+    """Returns the receive buffer that Linux grants to a socket for which 512 KiB are asked: twice the number, up to its limit."""
     with open("/proc/sys/net/core/rmem_max", encoding="ascii") as most:
-        return 2 * min(4 << 20, int(most.read()))
+        return 2 * min(512 << 10, int(most.read()))
 
 
 def free_port() -> int:

@@ -21,8 +21,9 @@ use std::os::fd::AsRawFd;
 /// The UDP port of tunnels (RFC 7348).
 pub(crate) const TUNNELS: u16 = 4789;
 
-/// The size of each socket's receive buffer, in octets: room for some 2,000 frames of 1,400 octets.
-const RECEIVE_BUFFER: u32 = 4 << 20;
+/// The size of each socket's receive buffer, in octets: room for some 450 frames of 1,400 octets.
+/// A larger one absorbs longer bursts, but at a port that is flooded all its frames wait that long.
+const RECEIVE_BUFFER: u32 = 512 << 10;
 
 /// The reason why an address can't be bound.
 #[derive(Clone, Copy, Debug, PartialEq, Eq)]
