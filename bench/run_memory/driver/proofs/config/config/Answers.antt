@@ -1,0 +1,60 @@
+use Rattle.std.proofs.Common.{◌≡◌, ◌≤◌, ◌∷◌, [], ℕ, zero, suc, Bool, true, false}
+use Rattle.std.proofs.Common.{List, refl, ap, sym, subst, ◌∙◌, length, Contains, eqb, arith, lit<, lit≤}
+use Rattle.std.proofs.lemmas.List.{length-map}
+use Rattle.std.specs.List.{IsDistinct}
+use Rattle.route_join.specs.Table.{AreOriginators}
+use Rattle.ev_edge.specs.declared.config.PortConfig.{PortConfig}
+use Rattle.ev_edge.specs.Config.{vnis_of}
+use Rattle.run_bench.proofs.config.config.Goals as goal
+
+abbrev listed : List ℕ
+listed = 0x0a00_0001 ∷ 0x0a00_0002 ∷ []
+
+are_originators : AreOriginators listed
+unfolding IsDistinct
+are_originators = record {
+  some = lit< tt;
+  few = lit≤ tt;
+  distinct = ((refl, tt), (tt, tt));
+}
+
+-- either address is listed
+is_in : (is_second : Bool) (a : ℕ) →
+    (is_second ≡ true → a ≡ 0x0a00_0002) → (is_second ≡ false → a ≡ 0x0a00_0001) → Contains listed a
+is_in true a second first = (1, lit< tt, sym (second refl))
+is_in false a second first = (0, lit< tt, sym (first refl))
+
+abbrev networks : List ℕ
+networks = 5001 ∷ []
+
+abbrev ports : List ℕ
+ports = 5001 ∷ 5001 ∷ []
+
+differ : IsDistinct eqb networks
+unfolding IsDistinct
+differ = (tt, tt)
+
+served : (v : ℕ) → Contains ports v → Contains networks v
+served v (zero, l, e) = (0, lit< tt, e)
+served v (suc zero, l, e) = (0, lit< tt, e)
+served v (suc (suc k), l, e) = absurd (omega arith)
+
+-- there are as many ports as networks of ports
+counted : (ps : List PortConfig) → vnis_of ps ≡ ports → 1 ≤ length ps
+counted ps h = subst (λ n. 1 ≤ n) (sym (ap length h) ∙ length-map ps (λ (p : PortConfig). p.vni)) (lit≤ tt)
+
+pub returns : goal.returns
+returns c = record {
+  originators = subst AreOriginators (sym c.originators.ensures) are_originators;
+  listed = subst (λ xs. Contains xs c.address.result) (sym c.originators.ensures)
+      (is_in c.args.is_second c.address.result c.address.ensures.second c.address.ensures.first);
+  distinct = subst (IsDistinct eqb) (sym c.one_network.ensures) differ;
+  some_port = counted c.two_ports.result.items c.two_ports.ensures;
+  served = λ v h. subst (λ vs. Contains vs v) (sym c.one_network.ensures)
+      (served v (subst (λ vs. Contains vs v) c.two_ports.ensures h));
+  some_place = lit≤ tt;
+  places = lit≤ tt;
+  some_bucket = lit≤ tt;
+  buckets = lit≤ tt;
+  hello = subst (λ n. 1 ≤ n) (sym c.tree.ensures) (lit≤ tt);
+}
