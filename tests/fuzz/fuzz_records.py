@@ -5,8 +5,8 @@ usage: tests/fuzz/fuzz_records.py [--seed S] [--first N] [--cases N] [--seconds 
 
 A case makes some streams: of records, of records with changed octets, spliced, cut and random ones. `report` has to print what the
 second model (tests/tools/report_model.py) prints, with its notes and status. What `migrate` writes of a stream of versions 1 and 2 is
-compared with a model of docs/records.md. Then an edge receives all streams, each over a connection: its table has to be that of all
-their updates, and the records that it sends back have to be well formed.
+compared with a model of docs/records.md. Then two edges receive all streams, each over a connection: the table of each has to be that
+of all their updates, and the records that come back have to be well formed.
 """
 
 import contextlib
@@ -16,7 +16,7 @@ import socket
 import sys
 from typing import Dict, List, Tuple
 
-from fuzzing import ONE, VNI, Seen, Served, edge, expect, first_life, main, mutated, port, soon, tried  # (first: it extends the path)
+from fuzzing import ONE, TWO, VNI, Seen, Served, edge, expect, first_life, main, mutated, port, soon, tried  # (first: it extends the path)
 
 import report_model
 import update_records as records
@@ -27,7 +27,7 @@ from update_records import Fault, Refused, Update
 NAME = "records"
 STREAMS = 25
 LISTED = ",".join(map(records.address_text, report_model.LISTED))
-OWN = socket.inet_aton(ONE)
+OWN = [Update(socket.inet_aton(it), VNI, None, b"", records.Advert(), 1, 1) for it in (ONE, TWO)]  # flood lists
 
 
 def stream_of(numbers: random.Random, others: List[bytes]) -> bytes:
@@ -128,21 +128,22 @@ def case(numbers: random.Random, seen: Seen) -> int:
         streams.append(stream_of(numbers, streams))
         reports(streams[-1], seen)
         migrates(streams[-1], seen)
-    cable = Cable(ONE)
-    served = Served([ONE], edge(ONE, 1, port(cable)), [records.address_text(it) for it in report_model.LISTED])
+    cables = [Cable(it) for it in (ONE, TWO)]
+    text = "".join(edge(it.address, place, port(it)) for place, it in enumerate(cables, 1))
+    served = Served([ONE, TWO], text, [records.address_text(it) for it in report_model.LISTED])
     try:
-        own = Update(OWN, VNI, None, b"", records.Advert(), 1, 1)
-        newest = {report_model.register_of(own): own}
+        newest = {report_model.register_of(it): it for it in OWN}
         for stream in streams:
             exchanged(served, stream, seen)
             accepted(stream, newest)
         wanted = first_life(report_model.report_of(newest))
-        soon(lambda: served.reports()[0] == wanted, lambda: [stream.hex() for stream in streams] + [wanted, *served.reports()])
-        seen["registers of the edge"] += len(newest)
+        soon(lambda: set(served.reports()) == {wanted}, lambda: [*(stream.hex() for stream in streams), wanted, *served.reports()])
+        seen["registers of an edge"] += len(newest)
         served.end()
         return STREAMS
     finally:
-        cable.here.close()
+        for cable in cables:
+            cable.here.close()
         served.kill()
 
 

@@ -34,7 +34,7 @@ class Fuzzers(unittest.TestCase):
 
     def test_records(self) -> None:
         seen = self.passes(fuzz_records, 1)
-        self.assertLess({"truncated", "refused 12", "migrations", "records received", "registers of the edge"}, set(seen))
+        self.assertLess({"truncated", "refused 12", "migrations", "records received", "registers of an edge"}, set(seen))
 
     def test_configurations(self) -> None:
         seen = self.passes(fuzz_configurations, 40)
