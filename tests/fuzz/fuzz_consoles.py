@@ -27,6 +27,7 @@ from test_serve import Client
 
 NAME = "consoles"
 LINES = 200
+KEPT = 20001  # a console reads no further octets of a line (docs/script.md)
 tool = types.SimpleNamespace(**runpy.run_path(os.path.join(TOP, "tools", "evpndctl"), run_name="evpndctl"))
 OF_PORT, OF_STATION, OF_EDGE = ("up", "down", "mcheck", "port"), ("unpin", "thaw", "owner"), ("report", "counts", "stations", "peers", "announce")
 QUERIES = ("owner", "counts", "stations", "peers")
@@ -148,6 +149,7 @@ def is_utf8(line: bytes) -> bool:
 
 def compare(lines: List[bytes], answers: List[bytes], seen: Seen) -> None:
     """Compares which lines are invalid, and why, with `check --script`."""
+    lines = [line[:KEPT] for line in lines]
     texts = [place for place, line in enumerate(lines) if is_utf8(line)]
     with tempfile.TemporaryDirectory() as folder:
         causes = causes_of([lines[place] for place in texts], folder)
