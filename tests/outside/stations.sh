@@ -1,7 +1,7 @@
 #!/usr/bin/env bash
 # usage: tests/outside/stations.sh
 #
-# 2,000 random runs of three to eight edges test the laws of one station (stations.rt), while other stations
+# 2,000 random runs of three to eight edges test the laws of one station (stations.rt.txt), while other stations
 # come and go. `rt try` compiles them in a copy of the repository, with checks and without proofs: some ten minutes, so the gate
 # doesn't.
 set -eu
@@ -17,7 +17,7 @@ for crate in crates/*/; do
   done
 done
 git init -q "$work"
-cp tests/outside/stations.rt "$work/crates/ev_fabric/src/tests/stations.rt"
+cp tests/outside/stations.rt.txt "$work/crates/ev_fabric/src/tests/stations.rt"
 printf '\nmod stations;\n' >> "$work/crates/ev_fabric/src/tests.rt"
 cd "$work/crates/ev_fabric"
 rt try --test --seconds 1800

@@ -483,14 +483,14 @@ class Gate(unittest.TestCase):
         self.fails("low proof: it isn't proved from nothing", 6, 4)
 
     def test_file_that_no_check_reads(self):
-        for path in ("docs/lost.rt", "tests/unproved/lost/tests.rt", "tests/unproved/low/Lost.antt", "tests/lost.rt"):
+        for path in ("docs/lost.rt", "tests/unproved/low/tests.rt", "tests/unproved/low/Lost.antt", "bench/lost.rt"):
             write(f"{self.top}/{path}", "")
             self.fails(f"repository files: no check reads {path}")
             os.unlink(f"{self.top}/{path}")
 
     def test_tests_that_are_not_proved(self):
         write(f"{self.top}/crates/low/src/lib.rt", LIBRARY)
-        write(f"{self.top}/tests/unproved/low/tests.rt", "#[test]\nfn one() {\n}\n\n#[test]\nfn two() {\n}\n")
+        write(f"{self.top}/tests/unproved/low/tests.rt.txt", "#[test]\nfn one() {\n}\n\n#[test]\nfn two() {\n}\n")
         status, said = self.gate()
         self.assertEqual((status, said.splitlines()[-1]), (0, "8 passed, 0 failed"), said)
         self.assertIn("gate: 2 crates proved, 4 tests run unproved, 2 edits refused\n", said)
@@ -498,11 +498,11 @@ class Gate(unittest.TestCase):
     def test_layout(self):
         write(f"{self.stub}/bin/rt", STUB.replace("fmt) exit 0", "fmt) sed -i 's/ *$//' $(find src -name '*.rt'); exit 0"))
         self.assertEqual(self.gate()[0], 0)
-        for path in ("crates/low/src/shape.rt", "tests/unproved/low/tests/shapes.rt"):
+        for path in ("crates/low/src/shape.rt", "tests/unproved/low/tests/shapes.rt.txt"):
             write(f"{self.top}/{path}", "//! Shapes. \n")
             self.fails(f"low layout: not in the layout: {path}")
             os.unlink(f"{self.top}/{path}")
-        for path in ("bench/records/main.rt", "tests/outside/stations.rt"):
+        for path in ("bench/records/main.rt.txt", "tests/outside/stations.rt.txt"):
             write(f"{self.top}/{path}", "//! A driver.\n")
             self.assertEqual(self.gate()[0], 0)
             write(f"{self.top}/{path}", "//! A driver. \n")

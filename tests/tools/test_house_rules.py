@@ -19,7 +19,7 @@ SUBJECTS_SINCE = "42c388f"  # the subjects of later commits than this one of 202
 LONG_RT = {  # bpdu_wire's is the row of a table, ether_wire's are tables of digits, ev_words' texts of the program, ev_run's rows of Linux
     "crates/bpdu_wire/src/reading.rt": 1, "crates/ether_wire/src/text.rt": 4, "crates/ev_report/src/usage.rt": 2, "crates/ev_words/src/subcommand.rt": 5,
     "crates/evpnd_report/src/main.rt": 1, "crates/evpnd_report/src/program.rt": 1,
-    "crates/rstp_net/src/laws.rt": 1, "tests/unproved/ev_run/tests.rt": 3,
+    "crates/rstp_net/src/laws.rt": 1, "tests/unproved/ev_run/tests.rt.txt": 3,
 }
 LONG_ANTT = 1
 MOST_LINES, MOST_PARAMETERS = 450, 6
@@ -30,10 +30,10 @@ MANY_PARAMETERS = {  # `self` isn't counted; ev_tunnel's are the arguments that 
 
 
 def files(ending: str) -> List[str]:
-    """The files of crates/, tests/ and bench/ with an ending, of git and new ones."""
+    """The files of crates/, tests/ and bench/ with an ending, of git and new ones. `.txt` behind an ending doesn't count."""
     words = ["git", "ls-files", "-z", "--cached", "--others", "--exclude-standard", "crates", "tests", "bench"]
     names = subprocess.run(words, cwd=TOP, capture_output=True, check=True).stdout.decode().split("\0")
-    return sorted(name for name in names if name.endswith(ending) and os.path.exists(os.path.join(TOP, name)))
+    return sorted(name for name in names if name.removesuffix(".txt").endswith(ending) and os.path.exists(os.path.join(TOP, name)))
 
 
 def lines_of(name: str) -> List[str]:
@@ -98,7 +98,7 @@ class Rules(unittest.TestCase):
         self.assertEqual([name for name in files(".rt") if not lines_of(name)[0].startswith("//!")], [])
 
     def test_items_are_told(self):
-        sources = [name for name in files(".rt") if not re.search(r"(^|/)tests(/|\.rt$)", name)]
+        sources = [name for name in files(".rt") if not re.search(r"(^|/)tests(/|\.rt(\.txt)?$)", name)]
         bare = [f"{name}:{number}: {item}" for name in sources for number, item in bare_items(lines_of(name))]
         self.assertEqual(bare, [])
 

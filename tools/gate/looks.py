@@ -31,8 +31,9 @@ NEVER = (
 HANDLES = ("Threads", "Wait", "Net", "Processes")
 # an own name for an operator or a plain word of the library
 OWN_OPERATOR = re.compile(r"(?:◌\S*◌|\bOn\w+) as [^\s,;}]+")
-# the files of Rattle that no check reads: the rule `tests` runs the unproved tests of a crate, and scripts build the others in copies
-RUN_ONLY = re.compile(r"tests/unproved/(?P<crate>\w+)/.*\.rt|(?:bench|tests/outside)/.*\.(?:rt|antt)")
+# the files of Rattle that no check reads and that scripts build in copies. `.txt` ends their names, since a plain `rt ci` stops at a
+# Rattle file outside of crates/
+RUN_ONLY = re.compile(r"(?:bench|tests/outside)/.*\.(?:rt|antt)\.txt")
 
 
 def layout(project, name, calls):
@@ -51,7 +52,7 @@ def layout_of_others(project, paths, calls):
     with tempfile.TemporaryDirectory(prefix="others.layout.", dir=project.gate) as room:
         folder, origins = f"{room}/crates/others", {}
         for number, path in enumerate(paths):
-            ending = os.path.splitext(path)[1]
+            ending = os.path.splitext(path.removesuffix(".txt"))[1]
             copy = f"{folder}/{'src' if ending == '.rt' else 'proofs'}/others{number}{ending}"
             os.makedirs(os.path.dirname(copy), exist_ok=True)
             shutil.copyfile(f"{project.top}/{path}", copy)
@@ -115,8 +116,8 @@ def texts(project, name, _calls):
 
 
 def files(project, calls):
-    """Looks at the files of git: none is a link, and each of Rattle is in a place where a check reads it or a test runs it. The layout of
-    files in bench/ and tests/outside/ is that of `rt fmt`. Returns the facts."""
+    """Looks at the files of git: none is a link, and each of Rattle is in a place where a check reads it. The layout of the run-only files
+    in bench/ and tests/outside/ is that of `rt fmt`. Returns the facts."""
     words = ["git", "ls-files", "-z", "--cached", "--others", "--exclude-standard"]
     ran = subprocess.run(words, cwd=project.top, stdin=subprocess.DEVNULL, stdout=subprocess.PIPE, check=False)
     if ran.returncode:
@@ -130,9 +131,8 @@ def files(project, calls):
             found.append(f"fail {path} is a link")
         part = re.fullmatch(r"crates/(\w+)/(src|specs|proofs)/.*\.(rt|antt)", path)
         is_read = part and part[1] in project.lines and (part[2] == "src") == (part[3] == "rt")
-        run = RUN_ONLY.fullmatch(path)
-        if run and not run["crate"]:
+        if RUN_ONLY.fullmatch(path):
             others.append(path)
-        elif path.endswith((".rt", ".antt")) and not is_read and not (run and run["crate"] in project.lines):
+        elif path.endswith((".rt", ".antt")) and not is_read:
             found.append(f"fail no check reads {path}")
     return found + layout_of_others(project, others, calls) + ["pass 0"]
