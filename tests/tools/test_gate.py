@@ -26,6 +26,7 @@ import sources
 import tasks
 
 check = types.SimpleNamespace(**runpy.run_path(os.path.join(TOP, "tools", "check"), run_name="check_of_a_change"))
+seconds = types.SimpleNamespace(**runpy.run_path(os.path.join(TOP, "tools", "seconds"), run_name="seconds_of_a_check"))
 
 SOURCE = """//! Numbers: fn in_a_comment() { .. }
 
@@ -345,6 +346,18 @@ class Chain(unittest.TestCase):
     def test_other_rules_give_way_to_them(self):
         found = [lanes.niceness_of(rule, is_in_chain) for rule, is_in_chain in (("proof", True), ("proof", False), ("edits", True), ("tests", False))]
         self.assertEqual(found, [0, 5, 10, 10])
+
+
+class Seconds(unittest.TestCase):
+    """The processor seconds that `tools/seconds` prints."""
+
+    def test_those_of_a_process_below_that_has_ended_count(self):
+        works = "import time\nwhile time.process_time() < 0.5:\n    pass\nprint(flush=True)"
+        words = ["bash", "-c", f"{sys.executable} -c '{works}'; read"]
+        with subprocess.Popen(words, stdin=subprocess.PIPE, stdout=subprocess.PIPE) as ran:
+            self.assertLess(seconds.used_by(ran.pid), 0.5)
+            ran.stdout.readline()
+            self.assertGreaterEqual(seconds.used_by(ran.pid), 0.4)
 
 
 class SecondLane(unittest.TestCase):
