@@ -7,6 +7,7 @@ import shutil
 import subprocess
 import sys
 import tempfile
+import threading
 import types
 import unittest
 from unittest import mock
@@ -22,8 +23,10 @@ import looks
 import project
 import rooms
 import sources
+import tasks
 
 check = types.SimpleNamespace(**runpy.run_path(os.path.join(TOP, "tools", "check"), run_name="check_of_a_change"))
+seconds = types.SimpleNamespace(**runpy.run_path(os.path.join(TOP, "tools", "seconds"), run_name="seconds_of_a_check"))
 
 SOURCE = """//! Numbers: fn in_a_comment() { .. }
 
@@ -343,6 +346,66 @@ class Chain(unittest.TestCase):
     def test_other_rules_give_way_to_them(self):
         found = [lanes.niceness_of(rule, is_in_chain) for rule, is_in_chain in (("proof", True), ("proof", False), ("edits", True), ("tests", False))]
         self.assertEqual(found, [0, 5, 10, 10])
+
+
+class Seconds(unittest.TestCase):
+    """The processor seconds that `tools/seconds` prints."""
+
+    def test_those_of_a_process_below_that_has_ended_count(self):
+        works = "import time\nwhile time.process_time() < 0.5:\n    pass\nprint(flush=True)"
+        words = ["bash", "-c", f"{sys.executable} -c '{works}'; read"]
+        with subprocess.Popen(words, stdin=subprocess.PIPE, stdout=subprocess.PIPE) as ran:
+            self.assertLess(seconds.used_by(ran.pid), 0.5)
+            ran.stdout.readline()
+            self.assertGreaterEqual(seconds.used_by(ran.pid), 0.4)
+
+
+class SecondLane(unittest.TestCase):
+    """Tasks of one rule, two side by side while a lane is idle."""
+
+    def setUp(self):
+        folder = tempfile.TemporaryDirectory()
+        self.addCleanup(folder.cleanup)
+        self.folder = folder.name
+
+    def with_lanes(self, count, memory=20_000):
+        return mock.patch.multiple(lanes, lanes=lambda: count, free_memory=lambda: memory)
+
+    def test_idle_lane_is_marked(self):
+        for count, memory, found in ((2, 20_000, (True, 2)), (1, 20_000, (False, 2)), (2, 9_000, (False, 1))):
+            with self.subTest(count=count, memory=memory), self.with_lanes(count, memory), lanes.working(self.folder):
+                with lanes.second(self.folder) as is_idle:
+                    self.assertEqual((is_idle, lanes.at_work(self.folder)), found)
+                self.assertEqual(lanes.at_work(self.folder), 1)
+
+    def most_at_once(self, count):
+        """Runs four tasks, of which the first has two more behind it, with this many lanes. Returns how many began, and how many ran at once."""
+        begun, now, most, both = [], [], [0], threading.Barrier(2)
+
+        def task(*more):
+            begun.append(1)
+            now.append(1)
+            most[0] = max(most[0], len(now))
+            if count > 1:
+                both.wait(60)
+            now.pop()
+            return list(more)
+
+        with self.with_lanes(count), lanes.working(self.folder):
+            tasks.Tasks(self.folder, [lambda: task(task, task), task, task, task]).run()
+        return len(begun), most[0]
+
+    def test_two_at_once_while_a_lane_is_idle(self):
+        self.assertEqual(self.most_at_once(2), (6, 2))
+
+    def test_one_after_the_other_while_none_is(self):
+        self.assertEqual(self.most_at_once(1), (6, 1))
+
+    def test_fault_ends_the_tasks(self):
+        begun = []
+        with self.with_lanes(1), lanes.working(self.folder), self.assertRaises(ZeroDivisionError):
+            tasks.Tasks(self.folder, [lambda: [1 // 0], lambda: begun.append(1)]).run()
+        self.assertEqual(begun, [])
 
 
 # A kit that answers from files: $STUB/CRATE.WORD has the status in its first line, and CRATE.WORD.again is the answer to later calls.

@@ -20,9 +20,12 @@ evidence: an edit counts as refused only for goals of the function's own.
 For each refused edit the goals that refused it are printed. If they only miss a name that the edit took away, that is printed too:
 such an edit shows little of a contract.
 
+Each check works in a room of its own, so two of them run side by side while a lane of the gate is idle.
+
 The first check of edits of bodies also searches the whole crate for contracts that no call can meet: no body has part in that, and it
 saves a check.
 """
+import functools
 import os
 import re
 import sys
@@ -34,6 +37,7 @@ import rooms
 from calls import Calls, text_of
 from project import Project
 from sources import function_at, is_end_of
+from tasks import Tasks
 
 # the line of a check about a name that an edit took away
 LOST = re.compile(r"has no field|is not in scope|has no `|was not admitted")
@@ -207,14 +211,15 @@ class Trial:
             return [], later
         groups = [later] if later else []
         functions = sorted({it for edit in taken for it in edit.functions})
-        verdict = self.check(self.with_refused_answers(texts, functions), functions, [] if self.is_searched else [looks.SEARCH])
+        flags = [] if self.is_searched else [looks.SEARCH]
+        self.is_searched = True
+        verdict = self.check(self.with_refused_answers(texts, functions), functions, flags)
         if verdict.is_void and len(taken) > 1:
             # one of them may not compile: halves find it in a few checks
-            half = len(taken) // 2
+            self.is_searched, half = self.is_searched and not flags, len(taken) // 2
             return [*groups, *([it.path for it in part] for part in (taken[:half], taken[half:]))], []
-        if not self.is_searched and not looks.faults_of_search(verdict.said):
+        if flags and not looks.faults_of_search(verdict.said):
             self.found.append("searched for contracts that no call can meet: none")
-        self.is_searched = True
         self.singly |= {edit.path for edit in taken if len(taken) == 1}
         again, alone = [], []
         for edit in taken:
@@ -239,6 +244,16 @@ class Trial:
             return False
         self.refuse(edit, goals)
         return True
+
+    def group(self, waiting):
+        """Tries edits of bodies together, and returns the tasks that follow."""
+        groups, alone = self.together(waiting)
+        return [*(functools.partial(self.group, it) for it in groups), *(functools.partial(self.single, it) for it in alone)]
+
+    def single(self, path):
+        """Tries one edit alone. No task follows."""
+        self.alone(path)
+        return []
 
     def alone(self, path):
         """Tries one edit alone: first checks the functions that it names or changes, and the whole crate if these do not refuse it."""
@@ -278,13 +293,8 @@ class Trial:
                 self.found.append(f"fail {os.path.basename(path)}: BAD EDIT: it can't be applied")
             else:
                 (left if made.functions else alone).append(path)
-        groups = [left] if left else []
-        while groups:
-            more, others = self.together(groups.pop())
-            groups += more
-            alone += others
-        for path in alone:
-            self.alone(path)
+        first = [functools.partial(self.group, left)] if left else []
+        Tasks(self.project.gate, [*first, *(functools.partial(self.single, it) for it in alone)]).run()
         return [*self.found, f"pass {sum(it.startswith('refused ') for it in self.found)}"]
 
 

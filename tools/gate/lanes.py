@@ -21,10 +21,10 @@ def lanes():
 
 
 @contextlib.contextmanager
-def working(folder):
-    """Marks that this process works on a rule, by a locked file of this folder, which ends with it."""
+def working(folder, lane=""):
+    """Marks that this process works on a rule, by a locked file of this folder, which ends with it. `lane` names a further lane of it."""
     os.makedirs(f"{folder}/running", exist_ok=True)
-    path = f"{folder}/running/{os.getpid()}"
+    path = f"{folder}/running/{os.getpid()}{lane}"
     with open(path, "w", encoding="utf-8") as it:
         fcntl.flock(it, fcntl.LOCK_EX)
         try:
@@ -35,7 +35,7 @@ def working(folder):
 
 
 def at_work(folder):
-    """Returns how many processes work on rules."""
+    """Returns how many lanes work on rules."""
     count = 0
     for name in os.listdir(f"{folder}/running") if os.path.isdir(f"{folder}/running") else []:
         with contextlib.suppress(OSError), open(f"{folder}/running/{name}", encoding="utf-8") as it:
@@ -44,6 +44,16 @@ def at_work(folder):
             except BlockingIOError:
                 count += 1
     return count
+
+
+@contextlib.contextmanager
+def second(folder):
+    """Gives `True` if a lane is idle and memory is free for a second check of this rule, and marks the lane as this rule's meanwhile."""
+    if free_memory() <= ENOUGH:
+        yield False
+        return
+    with working(folder, ".second"):
+        yield at_work(folder) <= lanes()
 
 
 def niceness_of(rule, is_in_chain):
