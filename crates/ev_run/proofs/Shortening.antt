@@ -1,5 +1,6 @@
 -- A text without the rows that report no drops reports the same drops.
-use Rattle.std.proofs.Common.{rules, ◌≡◌, ℕ, ◌<◌, Bool, true, false, not, List, [], ◌∷◌, ◌++◌, Option, ap, refl, sym, subst, ◌∙◌, max, eqb, cond, length}
+use Rattle.std.proofs.Common.{rules, ◌≡◌, ℕ, Bool, true, false, not, List, [], ◌∷◌, ◌++◌, ap, refl, sym, ◌∙◌, max, eqb}
+use Rattle.std.proofs.Common.{cond}
 use Rattle.std.specs.List.{All, fold, filter, slice_split, slice_get, onto_first}
 use Rattle.std.proofs.lemmas.List.Elements.{All-nil, All-cons, All-head, All-tail, All-filter}
 use Rattle.std.proofs.lemmas.List.Splits.{slice_split_at}
@@ -16,9 +17,12 @@ none_passes p = All (λ x. p x ≡ false)
 -- no part of a split has an element at which it was split
 in_front : (p : ℕ → Bool) (x : ℕ) (parts : List (List ℕ)) → p x ≡ false → All (none_passes p) parts
     → All (none_passes p) (onto_first x parts)
-in_front p x [] is all = All-cons (none_passes p) (x ∷ []) [] (All-cons (λ y. p y ≡ false) x [] is (All-nil (λ y. p y ≡ false))) (All-nil (none_passes p))
-in_front p x (part ∷ parts) is all = All-cons (none_passes p) (x ∷ part) parts
-    (All-cons (λ y. p y ≡ false) x part is (All-head (none_passes p) part parts all)) (All-tail (none_passes p) part parts all)
+in_front p x [] is all =
+    let alone = All-cons (λ y. p y ≡ false) x [] is (All-nil (λ y. p y ≡ false)) in
+    All-cons (none_passes p) (x ∷ []) [] alone (All-nil (none_passes p))
+in_front p x (part ∷ parts) is all =
+    let longer = All-cons (λ y. p y ≡ false) x part is (All-head (none_passes p) part parts all) in
+    All-cons (none_passes p) (x ∷ part) parts longer (All-tail (none_passes p) part parts all)
 
 by_test : (p : ℕ → Bool) (x : ℕ) (parts : List (List ℕ)) (b : Bool) → p x ≡ b → All (none_passes p) parts
     → All (none_passes p) (cond b ([] ∷ parts) (onto_first x parts))
@@ -29,12 +33,15 @@ parts_are_clean : (p : ℕ → Bool) (xs : List ℕ) → All (none_passes p) (sl
 parts_are_clean p [] = All-cons (none_passes p) [] [] (All-nil (λ y. p y ≡ false)) (All-nil (none_passes p))
 parts_are_clean p (x ∷ xs) = by_test p x (slice_split p xs) (p x) refl (parts_are_clean p xs)
 
+abbrev is_end : ℕ → Bool
+is_end c = eqb c 10
+
 -- the rows of a text of rows are these, and an empty one
-rows_of_rows : (rows : List Text) → All (none_passes (λ c. eqb c 10)) rows → rows_of (text_of_rows rows) ≡ rows ++ [] ∷ []
+rows_of_rows : (rows : List Text) → All (none_passes is_end) rows → rows_of (text_of_rows rows) ≡ rows ++ [] ∷ []
 rows_of_rows [] clean = refl
 rows_of_rows (row ∷ rows) clean =
-    slice_split_at (λ c. eqb c 10) row 10 (text_of_rows rows) (All-head (none_passes (λ c. eqb c 10)) row rows clean) refl
-    ∙ ap (λ more. row ∷ more) (rows_of_rows rows (All-tail (none_passes (λ c. eqb c 10)) row rows clean))
+    slice_split_at is_end row 10 (text_of_rows rows) (All-head (none_passes is_end) row rows clean) refl
+    ∙ ap (λ more. row ∷ more) (rows_of_rows rows (All-tail (none_passes is_end) row rows clean))
 
 -- the greatest number of a row
 abbrev most : Text → ℕ → List Text → ℕ
@@ -44,19 +51,23 @@ counts_nothing : (b : Bool) (n : ℕ) → not (eqb n 0) ≡ false → cond b n 0
 counts_nothing true n is = search rules
 counts_nothing false n is = refl
 
--- a row that isn't reported reports no drops
+-- a row that reports no drops counts for nothing
 idle_row : (local row : Text) → reports_drops row ≡ false → row_drops local row ≡ 0
-idle_row local row is = counts_nothing (names local (slice_get (words_of row) 1)) (count_of (slice_get (words_of row) 12)) is
+idle_row local row is =
+    counts_nothing (names local (slice_get (words_of row) 1)) (count_of (slice_get (words_of row) 12)) is
 
 by_report : (local row : Text) (rows : List Text) (n : ℕ) (b : Bool) → reports_drops row ≡ b
-    → most local (max n (row_drops local row)) (filter reports_drops rows) ≡ most local (max n (row_drops local row)) rows
-    → most local n (cond b (row ∷ filter reports_drops rows) (filter reports_drops rows)) ≡ most local (max n (row_drops local row)) rows
+    → most local (max n (row_drops local row)) (filter reports_drops rows)
+    ≡ most local (max n (row_drops local row)) rows
+    → most local n (cond b (row ∷ filter reports_drops rows) (filter reports_drops rows))
+    ≡ most local (max n (row_drops local row)) rows
 by_report local row rows n true is same = same
 by_report local row rows n false is same =
     let none : max n (row_drops local row) ≡ n = ap (max n) (idle_row local row is) ∙ search rules in
     ap (λ m. most local m (filter reports_drops rows)) (sym none) ∙ same
 
-reports_suffice : (local : Text) (rows : List Text) (n : ℕ) → most local n (filter reports_drops rows) ≡ most local n rows
+reports_suffice : (local : Text) (rows : List Text) (n : ℕ)
+    → most local n (filter reports_drops rows) ≡ most local n rows
 reports_suffice local [] n = refl
 reports_suffice local (row ∷ rows) n =
     by_report local row rows n (reports_drops row) refl (reports_suffice local rows (max n (row_drops local row)))
@@ -66,6 +77,7 @@ pub same_drops : (at : Endpoint) (text : Text)
 same_drops at text =
     let local = local_text at in
     let reported = filter reports_drops (rows_of text) in
-    let clean = All-filter reports_drops (none_passes (λ c. eqb c 10)) (rows_of text) (parts_are_clean (λ c. eqb c 10) text) in
-    ap (most local 0) (rows_of_rows reported clean) ∙ fold-append (λ n row. max n (row_drops local row)) 0 reported ([] ∷ [])
+    let clean = All-filter reports_drops (none_passes is_end) (rows_of text) (parts_are_clean is_end text) in
+    ap (most local 0) (rows_of_rows reported clean)
+    ∙ fold-append (λ n row. max n (row_drops local row)) 0 reported ([] ∷ [])
     ∙ search rules ∙ reports_suffice local (rows_of text) 0
