@@ -11,7 +11,7 @@ use std::marker::Model;
 
 /// The subject of a route: a network's flood list, or an address in a network, with any IP address.
 /// The order is that of a report: by VNI, the flood list before the addresses, then by MAC.
-// Both parts are numbers: two subjects of one network are compared by their places alone.
+// Both parts are numbers: two subjects of one network differ in their places only.
 #[derive(Clone, Copy, PartialEq, Eq)]
 pub(crate) struct Subject {
     vni: Vni,
