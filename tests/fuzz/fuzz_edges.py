@@ -101,13 +101,27 @@ class Edges:
         self.cables[which][place].send(octets[:65000])
         seen["BPDUs to a port" if octets[:6] == GROUP else "to a port"] += 1
 
-    def still_forwards(self, number: int) -> None:
-        """Sees that a new host's broadcast comes out at another port and at the other edge, and that frames reach this host."""
+    def passes(self, edge_number: int, number: int) -> bool:
+        """Returns `True` if a port passes frames, as the console reports it."""
+        return self.served.asked(f"{edge_number} port {number}")[0].endswith(" passes\n")
+
+    def still_forwards(self, number: int, is_wild: bool, seen: Seen) -> None:
+        """Sees that a new host's broadcast comes out at another port and at the other edge, and that frames reach this host.
+
+        After a wild case only the ports that pass are tested: a BPDU blocks a port for three times the Hello time that it has, which may
+        be some minutes (IEEE 802.1D-2004, 17.21.23)."""
         (one, _, three), (far, _, other) = self.cables
         host, guest = bytes([2, 0, 0, 1]) + number.to_bytes(2, "big"), bytes([2, 0, 0, 2]) + number.to_bytes(2, "big")
-        for cable, name in ((three, "port 3"), (far, "the other edge"), (other, "port 3 of the other edge")):
-            expect(carry(one, cable, frame(BROADCAST, host, b"who is there")), "a broadcast does not come out", name)
-        expect(carry(far, one, frame(host, guest, b"to a host")), "a frame does not reach its host")
+        if is_wild and not self.passes(1, 1):
+            seen["blocked hosts"] += 1
+            return
+        for cable, place in ((three, (1, 3)), (far, (2, 1)), (other, (2, 3))):
+            if is_wild and not self.passes(*place):
+                seen["blocked hosts"] += 1
+                continue
+            expect(carry(one, cable, frame(BROADCAST, host, b"who is there")), "a broadcast does not come out", place)
+            expect(carry(cable, one, frame(host, guest, b"to a host")), "a frame does not reach its host", place)
+            seen["hosts reached"] += 1
 
     def still_elects(self, seen: Seen) -> None:
         """Sees that a superior BPDU makes port 2 of edge 1 no designated port."""
@@ -140,7 +154,7 @@ def case(numbers: random.Random, seen: Seen) -> int:
                 octets = mutated(octets, numbers, sent[-50:])
             sent.append(octets)
             edges.send(octets, numbers, seen, is_wild)
-        edges.still_forwards(numbers.randrange(1 << 16))
+        edges.still_forwards(numbers.randrange(1 << 16), is_wild, seen)
         edges.still_elects(seen)
         report = edges.served.agreed()
         seen["stations reported"] += report.count("\nowner ")
