@@ -349,7 +349,12 @@ class Chain(unittest.TestCase):
     def project(self):
         below = {name: it for name, (it, _) in self.CRATES.items()}
         found = {"below": below, "order": list(self.CRATES), "gate": "/nowhere", "lines_of": lambda _, name: self.CRATES[name][1]}
+        found["reach"] = lambda _, name: self.below(name)
         return type("Chained", (), found)()
+
+    def below(self, name):
+        """Returns all crates below one."""
+        return {name for it in self.CRATES[name][0] for name in (it, *self.below(it))}
 
     def test_chain_has_the_most_lines(self):
         self.assertEqual(graph.longest_chain(self.project()), ["names", "table", "edge"])
@@ -360,6 +365,12 @@ class Chain(unittest.TestCase):
             with self.subTest(lanes_at_work=lanes_at_work, memory=memory), mock.patch.multiple(lanes, time=mock.DEFAULT, **state):
                 self.assertEqual(lanes.jobs_for(self.project(), "edge", is_in_chain), jobs)
                 self.assertEqual(lanes.jobs_for(self.project(), "words", is_in_chain), 1)
+
+    def test_crate_far_up_has_one_job(self):
+        state = {"at_work": lambda _: 1, "free_memory": lambda: 20_000, "lanes": lambda: 4}
+        for far, jobs in ((3, 1), (4, 2)):
+            with self.subTest(far=far), mock.patch.multiple(lanes, time=mock.DEFAULT, FAR=far, **state):
+                self.assertEqual(lanes.jobs_for(self.project(), "edge", True), jobs)
 
     def test_other_rules_give_way_to_them(self):
         found = [lanes.niceness_of(rule, is_in_chain) for rule, is_in_chain in (("proof", True), ("proof", False), ("edits", True), ("tests", False))]
