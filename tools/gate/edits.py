@@ -18,7 +18,8 @@ function that an edit changes gets one answer more, for a goal that isn't there.
 evidence: an edit counts as refused only for goals of the function's own.
 
 For each refused edit the goals that refused it are printed. If they only miss a name that the edit took away, that is printed too:
-such an edit shows little of a contract.
+such an edit shows little of a contract. So does one whose body the kit's borrow checker doesn't cover: no goal of it is tried, and no
+function that calls it is judged in that check.
 
 Each check works in a room of its own, so two of them run side by side while a lane of the gate is idle.
 
@@ -41,6 +42,10 @@ from tasks import Tasks
 
 # the line of a check about a name that an edit took away
 LOST = re.compile(r"has no field|is not in scope|has no `|was not admitted")
+# the line of a check about a function whose body the kit can't judge, as it says ahead of all goals
+UNCOVERED = re.compile(r"^fn (\S+): no proof: .*the borrow checker does not cover this function yet", re.M)
+# the line about one that wasn't judged, since it calls another that isn't proved
+CALLER = re.compile(r"^fn (\S+): (?:not proved.*; it calls |no proof: it calls |no proof: the borrow checker's part .*: a call of )", re.M)
 # a text that can't be read or compiled: nothing was judged
 UNREAD = re.compile(r"^(?:\./)?(?:src|specs)/\S+: error\b|\berror\[[\w-]+\]", re.M)
 NO_GOAL = "no-goal-of-this-name"
@@ -92,10 +97,12 @@ def goals_of(said):
                 named = [it for names in re.findall(r"`search` did not prove ([^;]*)", head[2]) for it in re.findall(r"`([^`]+)`", names)]
                 found[head[1]] = dict.fromkeys([*pending, *named], False)
             pending = []
+    for name in UNCOVERED.findall(said):
+        found[name] = {"its proof": True}
     for name, goals in found.items():
         folder = re.escape("/".join(name.split("::")[1:]))
         for goal, why in re.findall(rf"^(?:\./)?proofs/{folder}/\S+: error: (?:`([^`]*)`: )?(.*)$", said, re.M):
-            if goal != NO_GOAL:
+            if goal != NO_GOAL and not why.startswith("rattle does not read"):
                 goals[goal or "its proof"] = bool(LOST.search(why)) and goals.get(goal or "its proof", True)
     return found
 
@@ -195,7 +202,7 @@ class Trial:
         told = [f"{full}: {', '.join(strong[full] or own)}" for full, own in goals.items()]
         self.found.append(f"refused {edit}: {'; '.join([*lemmas, *told])}")
         if not lemmas:
-            self.found += [f"weak {edit}: only names that the edit took away: {it}" for it in goals if not strong[it]]
+            self.found += [f"weak {edit}: only names that the edit took away, or no goal at all: {it}" for it in goals if not strong[it]]
 
     def together(self, waiting):
         """Tries edits of different bodies in one check. Returns the groups that wait for another one, and those to be tried alone."""
@@ -234,8 +241,7 @@ class Trial:
 
     def only_calls(self, edit, verdict):
         """Returns `True` if the check said of one of the edit's functions only that it calls another that isn't proved."""
-        heads = re.findall(r"^fn (\S+): not proved.*; it calls ", verdict.said, re.M)
-        return any(is_end_of(end, it, self.name) for end in edit.functions for it in heads)
+        return any(is_end_of(end, it, self.name) for end in edit.functions for it in CALLER.findall(verdict.said))
 
     def is_refused_in(self, edit, verdict):
         """Returns `True` if a check refused each function that the edit changes, for goals of its own."""
