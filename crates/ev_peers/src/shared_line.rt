@@ -1,15 +1,19 @@
 //! A link with its line, which the workers of an edge share: the workers that enter events pass
 //! frames on to it, and the link's worker sends those that wait.
-ghost use Rattle.std.specs.Prelude.{◌≡◌, ◌≤◌, false, length, None, IfSome};
+ghost use Rattle.std.specs.Prelude.{◌≡◌, ◌-◌, ◌/◌, ◌≤◌, nat_le, false, length, if◌then◌else◌, None, IfSome};
+ghost use Rattle.std.specs.Time.{instant_nanos};
+ghost use Rattle.ev_links.specs.Line.{first_of, handed};
+ghost use Rattle.ev_links.specs.DirectLine.{direct_of, after_turn, after_its_drop};
 
 use ether_wire::Addr;
 use ev_links::{DirectLine, PromptOut};
 use std::alloc::{AllocError, Global};
 use std::sync::{Condvar, Mutex, Wait};
-use std::time::{Clock, Duration, Instant};
+use std::time::{Clock, Instant};
 
-/// How long after its end a line keeps what waits.
-const PATIENCE: Duration = Duration::from_secs(2);
+/// How many seconds after its end a line keeps what waits. A line ends with the last worker of its
+/// edge that enters events, which is up to a second after the end of the input.
+const PATIENCE: u64 = 1;
 
 /// A link with its line, and the time at which the line ended.
 #[derive(Drop)]
@@ -18,17 +22,44 @@ struct TimedLine<K> {
     ended: Option<Instant>,
 }
 
+/// Returns `true` if a second has passed from one time to the other.
+fn is_past(ended: Instant, now: Instant) -> bool
+    ensures { result
+        ≡ nat_le 1 ((instant_nanos now - instant_nanos ended) / 1_000_000_000) }
+{
+    now.duration_since(ended).as_secs() >= PATIENCE
+}
+
 /// Returns `true` if a line that ended at this time keeps nothing any more. Returns `false` if the
 /// line hasn't ended, or the clock can't be read.
 fn is_over<R: Clock>(rt: &R, ended: Option<Instant>) -> bool
     ensures { ended ≡ None → result ≡ false }
 {
     match ended {
-        Some(ended) => match ended.elapsed(rt) {
-            Ok(time) => PATIENCE <= time,
+        Some(ended) => match Instant::now(rt) {
+            Ok(now) => is_past(ended, now),
             Err(_) => false,
         },
         None => false,
+    }
+}
+
+impl<K: PromptOut> TimedLine<K> {
+    /// Drops and counts all that waits if `is_over`. Then takes the first BPDU or frame, as
+    /// `DirectLine::take` does.
+    fn take(&mut self, is_over: bool, buffer: &mut [u8]) -> Option<(Addr, usize)>
+        requires { 9026 ≤ length buffer.old }
+        ensures first { handed result buffer.new
+            ≡ (if is_over then None else first_of self.old.line.line) }
+        ensures rest { direct_of K.tried self.new.line ≡ after_turn
+            (if is_over then after_its_drop (direct_of K.tried self.old.line)
+            else direct_of K.tried self.old.line) }
+        ensures fits { IfSome result (λ r. r.1 ≤ length buffer.new) }
+    {
+        if is_over {
+            self.line.drop_rest();
+        }
+        self.line.take(buffer)
     }
 }
 
@@ -78,7 +109,7 @@ impl<K: PromptOut> SharedLine<K> {
         self.bell.notify_one();
     }
 
-    /// Ends the line: nothing more comes, and what waits is sent within two seconds.
+    /// Ends the line: nothing more comes, and what waits is sent within a second.
     pub(crate) fn end<R: Wait + Clock>(&self, rt: &R) {
         let now = Instant::now(rt);
         {
@@ -91,18 +122,16 @@ impl<K: PromptOut> SharedLine<K> {
 
     /// Waits for the first BPDU or frame, and copies it to the front of the buffer. Returns its
     /// destination address and its number of octets, or `None` once nothing waits and the line has
-    /// ended. Two seconds after the end it drops and counts what waits. The link's worker calls
-    /// this once it has sent what it got before.
+    /// ended. A second after the end it drops and counts what waits. The link's worker calls this
+    /// once it has sent what it got before.
     pub(crate) fn next<R: Wait + Clock>(&self, rt: &R, buffer: &mut [u8]) -> Option<(Addr, usize)>
         requires { 9026 ≤ length buffer.old }
         ensures { IfSome result (λ r. r.1 ≤ length buffer.new) }
     {
         let mut timed = self.timed.lock(rt);
         for _ in rt.forever() {
-            if is_over(rt, timed.ended) {
-                timed.line.drop_rest();
-            }
-            let first = timed.line.take(buffer);
+            let is_over = is_over(rt, timed.ended);
+            let first = timed.take(is_over, buffer);
             if first.is_some() || timed.line.has_ended() {
                 return first;
             }
