@@ -10,7 +10,7 @@ use Rattle.rstp_run.specs.declared.rule.InformationRule.TheVariants as informati
 use Rattle.rstp_run.specs.Machines.{information_asks}
 use Rattle.rstp_run.proofs.Informed.{no}
 use Rattle.rstp_run.proofs.Levels as levels
-use Rattle.rstp_run.proofs.Levels.{IsCalmOf}
+use Rattle.rstp_run.proofs.Levels.{IsCalmOf, IsTaken}
 use Rattle.rstp_run.proofs.Quiet.{Still, still_of}
 use Rattle.rstp_run.proofs.Ready.{IsReadyOf}
 use Rattle.rstp_run.proofs.Sound.{IsSoundOf, right}
@@ -57,17 +57,30 @@ update-steady x on a = (
   refl,
 )
 
+-- where no message is pending, only Update and Aged fire
+pub informs-taken : (P : InformationRule → Type 0) (rule : InformationRule) (x : PortState) → IsTaken x
+    → (info.update_guard x ≡ true → P information_rule.Update) → (info.aged_guard x ≡ true → P information_rule.Aged)
+    → information_asks rule x ≡ true → P rule
+informs-taken P information_rule.Update x h update aged g = update g
+informs-taken P information_rule.Aged x h update aged g = aged g
+informs-taken P information_rule.Disabled x h update aged g =
+    absurd (levels.idle-off information_rule.Disabled x refl h g)
+informs-taken P information_rule.Drop x h update aged g = absurd (levels.idle-off information_rule.Drop x refl h g)
+informs-taken P information_rule.Enabled x h update aged g =
+    absurd (levels.idle-off information_rule.Enabled x refl h g)
+informs-taken P information_rule.Superior x h update aged g =
+    absurd (levels.idle-off information_rule.Superior x refl h g)
+informs-taken P information_rule.Repeated x h update aged g =
+    absurd (levels.idle-off information_rule.Repeated x refl h g)
+informs-taken P information_rule.Inferior x h update aged g =
+    absurd (levels.idle-off information_rule.Inferior x refl h g)
+informs-taken P information_rule.NotDesignated x h update aged g =
+    absurd (levels.idle-off information_rule.NotDesignated x refl h g)
+informs-taken P information_rule.Other x h update aged g = absurd (levels.idle-off information_rule.Other x refl h g)
+
 pub steady-informs : (rule : InformationRule) (x : PortState) → IsSteady x → information_asks rule x ≡ true → ⊥
-steady-informs information_rule.Update x h g = no (sym h.3 ∙ right _ x.update_info g)
-steady-informs information_rule.Aged x h g = levels.aged-off x h.0.0 g
-steady-informs information_rule.Disabled x h g = levels.idle-off information_rule.Disabled x refl h.0.0.0 g
-steady-informs information_rule.Drop x h g = levels.idle-off information_rule.Drop x refl h.0.0.0 g
-steady-informs information_rule.Enabled x h g = levels.idle-off information_rule.Enabled x refl h.0.0.0 g
-steady-informs information_rule.Superior x h g = levels.idle-off information_rule.Superior x refl h.0.0.0 g
-steady-informs information_rule.Repeated x h g = levels.idle-off information_rule.Repeated x refl h.0.0.0 g
-steady-informs information_rule.Inferior x h g = levels.idle-off information_rule.Inferior x refl h.0.0.0 g
-steady-informs information_rule.NotDesignated x h g = levels.idle-off information_rule.NotDesignated x refl h.0.0.0 g
-steady-informs information_rule.Other x h g = levels.idle-off information_rule.Other x refl h.0.0.0 g
+steady-informs rule x h =
+    informs-taken (λ r. ⊥) rule x h.0.0.0 (λ g. no (sym h.3 ∙ right _ x.update_info g)) (levels.aged-off x h.0.0)
 
 may : (s r u : Bool) → s || r ≡ true → r ≡ false → u ≡ false → s && not u ≡ true
 may true r true h k l = no (sym l)

@@ -9,14 +9,13 @@ use Rattle.rstp_state.specs.Port.{same_role}
 use Rattle.rstp_roles.specs.RoleTransitions as roles
 use Rattle.rstp_roles.specs.declared.rule.RoleRule.TheVariants as role_rule
 use Rattle.rstp_roles.specs.declared.rule.StateRule.TheVariants as state_rule
-use Rattle.rstp_run.specs.declared.rule.InformationRule.{InformationRule}
 use Rattle.rstp_run.specs.declared.rule.InformationRule.TheVariants as information_rule
 use Rattle.rstp_run.specs.declared.rule.ReceiveRule.TheVariants as receive_rule
 use Rattle.rstp_run.specs.declared.rule.Rule.{Rule}
 use Rattle.rstp_run.specs.declared.rule.Rule.TheVariants as rules
 use Rattle.rstp_run.specs.declared.rule.TopologyRule.TheVariants as topology_rule
 use Rattle.rstp_run.specs.Lasting.{is_select}
-use Rattle.rstp_run.specs.Machines.{information_asks}
+use Rattle.rstp_run.specs.Machines.{information_does}
 use Rattle.rstp_run.specs.Rules.{Tree, asks, timing_in}
 use Rattle.rstp_run.specs.Sweep.{Going, main_order, tries, tries_all}
 use Rattle.rstp_run.proofs.Informed.{no}
@@ -27,7 +26,8 @@ use Rattle.rstp_run.proofs.Places.{Stage, Zone, main_rest}
 use Rattle.rstp_run.proofs.RoleParts.{same_designated, same_disabled, same_itself, same_root}
 use Rattle.rstp_run.proofs.Sound.{or_true}
 use Rattle.rstp_run.proofs.Visits.{all_then, one_then}
-use Rattle.rstp_run.proofs.Steady.{IsBase, IsBaseOf, IsSteady, rests-steady, steady-acts, update-steady}
+use Rattle.rstp_run.proofs.Steady.{IsBase, IsBaseOf, IsSteady, informs-taken, rests-steady, steady-acts}
+use Rattle.rstp_run.proofs.Steady.{update-steady}
 use Rattle.rstp_run.proofs.RoleKinds.{as-designated, as-root, as_blocked, as_disabled, both_designated, both_disabled}
 use Rattle.rstp_run.proofs.RoleKinds.{both_root, kind, kind_lt, role-kind, same-test}
 use Rattle.rstp_run.proofs.Placed.{IsEven, IsPlaced, plain-moves, spread-goes, spread_same, steady-goes}
@@ -141,35 +141,15 @@ base_still : (rule : Rule) (s : Tree) (p : ℕ) (x : PortState) → is_plain rul
 base_still rule s p x plain on h =
     levels.stays IsBaseOf x (own rule (timing_in s) x) (plain-moves rule s p x plain on).0 h
 
-base_idle : (rule : InformationRule) (x : PortState) → levels.is_idle rule ≡ true → IsBase x
-    → information_asks rule x ≡ true → ⊥
-base_idle rule x is h g = levels.idle-off rule x is h.0.0.0 g
-
 base_goes : (rule : Rule) (s : Tree) (p : ℕ) (x : PortState) → is_select rule ≡ false → asks rule s p x ≡ true
     → IsBase x → IsBase (own rule (timing_in s) x)
 base_goes rules.Select s p x other g h = no (sym other)
 base_goes (rules.Receive receive_rule.Discard) s p x other g h =
     (((levels.discard-taken x h.0.0.0, h.0.0.1), h.0.1), h.1, h.2)
 base_goes (rules.Receive receive_rule.Receive) s p x other g h = absurd (levels.receive-off x h.0.0.0 g)
-base_goes (rules.Information information_rule.Update) s p x other g h =
-    let k = update-steady x g h in (k.0, k.1, k.2)
-base_goes (rules.Information information_rule.Aged) s p x other g h = absurd (levels.aged-off x h.0.0 g)
-base_goes (rules.Information information_rule.Disabled) s p x other g h =
-    absurd (base_idle information_rule.Disabled x refl h g)
-base_goes (rules.Information information_rule.Drop) s p x other g h =
-    absurd (base_idle information_rule.Drop x refl h g)
-base_goes (rules.Information information_rule.Enabled) s p x other g h =
-    absurd (base_idle information_rule.Enabled x refl h g)
-base_goes (rules.Information information_rule.Superior) s p x other g h =
-    absurd (base_idle information_rule.Superior x refl h g)
-base_goes (rules.Information information_rule.Repeated) s p x other g h =
-    absurd (base_idle information_rule.Repeated x refl h g)
-base_goes (rules.Information information_rule.Inferior) s p x other g h =
-    absurd (base_idle information_rule.Inferior x refl h g)
-base_goes (rules.Information information_rule.NotDesignated) s p x other g h =
-    absurd (base_idle information_rule.NotDesignated x refl h g)
-base_goes (rules.Information information_rule.Other) s p x other g h =
-    absurd (base_idle information_rule.Other x refl h g)
+base_goes (rules.Information rule) s p x other g h =
+    informs-taken (λ r. IsBase (information_does r x)) rule x h.0.0.0
+    (λ on. (let k = update-steady x on h in (k.0, k.1, k.2))) (λ on. absurd (levels.aged-off x h.0.0 on)) g
 base_goes (rules.Migration rule) s p x other g h = base_still (rules.Migration rule) s p x refl g h
 base_goes (rules.Detection rule) s p x other g h = base_still (rules.Detection rule) s p x refl g h
 base_goes (rules.Role rule) s p x other g h = base_still (rules.Role rule) s p x refl g h
