@@ -64,7 +64,7 @@ sum_put p v f (suc n) h = go (cases_lt p n) (λ less. sum_put p v f n less)
 one_port : (o : Option PortState) (x y : PortState) → o ≡ Some x → o ≡ Some y → x ≡ y
 one_port o x y h k = cc
 
-sum_more : (w : ℕ) (f : ℕ → ℕ) (n : ℕ) → sum n (λ q. f q + w) ≡ sum n f + n * w
+pub sum_more : (w : ℕ) (f : ℕ → ℕ) (n : ℕ) → sum n (λ q. f q + w) ≡ sum n f + n * w
 sum_more w f zero = omega arith
 sum_more w f (suc n) = let rest = sum_more w f n in omega (arith, rest)
 
@@ -84,7 +84,7 @@ module _ (R : PortState → Type 0) (U V : PortState → ℕ) (n limit b : ℕ) 
       ⊎ ((f : ℕ → ℕ) × AtAll (λ q x. R x × P q f x) g.tree.ports × (length g.firings + sum n f ≤ b)))
 
   -- before the visit of the port at place p
-  abbrev Shares : ℕ → ℕ → (ℕ → ℕ) → PortState → Type 0
+  abbrev pub Shares : ℕ → ℕ → (ℕ → ℕ) → PortState → Type 0
   Shares p q f x = (q < p → V x ≤ f q) × (p ≤ q → U x ≤ f q)
 
   abbrev pub Within : ℕ → Going → Type 0
