@@ -57,7 +57,7 @@ update-steady x on a = (
   refl,
 )
 
--- where no message is pending, only Update and Aged fire
+-- without a pending message only Update and Aged fire
 pub informs-taken : (P : InformationRule → Type 0) (rule : InformationRule) (x : PortState) → IsTaken x
     → (info.update_guard x ≡ true → P information_rule.Update) → (info.aged_guard x ≡ true → P information_rule.Aged)
     → information_asks rule x ≡ true → P rule
