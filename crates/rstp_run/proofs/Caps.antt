@@ -46,7 +46,7 @@ use Rattle.rstp_run.proofs.Steps.{length-ports_after}
 -- ---- the rules that may fire
 
 -- the rule may fire at a port whose selected role is of this kind: no rule of messages if no message is pending, and no
--- rule of information if nothing is to be taken over or too old
+-- rule of information if information rests
 abbrev pub may_fire : Bool → Bool → ℕ → Rule → Bool
 may_fire taken steady k rules.Select = false
 may_fire taken steady k (rules.Role rule) = rule_kind rule == k
@@ -84,11 +84,11 @@ role_kept (rules.Transmit rule) s p x other g = plain_kept (rules.Transmit rule)
 
 -- ---- a pass
 
--- what waits at a port for its rules of topology change
+-- the number of topology changes that are pending at a port
 abbrev pub wait : PortState → ℕ
 wait x = held (change_of x)
 
--- at most b firings, with what waits at the ports
+-- at most b firings and pending changes
 abbrev pub Held : ℕ → ℕ → ℕ → Going → Type 0
 Held n limit b g =
     (length g.firings ≤ b)
@@ -153,7 +153,7 @@ abbrev is_turn : Rule → Bool
 is_turn (rules.Topology rule) = true
 is_turn _ = false
 
--- no other rule changes what waits there, where no message is pending
+-- without a pending message no other rule changes that number
 wait_kept : (taken steady : Bool) (k : ℕ) (rule : Rule) (timing : Timing) (x : PortState) → taken ≡ true
     → is_turn rule ≡ false → may_fire taken steady k rule ≡ true → wait (own rule timing x) ≡ wait x
 wait_kept taken steady k rules.Select timing x t n m = refl
@@ -256,7 +256,7 @@ module _ (taken steady : Bool) (R : PortState → Type 0)
     abbrev Part : (PortState → ℕ) → ℕ → Going → Type 0
     Part U p x = Within R U wait n limit most_after p x
 
-    -- a port pays c more than what waits there
+    -- a port may cost c more than its pending changes
     begin : (x : Going) → length x.tree.ports ≡ n → (limit ≤ length x.firings) ⊎ AtAll (λ q. R) x.tree.ports
         → Held n limit (b + 1) x → Part (λ y. wait y + c) 0 x
     begin x same known h = (let few = h.0 in omega (arith, few), same, go known h.1)
@@ -343,7 +343,7 @@ module _ (taken steady : Bool) (R : PortState → Type 0)
     abbrev during : List Rule → PortState → ℕ
     during list x = turns list (change_of x)
 
-    -- where messages may be taken: rules of topology change are counted one by one
+    -- with pending messages: each rule of topology change counts
     pub pass-any : ((r : Role) → most taken steady main_rest (kind r) + 4 ≤ c) → Held n limit b g
         → Held n limit most_after (pass main_order limit g)
     pass-any few h = by-visits visits h
@@ -363,7 +363,7 @@ module _ (taken steady : Bool) (R : PortState → Type 0)
             (λ y r. (let most = few y.selected_role in omega (arith, most)))
             (λ y r. (let most = wait_few (change_of y) in omega (arith, most))) k
 
-    -- where no message is pending: rules of topology change pay what waits, and 2
+    -- without pending messages: rules of topology change cost the pending changes, and 2
     pub pass-taken : taken ≡ true → ((r : Role) → most taken steady not_turns (kind r) + 2 ≤ c) → Held n limit b g
         → Held n limit most_after (pass main_order limit g)
     pass-taken none few h = by-visits visits h

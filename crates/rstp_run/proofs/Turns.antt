@@ -1,4 +1,4 @@
--- In a visit of a port the rules of topology change fire at most twice, and once more for each change that waits there.
+-- In a visit of a port the rules of topology change fire at most twice, and once more for each pending change.
 use Rattle.std.proofs.Common.{◌≡◌, ℕ, suc, ◌+◌, ◌≤◌, Bool, true, false, not, ◌&&◌, ◌||◌, ◌==◌, List, [], ◌∷◌, drop}
 use Rattle.std.proofs.Common.{nat_lt, refl, ap, if◌then◌else◌}
 use Rattle.std.proofs.lemmas.Bool.{ltb-false}
@@ -133,14 +133,14 @@ turned-is topology_rule.Flush timing x = refl
 
 -- ---- the firings
 
--- what waits at a port between its visits
+-- the number of pending changes
 abbrev pub held : Change → ℕ
 held c =
     if_so 1 (is_learning c.state) + if_so 1 c.flush
     + if_so 1 (not (is_inactive c.state) && (c.changed || c.noticed))
     + if_so 1 (not (is_inactive c.state) && c.acknowledged)
 
--- the firings of these rules and what waits after them
+-- the firings of these rules and the pending changes after them
 abbrev pub turns : List Rule → Change → ℕ
 turns [] c = held c
 turns (rules.Topology rule ∷ rest) c =
@@ -150,7 +150,7 @@ turns (_ ∷ rest) c = turns rest c
 abbrev few : Change → Bool
 few c = not (nat_lt (held c + 2) (turns (drop 44 main_order) c))
 
--- an inactive port, for all values of what a rule reads there
+-- an inactive port, for all values that a rule reads there
 inactive : (learning tell changed noticed acknowledged : Bool)
     → every 5 (λ tree learn forward edge flush.
     few (changes topology.Inactive tree learn forward learning edge tell changed noticed acknowledged flush)) ≡ true
