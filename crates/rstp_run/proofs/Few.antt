@@ -1,7 +1,7 @@
 -- A bound of the firings at an event of a settled bridge: each rule at most once at each port in each of the first five
 -- passes, and then no more than a number that each firing lowers.
 use Rattle.std.proofs.Common.{◌≡◌, ℕ, zero, suc, ◌+◌, ◌*◌, ◌≤◌, ◌⊎◌, inl, inr, Bool, true, false, List, [], ◌∷◌}
-use Rattle.std.proofs.Common.{◌||◌, Some, length, map, slice_get, refl, sym, ap, subst, ◌∙◌, arith}
+use Rattle.std.proofs.Common.{◌||◌, Some, length, map, slice_get, refl, sym, subst, ◌∙◌, arith}
 use Rattle.std.proofs.lemmas.List.{length-map}
 use Rattle.rstp_state.specs.declared.port.PortState.{PortState}
 use Rattle.rstp_state.specs.Direct.{without_slot}
@@ -12,19 +12,23 @@ use Rattle.rstp_run.specs.Firings.{EventsAreShort, most_firings}
 use Rattle.rstp_run.specs.Lasting.{is_select}
 use Rattle.rstp_run.specs.Laws.{AreOrderly, IsOrderly}
 use Rattle.rstp_run.specs.Rules.{Tree, guard}
-use Rattle.rstp_run.specs.Sweep.{Going, fired, main_order, pass, sending_order, swept, tries, tries_all, tries_below}
+use Rattle.rstp_run.specs.Sweep.{Going, fired, main_order, pass, sending_order, swept, tries, tries_all}
+use Rattle.rstp_run.proofs.Caps.{Any, Held, any-goes, few-any, few-steady}
+use Rattle.rstp_run.proofs.Caps.{few-taken, pass-any, pass-taken, starts, steady-may}
+use Rattle.rstp_run.proofs.Caps.{taken-goes, taken-spreads}
 use Rattle.rstp_run.proofs.Each.{EachIs}
 use Rattle.rstp_run.proofs.Falls.{IsAfterDiscard}
 use Rattle.rstp_run.proofs.Informed.{no}
 use Rattle.rstp_run.proofs.Kept.{IsKept, kept_walks}
-use Rattle.rstp_run.proofs.Levels.{IsCalm, IsYoung}
+use Rattle.rstp_run.proofs.Levels.{IsCalm, IsChosen, IsTaken, IsYoung}
 use Rattle.rstp_run.proofs.Ordered.{pass-full, tries_all-full}
 use Rattle.rstp_run.proofs.Orderly.{at_place, orderly-after, orderly-direct}
 use Rattle.rstp_run.proofs.Places.{AtAll, Stage, main_rest, pass-by, select-rests, stage-as, stage-rests, stage-with}
 use Rattle.rstp_run.proofs.Reached.{reached}
 use Rattle.rstp_run.proofs.Ready.{IsReady, Readies, comes-ready, ready_walks}
-use Rattle.rstp_run.proofs.Selects.{Passed, first-pass, passed-first, second-pass, sweep-reaches, third-select}
-use Rattle.rstp_run.proofs.Selects.{whole-pass}
+use Rattle.rstp_run.proofs.Placed.{spread-goes}
+use Rattle.rstp_run.proofs.Selects.{Passed, first-pass, passed-first, second-pass, second-select, sweep-reaches}
+use Rattle.rstp_run.proofs.Selects.{third-select, whole-pass}
 use Rattle.rstp_run.proofs.Settling.{length-direct, main-holds, sends-hold}
 use Rattle.rstp_run.proofs.Sound as sound
 use Rattle.rstp_run.proofs.Sound.{Keeps}
@@ -39,31 +43,6 @@ use Rattle.rstp_run.proofs.Late.{IsLate, late-after}
 use Rattle.rstp_run.proofs.Tells.{late-bound, late-falls, remains}
 use Rattle.rstp_run.proofs.Walk.{direct_holds, rule_holds}
 use Rattle.rstp_run.proofs.Whole.{all-keeps, pass-keeps, tries-cases}
-
--- ---- a rule fires at most once at each port in each pass
-
-tries_adds : (limit : ℕ) (rule : Rule) (p : ℕ) (g : Going)
-    → length (tries rule p limit g).firings ≤ length g.firings + 1
-tries_adds limit rule p g =
-    tries-cases (λ x. length x.firings ≤ length g.firings + 1) rule p limit g (λ below on. omega arith) (omega arith)
-
-all_adds : (limit : ℕ) (list : List Rule) (p : ℕ) (g : Going)
-    → length (tries_all list p limit g).firings ≤ length g.firings + length list
-all_adds limit [] p g = omega arith
-all_adds limit (rule ∷ rest) p g =
-    let one = tries_adds limit rule p g in
-    let more = all_adds limit rest p (tries rule p limit g) in
-    omega (arith, one, more)
-
-below_adds : (limit k : ℕ) (g : Going)
-    → length (tries_below main_order k limit g).firings ≤ length g.firings + k * 54
-below_adds limit zero g = omega arith
-below_adds limit (suc k) g =
-    let before = below_adds limit k g in
-    let one : length (tries_all main_order k limit (tries_below main_order k limit g)).firings
-    ≤ length (tries_below main_order k limit g).firings + 54 =
-    all_adds limit main_order k (tries_below main_order k limit g) in
-    omega (arith, before, one)
 
 -- ---- facts of the whole sweep
 
@@ -101,7 +80,7 @@ module _ (n limit : ℕ) where
 
   abbrev Spends : Going → Type 0
   Spends g =
-      IsWell g × AtAll (λ q. IsLate) g.tree.ports × (length g.firings + remains n g.tree ≤ 421 * n)
+      IsWell g × AtAll (λ q. IsLate) g.tree.ports × (length g.firings + remains n g.tree ≤ 185 * n + 5)
 
   spends : (rule : Rule) (p : ℕ) (g : Going) → IsAfterDiscard rule g.tree p → guard rule g.tree p ≡ true → Spends g
       → Spends (fired rule p g)
@@ -128,28 +107,60 @@ module _ (n limit : ℕ) where
           (well_fires rule p g on h.0, late-after rule g.tree p is on h.1, omega (arith, less, few))
 
   abbrev IsLast : Going → Type 0
-  IsLast g = ((limit ≤ length g.firings) × (length g.firings ≤ 270 * n)) ⊎ Spends g
+  IsLast g = ((limit ≤ length g.firings) × (length g.firings ≤ 131 * n + 5)) ⊎ Spends g
 
   -- ---- the facts after this many passes
 
-  abbrev Counted : ℕ → Going → Type 0
-  Counted k g = IsWell g × (length g.firings ≤ k * 54 * n)
+  abbrev Counted : ℕ → ℕ → Going → Type 0
+  Counted a b g = IsWell g × Held n limit (a * n + b) g
 
   abbrev Spent : ℕ → Going → Type 0
-  Spent zero g = Passed n limit 0 g × Counted 0 g
-  Spent (suc zero) g = Passed n limit 1 g × Counted 1 g
-  Spent (suc (suc zero)) g = Passed n limit 2 g × Counted 2 g
-  Spent (suc (suc (suc zero))) g = Stage 2 n (λ q x. IsSteady x × IsRested x) limit g × Counted 3 g
-  Spent (suc (suc (suc (suc zero)))) g = Stage 2 n (λ q x. IsFixed x × Ends core1 x) limit g × Counted 4 g
+  Spent zero g = Passed n limit 0 g × Counted 4 0 g
+  Spent (suc zero) g = Passed n limit 1 g × Counted 47 1 g
+  Spent (suc (suc zero)) g = Passed n limit 2 g × Counted 69 2 g
+  Spent (suc (suc (suc zero))) g = Stage 2 n (λ q x. IsSteady x × IsRested x) limit g × Counted 91 3 g
+  Spent (suc (suc (suc (suc zero)))) g = Stage 2 n (λ q x. IsFixed x × Ends core1 x) limit g × Counted 111 4 g
   Spent (suc (suc (suc (suc (suc k))))) g = IsLast g
 
-  adds : (k : ℕ) (g : Going) → Counted k g → Counted (suc k) (pass main_order limit g)
-  adds k g h =
-      let more : length (pass main_order limit g).firings ≤ length g.firings + length g.tree.ports * 54 =
-      below_adds limit (length g.tree.ports) g in
-      let times : length g.tree.ports * 54 ≡ n * 54 = ap (λ j. j * 54) h.0.3 in
-      let few = h.1 in
-      (well_pass g h.0, omega (arith, more, few, times))
+  facts_of : (P : ℕ → PortState → Type 0) (R : PortState → Type 0) → ((q : ℕ) (x : PortState) → P q x → R x)
+      → (g : Going) → (limit ≤ length g.firings) ⊎ AtAll P g.tree.ports
+      → (limit ≤ length g.firings) ⊎ AtAll (λ q. R) g.tree.ports
+  facts_of P R by g (inl full) = inl full
+  facts_of P R by g (inr all) = inr (λ q x at. by q x (all q x at))
+
+  held_as : (b c : ℕ) (g : Going) → b ≡ c → Held n limit b g → Held n limit c g
+  held_as b c g e h = subst (λ k. Held n limit k g) e h
+
+  adds : (a b : ℕ) (g : Going) → Counted a b g → Counted (a + 43) (b + 1) (pass main_order limit g)
+  adds a b g h = (
+    well_pass g h.0,
+    held_as (a * n + b + 1 + n * 43) ((a + 43) * n + (b + 1)) (pass main_order limit g) (omega arith)
+        (pass-any false false Any (λ k x r. tt) any-goes n limit 43 (a * n + b) g h.0.3 (inr (λ q x at. tt)) few-any
+        h.1),
+  )
+
+  -- a pass in which no message is pending
+  adds_taken : (P : ℕ → PortState → Type 0) (c : ℕ) → ((q : ℕ) (x : PortState) → P q x → IsTaken x) → (a b : ℕ)
+      (g : Going) → Stage c n P limit (tries rules.Select 0 limit g) → Counted a b g
+      → Counted (a + 22) (b + 1) (pass main_order limit g)
+  adds_taken P c taken a b g stage h = (
+    well_pass g h.0,
+    held_as (a * n + b + 1 + n * 22) ((a + 22) * n + (b + 1)) (pass main_order limit g) (omega arith)
+        (pass-taken true false IsTaken taken-spreads taken-goes n limit 22 (a * n + b) g h.0.3
+        (facts_of P IsTaken taken (tries rules.Select 0 limit g) stage.2) refl few-taken h.1),
+  )
+
+  -- a pass in which information rests
+  adds_steady : (P : ℕ → PortState → Type 0) → ((q : ℕ) (x : PortState) → P q x → IsSteady x) → (a b : ℕ) (g : Going)
+      → Stage 2 n P limit g → Counted a b g → Counted (a + 20) (b + 1) (pass main_order limit g)
+  adds_steady P steady a b g stage h =
+      let rests : Stage 2 n P limit (tries rules.Select 0 limit g) =
+      stage-rests 2 n limit P 0 g (λ q x k. (steady q x k).0.1) stage in (
+        well_pass g h.0,
+        held_as (a * n + b + 1 + n * 20) ((a + 20) * n + (b + 1)) (pass main_order limit g) (omega arith)
+            (pass-taken true true IsSteady (λ k x r. (spread-goes k x r).0) steady-may n limit 20 (a * n + b) g h.0.3
+            (facts_of P IsSteady steady (tries rules.Select 0 limit g) rests.2) refl few-steady h.1),
+      )
 
   -- Select is reached in the third pass, and then information rests, and each port takes its role
   third : (g : Going) → Spent 2 g → Stage 2 n (λ q x. IsSteady x × IsRested x) limit (pass main_order limit g)
@@ -199,47 +210,52 @@ module _ (n limit : ℕ) where
       (λ q x within z. (z.0.0, (z.0.1.0, lit x z.1 z.0.1.1, z.0.1.2)))
       (stage-with 2 n limit (λ q x. IsFixed x × Ends core1 x) (λ q. IsOrderly) g (orderly g h.1.0) h.0))
 
-  last_of : (g : Going) → Counted 5 g → Stage 2 n (λ q x. IsFixed x × Ends core2 x) limit g → IsLast g
+  last_of : (g : Going) → Counted 131 5 g → Stage 2 n (λ q x. IsFixed x × Ends core2 x) limit g → IsLast g
   last_of g h stage = go stage.2
     where
       go : (limit ≤ length g.firings) ⊎ AtAll (λ q x. IsFixed x × Ends core2 x) g.tree.ports → IsLast g
-      go (inl full) = let few = h.1 in inl (full, omega (arith, few))
+      go (inl full) = let few = h.1.0 in inl (full, omega (arith, few))
       go (inr all) =
           let late : AtAll (λ q. IsLate) g.tree.ports =
           λ q x at. (let k = all q x at in (k.0, k.1.2, k.1.3)) in
-          let bound = late-bound n g.tree h.0.3 late h.0.0.roots in
-          let few = h.1 in
+          let bound = late-bound n g.tree h.0.3 h.0.0.roots in
+          let few = h.1.0 in
           inr (h.0, late, omega (arith, bound, few))
 
   next : (k : ℕ) (g : Going) → Spent k g → Spent (suc k) (pass main_order limit g)
-  next zero g h = (first-pass n limit g h.0, adds 0 g h.1)
-  next (suc zero) g h = (second-pass n limit g h.0, adds 1 g h.1)
-  next (suc (suc zero)) g h = (third g h, adds 2 g h.1)
-  next (suc (suc (suc zero))) g h = (fourth g h, adds 3 g h.1)
-  next (suc (suc (suc (suc zero)))) g h = last_of (pass main_order limit g) (adds 4 g h.1) (fifth g h)
+  next zero g h = (first-pass n limit g h.0, adds 4 0 g h.1)
+  next (suc zero) g h =
+      (second-pass n limit g h.0, adds_taken (λ q. IsChosen) 1 (λ q x k. k.0) 47 1 g (second-select n limit g h.0) h.1)
+  next (suc (suc zero)) g h =
+      (third g h, adds_taken (λ q. IsCalm) 2 (λ q x k. k.0.0) 69 2 g (third-select n limit g h.0) h.1)
+  next (suc (suc (suc zero))) g h =
+      (fourth g h, adds_steady (λ q x. IsSteady x × IsRested x) (λ q x k. k.0) 91 3 g h.0 h.1)
+  next (suc (suc (suc (suc zero)))) g h =
+      last_of (pass main_order limit g)
+      (adds_steady (λ q x. IsFixed x × Ends core1 x) (λ q x k. k.0.0) 111 4 g h.0 h.1) (fifth g h)
   next (suc (suc (suc (suc (suc k))))) g (inl h) = subst IsLast (sym (pass-full main_order limit g h.0)) (inl h)
   next (suc (suc (suc (suc (suc k))))) g (inr h) =
       inr (pass-keeps Spends limit main_order (λ p x k. main-holds Spends spends p limit x k) g h)
 
   full : (k : ℕ) (g : Going) → limit ≤ length g.firings → Spent k g → Spent 5 g
-  full zero g all h = let few = h.1.1 in inl (all, omega (arith, few))
-  full (suc zero) g all h = let few = h.1.1 in inl (all, omega (arith, few))
-  full (suc (suc zero)) g all h = let few = h.1.1 in inl (all, omega (arith, few))
-  full (suc (suc (suc zero))) g all h = let few = h.1.1 in inl (all, omega (arith, few))
-  full (suc (suc (suc (suc zero)))) g all h = let few = h.1.1 in inl (all, omega (arith, few))
+  full zero g all h = let few = h.1.1.0 in inl (all, omega (arith, few))
+  full (suc zero) g all h = let few = h.1.1.0 in inl (all, omega (arith, few))
+  full (suc (suc zero)) g all h = let few = h.1.1.0 in inl (all, omega (arith, few))
+  full (suc (suc (suc zero))) g all h = let few = h.1.1.0 in inl (all, omega (arith, few))
+  full (suc (suc (suc (suc zero)))) g all h = let few = h.1.1.0 in inl (all, omega (arith, few))
   full (suc (suc (suc (suc (suc k))))) g all h = h
 
   sends : (p : ℕ) (g : Going) → Spent 5 g → Spent 5 (tries_all sending_order p limit g)
   sends p g (inl h) = subst IsLast (sym (tries_all-full sending_order p limit g h.0)) (inl h)
   sends p g (inr h) = inr (sends-hold Spends spends p limit g h)
 
-  count : (g : Going) → Spent 0 g ⊎ Spent 5 g → length g.firings ≤ 421 * n
-  count g (inl h) = let few = h.1.1 in omega (arith, few)
+  count : (g : Going) → Spent 0 g ⊎ Spent 5 g → length g.firings ≤ 185 * n + 5
+  count g (inl h) = let few = h.1.1.0 in omega (arith, few)
   count g (inr (inl h)) = let few = h.1 in omega (arith, few)
   count g (inr (inr h)) = let few = h.2 in omega (arith, few)
 
   pub few-firings : (s : Tree) → Spent 0 (record { tree = s; firings = [] })
-      → length (swept limit s).firings ≤ 421 * n
+      → length (swept limit s).firings ≤ 185 * n + 5
   few-firings s h = count (swept limit s) (sweep-reaches limit 5 Spent next full (λ k g z. z) sends s h)
 
 -- ---- events of a settled bridge
@@ -256,5 +272,10 @@ events_are_short event limit s t settled mask can rests some h =
     let F : Going → Type 0 = λ g. length g.firings ≤ most_firings (length s.ports) in
     let each = direct_holds EachReady (λ s. Readies) ready_walks.moves event s ready in
     subst F h.order
-    (few-firings (length s.ports) limit (direct event s)
-    (first, ((kept, each, orderly-direct event s all.orderly, same, some), omega arith)))
+    (few-firings (length s.ports) limit (direct event s) (
+      first,
+      (
+        (kept, each, orderly-direct event s all.orderly, same, some),
+        starts (length s.ports) limit (record { tree = direct event s; firings = [] }) refl,
+      ),
+    ))

@@ -22,7 +22,7 @@ SelectsTwice =
 
 -- A number of firings that no event of a settled bridge with n ports exceeds. Events take far fewer.
 abbrev pub most_firings : ℕ → ℕ
-most_firings n = 421 * n
+most_firings n = 185 * n + 5
 
 -- an event of a settled bridge has at most that many firings, whatever the limit is, if its Hello time isn't 0
 abbrev pub EventsAreShort : Type 0
