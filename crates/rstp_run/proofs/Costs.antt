@@ -1,4 +1,4 @@
--- The firings of a pass, by a cost of the rules that are left at a port, and by what each port may still cost after its
+-- The firings of a pass, by the cost of the rules that are left at a port, and by what each port may still cost after its
 -- visit.
 use Rattle.std.proofs.Common.{◌≡◌, ℕ, zero, suc, ◌+◌, ◌*◌, ◌≤◌, ◌<◌, ◌==◌, ◌⊎◌, inl, inr, Bool, true, false, List, []}
 use Rattle.std.proofs.Common.{◌∷◌, Option, Some, ◌&&◌, length, slice_get}
@@ -6,10 +6,11 @@ use Rattle.std.proofs.Common.{refl, sym, ap, subst, ◌∙◌, arith, if◌then�
 use Rattle.std.proofs.lemmas.Bool.{and_parts, cases_lt, eqb-false, ne_eqb}
 use Rattle.std.specs.Option.{option_map_or}
 use Rattle.rstp_state.specs.declared.port.PortState.{PortState}
+use Rattle.rstp_state.specs.declared.port.Timing.{Timing}
 use Rattle.rstp_run.specs.declared.rule.Rule.{Rule}
 use Rattle.rstp_run.specs.declared.rule.Rule.TheVariants as rules
 use Rattle.rstp_run.specs.Lasting.{is_select}
-use Rattle.rstp_run.specs.Rules.{Tree, asks, guard, ports_after, timing_in}
+use Rattle.rstp_run.specs.Rules.{Tree, after, asks, guard, ports_after, timing_in}
 use Rattle.rstp_run.specs.Sweep.{Going, pass, tries, tries_all, tries_below}
 use Rattle.rstp_run.proofs.Ordered.{tries-full, tries-off, tries-on}
 use Rattle.rstp_run.proofs.Own.{Spread, after-at, own, spread_by, spread_of}
@@ -24,40 +25,40 @@ sum zero f = 0
 sum (suc n) f = f n + sum n f
 
 -- the same, but v at place p
-abbrev put : ℕ → ℕ → (ℕ → ℕ) → ℕ → ℕ
+abbrev pub put : ℕ → ℕ → (ℕ → ℕ) → ℕ → ℕ
 put p v f q = if q == p then v else f q
 
-put_there : (p v : ℕ) (f : ℕ → ℕ) (q : ℕ) → q ≡ p → put p v f q ≡ v
-put_there p v f q e = go (q == p) refl
+pub put-there : (p v : ℕ) (f : ℕ → ℕ) (q : ℕ) → q ≡ p → put p v f q ≡ v
+put-there p v f q e = go (q == p) refl
   where
     go : (b : Bool) → (q == p) ≡ b → (if b then v else f q) ≡ v
     go true is = refl
     go false is = absurd (eqb-false q p is e)
 
-put_apart : (p v : ℕ) (f : ℕ → ℕ) (q : ℕ) → (q ≡ p → ⊥) → put p v f q ≡ f q
-put_apart p v f q apart = rw (ne_eqb q p apart) refl
+pub put-apart : (p v : ℕ) (f : ℕ → ℕ) (q : ℕ) → (q ≡ p → ⊥) → put p v f q ≡ f q
+put-apart p v f q apart = rw (ne_eqb q p apart) refl
 
-sum_below : (p v : ℕ) (f : ℕ → ℕ) (n : ℕ) → n ≤ p → sum n (put p v f) ≡ sum n f
-sum_below p v f zero h = refl
-sum_below p v f (suc n) h =
-    let first = put_apart p v f n (λ e. (let no : ⊥ = omega (arith, h, e) in no)) in
-    let rest = sum_below p v f n (omega (arith, h)) in
+pub sum-below : (p v : ℕ) (f : ℕ → ℕ) (n : ℕ) → n ≤ p → sum n (put p v f) ≡ sum n f
+sum-below p v f zero h = refl
+sum-below p v f (suc n) h =
+    let first = put-apart p v f n (λ e. (let no : ⊥ = omega (arith, h, e) in no)) in
+    let rest = sum-below p v f n (omega (arith, h)) in
     omega (arith, first, rest)
 
-sum_put : (p v : ℕ) (f : ℕ → ℕ) (n : ℕ) → p < n → sum n (put p v f) + f p ≡ sum n f + v
-sum_put p v f zero h = absurd (omega (arith, h))
-sum_put p v f (suc n) h = go (cases_lt p n) (λ less. sum_put p v f n less)
+pub sum-put : (p v : ℕ) (f : ℕ → ℕ) (n : ℕ) → p < n → sum n (put p v f) + f p ≡ sum n f + v
+sum-put p v f zero h = absurd (omega (arith, h))
+sum-put p v f (suc n) h = go (cases_lt p n) (λ less. sum-put p v f n less)
   where
     go : (p < n) ⊎ (n ≤ p) → (p < n → sum n (put p v f) + f p ≡ sum n f + v)
         → sum (suc n) (put p v f) + f p ≡ sum (suc n) f + v
     go (inl less) rest =
-        let first = put_apart p v f n (λ e. (let no : ⊥ = omega (arith, less, e) in no)) in
+        let first = put-apart p v f n (λ e. (let no : ⊥ = omega (arith, less, e) in no)) in
         let others = rest less in
         omega (arith, first, others)
     go (inr from) rest =
         let same : n ≡ p = omega (arith, h, from) in
-        let first = put_there p v f n same in
-        let others = sum_below p v f n from in
+        let first = put-there p v f n same in
+        let others = sum-below p v f n from in
         let here : f n ≡ f p = ap f same in
         omega (arith, first, others, here)
 
@@ -74,14 +75,27 @@ abbrev pub all_are : (Rule → Bool) → List Rule → Bool
 all_are only [] = true
 all_are only (rule ∷ rest) = only rule && all_are only rest
 
--- R is known of every port. A port may still cost U before its visit, and V after it.
-module _ (R : PortState → Type 0) (U V : PortState → ℕ) (n limit b : ℕ) where
+-- only Select changes the values of the bridge that the rules of a port read
+same_timing : (rule : Rule) (s : Tree) (p : ℕ) → is_select rule ≡ false → timing_in (after rule s p) ≡ timing_in s
+same_timing rules.Select s p other = let e : ⊥ = cc in absurd e
+same_timing (rules.Receive rule) s p other = refl
+same_timing (rules.Migration rule) s p other = refl
+same_timing (rules.Detection rule) s p other = refl
+same_timing (rules.Information rule) s p other = refl
+same_timing (rules.Role rule) s p other = refl
+same_timing (rules.State rule) s p other = refl
+same_timing (rules.Topology rule) s p other = refl
+same_timing (rules.Transmit rule) s p other = refl
+
+-- R is known of every port. A port may still cost U before its visit, and V after it. Select isn't enabled meanwhile.
+module _ (R : PortState → Type 0) (U V : PortState → ℕ) (timing : Timing) (n limit b : ℕ) where
   -- at most b firings, with those that the ports may still cost
   abbrev Bounded : (ℕ → (ℕ → ℕ) → PortState → Type 0) → Going → Type 0
   Bounded P g =
       (length g.firings ≤ b) × (length g.tree.ports ≡ n)
       × ((limit ≤ length g.firings)
-      ⊎ ((f : ℕ → ℕ) × AtAll (λ q x. R x × P q f x) g.tree.ports × (length g.firings + sum n f ≤ b)))
+      ⊎ ((f : ℕ → ℕ) × AtAll (λ q x. R x × P q f x) g.tree.ports × (length g.firings + sum n f ≤ b)
+      × (timing_in g.tree ≡ timing)))
 
   -- before the visit of the port at place p
   abbrev pub Shares : ℕ → ℕ → (ℕ → ℕ) → PortState → Type 0
@@ -91,162 +105,169 @@ module _ (R : PortState → Type 0) (U V : PortState → ℕ) (n limit b : ℕ) 
   Within p g = Bounded (Shares p) g
 
   -- while its rules are tried
-  abbrev Due : (List Rule → PortState → ℕ) → ℕ → List Rule → ℕ → (ℕ → ℕ) → PortState → Type 0
-  Due cost p list q f x = (q < p → V x ≤ f q) × (q ≡ p → cost list x ≤ f q) × (p < q → U x ≤ f q)
+  abbrev Due : (PortState → ℕ) → ℕ → ℕ → (ℕ → ℕ) → PortState → Type 0
+  Due c p q f x = (q < p → V x ≤ f q) × (q ≡ p → c x ≤ f q) × (p < q → U x ≤ f q)
 
-  abbrev pub Paid : (List Rule → PortState → ℕ) → ℕ → List Rule → Going → Type 0
-  Paid cost p list g = Bounded (Due cost p list) g
+  abbrev pub Paid : (PortState → ℕ) → ℕ → Going → Type 0
+  Paid c p g = Bounded (Due c p) g
 
   bounded_as : (P Q : ℕ → (ℕ → ℕ) → PortState → Type 0) (g : Going)
       → ((q : ℕ) (f : ℕ → ℕ) (x : PortState) → R x → P q f x → Q q f x) → Bounded P g → Bounded Q g
   bounded_as P Q g by h = (h.0, h.1, go h.2)
     where
       go : (limit ≤ length g.firings)
-          ⊎ ((f : ℕ → ℕ) × AtAll (λ q x. R x × P q f x) g.tree.ports × (length g.firings + sum n f ≤ b))
+          ⊎ ((f : ℕ → ℕ) × AtAll (λ q x. R x × P q f x) g.tree.ports × (length g.firings + sum n f ≤ b)
+          × (timing_in g.tree ≡ timing))
           → (limit ≤ length g.firings)
-          ⊎ ((f : ℕ → ℕ) × AtAll (λ q x. R x × Q q f x) g.tree.ports × (length g.firings + sum n f ≤ b))
+          ⊎ ((f : ℕ → ℕ) × AtAll (λ q x. R x × Q q f x) g.tree.ports × (length g.firings + sum n f ≤ b)
+          × (timing_in g.tree ≡ timing))
       go (inl full) = inl full
-      go (inr s) = inr (s.0, λ q x at. (let d = s.1 q x at in (d.0, by q s.0 x d.0 d.1)), s.2)
+      go (inr s) = inr (s.0, λ q x at. (let d = s.1 q x at in (d.0, by q s.0 x d.0 d.1)), s.2, s.3)
 
-  pub paid-as : (cost cost' : List Rule → PortState → ℕ) (p : ℕ) (list list' : List Rule) (g : Going)
-      → ((x : PortState) → R x → cost' list' x ≤ cost list x) → Paid cost p list g → Paid cost' p list' g
-  paid-as cost cost' p list list' g less =
-      bounded_as (Due cost p list) (Due cost' p list') g
-      (λ q f x r d. (d.0, λ e. (let a = less x r in let due = d.1 e in omega (arith, a, due)), d.2))
+  pub paid-as : (c d : PortState → ℕ) (p : ℕ) (g : Going)
+      → ((x : PortState) → R x → d x ≤ c x) → Paid c p g → Paid d p g
+  paid-as c d p g less =
+      bounded_as (Due c p) (Due d p) g
+      (λ q f x r k. (k.0, λ e. (let a = less x r in let due = k.1 e in omega (arith, a, due)), k.2))
 
-  -- The rules of a list are of one sort, and a firing costs `raise` at each other port.
-  module _ (cost : List Rule → PortState → ℕ) (only : Rule → Bool)
-      (other : (rule : Rule) → only rule ≡ true → is_select rule ≡ false) (fit : Spread → Bool) (raise : Spread → ℕ)
+  -- changes of other ports that fit raise no cost
+  module _ (fit : Spread → Bool)
       (spreads : (k : Spread) (x : PortState) → fit k ≡ true → R x
-      → R (spread_by k x) × (U (spread_by k x) ≤ U x + raise k) × (V (spread_by k x) ≤ V x + raise k))
-      (fires : (rule : Rule) (rest : List Rule) (s : Tree) (p : ℕ) (x : PortState) → only rule ≡ true
-      → asks rule s p x ≡ true → R x → (fit (spread_of rule) ≡ true) × R (own rule (timing_in s) x)
-      × (suc (cost rest (own rule (timing_in s) x)) + n * raise (spread_of rule) ≤ cost (rule ∷ rest) x))
-      (rests : (rule : Rule) (rest : List Rule) (s : Tree) (p : ℕ) (x : PortState) → only rule ≡ true
-      → asks rule s p x ≡ false → R x → cost rest x ≤ cost (rule ∷ rest) x) (p : ℕ) (within : p < n) where
-    one : (rule : Rule) (rest : List Rule) (g : Going) → only rule ≡ true → Paid cost p (rule ∷ rest) g
-        → Paid cost p rest (tries rule p limit g)
-    one rule rest g sort h = go (cases_lt (length g.firings) limit) (guard rule g.tree p) refl h.2
+      → R (spread_by k x) × (U (spread_by k x) ≤ U x) × (V (spread_by k x) ≤ V x)) (p : ℕ) (within : p < n) where
+    -- the cost before the rule, and after it
+    pub one : (rule : Rule) → is_select rule ≡ false → (c d : PortState → ℕ)
+        → ((s : Tree) (x : PortState) → timing_in s ≡ timing → asks rule s p x ≡ true → R x
+        → (fit (spread_of rule) ≡ true) × R (own rule (timing_in s) x) × (d (own rule (timing_in s) x) < c x))
+        → ((s : Tree) (x : PortState) → asks rule s p x ≡ false → R x → d x ≤ c x)
+        → (g : Going) → Paid c p g → Paid d p (tries rule p limit g)
+    one rule other c d fires rests g h = go (cases_lt (length g.firings) limit) (guard rule g.tree p) refl h.2
       where
         here : (x : PortState) → guard rule g.tree p ≡ false → slice_get g.tree.ports p ≡ Some x
             → asks rule g.tree p x ≡ false
         here x is at = sym (ap (λ o. option_map_or (asks rule g.tree p) o false) at) ∙ is
 
-        off : (f : ℕ → ℕ) → guard rule g.tree p ≡ false
-            → AtAll (λ q x. R x × Due cost p (rule ∷ rest) q f x) g.tree.ports
-            → AtAll (λ q x. R x × Due cost p rest q f x) g.tree.ports
+        off : (f : ℕ → ℕ) → guard rule g.tree p ≡ false → AtAll (λ q x. R x × Due c p q f x) g.tree.ports
+            → AtAll (λ q x. R x × Due d p q f x) g.tree.ports
         off f is all q x at =
-            let d = all q x at in
-            let S : ℕ → Type 0 = λ k. slice_get g.tree.ports k ≡ Some x in (
-              d.0,
+            let k = all q x at in
+            let S : ℕ → Type 0 = λ j. slice_get g.tree.ports j ≡ Some x in (
+              k.0,
               (
-                d.1.0,
-                λ e. (let less = rests rule rest g.tree p x sort (here x is (subst S e at)) d.0 in
-                    let due = d.1.1 e in
+                k.1.0,
+                λ e. (let less = rests g.tree x (here x is (subst S e at)) k.0 in
+                    let due = k.1.1 e in
                     omega (arith, less, due)),
-                d.1.2,
+                k.1.2,
               ),
             )
 
-        w : ℕ
-        w = raise (spread_of rule)
-
         on : (f : ℕ → ℕ) (port : PortState) → slice_get g.tree.ports p ≡ Some port
-            → asks rule g.tree p port ≡ true → guard rule g.tree p ≡ true
-            → AtAll (λ q x. R x × Due cost p (rule ∷ rest) q f x) g.tree.ports
-            → AtAll (λ q x. R x
-            × Due cost p rest q (λ k. put p (cost rest (own rule (timing_in g.tree) port)) f k + w) x)
+            → asks rule g.tree p port ≡ true → guard rule g.tree p ≡ true → timing_in g.tree ≡ timing
+            → AtAll (λ q x. R x × Due c p q f x) g.tree.ports
+            → AtAll (λ q x. R x × Due d p q (put p (d (own rule (timing_in g.tree) port)) f) x)
             (ports_after rule g.tree p)
-        on f port at asked is all =
-            let v : ℕ = cost rest (own rule (timing_in g.tree) port) in
-            let fits = (fires rule rest g.tree p port sort asked (all p port at).0).0 in
+        on f port at asked is same all =
+            let v : ℕ = d (own rule (timing_in g.tree) port) in
+            let fits = (fires g.tree port same asked (all p port at).0).0 in
             after-at rule g.tree p
-            (λ q x. (slice_get g.tree.ports q ≡ Some x) × R x × Due cost p (rule ∷ rest) q f x)
-            (λ q x. R x × Due cost p rest q (λ k. put p v f k + w) x) (other rule sort) is
-            (λ q x apart d. (let s = spreads (spread_of rule) x fits d.1 in
-            let e = put_apart p v f q apart in (
+            (λ q x. (slice_get g.tree.ports q ≡ Some x) × R x × Due c p q f x)
+            (λ q x. R x × Due d p q (put p v f) x) other is
+            (λ q x apart k. (let s = spreads (spread_of rule) x fits k.1 in
+            let e = put-apart p v f q apart in (
               s.0,
               (
-                λ less. (let a = s.2 in let due = d.2.0 less in omega (arith, a, due, e)),
-                λ same. absurd (apart same),
-                λ more. (let a = s.1 in let due = d.2.2 more in omega (arith, a, due, e)),
+                λ less. (let a = s.2 in let due = k.2.0 less in omega (arith, a, due, e)),
+                λ equal. absurd (apart equal),
+                λ more. (let a = s.1 in let due = k.2.2 more in omega (arith, a, due, e)),
               ),
             )))
-            (λ x k d. (
-              (fires rule rest g.tree p x sort k d.1).1,
+            (λ x j k. (
+              (fires g.tree x same j k.1).1,
               (
                 λ less. absurd (omega (arith, less)),
-                λ e. (let same : x ≡ port = one_port (slice_get g.tree.ports p) x port d.0 at in
-                    let there = put_there p v f p refl in
-                    let Q : PortState → Type 0 = λ y. cost rest (own rule (timing_in g.tree) y) ≤ put p v f p + w in
-                    subst Q (sym same) (omega (arith, there))),
+                λ e. (let alike : x ≡ port = one_port (slice_get g.tree.ports p) x port k.0 at in
+                    let there = put-there p v f p refl in
+                    let Q : PortState → Type 0 = λ y. d (own rule (timing_in g.tree) y) ≤ put p v f p in
+                    subst Q (sym alike) (omega (arith, there))),
                 λ more. absurd (omega (arith, more)),
               ),
-            )) (λ q x got. (let d = all q x got in (got, d.0, d.1)))
+            )) (λ q x got. (let k = all q x got in (got, k.0, k.1)))
 
-        fire : (f : ℕ → ℕ) → AtAll (λ q x. R x × Due cost p (rule ∷ rest) q f x) g.tree.ports
-            → length g.firings + sum n f ≤ b → length g.firings < limit → guard rule g.tree p ≡ true
-            → Paid cost p rest (tries rule p limit g)
-        fire f all few below is =
+        fire : (f : ℕ → ℕ) → AtAll (λ q x. R x × Due c p q f x) g.tree.ports
+            → length g.firings + sum n f ≤ b → timing_in g.tree ≡ timing → length g.firings < limit
+            → guard rule g.tree p ≡ true → Paid d p (tries rule p limit g)
+        fire f all few same below is =
             let port = tested_at (asks rule g.tree p) g.tree.ports p is in
-            let d = all p port.0 port.1 in
-            let v : ℕ = cost rest (own rule (timing_in g.tree) port.0) in
-            let less = (fires rule rest g.tree p port.0 sort port.2 d.0).2 in
-            let due = d.1.1 refl in
-            let whole = sum_put p v f n within in
-            let more = sum_more w (put p v f) n in
-            subst (Paid cost p rest) (sym (tries-on rule p limit g below is)) (
+            let k = all p port.0 port.1 in
+            let v : ℕ = d (own rule (timing_in g.tree) port.0) in
+            let less = (fires g.tree port.0 same port.2 k.0).2 in
+            let due = k.1.1 refl in
+            let whole = sum-put p v f n within in
+            subst (Paid d p) (sym (tries-on rule p limit g below is)) (
               omega (arith, few, less, due, whole),
               length-ports_after rule g.tree p ∙ h.1,
               inr (
-                λ k. put p v f k + w,
-                on f port.0 port.1 port.2 is all,
-                omega (arith, few, less, due, whole, more),
+                put p v f,
+                on f port.0 port.1 port.2 is same all,
+                omega (arith, few, less, due, whole),
+                same_timing rule g.tree p other ∙ same,
               ),
             )
 
-        go : (length g.firings < limit) ⊎ (limit ≤ length g.firings) → (c : Bool) → guard rule g.tree p ≡ c
+        go : (length g.firings < limit) ⊎ (limit ≤ length g.firings) → (k : Bool) → guard rule g.tree p ≡ k
             → (limit ≤ length g.firings)
-            ⊎ ((f : ℕ → ℕ) × AtAll (λ q x. R x × Due cost p (rule ∷ rest) q f x) g.tree.ports
-            × (length g.firings + sum n f ≤ b)) → Paid cost p rest (tries rule p limit g)
-        go (inr full) c is facts =
-            subst (Paid cost p rest) (sym (tries-full rule p limit g full)) (h.0, h.1, inl full)
-        go (inl below) c is (inl full) = absurd (omega (arith, below, full))
-        go (inl below) true is (inr s) = fire s.0 s.1 s.2 below is
+            ⊎ ((f : ℕ → ℕ) × AtAll (λ q x. R x × Due c p q f x) g.tree.ports
+            × (length g.firings + sum n f ≤ b) × (timing_in g.tree ≡ timing)) → Paid d p (tries rule p limit g)
+        go (inr full) k is facts =
+            subst (Paid d p) (sym (tries-full rule p limit g full)) (h.0, h.1, inl full)
+        go (inl below) k is (inl full) = absurd (omega (arith, below, full))
+        go (inl below) true is (inr s) = fire s.0 s.1 s.2 s.3 below is
         go (inl below) false is (inr s) =
-            subst (Paid cost p rest) (sym (tries-off rule p limit g is)) (h.0, h.1, inr (s.0, off s.0 is s.1, s.2))
+            subst (Paid d p) (sym (tries-off rule p limit g is)) (h.0, h.1, inr (s.0, off s.0 is s.1, s.2, s.3))
 
-    pub many : (list : List Rule) → all_are only list ≡ true → (g : Going) → Paid cost p list g
-        → Paid cost p [] (tries_all list p limit g)
-    many [] sort g h = h
-    many (rule ∷ rest) sort g h =
-        let parts = and_parts (only rule) (all_are only rest) sort in
-        many rest parts.1 (tries rule p limit g) (one rule rest g parts.0 h)
+    -- The rules of a list are of one sort.
+    module _ (cost : List Rule → PortState → ℕ) (only : Rule → Bool)
+        (other : (rule : Rule) → only rule ≡ true → is_select rule ≡ false)
+        (fires : (rule : Rule) (rest : List Rule) (s : Tree) (x : PortState) → only rule ≡ true
+        → timing_in s ≡ timing → asks rule s p x ≡ true → R x
+        → (fit (spread_of rule) ≡ true) × R (own rule (timing_in s) x)
+        × (cost rest (own rule (timing_in s) x) < cost (rule ∷ rest) x))
+        (rests : (rule : Rule) (rest : List Rule) (s : Tree) (x : PortState) → only rule ≡ true
+        → asks rule s p x ≡ false → R x → cost rest x ≤ cost (rule ∷ rest) x) where
+      pub many : (list : List Rule) → all_are only list ≡ true → (g : Going) → Paid (cost list) p g
+          → Paid (cost []) p (tries_all list p limit g)
+      many [] sort g h = h
+      many (rule ∷ rest) sort g h =
+          let parts = and_parts (only rule) (all_are only rest) sort in
+          many rest parts.1 (tries rule p limit g)
+          (one rule (other rule parts.0) (cost (rule ∷ rest)) (cost rest)
+          (λ s x same on r. fires rule rest s x parts.0 same on r)
+          (λ s x off r. rests rule rest s x parts.0 off r) g h)
 
   -- the visit of a port
-  pub visit : (first last : List Rule → PortState → ℕ) (list : List Rule) (p : ℕ) (g : Going)
-      → (Paid first p list g → Paid last p [] (tries_all list p limit g))
-      → ((x : PortState) → R x → first list x ≤ U x) → ((x : PortState) → R x → V x ≤ last [] x)
+  pub visit : (first last : PortState → ℕ) (list : List Rule) (p : ℕ) (g : Going)
+      → (Paid first p g → Paid last p (tries_all list p limit g))
+      → ((x : PortState) → R x → first x ≤ U x) → ((x : PortState) → R x → V x ≤ last x)
       → Within p g → Within (suc p) (tries_all list p limit g)
   visit first last list p g walk begins ends h =
-      bounded_as (Due last p []) (Shares (suc p)) (tries_all list p limit g)
-      (λ q f x r d. (
-        λ less. early q f x r d less (cases_lt q p),
-        λ from. d.2 (omega (arith, from)),
+      bounded_as (Due last p) (Shares (suc p)) (tries_all list p limit g)
+      (λ q f x r k. (
+        λ less. early q f x r k less (cases_lt q p),
+        λ from. k.2 (omega (arith, from)),
       ))
-      (walk (bounded_as (Shares p) (Due first p list) g
-      (λ q f x r d. (
-        d.0,
-        λ e. (let a = begins x r in let due = d.1 (omega (arith, e)) in omega (arith, a, due)),
-        λ less. d.1 (omega (arith, less)),
+      (walk (bounded_as (Shares p) (Due first p) g
+      (λ q f x r k. (
+        k.0,
+        λ e. (let a = begins x r in let due = k.1 (omega (arith, e)) in omega (arith, a, due)),
+        λ less. k.1 (omega (arith, less)),
       )) h))
     where
-      early : (q : ℕ) (f : ℕ → ℕ) (x : PortState) → R x → Due last p [] q f x → q < suc p → (q < p) ⊎ (p ≤ q)
+      early : (q : ℕ) (f : ℕ → ℕ) (x : PortState) → R x → Due last p q f x → q < suc p → (q < p) ⊎ (p ≤ q)
           → V x ≤ f q
-      early q f x r d below (inl less) = d.0 less
-      early q f x r d below (inr from) =
+      early q f x r k below (inl less) = k.0 less
+      early q f x r k below (inr from) =
           let a = ends x r in
-          let due = d.1 (let same : q ≡ p = omega (arith, below, from) in same) in
+          let due = k.1 (let same : q ≡ p = omega (arith, below, from) in same) in
           omega (arith, a, due)
 
   -- a pass over all ports, if there is one

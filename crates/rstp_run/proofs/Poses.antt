@@ -1,5 +1,6 @@
--- The rules of roles and states at a designated port, on ten of its flags, whatever its timers, its agreement and its
--- edge are. Each lowers a number of these flags. All values of the flags are tried.
+-- The rules of roles and states at a designated port that no port requests to sync or to leave the old root, on nine of
+-- its flags, whatever its timers, its agreement and its edge are. Each lowers a number of these flags. All values of the
+-- flags are tried.
 use Rattle.std.proofs.Common.{◌≡◌, ℕ, ◌+◌, ◌≤◌, ◌<◌, Bool, true, false, not, ◌&&◌, ◌||◌, ◌==◌}
 use Rattle.std.proofs.Common.{nat_lt, refl, if◌then◌else◌}
 use Rattle.std.proofs.lemmas.Bool.{ltb-false, ltb-true}
@@ -15,7 +16,6 @@ use Rattle.rstp_run.proofs.Totals.{if_so}
 -- ---- the flags
 
 pub record Pose : Type 0 where
-  pub proposing : Bool
   pub synced : Bool
   pub none : Bool
   pub sync : Bool
@@ -28,7 +28,6 @@ pub record Pose : Type 0 where
 
 abbrev pub pose_of : PortState → Pose
 pose_of x = record {
-  proposing = x.proposing;
   synced = x.synced;
   none = x.recent_root_while == 0;
   sync = x.sync;
@@ -40,18 +39,17 @@ pose_of x = record {
   disputed = x.disputed;
 }
 
-abbrev pose : Bool → Bool → Bool → Bool → Bool → Bool → Bool → Bool → Bool → Bool → Pose
-pose a b c d e f g h i j = record {
-  proposing = a;
-  synced = b;
-  none = c;
-  sync = d;
-  re_root = e;
-  learn = f;
-  forward = g;
-  learning = h;
-  forwarding = i;
-  disputed = j;
+abbrev pose : Bool → Bool → Bool → Bool → Bool → Bool → Bool → Bool → Bool → Pose
+pose a b c d e f g h i = record {
+  synced = a;
+  none = b;
+  sync = c;
+  re_root = d;
+  learn = e;
+  forward = f;
+  learning = g;
+  forwarding = h;
+  disputed = i;
 }
 
 abbrev held : Pose → Bool
@@ -64,7 +62,6 @@ free c = not c.sync && (c.none || not c.re_root)
 
 -- the rule may be enabled
 abbrev pub may : RoleRule → Pose → Bool
-may role_rule.Propose c = not c.forward && not c.proposing
 may role_rule.Synced c = not c.synced || c.sync
 may role_rule.Retired c = c.none && c.re_root
 may role_rule.DesignatedDiscard c = (c.learn || c.forward) && (held c || c.disputed)
@@ -73,7 +70,6 @@ may role_rule.DesignatedForward c = c.learn && not c.forward && free c
 may _ c = false
 
 abbrev pub posed : RoleRule → Pose → Pose
-posed role_rule.Propose c = record c { proposing = true }
 posed role_rule.Synced c = record c { none = true; synced = true; sync = false }
 posed role_rule.Retired c = record c { re_root = false }
 posed role_rule.DesignatedDiscard c = record c { learn = false; forward = false; disputed = false }
@@ -106,13 +102,10 @@ work true true true true = 0
 abbrev work_of : Pose → ℕ
 work_of c = work c.learn c.forward c.learning c.forwarding
 
--- the steps of a port that may have to discard once more, until it is synced and was no root port recently
-abbrev yet : Pose → ℕ
-yet c = if not c.synced || not c.none then (if held c && not (c.learn || c.forward) then 1 else 7) else 0
-
+-- a port that is disputed, or is held back, may have to discard once more
 abbrev pub place : Pose → ℕ
 place c =
-    if_so 2 (not c.proposing) + if_so 1 c.sync + if_so 1 c.re_root + yet c + if_so 6 c.disputed
+    if_so 1 (not c.synced || c.sync) + if_so 1 c.re_root + if_so 6 (c.disputed || ((c.learn || c.forward) && held c))
 
 abbrev left : Pose → ℕ
 left c = place c + work_of c
@@ -120,18 +113,18 @@ left c = place c + work_of c
 abbrev falls : Pose → Bool → Pose → Bool
 falls c on d = not on || nat_lt (left d) (left c)
 
-abbrev falls_case : RoleRule → Test 10
-falls_case rule a b c d e f g h i j =
-    falls (pose a b c d e f g h i j) (may rule (pose a b c d e f g h i j)) (posed rule (pose a b c d e f g h i j))
+abbrev falls_case : RoleRule → Test 9
+falls_case rule a b c d e f g h i =
+    falls (pose a b c d e f g h i) (may rule (pose a b c d e f g h i)) (posed rule (pose a b c d e f g h i))
 
 -- each of these rules lowers the number
-falls_by : (rule : RoleRule) → every 10 (falls_case rule) ≡ true → (c : Pose) → may rule c ≡ true
+falls_by : (rule : RoleRule) → every 9 (falls_case rule) ≡ true → (c : Pose) → may rule c ≡ true
     → left (posed rule c) < left c
 falls_by rule all c on =
     ltb-true (left (posed rule c)) (left c)
     (imply (may rule c) (nat_lt (left (posed rule c)) (left c))
-    (holds 10 (falls_case rule) all c.proposing c.synced c.none c.sync c.re_root c.learn c.forward c.learning
-    c.forwarding c.disputed) on)
+    (holds 9 (falls_case rule) all c.synced c.none c.sync c.re_root c.learn c.forward c.learning c.forwarding
+    c.disputed) on)
 
 -- learning and forwarding
 abbrev work_case : (Bool → Bool → Bool → Bool → Bool) → (Bool → Bool → Bool → Bool → ℕ) → Test 4
@@ -164,34 +157,13 @@ pub work-few : (l f lg fg : Bool) → work l f lg fg ≤ 6
 work-few l f lg fg =
     ltb-false 6 (work l f lg fg) (levels.not-true _ (holds 4 (λ a b c d. not (nat_lt 6 (work a b c d))) refl l f lg fg))
 
--- a port that comes to rest: it is synced, and no request is left
-abbrev rested : Pose → Pose
-rested c = record c { synced = true; none = true; sync = false; re_root = false }
-
-abbrev rests_case : Test 11
-rests_case at a b c d e f g h i j =
-    not ((((not at || d) || e) || not b) || not c)
-    || nat_lt (place (rested (pose a b c d e f g h i j))) (place (pose a b c d e f g h i j) + if_so 1 (not at))
-
-pub rests-lowers : (at : Bool) (c : Pose) → (((not at || c.sync) || c.re_root) || not c.synced) || not c.none ≡ true
-    → place (rested c) < place c + if_so 1 (not at)
-rests-lowers at c h =
-    ltb-true (place (rested c)) (place c + if_so 1 (not at))
-    (imply ((((not at || c.sync) || c.re_root) || not c.synced) || not c.none)
-    (nat_lt (place (rested c)) (place c + if_so 1 (not at)))
-    (holds 11 rests_case refl at c.proposing c.synced c.none c.sync c.re_root c.learn c.forward c.learning c.forwarding
-    c.disputed) h)
-
-pub place-few : (c : Pose) → place c ≤ 17
+pub place-few : (c : Pose) → place c ≤ 8
 place-few c =
-    ltb-false 17 (place c) (levels.not-true _
-    (holds 10 (λ a b c d e f g h i j. not (nat_lt 17 (place (pose a b c d e f g h i j)))) refl c.proposing c.synced
-    c.none c.sync c.re_root c.learn c.forward c.learning c.forwarding c.disputed))
+    ltb-false 8 (place c) (levels.not-true _
+    (holds 9 (λ a b c d e f g h i. not (nat_lt 8 (place (pose a b c d e f g h i)))) refl c.synced c.none c.sync c.re_root
+    c.learn c.forward c.learning c.forwarding c.disputed))
 
 -- ---- the rules of a port
-
-abbrev propose_case : Test 5
-propose_case acts f a p e = not ((((acts && not f) && not a) && not p) && not e) || (not f && not p)
 
 abbrev synced_case : Test 6
 synced_case acts syn sync dark a e =
@@ -217,12 +189,6 @@ retired_case acts none rr = not ((acts && none) && rr) || (none && rr)
 
 abbrev Lowers : RoleRule → PortState → Type 0
 Lowers rule x = left (posed rule (pose_of x)) < left (pose_of x)
-
-pub propose-lowers : (x : PortState) → roles.propose_guard x ≡ true → Lowers role_rule.Propose x
-propose-lowers x g =
-    falls_by role_rule.Propose refl (pose_of x)
-    (imply (roles.propose_guard x) (may role_rule.Propose (pose_of x)) (holds 5 propose_case refl
-    (roles.acts_as_designated x) x.forward x.agreed x.proposing x.oper_edge) g)
 
 pub synced-lowers : (x : PortState) → roles.synced_guard x ≡ true → Lowers role_rule.Synced x
 synced-lowers x g =
