@@ -1,5 +1,5 @@
--- The firings of a pass, by the cost of the rules that are left at a port, and by what each port may still cost after its
--- visit.
+-- The firings of a pass, by the cost of the rules that are left at a port, and by what each port may still cost after
+-- its visit.
 use Rattle.std.proofs.Common.{◌≡◌, ℕ, zero, suc, ◌+◌, ◌*◌, ◌≤◌, ◌<◌, ◌==◌, ◌⊎◌, inl, inr, Bool, true, false, List, []}
 use Rattle.std.proofs.Common.{◌∷◌, Option, Some, ◌&&◌, length, slice_get}
 use Rattle.std.proofs.Common.{refl, sym, ap, subst, ◌∙◌, arith, if◌then◌else◌}
@@ -12,6 +12,7 @@ use Rattle.rstp_run.specs.declared.rule.Rule.TheVariants as rules
 use Rattle.rstp_run.specs.Lasting.{is_select}
 use Rattle.rstp_run.specs.Rules.{Tree, after, asks, guard, ports_after, timing_in}
 use Rattle.rstp_run.specs.Sweep.{Going, pass, tries, tries_all, tries_below}
+use Rattle.rstp_run.proofs.Informed.{no}
 use Rattle.rstp_run.proofs.Ordered.{tries-full, tries-off, tries-on}
 use Rattle.rstp_run.proofs.Own.{Spread, after-at, own, spread_by, spread_of}
 use Rattle.rstp_run.proofs.Places.{AtAll, select-later}
@@ -75,9 +76,22 @@ abbrev pub all_are : (Rule → Bool) → List Rule → Bool
 all_are only [] = true
 all_are only (rule ∷ rest) = only rule && all_are only rest
 
+-- rules of a sort to which Select doesn't belong
+pub unselected : (only : Rule → Bool) → only rules.Select ≡ false → (rule : Rule) → only rule ≡ true
+    → is_select rule ≡ false
+unselected only none rules.Select sort = no (sym none ∙ sort)
+unselected only none (rules.Receive rule) sort = refl
+unselected only none (rules.Migration rule) sort = refl
+unselected only none (rules.Detection rule) sort = refl
+unselected only none (rules.Information rule) sort = refl
+unselected only none (rules.Role rule) sort = refl
+unselected only none (rules.State rule) sort = refl
+unselected only none (rules.Topology rule) sort = refl
+unselected only none (rules.Transmit rule) sort = refl
+
 -- only Select changes the values of the bridge that the rules of a port read
 same_timing : (rule : Rule) (s : Tree) (p : ℕ) → is_select rule ≡ false → timing_in (after rule s p) ≡ timing_in s
-same_timing rules.Select s p other = let e : ⊥ = cc in absurd e
+same_timing rules.Select s p other = no (sym other)
 same_timing (rules.Receive rule) s p other = refl
 same_timing (rules.Migration rule) s p other = refl
 same_timing (rules.Detection rule) s p other = refl

@@ -1,15 +1,14 @@
 -- What a port that has taken its role may still fire, apart from topology change, while no port requests another to
 -- sync or to leave the old root: a number that each firing at the port lowers.
-use Rattle.std.proofs.Common.{◌≡◌, ℕ, suc, ◌+◌, ◌*◌, ◌≤◌, ◌<◌, Bool, true, false, not, ◌&&◌, ◌||◌, ◌==◌}
-use Rattle.std.proofs.Common.{refl, sym, ap, subst, ◌∙◌, arith, if◌then◌else◌}
-use Rattle.std.proofs.lemmas.Bool.{and_parts}
+use Rattle.std.proofs.Common.{◌≡◌, ℕ, ◌+◌, ◌*◌, ◌≤◌, ◌<◌, Bool, true, false, not, ◌&&◌, ◌||◌, ◌==◌}
+use Rattle.std.proofs.Common.{refl, sym, ap, ◌∙◌, arith, if◌then◌else◌}
 use Rattle.rstp_state.specs.declared.port.PortState.{PortState}
 use Rattle.rstp_state.specs.declared.port.Role.{Role}
 use Rattle.rstp_state.specs.declared.port.Role.TheVariants as role
 use Rattle.rstp_state.specs.declared.port.Timing.{Timing}
 use Rattle.rstp_state.specs.Port.{edge_delay, forward_delay, has_role, is_blocked, is_designated, is_disabled, is_root}
 use Rattle.rstp_state.specs.Port.{may_act, same_role}
-use Rattle.rstp_roles.specs.AllPorts.{all_synced, re_rooted}
+use Rattle.rstp_roles.specs.AllPorts.{all_synced}
 use Rattle.rstp_roles.specs.RoleTransitions as roles
 use Rattle.rstp_roles.specs.Rules.{state_asks, state_does}
 use Rattle.rstp_roles.specs.declared.rule.RoleRule.{RoleRule}
@@ -24,7 +23,7 @@ use Rattle.rstp_run.specs.declared.rule.Rule.TheVariants as rules
 use Rattle.rstp_run.specs.Rules.{Tree, asks, timing_in}
 use Rattle.rstp_run.proofs.Fixed.{IsFixed, fits, fixed-fits}
 use Rattle.rstp_run.proofs.Informed.{no}
-use Rattle.rstp_run.proofs.Inputs.{inputs, moves-on, moving, moving-few, moving-unheard, offers, wait}
+use Rattle.rstp_run.proofs.Inputs.{inputs, moves-on, moving, moving-few, moving-unheard}
 use Rattle.rstp_run.proofs.Levels as levels
 use Rattle.rstp_run.proofs.Measure.{waiting, waiting-le}
 use Rattle.rstp_run.proofs.Own.{own_role, spread_of}
@@ -33,7 +32,7 @@ use Rattle.rstp_run.proofs.Poses.{place, place-few, pose_of, work}
 use Rattle.rstp_run.proofs.Poses as poses
 use Rattle.rstp_run.proofs.RoleKinds.{as-designated, as-root, as_blocked, as_disabled, kind, role-kind, rule_kind}
 use Rattle.rstp_run.proofs.RoleKinds.{same-test}
-use Rattle.rstp_run.proofs.RoleParts.{blocked_not_root, disabled_not_root, not_root, on_both, one_agrees, other_role}
+use Rattle.rstp_run.proofs.RoleParts.{on_both, one_agrees, other_role}
 use Rattle.rstp_run.proofs.RoleParts.{same_number, unless, waiting-blocked, waiting-disabled}
 use Rattle.rstp_run.proofs.Sound.{left, right}
 use Rattle.rstp_run.proofs.Totals.{if_so, if_so-le, if_so-on}

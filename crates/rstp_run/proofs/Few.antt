@@ -1,5 +1,5 @@
--- A bound of the firings at an event of a settled bridge: what each of the first five passes costs, and then no more than
--- a number that each firing lowers.
+-- A bound of the firings at an event of a settled bridge: the costs of the first five passes, and then a number that
+-- each firing lowers.
 use Rattle.std.proofs.Common.{◌≡◌, ℕ, zero, suc, ◌+◌, ◌*◌, ◌≤◌, ◌<◌, ◌⊎◌, inl, inr, Bool, true, false, List, []}
 use Rattle.std.proofs.Common.{◌∷◌}
 use Rattle.std.proofs.Common.{◌||◌, Some, length, map, slice_get, refl, sym, subst, ◌∙◌, arith}
@@ -15,7 +15,8 @@ use Rattle.rstp_run.specs.Lasting.{is_select}
 use Rattle.rstp_run.specs.Laws.{AreOrderly, IsOrderly}
 use Rattle.rstp_run.specs.Rules.{Tree, guard, timing_in}
 use Rattle.rstp_run.specs.Sweep.{Going, fired, main_order, pass, sending_order, swept, tries, tries_all}
-use Rattle.rstp_run.proofs.Caps.{Held, IsFresh, early-pass, fresh-goes, fresh-spreads, held-as, late-pass, left_due}
+use Rattle.rstp_run.proofs.Caps.{IsFresh, early-pass, fresh-goes, fresh-spreads, late-pass, left_due}
+use Rattle.rstp_run.proofs.Shares.{Held, held-as}
 use Rattle.rstp_run.proofs.Caps.{taken-goes, taken-spreads}
 use Rattle.rstp_run.proofs.Costs.{sum}
 use Rattle.rstp_run.proofs.Dues.{late-few}
@@ -27,7 +28,7 @@ use Rattle.rstp_run.proofs.Kept.{IsKept, OneRoot, kept_walks, roles_of}
 use Rattle.rstp_run.proofs.Levels.{IsCalm, IsChosen, IsFirst, IsTaken, IsYoung}
 use Rattle.rstp_run.proofs.Ordered.{pass-full, tries-off, tries_all-full}
 use Rattle.rstp_run.proofs.Own.{Nothing, Reroots, Spread, Syncs, Tells, spread_by}
-use Rattle.rstp_run.proofs.Paces.{at_work, fits-nothing, fits-work, nothing, work-turned}
+use Rattle.rstp_run.proofs.Spans.{at_work, fits-nothing, fits-work, nothing, work-turned}
 use Rattle.rstp_run.proofs.Poses.{work}
 use Rattle.rstp_run.proofs.Starts.{starts}
 use Rattle.rstp_run.proofs.Orderly.{at_place, orderly-after, orderly-direct}
@@ -119,7 +120,7 @@ module _ (n limit : ℕ) where
 
   -- ---- the facts after this many passes
 
-  -- what a port may still cost after the third pass
+  -- the cost of a port after the third pass, at most
   abbrev after_third : PortState → ℕ
   after_third x = owed x + (8 + work x.learn x.forward x.learning x.forwarding)
 
@@ -172,7 +173,8 @@ module _ (n limit : ℕ) where
     well_pass g h.1.0,
     held-as (λ x. owed x + 0) owed n limit (20 * n + 41 + 1 + (n * (2 + 4 + 5) + 4)) (31 * n + 46)
         (pass main_order limit g) (λ x. omega arith) (omega arith)
-        (early-pass IsTaken taken-spreads taken-goes 2 updating nothing 0 4 fits-nothing (λ x. 0) (λ x. refl) (λ k x. refl)
+        (early-pass IsTaken taken-spreads taken-goes 2 updating nothing 0 4 fits-nothing (λ x. 0) (λ x. refl)
+        (λ k x. refl)
         (λ rule timing x. refl) n limit 0 (20 * n + 41) g h.1.0.3
         (facts_of (λ q. IsChosen) IsTaken (λ q x k. k.0) (tries rules.Select 0 limit g) (second-select n limit g h.0).2)
         (roots g h.1.0) h.1.1),
@@ -288,7 +290,7 @@ module _ (n limit : ℕ) where
           let few = s.2 in
           inr (h.0, late, omega (arith, bound, few))
 
-  -- the third pass ends with what each port may cost in later passes
+  -- the third pass ends with the cost of each port in later passes
   begins_late : (g : Going) → Counted after_third 52 51 g → Counted (left_due (timing_in g.tree)) 52 51 g
   begins_late g h = (
     h.0,

@@ -14,7 +14,6 @@ use Rattle.rstp_state.specs.declared.port.Timing.{Timing}
 use Rattle.rstp_state.specs.Port.{is_current, is_inactive, is_out, is_received}
 use Rattle.rstp_machines.specs.BridgeDetection as detection
 use Rattle.rstp_machines.specs.Information as info
-use Rattle.rstp_machines.specs.Migration as moves
 use Rattle.rstp_machines.specs.Receive as receiving
 use Rattle.rstp_machines.specs.Transmit as sends
 use Rattle.rstp_run.specs.Machines.{information_asks, information_does, migration_asks, migration_does}
@@ -345,7 +344,8 @@ inputs-few x none empty = go x.enabled refl
         let a : offers x.proposing x.enabled ≡ offers x.proposing true = ap (offers x.proposing) up in
         let a1 = one x.proposing in
         let b = if_so-le 1 x.disputed in
-        let c : if_so 1 (not (x.edge_delay_while == 3) && not x.enabled) ≡ 0 = off (not (x.edge_delay_while == 3)) x.enabled up in
+        let c : if_so 1 (not (x.edge_delay_while == 3) && not x.enabled) ≡ 0 = off (not (x.edge_delay_while == 3))
+        x.enabled up in
         let d = if_so-le 2 (may_turn_edge (x.enabled || x.admin_edge) x.oper_edge) in
         let e = moving-few x.migration (x.migration_delay_while == 3) x.received_stp in
         let f = if_so-le 1 (is_none x.slot && x.enabled) in

@@ -1,6 +1,6 @@
 -- The work of a port after five passes of an event, as a number that each firing at the port lowers.
 use Rattle.std.proofs.Common.{◌≡◌, ℕ, ◌+◌, ◌*◌, ◌≤◌, ◌<◌, Bool, true, false, not, ◌&&◌, ◌||◌}
-use Rattle.std.proofs.Common.{nat_lt, refl, sym, ap, subst, ◌∙◌, arith, if◌then◌else◌}
+use Rattle.std.proofs.Common.{nat_lt, refl, sym, ap, ◌∙◌, arith, if◌then◌else◌}
 use Rattle.std.proofs.lemmas.Bool.{and_parts, ltb-true, not-true}
 use Rattle.rstp_state.specs.declared.port.PortState.{PortState}
 use Rattle.rstp_state.specs.declared.port.Timing.{Timing}
@@ -18,7 +18,6 @@ use Rattle.rstp_run.proofs.Inputs.{inputs, wait}
 use Rattle.rstp_run.proofs.LowersPorts as of_port
 use Rattle.rstp_run.proofs.Measure.{may_turn_edge}
 use Rattle.rstp_run.proofs.RoleParts.{on_both}
-use Rattle.rstp_run.proofs.Sound.{left, or_left}
 use Rattle.rstp_run.proofs.Totals.{if_so, if_so-le, if_so-off, if_so-on}
 
 -- ---- the parts
@@ -87,7 +86,6 @@ turning_root false true false false true l k h = refl
 turning_root false true false false false l k h = refl
 turning_root false false i m e l k h = no h
 
-
 pub turns-same : (x : PortState) (l : Bool) → is_root x.selected_role || is_designated x.selected_role ≡ true
     → turning (is_root x.selected_role) (is_designated x.selected_role) (is_inactive x.topology)
     (is_learning x.topology) x.oper_edge x.learn
@@ -155,9 +153,9 @@ module _ (n : ℕ) (timing : Timing) (x : PortState) where
       let d = none_left r (may_turn_edge (up x) true) is in
       let e : if_so (2 * n) (tells r (is_inactive x.topology) (is_learning x.topology) true (up x)) ≤ 0 =
       (let f = if_so-to (2 * n) (tells r (is_inactive x.topology) (is_learning x.topology) true (up x))
-          (may_turn_edge (up x) true) (tells_turn r (is_inactive x.topology) (is_learning x.topology) (up x)) in
-          let g = if_so-off (2 * n) (may_turn_edge (up x) true) is in
-          omega (arith, f, g)) in
+      (may_turn_edge (up x) true) (tells_turn r (is_inactive x.topology) (is_learning x.topology) (up x)) in
+      let g = if_so-off (2 * n) (may_turn_edge (up x) true) is in
+      omega (arith, f, g)) in
       omega (arith, a.0, a.1, b, c, d, e)
 
   ceases : (r i m e u : Bool) → e ≡ true → u ≡ false → tells r i m false u ≡ true → tells r i m e u ≡ true
@@ -318,10 +316,12 @@ module _ (n : ℕ) (timing : Timing) (x : PortState) where
       (on_both _ (not x.oper_edge) (on_both _ (not (is_inactive x.topology))
       (on_both (is_root x.selected_role) (is_learning x.topology) root state) (ap not (learns_not x.topology state)))
       no_edge) in
-      let b = if_so-off (2 * n) (tells r false false x.oper_edge (up x)) (rw (not-true x.oper_edge no_edge, root) refl) in
+      let b = if_so-off (2 * n) (tells r false false x.oper_edge (up x))
+      (rw (not-true x.oper_edge no_edge, root) refl) in
       let c = if_so-on (2 * n) (tells r (is_inactive x.topology) (is_learning x.topology) x.oper_edge (up x))
       (rw (root, state, not-true x.oper_edge no_edge, learns_not x.topology state) refl) in
-      let e : if_so 1 (not (is_inactive x.topology) && x.received_acknowledgement) ≡ if_so 1 x.received_acknowledgement =
+      let e : if_so 1 (not (is_inactive x.topology) && x.received_acknowledgement) ≡ if_so 1
+      x.received_acknowledgement =
       rw (learns_not x.topology state) refl in
       timed (λ y. load n timing (record y { new_info = true }) + (2 * n + 1) ≤ load n timing x) timing
       (record x { topology = topology.Active }) (omega (arith, a, b, c, e)) (omega (arith, a, b, c, e))

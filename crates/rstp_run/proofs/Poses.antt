@@ -1,6 +1,6 @@
 -- The rules of roles and states at a designated port that no port requests to sync or to leave the old root, on nine of
--- its flags, whatever its timers, its agreement and its edge are. Each lowers a number of these flags. All values of the
--- flags are tried.
+-- its flags, whatever its timers, its agreement and its edge are. Each lowers a number of these flags. All values of
+-- the flags are tried.
 use Rattle.std.proofs.Common.{◌≡◌, ℕ, ◌+◌, ◌≤◌, ◌<◌, Bool, true, false, not, ◌&&◌, ◌||◌, ◌==◌}
 use Rattle.std.proofs.Common.{nat_lt, refl, if◌then◌else◌}
 use Rattle.std.proofs.lemmas.Bool.{ltb-false, ltb-true}
@@ -160,7 +160,8 @@ work-few l f lg fg =
 pub place-few : (c : Pose) → place c ≤ 8
 place-few c =
     ltb-false 8 (place c) (levels.not-true _
-    (holds 9 (λ a b c d e f g h i. not (nat_lt 8 (place (pose a b c d e f g h i)))) refl c.synced c.none c.sync c.re_root
+    (holds 9 (λ a b c d e f g h i. not (nat_lt 8 (place (pose a b c d e f g h i)))) refl c.synced c.none c.sync
+    c.re_root
     c.learn c.forward c.learning c.forwarding c.disputed))
 
 -- ---- the rules of a port

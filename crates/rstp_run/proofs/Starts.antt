@@ -1,14 +1,13 @@
--- What is left at each port right after an event of a settled bridge.
+-- The share of each port right after an event of a settled bridge.
 use Rattle.std.proofs.Common.{◌≡◌, ℕ, zero, suc, ◌+◌, ◌*◌, ◌≤◌, ◌<◌, ◌⊎◌, inl, inr, Bool, true, false, not, ◌&&◌}
-use Rattle.std.proofs.Common.{◌||◌, ◌==◌, List, [], length, map, Some, slice_get, refl, sym, ap, subst, ◌∙◌, arith}
+use Rattle.std.proofs.Common.{◌||◌, ◌==◌, List, [], map, Some, slice_get, refl, sym, ◌∙◌, arith}
 use Rattle.std.proofs.lemmas.Bool.{cases_lt, eqb-false, eqb-true}
 use Rattle.ether_wire.specs.Ports.{place_of_port}
-use Rattle.bpdu_wire.specs.declared.bpdu.Bpdu.{Bpdu}
 use Rattle.rstp_state.specs.declared.port.PortState.{PortState}
 use Rattle.rstp_state.specs.declared.port.Topology.{Topology}
 use Rattle.rstp_state.specs.declared.port.Topology.TheVariants as topology
 use Rattle.rstp_state.specs.Direct.{with_enabled, with_message, with_migration_check, with_second, without_slot}
-use Rattle.rstp_state.specs.Port.{change_at, is_active, is_inactive, is_learning, is_out}
+use Rattle.rstp_state.specs.Port.{is_active, is_inactive, is_learning, is_out}
 use Rattle.rstp_machines.specs.TopologyChange as change
 use Rattle.rstp_run.specs.declared.event.Event.{Event}
 use Rattle.rstp_run.specs.declared.event.Event.TheVariants as events
@@ -19,9 +18,8 @@ use Rattle.rstp_run.specs.declared.rule.TopologyRule.TheVariants as topology_rul
 use Rattle.rstp_run.specs.Events.{direct, ports_at}
 use Rattle.rstp_run.specs.Machines.{topology_asks}
 use Rattle.rstp_run.specs.Rules.{Tree}
-use Rattle.rstp_run.specs.Runs.{Firing, IsSettled}
-use Rattle.rstp_run.specs.Sweep.{Going}
-use Rattle.rstp_run.proofs.Caps.{Held}
+use Rattle.rstp_run.specs.Runs.{IsSettled}
+use Rattle.rstp_run.proofs.Shares.{Held}
 use Rattle.rstp_run.proofs.Costs.{put, put-apart, put-there, sum, sum-below, sum-put}
 use Rattle.rstp_run.proofs.Inputs.{inputs-few, inputs-most, mail, owed, turn, wait}
 use Rattle.rstp_run.proofs.Levels.{if-is}

@@ -1,6 +1,6 @@
--- The rules of roles and states in a visit of a port: what each may cost, in the order of the table.
+-- The rules of roles and states in a visit of a port: the cost of each, in the order of the table.
 use Rattle.std.proofs.Common.{◌≡◌, ℕ, zero, suc, ◌+◌, ◌≤◌, ◌<◌, Bool, true, false, not, ◌&&◌, List, [], ◌∷◌, ◌++◌}
-use Rattle.std.proofs.Common.{nat_lt, take, drop, refl, sym, ap, subst, arith, if◌then◌else◌}
+use Rattle.std.proofs.Common.{take, drop, refl, sym, subst, arith, if◌then◌else◌}
 use Rattle.rstp_state.specs.declared.port.PortState.{PortState}
 use Rattle.rstp_state.specs.declared.port.Role.{Role}
 use Rattle.rstp_state.specs.declared.port.Role.TheVariants as role
@@ -13,39 +13,43 @@ use Rattle.rstp_run.specs.declared.rule.Rule.TheVariants as rules
 use Rattle.rstp_run.specs.Lasting.{is_select}
 use Rattle.rstp_run.specs.Rules.{Tree, asks, timing_in}
 use Rattle.rstp_run.specs.Sweep.{Going, main_order, tries, tries_all}
-use Rattle.rstp_run.proofs.Costs.{Paid, many, one, paid-as}
+use Rattle.rstp_run.proofs.Costs.{Paid, many, one, paid-as, unselected}
 use Rattle.rstp_run.proofs.Informed.{no}
 use Rattle.rstp_run.proofs.Inputs.{owed}
 use Rattle.rstp_run.proofs.Ordered.{tries_all-append}
 use Rattle.rstp_run.proofs.Own.{Spread, own, spread_by, spread_of}
-use Rattle.rstp_run.proofs.Paces.{Fits, Gait, Numbers, at_forward, at_learn, at_rest, at_states, by_kind, dark, follows}
-use Rattle.rstp_run.proofs.Paces.{gait_of, greater, greater-one, greater-two, may, numbered, price, role-lowers, state-fires}
-use Rattle.rstp_run.proofs.Paces.{state-rests, state_list, stepped}
+use Rattle.rstp_run.proofs.Paces.{Gait, dark, gait_of, may, price, stepped}
 use Rattle.rstp_run.proofs.Poses.{begins-forwarding, begins-learning, work, work-few}
 use Rattle.rstp_run.proofs.RoleKinds.{kind, rule_kind}
+use Rattle.rstp_run.proofs.Spans.{Fits, Numbers, at_forward, at_learn, at_rest, at_states, by_kind, follows, greater}
+use Rattle.rstp_run.proofs.Spans.{greater-one, greater-two, numbered, role-lowers, state-fires, state-rests, state_list}
 use Rattle.rstp_run.proofs.Totals.{if_so}
 
 -- ---- numbers by kind
 
-pass0 : (a b c d e : Gait → ℕ) → ((g : Gait) → e g ≤ a g) → (k : ℕ) (g : Gait) → by_kind e b c d k g ≤ by_kind a b c d k g
+pass0 : (a b c d e : Gait → ℕ) → ((g : Gait) → e g ≤ a g) → (k : ℕ) (g : Gait)
+    → by_kind e b c d k g ≤ by_kind a b c d k g
 pass0 a b c d e less zero g = less g
 pass0 a b c d e less (suc zero) g = omega arith
 pass0 a b c d e less (suc (suc zero)) g = omega arith
 pass0 a b c d e less (suc (suc (suc k))) g = omega arith
 
-pass1 : (a b c d e : Gait → ℕ) → ((g : Gait) → e g ≤ b g) → (k : ℕ) (g : Gait) → by_kind a e c d k g ≤ by_kind a b c d k g
+pass1 : (a b c d e : Gait → ℕ) → ((g : Gait) → e g ≤ b g) → (k : ℕ) (g : Gait)
+    → by_kind a e c d k g ≤ by_kind a b c d k g
 pass1 a b c d e less zero g = omega arith
 pass1 a b c d e less (suc zero) g = less g
 pass1 a b c d e less (suc (suc zero)) g = omega arith
 pass1 a b c d e less (suc (suc (suc k))) g = omega arith
 
-pass2 : (a b c d e : Gait → ℕ) → ((g : Gait) → e g ≤ c g) → (k : ℕ) (g : Gait) → by_kind a b e d k g ≤ by_kind a b c d k g
+pass2 : (a b c d e : Gait → ℕ) → ((g : Gait) → e g ≤ c g) → (k : ℕ) (g : Gait)
+    → by_kind a b e d k g ≤ by_kind a b c d k g
 pass2 a b c d e less zero g = omega arith
 pass2 a b c d e less (suc zero) g = omega arith
 pass2 a b c d e less (suc (suc zero)) g = less g
 pass2 a b c d e less (suc (suc (suc k))) g = omega arith
 
-pass3 : (a b c d e : Gait → ℕ) → ((g : Gait) → e g ≤ d g) → (k : ℕ) (g : Gait) → by_kind a b c e k g ≤ by_kind a b c d k g
+pass3 : (a b c d e : Gait → ℕ) → ((g : Gait) → e g ≤ d g) → (k : ℕ) (g : Gait)
+    → by_kind a b c e k g ≤ by_kind a b c d k g
 pass3 a b c d e less zero g = omega arith
 pass3 a b c d e less (suc zero) g = omega arith
 pass3 a b c d e less (suc (suc zero)) g = omega arith
@@ -99,9 +103,10 @@ alone x = omega arith
 -- before the rules of roles, by the kind of the selected role
 abbrev pub before_roles : ℕ → ℕ → Numbers
 before_roles base most =
-    by_kind (λ c. most) (λ c. 5 + (base + work c.learn c.forward c.learning c.forwarding)) (λ c. 3 + most) (λ c. 3 + most)
+    by_kind (λ c. most) (λ c. 5 + (base + work c.learn c.forward c.learning c.forwarding)) (λ c. 3 + most)
+    (λ c. 3 + most)
 
--- at most so many, and 4 more at the root port
+-- a bound of these numbers: 4 more at the root port
 pub before-few : (end : Gait → ℕ) (base most : ℕ) → Fits end base most → (r : Role) (c : Gait)
     → before_roles base most (kind r) c ≤ most + 3 + if_so 4 (is_root r)
 before-few end base most ok role.Disabled c = omega arith
@@ -118,17 +123,6 @@ before-few end base most ok role.Backup c = omega arith
 abbrev is_state : Rule → Bool
 is_state (rules.State rule) = true
 is_state _ = false
-
-state_other : (rule : Rule) → is_state rule ≡ true → is_select rule ≡ false
-state_other rules.Select sort = no sort
-state_other (rules.Receive rule) sort = refl
-state_other (rules.Migration rule) sort = refl
-state_other (rules.Detection rule) sort = refl
-state_other (rules.Information rule) sort = refl
-state_other (rules.Role rule) sort = refl
-state_other (rules.State rule) sort = refl
-state_other (rules.Topology rule) sort = refl
-state_other (rules.Transmit rule) sort = refl
 
 abbrev only_roles : List Rule
 only_roles = take 21 (drop 20 main_order)
@@ -180,134 +174,142 @@ module _ (R : PortState → Type 0) (U V : PortState → ℕ) (timing : Timing) 
   abbrev f : Gait → ℕ
   f c = at_forward end c
 
-  -- what is left after the rules of roles
+  -- after the rules of roles
   abbrev last : Numbers
   last = by_kind s (rooted 0) s (rested 0 s)
 
   leads20 : Leads (drop 20 only_roles) (by_kind s (rooted 0) s (rested 1 s)) last
   leads20 =
-      step role_rule.Backup (drop 21 only_roles) (by_kind s (rooted 0) s (rested 1 s)) (by_kind s (rooted 0) s (rested 0 s)) last
-      (λ c on. (down (s c)).2)
+      step role_rule.Backup (drop 21 only_roles) (by_kind s (rooted 0) s (rested 1 s))
+      (by_kind s (rooted 0) s (rested 0 s)) last (λ c on. (down (s c)).2)
       (pass3 s (rooted 0) s (rested 1 s) (rested 0 s) (λ c. (less (s c)).2)) (λ g x. x)
 
   leads19 : Leads (drop 19 only_roles) (by_kind s (rooted 0) s (rested 2 s)) last
   leads19 =
-      step role_rule.AlternateAgreed (drop 20 only_roles) (by_kind s (rooted 0) s (rested 2 s)) (by_kind s (rooted 0) s (rested 1 s)) last
-      (λ c on. (down (s c)).1)
+      step role_rule.AlternateAgreed (drop 20 only_roles) (by_kind s (rooted 0) s (rested 2 s))
+      (by_kind s (rooted 0) s (rested 1 s)) last (λ c on. (down (s c)).1)
       (pass3 s (rooted 0) s (rested 2 s) (rested 1 s) (λ c. (less (s c)).1)) leads20
 
   leads18 : Leads (drop 18 only_roles) (by_kind s (rooted 0) s (rested 3 s)) last
   leads18 =
-      step role_rule.AlternateProposed (drop 19 only_roles) (by_kind s (rooted 0) s (rested 3 s)) (by_kind s (rooted 0) s (rested 2 s)) last
-      (λ c on. (down (s c)).0)
+      step role_rule.AlternateProposed (drop 19 only_roles) (by_kind s (rooted 0) s (rested 3 s))
+      (by_kind s (rooted 0) s (rested 2 s)) last (λ c on. (down (s c)).0)
       (pass3 s (rooted 0) s (rested 3 s) (rested 2 s) (λ c. (less (s c)).0)) leads19
 
   leads17 : Leads (drop 17 only_roles) (by_kind s (rooted 0) s (rested 3 r)) last
   leads17 =
-      step role_rule.Alternate (drop 18 only_roles) (by_kind s (rooted 0) s (rested 3 r)) (by_kind s (rooted 0) s (rested 3 s)) last
-      (λ c on. after_three (s c) (r c) (taken (dark c) (s c) on))
-      (pass3 s (rooted 0) s (rested 3 r) (rested 3 s) (λ c. beside_three (s c) (r c) (not_taken (dark c) (s c)))) leads18
+      step role_rule.Alternate (drop 18 only_roles) (by_kind s (rooted 0) s (rested 3 r))
+      (by_kind s (rooted 0) s (rested 3 s)) last (λ c on. after_three (s c) (r c) (taken (dark c) (s c) on))
+      (pass3 s (rooted 0) s (rested 3 r) (rested 3 s) (λ c. beside_three (s c) (r c) (not_taken (dark c) (s c))))
+      leads18
 
   leads16 : Leads (drop 16 only_roles) (by_kind s (rooted 0) s (more 3)) last
   leads16 =
-      step role_rule.Block (drop 17 only_roles) (by_kind s (rooted 0) s (more 3)) (by_kind s (rooted 0) s (rested 3 r)) last
+      step role_rule.Block (drop 17 only_roles) (by_kind s (rooted 0) s (more 3))
+      (by_kind s (rooted 0) s (rested 3 r)) last
       (λ c on. after_three (r (stepped role_rule.Block c)) most (ok.blocks c))
       (pass3 s (rooted 0) s (more 3) (rested 3 r) (λ c. beside_three (r c) most (ok.rests c))) leads17
 
   leads15 : Leads (drop 15 only_roles) (by_kind s (rooted 0) f (more 3)) last
   leads15 =
-      step role_rule.DesignatedForward (drop 16 only_roles) (by_kind s (rooted 0) f (more 3)) (by_kind s (rooted 0) s (more 3)) last
+      step role_rule.DesignatedForward (drop 16 only_roles) (by_kind s (rooted 0) f (more 3))
+      (by_kind s (rooted 0) s (more 3)) last
       (λ c on. better (may role_rule.DesignatedForward c) (s c) (s (stepped role_rule.DesignatedForward c)) on)
-      (pass2 s (rooted 0) f (more 3) s (λ c. not_better (may role_rule.DesignatedForward c) (s c) (s (stepped role_rule.DesignatedForward c)))) leads16
+      (pass2 s (rooted 0) f (more 3) s (λ c. not_better (may role_rule.DesignatedForward c) (s c)
+      (s (stepped role_rule.DesignatedForward c)))) leads16
 
   leads14 : Leads (drop 14 only_roles) (by_kind s (rooted 0) l (more 3)) last
   leads14 =
-      step role_rule.DesignatedLearn (drop 15 only_roles) (by_kind s (rooted 0) l (more 3)) (by_kind s (rooted 0) f (more 3)) last
+      step role_rule.DesignatedLearn (drop 15 only_roles) (by_kind s (rooted 0) l (more 3))
+      (by_kind s (rooted 0) f (more 3)) last
       (λ c on. better (may role_rule.DesignatedLearn c) (f c) (f (stepped role_rule.DesignatedLearn c)) on)
-      (pass2 s (rooted 0) l (more 3) f (λ c. not_better (may role_rule.DesignatedLearn c) (f c) (f (stepped role_rule.DesignatedLearn c)))) leads15
+      (pass2 s (rooted 0) l (more 3) f (λ c. not_better (may role_rule.DesignatedLearn c) (f c)
+      (f (stepped role_rule.DesignatedLearn c)))) leads15
 
   leads13 : Leads (drop 13 only_roles) (by_kind s (rooted 0) (λ c. most) (more 3)) last
   leads13 =
-      step role_rule.DesignatedDiscard (drop 14 only_roles) (by_kind s (rooted 0) (λ c. most) (more 3)) (by_kind s (rooted 0) l (more 3)) last
-      (λ c on. ok.discards c on)
+      step role_rule.DesignatedDiscard (drop 14 only_roles) (by_kind s (rooted 0) (λ c. most) (more 3))
+      (by_kind s (rooted 0) l (more 3)) last (λ c on. ok.discards c on)
       (pass2 s (rooted 0) (λ c. most) (more 3) l (λ c. ok.learns c)) leads14
 
   leads12 : Leads (drop 12 only_roles) (by_kind s (rooted 0) (more 1) (more 3)) last
   leads12 =
-      step role_rule.Retired (drop 13 only_roles) (by_kind s (rooted 0) (more 1) (more 3)) (by_kind s (rooted 0) (λ c. most) (more 3)) last
-      (λ c on. omega arith)
+      step role_rule.Retired (drop 13 only_roles) (by_kind s (rooted 0) (more 1) (more 3))
+      (by_kind s (rooted 0) (λ c. most) (more 3)) last (λ c on. omega arith)
       (pass2 s (rooted 0) (more 1) (more 3) (λ c. most) (λ c. omega arith)) leads13
 
   leads11 : Leads (drop 11 only_roles) (by_kind s (rooted 0) (more 2) (more 3)) last
   leads11 =
-      step role_rule.Synced (drop 12 only_roles) (by_kind s (rooted 0) (more 2) (more 3)) (by_kind s (rooted 0) (more 1) (more 3)) last
-      (λ c on. (down most).1)
+      step role_rule.Synced (drop 12 only_roles) (by_kind s (rooted 0) (more 2) (more 3))
+      (by_kind s (rooted 0) (more 1) (more 3)) last (λ c on. (down most).1)
       (pass2 s (rooted 0) (more 2) (more 3) (more 1) (λ c. (less most).1)) leads12
 
   leads10 : Leads (drop 10 only_roles) (by_kind s (rooted 0) (more 2) (more 3)) last
   leads10 =
-      step role_rule.Propose (drop 11 only_roles) (by_kind s (rooted 0) (more 2) (more 3)) (by_kind s (rooted 0) (more 2) (more 3)) last
-      (λ c on. omega arith)
+      step role_rule.Propose (drop 11 only_roles) (by_kind s (rooted 0) (more 2) (more 3))
+      (by_kind s (rooted 0) (more 2) (more 3)) last (λ c on. omega arith)
       (pass2 s (rooted 0) (more 2) (more 3) (more 2) (λ c. omega arith)) leads11
 
   leads9 : Leads (drop 9 only_roles) (by_kind s (rooted 0) (more 3) (more 3)) last
   leads9 =
-      step role_rule.Designated (drop 10 only_roles) (by_kind s (rooted 0) (more 3) (more 3)) (by_kind s (rooted 0) (more 2) (more 3)) last
-      (λ c on. (down most).0)
+      step role_rule.Designated (drop 10 only_roles) (by_kind s (rooted 0) (more 3) (more 3))
+      (by_kind s (rooted 0) (more 2) (more 3)) last (λ c on. (down most).0)
       (pass2 s (rooted 0) (more 3) (more 3) (more 2) (λ c. (less most).0)) leads10
 
   leads8 : Leads (drop 8 only_roles) (by_kind s (rooted 0) (more 3) (more 3)) last
   leads8 =
-      step role_rule.RootForward (drop 9 only_roles) (by_kind s (rooted 0) (more 3) (more 3)) (by_kind s (rooted 0) (more 3) (more 3)) last
+      step role_rule.RootForward (drop 9 only_roles) (by_kind s (rooted 0) (more 3) (more 3))
+      (by_kind s (rooted 0) (more 3) (more 3)) last
       (λ c on. (let a = begins-forwarding c.learn c.forward c.learning c.forwarding on in omega (arith, a)))
       (pass1 s (rooted 0) (more 3) (more 3) (rooted 0) (λ c. omega arith)) leads9
 
   leads7 : Leads (drop 7 only_roles) (by_kind s (rooted 0) (more 3) (more 3)) last
   leads7 =
-      step role_rule.RootLearn (drop 8 only_roles) (by_kind s (rooted 0) (more 3) (more 3)) (by_kind s (rooted 0) (more 3) (more 3)) last
+      step role_rule.RootLearn (drop 8 only_roles) (by_kind s (rooted 0) (more 3) (more 3))
+      (by_kind s (rooted 0) (more 3) (more 3)) last
       (λ c on. (let a = begins-learning c.learn c.forward c.learning c.forwarding on in omega (arith, a)))
       (pass1 s (rooted 0) (more 3) (more 3) (rooted 0) (λ c. omega arith)) leads8
 
   leads6 : Leads (drop 6 only_roles) (by_kind s (rooted 1) (more 3) (more 3)) last
   leads6 =
-      step role_rule.Rerooted (drop 7 only_roles) (by_kind s (rooted 1) (more 3) (more 3)) (by_kind s (rooted 0) (more 3) (more 3)) last
-      (λ c on. omega arith)
+      step role_rule.Rerooted (drop 7 only_roles) (by_kind s (rooted 1) (more 3) (more 3))
+      (by_kind s (rooted 0) (more 3) (more 3)) last (λ c on. omega arith)
       (pass1 s (rooted 1) (more 3) (more 3) (rooted 0) (λ c. omega arith)) leads7
 
   leads5 : Leads (drop 5 only_roles) (by_kind s (rooted 2) (more 3) (more 3)) last
   leads5 =
-      step role_rule.Reroot (drop 6 only_roles) (by_kind s (rooted 2) (more 3) (more 3)) (by_kind s (rooted 1) (more 3) (more 3)) last
-      (λ c on. omega arith)
+      step role_rule.Reroot (drop 6 only_roles) (by_kind s (rooted 2) (more 3) (more 3))
+      (by_kind s (rooted 1) (more 3) (more 3)) last (λ c on. omega arith)
       (pass1 s (rooted 2) (more 3) (more 3) (rooted 1) (λ c. omega arith)) leads6
 
   leads4 : Leads (drop 4 only_roles) (by_kind s (rooted 3) (more 3) (more 3)) last
   leads4 =
-      step role_rule.RootAgreed (drop 5 only_roles) (by_kind s (rooted 3) (more 3) (more 3)) (by_kind s (rooted 2) (more 3) (more 3)) last
-      (λ c on. omega arith)
+      step role_rule.RootAgreed (drop 5 only_roles) (by_kind s (rooted 3) (more 3) (more 3))
+      (by_kind s (rooted 2) (more 3) (more 3)) last (λ c on. omega arith)
       (pass1 s (rooted 3) (more 3) (more 3) (rooted 2) (λ c. omega arith)) leads5
 
   leads3 : Leads (drop 3 only_roles) (by_kind s (rooted 4) (more 3) (more 3)) last
   leads3 =
-      step role_rule.RootProposed (drop 4 only_roles) (by_kind s (rooted 4) (more 3) (more 3)) (by_kind s (rooted 3) (more 3) (more 3)) last
-      (λ c on. omega arith)
+      step role_rule.RootProposed (drop 4 only_roles) (by_kind s (rooted 4) (more 3) (more 3))
+      (by_kind s (rooted 3) (more 3) (more 3)) last (λ c on. omega arith)
       (pass1 s (rooted 4) (more 3) (more 3) (rooted 3) (λ c. omega arith)) leads4
 
   leads2 : Leads (drop 2 only_roles) (by_kind s (rooted 5) (more 3) (more 3)) last
   leads2 =
-      step role_rule.Root (drop 3 only_roles) (by_kind s (rooted 5) (more 3) (more 3)) (by_kind s (rooted 4) (more 3) (more 3)) last
-      (λ c on. omega arith)
+      step role_rule.Root (drop 3 only_roles) (by_kind s (rooted 5) (more 3) (more 3))
+      (by_kind s (rooted 4) (more 3) (more 3)) last (λ c on. omega arith)
       (pass1 s (rooted 5) (more 3) (more 3) (rooted 4) (λ c. omega arith)) leads3
 
   leads1 : Leads (drop 1 only_roles) (by_kind r (rooted 5) (more 3) (more 3)) last
   leads1 =
-      step role_rule.DisabledPort (drop 2 only_roles) (by_kind r (rooted 5) (more 3) (more 3)) (by_kind s (rooted 5) (more 3) (more 3)) last
-      (λ c on. taken (dark c) (s c) on)
+      step role_rule.DisabledPort (drop 2 only_roles) (by_kind r (rooted 5) (more 3) (more 3))
+      (by_kind s (rooted 5) (more 3) (more 3)) last (λ c on. taken (dark c) (s c) on)
       (pass0 r (rooted 5) (more 3) (more 3) s (λ c. not_taken (dark c) (s c))) leads2
 
   leads0 : Leads (drop 0 only_roles) (by_kind (λ c. most) (rooted 5) (more 3) (more 3)) last
   leads0 =
-      step role_rule.Disable (drop 1 only_roles) (by_kind (λ c. most) (rooted 5) (more 3) (more 3)) (by_kind r (rooted 5) (more 3) (more 3)) last
-      (λ c on. ok.blocks c)
+      step role_rule.Disable (drop 1 only_roles) (by_kind (λ c. most) (rooted 5) (more 3) (more 3))
+      (by_kind r (rooted 5) (more 3) (more 3)) last (λ c on. ok.blocks c)
       (pass0 (λ c. most) (rooted 5) (more 3) (more 3) r (λ c. ok.rests c)) leads1
 
   states_left : (k : ℕ) (c : Gait) → at_states end c ≤ last k c
@@ -354,7 +356,8 @@ module _ (R : PortState → Type 0) (U V : PortState → ℕ) (timing : Timing) 
   role-part g h =
       let g1 : Going = tries_all only_roles p limit g in
       let h1 : At (cost last) g1 = leads0 g h in
-      let h2 = many R U V timing n limit b fit spreads p within state_cost is_state state_other state_fires state_rests
+      let h2 = many R U V timing n limit b fit spreads p within state_cost is_state (unselected is_state refl)
+      state_fires state_rests
       state_list refl g1
       (paid-as R U V timing n limit b (cost last) (state_cost state_list) p g1
       (λ x r. with_owed (owed x) (follows end state_list (gait_of x)) (numbered last x)

@@ -1,5 +1,5 @@
 -- The rest of an event, after five passes: each firing lowers a number of the ports.
-use Rattle.std.proofs.Common.{◌≡◌, ℕ, zero, suc, ◌+◌, ◌*◌, ◌≤◌, ◌<◌, Bool, true, false, not, ◌&&◌, ◌||◌}
+use Rattle.std.proofs.Common.{◌≡◌, ℕ, ◌+◌, ◌*◌, ◌≤◌, ◌<◌, Bool, true, false, not, ◌&&◌, ◌||◌}
 use Rattle.std.proofs.Common.{List, [], ◌∷◌, Some, length, map, slice_get, refl, sym, ap, subst, ◌∙◌, arith}
 use Rattle.bpdu_wire.specs.declared.bpdu.Bpdu.TheVariants as bpdus
 use Rattle.rstp_state.specs.declared.port.PortState.{PortState}
@@ -7,7 +7,6 @@ use Rattle.rstp_state.specs.declared.port.Role.{Role}
 use Rattle.rstp_state.specs.declared.port.Timing.{Timing}
 use Rattle.rstp_state.specs.Port.{change_at, has_role, is_active, is_designated, is_disabled, is_root, may_act}
 use Rattle.rstp_state.specs.Port.{same_role, test_at}
-use Rattle.rstp_roles.specs.AllPorts.{all_synced, re_rooted}
 use Rattle.rstp_roles.specs.RoleTransitions as roles
 use Rattle.rstp_roles.specs.StateTransitions as states
 use Rattle.rstp_roles.specs.Rules.{role_does}
@@ -34,7 +33,8 @@ use Rattle.rstp_run.specs.Machines.{migration_asks, migration_does, topology_doe
 use Rattle.rstp_run.specs.Rules.{Tree, after, asks, guard, ports_after, timing_in}
 use Rattle.rstp_run.proofs.Falls.{IsAfterDiscard}
 use Rattle.rstp_run.proofs.Informed.{no}
-use Rattle.rstp_run.proofs.Caps.{left_due, total-shares, total-spare}
+use Rattle.rstp_run.proofs.Caps.{left_due}
+use Rattle.rstp_run.proofs.Shares.{total-shares, total-spare}
 use Rattle.rstp_run.proofs.Costs.{sum}
 use Rattle.rstp_run.proofs.Dues as dues
 use Rattle.rstp_run.proofs.Inputs as inputs
@@ -217,11 +217,14 @@ module _ (n : ℕ) (s : Tree) (p : ℕ) (x : PortState) (at : slice_get s.ports 
     falls (rules.Role rule) other rest g =
         role_falls rule g (role-kind rule s p x g) (fixed-fits (rules.Role rule) s p x g late.0)
     falls (rules.State state_rule.ToLearning) other rest g =
-        (let a = dues.state-falls (timing_in s) state_rule.ToLearning x g in fall states.to_learning_effect (omega (arith, a)))
+        (let a = dues.state-falls (timing_in s) state_rule.ToLearning x g in fall states.to_learning_effect
+        (omega (arith, a)))
     falls (rules.State state_rule.ToForwarding) other rest g =
-        (let a = dues.state-falls (timing_in s) state_rule.ToForwarding x g in fall states.to_forwarding_effect (omega (arith, a)))
+        (let a = dues.state-falls (timing_in s) state_rule.ToForwarding x g in fall states.to_forwarding_effect
+        (omega (arith, a)))
     falls (rules.State state_rule.ToDiscarding) other rest g =
-        (let a = dues.state-falls (timing_in s) state_rule.ToDiscarding x g in fall states.to_discarding_effect (omega (arith, a)))
+        (let a = dues.state-falls (timing_in s) state_rule.ToDiscarding x g in fall states.to_discarding_effect
+        (omega (arith, a)))
     falls (rules.Topology rule) other rest g = topology_falls rule g
     falls (rules.Transmit transmit_rule.Periodic) other rest g =
         (let a = inputs.periodic-falls (timing_in s) x some g in
@@ -257,7 +260,7 @@ total_bound n timing (x ∷ xs) =
     let rest = total_bound n timing xs in
     omega (arith, first, rest)
 
--- what is left after passes in which each port has its role
+-- the firings that are left after passes in which each port has its role
 pub late-bound : (n : ℕ) (s : Tree) (f : ℕ → ℕ) → length s.ports ≡ n → OneRoot (roles_of s.ports)
     → AtAll (λ q x. left_due (timing_in s) x ≤ f q) s.ports → remains n s ≤ sum n f + 7 * n + 2
 late-bound n s f many one all =
