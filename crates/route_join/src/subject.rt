@@ -1,5 +1,5 @@
 //! The subjects of routes: a network's flood list, or a MAC address in it.
-ghost use Rattle.std.specs.Prelude.{◌≡◌, ◌<◌, ◌^◌, None, Some, refl};
+ghost use Rattle.std.specs.Prelude.{◌≡◌, None, Some, refl};
 ghost use Rattle.route_join.specs.Subject.{subject_of};
 ghost use Rattle.route_join.specs.Inner.Subject.{subject_number, mac_place};
 

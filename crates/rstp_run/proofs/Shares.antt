@@ -1,7 +1,7 @@
 -- The firings that each port may still have, before a pass and after it.
-use Rattle.std.proofs.Common.{◌≡◌, ℕ, zero, suc, ◌+◌, ◌*◌, ◌≤◌, ◌<◌, ◌==◌, ◌⊎◌, inl, inr, Bool, true, false}
-use Rattle.std.proofs.Common.{List, [], ◌∷◌, ◌++◌, ◌&&◌, ◌||◌, Some}
-use Rattle.std.proofs.Common.{length, slice_get, refl, sym, ap, subst, ◌∙◌, arith, if◌then◌else◌}
+use Rattle.std.proofs.Common.{◌≡◌, ℕ, zero, suc, ◌+◌, ◌*◌, ◌≤◌, ◌<◌, ◌⊎◌, inl, inr, Bool, true, false}
+use Rattle.std.proofs.Common.{List, [], ◌∷◌, Some}
+use Rattle.std.proofs.Common.{length, slice_get, refl, sym, ap, subst, ◌∙◌, arith}
 use Rattle.std.proofs.lemmas.Bool.{cases_lt}
 use Rattle.std.proofs.lemmas.Option.{slice_get_within}
 use Rattle.std.specs.Option.{option_map_or}
@@ -233,8 +233,11 @@ module _ (R : PortState → Type 0) (V W more : PortState → ℕ) (n limit m b 
       × ((limit ≤ length (tries_below main_order k limit g).firings)
       ⊎ (timing_in (tries_below main_order k limit g).tree ≡ start_timing)) in
       let still : chosen ≡ g = tries-off rules.Select 0 limit g (nobody g.tree.ports is) in
-      subst Q (sym is) ((let few = h.0 in omega (arith, few), go h.1), inr
-      (ap (λ (x : Going). timing_in x.tree) (sym still)))
+      subst Q (sym is) (
+        (let few = h.0 in omega (arith, few), go h.1),
+        inr
+            (ap (λ (x : Going). timing_in x.tree) (sym still)),
+      )
     where
       is : length g.tree.ports ≡ 0
       is = omega (arith, ports, none)
