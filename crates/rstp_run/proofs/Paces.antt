@@ -1,7 +1,7 @@
 -- The rules of roles and states in a visit of a port, on six of its flags, whatever its timers, its agreement and its
 -- edge are.
-use Rattle.std.proofs.Common.{◌≡◌, ℕ, ◌+◌, ◌≤◌, ◌<◌, Bool, true, false, not, ◌&&◌, ◌||◌, ◌==◌, []}
-use Rattle.std.proofs.Common.{◌∷◌, refl, sym, ap, ◌∙◌, arith, if◌then◌else◌}
+use Rattle.std.proofs.Common.{◌≡◌, ℕ, ◌+◌, ◌≤◌, ◌<◌, Bool, true, false, not, ◌&&◌, ◌||◌, ◌==◌}
+use Rattle.std.proofs.Common.{refl, sym, ap, ◌∙◌, arith, if◌then◌else◌}
 use Rattle.rstp_state.specs.declared.port.PortState.{PortState}
 use Rattle.rstp_state.specs.declared.port.Role.{Role}
 use Rattle.rstp_state.specs.declared.port.Role.TheVariants as role
@@ -13,7 +13,6 @@ use Rattle.rstp_roles.specs.declared.rule.StateRule.{StateRule}
 use Rattle.rstp_roles.specs.declared.rule.StateRule.TheVariants as state_rule
 use Rattle.rstp_run.specs.declared.rule.Rule.TheVariants as rules
 use Rattle.rstp_run.specs.Rules.{Tree, asks, timing_in}
-use Rattle.rstp_run.proofs.Flags.{holds}
 use Rattle.rstp_run.proofs.Informed.{no}
 use Rattle.rstp_run.proofs.Inputs.{inputs, offers, wait}
 use Rattle.rstp_run.proofs.Measure.{is_held}

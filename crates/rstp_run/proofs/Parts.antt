@@ -1,7 +1,7 @@
 -- The parts of a visit of a port: the machines before those of roles, and topology change.
-use Rattle.std.proofs.Common.{◌≡◌, ℕ, suc, ◌+◌, ◌*◌, ◌≤◌, ◌<◌, ◌==◌, ◌⊎◌, inl, inr, Bool, true, false}
-use Rattle.std.proofs.Common.{List, [], ◌∷◌, ◌++◌, ◌&&◌, ◌||◌, Option, Some, None, take, drop}
-use Rattle.std.proofs.Common.{refl, sym, ap, subst, ◌∙◌, arith, if◌then◌else◌}
+use Rattle.std.proofs.Common.{◌≡◌, ℕ, suc, ◌+◌, ◌≤◌, ◌<◌, ◌⊎◌, inl, inr, Bool, true, false}
+use Rattle.std.proofs.Common.{List, [], ◌∷◌, ◌++◌, ◌&&◌, Option, Some, None, take, drop}
+use Rattle.std.proofs.Common.{refl, sym, ap, subst, ◌∙◌, arith}
 use Rattle.bpdu_wire.specs.declared.bpdu.Bpdu.{Bpdu}
 use Rattle.bpdu_wire.specs.declared.bpdu.Bpdu.TheVariants.{Config, Rst, Tcn}
 use Rattle.rstp_state.specs.declared.port.PortState.{PortState}
@@ -25,7 +25,7 @@ use Rattle.rstp_run.specs.Lasting.{is_select}
 use Rattle.rstp_run.specs.Machines.{information_asks, information_does, migration_asks, migration_does, topology_asks}
 use Rattle.rstp_run.specs.Rules.{Tree, asks, timing_in}
 use Rattle.rstp_run.specs.Sweep.{Going, tries, tries_all}
-use Rattle.rstp_run.proofs.Costs.{Paid, many, one, paid-as, unselected, visit}
+use Rattle.rstp_run.proofs.Costs.{Paid, many, one, paid-as, unselected}
 use Rattle.rstp_run.proofs.Informed.{no}
 use Rattle.rstp_run.proofs.Inputs.{discard-falls, edge-falls, informs-fall, inputs, is_update, migration-falls}
 use Rattle.rstp_run.proofs.Inputs.{not_edge-falls, owed, receive-falls, unrested}

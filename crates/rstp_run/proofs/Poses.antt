@@ -2,7 +2,7 @@
 -- its flags, whatever its timers, its agreement and its edge are. Each lowers a number of these flags. All values of
 -- the flags are tried.
 use Rattle.std.proofs.Common.{◌≡◌, ℕ, ◌+◌, ◌≤◌, ◌<◌, Bool, true, false, not, ◌&&◌, ◌||◌, ◌==◌}
-use Rattle.std.proofs.Common.{nat_lt, refl, if◌then◌else◌}
+use Rattle.std.proofs.Common.{nat_lt, refl}
 use Rattle.std.proofs.lemmas.Bool.{ltb-false, ltb-true}
 use Rattle.rstp_state.specs.declared.port.PortState.{PortState}
 use Rattle.rstp_state.specs.Port.{is_discarding}

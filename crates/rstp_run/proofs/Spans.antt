@@ -1,5 +1,5 @@
 -- The cost of the rules of roles and states in a visit of a port, at most. All values of six flags are tried.
-use Rattle.std.proofs.Common.{◌≡◌, ℕ, zero, suc, ◌+◌, ◌≤◌, ◌<◌, Bool, true, false, not, ◌&&◌, ◌||◌, ◌==◌, List, []}
+use Rattle.std.proofs.Common.{◌≡◌, ℕ, zero, suc, ◌+◌, ◌≤◌, ◌<◌, Bool, true, false, not, ◌||◌, List, []}
 use Rattle.std.proofs.Common.{◌∷◌, drop, take, nat_lt, refl, ap, ◌∙◌, arith, if◌then◌else◌}
 use Rattle.std.proofs.lemmas.Bool.{ltb-false, ltb-true, not-true}
 use Rattle.rstp_state.specs.declared.port.PortState.{PortState}
@@ -22,7 +22,6 @@ use Rattle.rstp_run.proofs.Heard.{timed}
 use Rattle.rstp_run.proofs.Own.{own_role, own_topology}
 use Rattle.rstp_run.proofs.Poses.{work}
 use Rattle.rstp_run.proofs.RoleKinds.{kind, role-kind, rule_kind}
-use Rattle.rstp_run.proofs.Sound.{left}
 use Rattle.rstp_run.proofs.Paces.{Gait, dark, gait, gait_of, may, price, stepped, steps, turned_on, turns_on}
 
 -- ---- the rest of a visit
