@@ -102,6 +102,7 @@ fn stays_winner(updates: &[Update], at: usize, winner: Option<usize>, update: &U
 
 /// Returns the winner's place after the update at a place was replaced. It searches for the winner
 /// again only if the winner's update was replaced and the new one is worse.
+#[inline(always)]
 fn winner_after(updates: &[Update], at: usize, winner: Option<usize>, stays: bool) -> Option<usize>
     requires ordered { IsOrdered updates.now }
     requires other { winner ≢ Some at

@@ -11,7 +11,7 @@ use std::marker::Model;
 
 /// The subject of a route: a network's flood list, or an address in a network, with any IP address.
 /// The order is that of a report: by VNI, the flood list before the addresses, then by MAC.
-// Both parts are numbers: two subjects of one network differ in their places only.
+// Both parts are numbers. Two subjects of one network are compared only by their places.
 #[derive(Clone, Copy, PartialEq, Eq)]
 pub(crate) struct Subject {
     vni: Vni,
@@ -117,7 +117,7 @@ impl Ord for Subject {
     ghost matches_eq = { tied_subjects };
 
     // A search in the ordered set mostly passes lower subjects of one network, so this case is
-    // checked first, by the places alone.
+    // checked first, by their places.
     #[tactic(auto, using(crate::proofs::Numbers::other_network, crate::proofs::Numbers::same_network, crate::proofs::Numbers::behind_lower))]
     fn cmp(&self, other: &Subject) -> Ordering {
         let (one, two) = (self.place(), other.place());

@@ -211,6 +211,7 @@ fn key_in(header: &Header, route: &[u8], ip_octets: usize) -> Key
 }
 
 /// Returns the content of the update.
+#[inline(always)]
 fn content_in(header: &Header, route: &[u8], ip_octets: usize) -> Content
     requires octets { ip_octets ≡ ip_len route.now }
     requires readable { IsReadable header.now route.now }
