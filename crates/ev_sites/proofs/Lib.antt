@@ -2,6 +2,7 @@ pub mod Back
 pub mod Leaving
 pub mod Through
 pub mod Reaching
+pub mod Staying
 pub mod Tables
 pub mod Guest
 pub mod Risen

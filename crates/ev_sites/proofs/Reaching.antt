@@ -1,4 +1,4 @@
--- The bridges of a fabric's edges came from their starts by events.
+-- The bridges of a fabric's edges came from their starts by events, each with the limit of `Bridge::event`.
 use Rattle.std.proofs.Common.{◌≡◌, inl, inr, ℕ, suc, ◌-◌, ◌<◌, ◌^◌, Bool, true, false, cond, not, ◌&&◌, Option}
 use Rattle.std.proofs.Common.{Some, None, Result, Ok, Err, List, [], ◌∷◌, length, refl, sym, ap, subst, ◌∙◌, arith}
 use Rattle.std.specs.Prelude.{slice_get, slice_set, ◌==◌}
@@ -13,8 +13,9 @@ use Rattle.rstp_state.specs.declared.start.PortSettings.{PortSettings}
 use Rattle.rstp_state.specs.declared.start.Settings.{Settings}
 use Rattle.rstp_run.specs.declared.event.Event as tree
 use Rattle.rstp_run.specs.declared.event.Event.TheVariants as tree_events
-use Rattle.rstp_run.specs.Events.{start}
-use Rattle.rstp_run.specs.RootPort.{CanBe}
+use Rattle.rstp_run.specs.Events.{firings_at, start}
+use Rattle.rstp_run.specs.Firings.{ComesByEvents}
+use Rattle.rstp_run.specs.RootPort.{Comes}
 use Rattle.rstp_run.specs.Rules.{Tree}
 use Rattle.rstp_run.specs.Settled.{IsReached}
 use Rattle.rstp_net.specs.Network.{IsBridgeAt, IsNetwork}
@@ -57,19 +58,25 @@ use Rattle.ev_sites.specs.Fabrics.{BridgesCanBe, EveryRunCanBe, AreSitesOf, Site
 
 -- ---- one edge
 
--- the second bridge may come from each start from which the first one may
-abbrev Goes : Edge → Edge → Type 0
-Goes a b = (settings : Settings) (ports : List PortSettings) → CanBe settings ports a.tree → CanBe settings ports b.tree
+-- the bridge came from its start by events, each with the limit of `Bridge::event`
+abbrev pub CameByEvents : Settings → List PortSettings → Tree → Type 0
+CameByEvents settings ports t = (events : List tree.Event) × ComesByEvents events (start settings ports) t
+
+-- the second bridge came from each start from which the first one came
+abbrev pub Goes : Edge → Edge → Type 0
+Goes a b =
+    (settings : Settings) (ports : List PortSettings) → CameByEvents settings ports a.tree
+    → CameByEvents settings ports b.tree
 
 same_tree : (a b : Edge) → b.tree ≡ a.tree → Goes a b
-same_tree a b is settings ports h = subst (CanBe settings ports) (sym is) h
+same_tree a b is settings ports h = subst (CameByEvents settings ports) (sym is) h
 
-stays : (a b : Edge) → b ≡ a → Goes a b
+pub stays : (a b : Edge) → b ≡ a → Goes a b
 stays a b is = same_tree a b (ap (λ (x : Edge). x.tree) is)
 
 bridge_goes : (a b : Edge) (event : tree.Event) (flush : ℕ) (sent : _) → BridgeGoes event a.tree b.tree flush sent
     → Goes a b
-bridge_goes a b event flush sent goes settings ports h = (event ∷ h.0, (a.tree, _, _, flush, h.1, goes.happens))
+bridge_goes a b event flush sent goes settings ports h = (event ∷ h.0, (a.tree, goes.settled, flush, h.1, goes.happens))
 
 learns_go : (x : Bool) (a : Edge) (s : Station) (port : ℕ) (told : Option Alert) (b : Edge) → LearnsIf x a s port told b
     → Goes a b
@@ -142,7 +149,7 @@ marks_go : (x : Bool) (a : Edge) (away : List ℕ) (result : Result Reply edge.R
 marks_go true a away result b h = same_tree a b (ap (λ (x : Edge). x.tree) h.1)
 marks_go false a away result b h = stays a b h.1
 
-steps_go : (a : Edge) (event : Event) (result : Result Reply edge.Refusal) (b : Edge) → Steps a event result b
+pub steps_go : (a : Edge) (event : Event) (result : Result Reply edge.Refusal) (b : Edge) → Steps a event result b
     → Goes a b
 steps_go a (events.Frame port octets) result b h = frame_goes (frame_arrival a port octets.now) a port result b h
 steps_go a (events.TunnelFrame from octets) result b h = tunnel_goes (tunnel_arrival a from octets.now) a result b h
@@ -160,16 +167,25 @@ steps_go a (events.Back o) result b h = marks_go (is_listed (table_of a) o) a _ 
 
 -- ---- a fabric
 
-opening_can_be : (c : EdgeConfig) (a : Edge) → IsOpening c a → CanBe c.tree (settings_of c.ports.items) a.tree
-opening_can_be c a h = ([], h.tree)
+-- the edge's bridge came from the start with which this configuration opens an edge
+abbrev pub Came : EdgeConfig → Edge → Type 0
+Came c a = CameByEvents c.tree (settings_of c.ports.items) a.tree
+
+-- each edge's bridge came from the start with which the edge was opened
+abbrev pub BridgesCame : Fabric → Type 0
+BridgesCame f =
+    (i : ℕ) (c : EdgeConfig) (a : Edge) → slice_get f.configs i ≡ Some c → IsEdge f i a
+    → Came c a
+
+pub opening_came : (c : EdgeConfig) (a : Edge) → IsOpening c a → Came c a
+opening_came c a h = ([], h.tree)
 
 -- one edge becomes another one, which was opened as the one before
 one_goes : (old new : Fabric) (i : ℕ) (a b : Edge) → IsEdge old i a → new.edges ≡ slice_set old.edges i b
-    → new.configs ≡ old.configs → Goes a b → BridgesCanBe old → BridgesCanBe new
+    → new.configs ≡ old.configs → Goes a b → BridgesCame old → BridgesCame new
 one_goes old new i a b at edges configs goes h j c x at_c at_x =
-    elim (set_cases old.edges i b j x (subst (λ l. slice_get l j ≡ Some x) edges at_x)) as (λ _. CanBe c.tree
-    (settings_of c.ports.items) x.tree) [
-      | inl p ↦ subst (λ (y : Edge). CanBe c.tree (settings_of c.ports.items) y.tree) (sym p.1)
+    elim (set_cases old.edges i b j x (subst (λ l. slice_get l j ≡ Some x) edges at_x)) as (λ _. Came c x) [
+      | inl p ↦ subst (λ (y : Edge). Came c y) (sym p.1)
           (goes c.tree (settings_of c.ports.items) (h i c a (subst (λ n. slice_get old.configs n ≡ Some c) p.0 was) at))
       | inr p ↦ h j c x was p.1
     ]
@@ -180,40 +196,37 @@ one_goes old new i a b at edges configs goes h j c x at_c at_x =
 back : (i : ℕ) → suc i - 1 ≡ i
 back i = omega arith
 
-unchanged : (old new : Fabric) → new ≡ old → BridgesCanBe old → BridgesCanBe new
-unchanged old new is h = subst BridgesCanBe (sym is) h
+unchanged : (old new : Fabric) → new ≡ old → BridgesCame old → BridgesCame new
+unchanged old new is h = subst BridgesCame (sym is) h
 
 steps_at : (old new : Fabric) (i : ℕ) (a : Edge) (event : Event) (result : Result Reply FabricRefusal) → IsEdge old i a
-    → StepsAt old (suc i) a event result new → BridgesCanBe old → BridgesCanBe new
+    → StepsAt old (suc i) a event result new → BridgesCame old → BridgesCame new
 steps_at old new i a event result at s h =
     one_goes old new i a s.after at
     (ap (λ (f : Fabric). f.edges) s.new_is ∙ ap (λ n. slice_set old.edges n s.after) (back i))
     (ap (λ (f : Fabric). f.configs) s.new_is) (steps_go a event s.answer s.after s.steps) h
 
 announces_at : (old new : Fabric) (i : ℕ) (a : Edge) (result : Result Reply FabricRefusal) → IsEdge old i a
-    → AnnouncesAt old (suc i) a result new → BridgesCanBe old → BridgesCanBe new
+    → AnnouncesAt old (suc i) a result new → BridgesCame old → BridgesCame new
 announces_at old new i a (Err why) at s h = unchanged old new s.1 h
 announces_at old new i a (Ok reply) at s h =
     one_goes old new i a s.0 at (ap (λ (f : Fabric). f.edges) s.2 ∙ ap (λ n. slice_set old.edges n s.0) (back i))
     (ap (λ (f : Fabric). f.configs) s.2) (steps_go a events.Announce (Ok reply) s.0 s.1) h
 
 reopened : (old new : Fabric) (i : ℕ) (a : Edge) (n : ℕ) (reply : Reply) → OpensAnew old (suc i) a n reply new
-    → BridgesCanBe old → BridgesCanBe new
+    → BridgesCame old → BridgesCame new
 reopened old new i a n reply s h j c x at_c at_x =
-    elim (set_cases old.edges i s.after j x (subst (λ l. slice_get l j ≡ Some x) edges at_x)) as (λ _. CanBe c.tree
-    (settings_of c.ports.items) x.tree) [
+    elim (set_cases old.edges i s.after j x (subst (λ l. slice_get l j ≡ Some x) edges at_x)) as (λ _. Came c x) [
       | inl p ↦ elim (set_cases old.configs i (in_incarnation s.config n) j c
-          (subst (λ l. slice_get l j ≡ Some c) configs at_c)) as (λ _. CanBe c.tree (settings_of c.ports.items)
-          x.tree) [
+          (subst (λ l. slice_get l j ≡ Some c) configs at_c)) as (λ _. Came c x) [
             | inl q ↦
-                subst (λ (d : EdgeConfig). CanBe d.tree (settings_of d.ports.items) x.tree) (sym q.1)
-                (subst (λ (y : Edge). CanBe s.config.tree (settings_of s.config.ports.items) y.tree) (sym p.1)
-                (opening_can_be (in_incarnation s.config n) s.after s.opened))
+                subst (λ (d : EdgeConfig). Came d x) (sym q.1)
+                (subst (λ (y : Edge). Came s.config y) (sym p.1)
+                (opening_came (in_incarnation s.config n) s.after s.opened))
             | inr q ↦ absurd (q.0 p.0)
           ]
       | inr p ↦ elim (set_cases old.configs i (in_incarnation s.config n) j c
-          (subst (λ l. slice_get l j ≡ Some c) configs at_c)) as (λ _. CanBe c.tree (settings_of c.ports.items)
-          x.tree) [
+          (subst (λ l. slice_get l j ≡ Some c) configs at_c)) as (λ _. Came c x) [
             | inl q ↦ absurd (p.0 q.0)
             | inr q ↦ h j c x q.1 p.1
           ]
@@ -227,43 +240,60 @@ reopened old new i a n reply s h j c x at_c at_x =
         (back i)
 
 restarts_at : (old new : Fabric) (i : ℕ) (a : Edge) (n : ℕ) (result : Result Reply FabricRefusal)
-    → RestartsAt old (suc i) a n result new → BridgesCanBe old → BridgesCanBe new
+    → RestartsAt old (suc i) a n result new → BridgesCame old → BridgesCame new
 restarts_at old new i a n (Err why) s h = unchanged old new s.1 h
 restarts_at old new i a n (Ok reply) s h = reopened old new i a n reply s h
 
-step_can_be : (old new : Fabric) (step : Step) (result : Result Reply FabricRefusal) → FabricSteps old step result new
-    → BridgesCanBe old → BridgesCanBe new
-step_can_be old new (Local e event) result s h =
-    at_edge (BridgesCanBe new) old new result (λ e a. StepsAt old e a (event_of event) result new) e s
+step_came : (old new : Fabric) (step : Step) (result : Result Reply FabricRefusal) → FabricSteps old step result new
+    → BridgesCame old → BridgesCame new
+step_came old new (Local e event) result s h =
+    at_edge (BridgesCame new) old new result (λ e a. StepsAt old e a (event_of event) result new) e s
     (λ is. unchanged old new is.1 h) (λ i a _ at s. steps_at old new i a (event_of event) result at s h)
-step_can_be old new (Announce e) result s h =
-    at_edge (BridgesCanBe new) old new result (λ e a. AnnouncesAt old e a result new) e s
+step_came old new (Announce e) result s h =
+    at_edge (BridgesCame new) old new result (λ e a. AnnouncesAt old e a result new) e s
     (λ is. unchanged old new is.1 h) (λ i a _ at s. announces_at old new i a result at s h)
-step_can_be old new (Deliver e k) result s h =
-    at_delivery (BridgesCanBe new) old new result e k s (λ why is. unchanged old new is.1 h)
+step_came old new (Deliver e k) result s h =
+    at_delivery (BridgesCame new) old new result e k s (λ why is. unchanged old new is.1 h)
     (λ i a n u _ _ at there s. steps_at old new i a (events.Take u) result at s h)
-step_can_be old new (Restart e n) result s h =
-    at_edge (BridgesCanBe new) old new result (λ e a. RestartsAt old e a n result new) e s
+step_came old new (Restart e n) result s h =
+    at_edge (BridgesCame new) old new result (λ e a. RestartsAt old e a n result new) e s
     (λ is. unchanged old new is.1 h) (λ i a _ at s. restarts_at old new i a n result s h)
 
-runs_can_be : (steps : List Step) (old new : Fabric) → Runs old steps new → BridgesCanBe old → BridgesCanBe new
-runs_can_be [] old new s h = unchanged old new s h
-runs_can_be (step ∷ steps) old new s h = runs_can_be steps s.0 new s.3 (step_can_be old s.0 step s.1 s.2 h)
+runs_came : (steps : List Step) (old new : Fabric) → Runs old steps new → BridgesCame old → BridgesCame new
+runs_came [] old new s h = unchanged old new s h
+runs_came (step ∷ steps) old new s h = runs_came steps s.0 new s.3 (step_came old s.0 step s.1 s.2 h)
 
-start_can_be : (cs : List EdgeConfig) (f : Fabric) → IsStart cs f → BridgesCanBe f
-start_can_be cs f h i c a at_c at_a =
-    opening_can_be c a (h.opened.opened i c a (subst (λ l. slice_get l i ≡ Some c) h.configs at_c) at_a)
+start_came : (cs : List EdgeConfig) (f : Fabric) → IsStart cs f → BridgesCame f
+start_came cs f h i c a at_c at_a =
+    opening_came c a (h.opened.opened i c a (subst (λ l. slice_get l i ≡ Some c) h.configs at_c) at_a)
+
+pub every_run_came : (cs : List EdgeConfig) (old new : Fabric) (steps : List Step) → IsStart cs old
+    → Runs old steps new → BridgesCame new
+every_run_came cs old new steps start runs = runs_came steps old new runs (start_came cs old start)
+
+-- the limit of each event may be any
+comes_at_all : (events : List tree.Event) (s t : Tree) → ComesByEvents events s t → Comes events s t
+comes_at_all [] s t h = h
+comes_at_all (event ∷ earlier) s t (mid, settled, mask, before, happens) =
+    (mid, firings_at mid, settled, mask, comes_at_all earlier s mid before, happens)
 
 pub every_run_can_be : EveryRunCanBe
-every_run_can_be cs old new steps start runs = runs_can_be steps old new runs (start_can_be cs old start)
+every_run_can_be cs old new steps opened runs i c a at_c at_a =
+    let came = every_run_came cs old new steps opened runs i c a at_c at_a in
+    (came.0, comes_at_all came.0 (start c.tree (settings_of c.ports.items)) a.tree came.1)
 
 -- ---- the sites of its edges
+
+-- an edge has the configuration with which it was opened last
+pub opened_with : (f : Fabric) → IsSound f → (i : ℕ) (a : Edge) → IsEdge f i a
+    → (c : EdgeConfig) × (slice_get f.configs i ≡ Some c)
+opened_with f h i a at =
+    there_at f.configs i (let low = slice_get_within f.edges i a at in let same = h.count in omega (arith, low, same))
 
 -- an edge's bridge came from its start by events
 reached : (f : Fabric) → IsSound f → BridgesCanBe f → (i : ℕ) (a : Edge) → IsEdge f i a → IsReached a.tree
 reached f h can i a at =
-    let c = there_at f.configs i (let low = slice_get_within f.edges i a at in let same = h.count in
-    omega (arith, low, same)) in
+    let c = opened_with f h i a at in
     (c.0.tree, settings_of c.0.ports.items, can i c.0 a c.1 at)
 
 module _ (f : Fabric) (sites : List Site) (h : IsSound f) (can : BridgesCanBe f) (of : AreSitesOf f sites)

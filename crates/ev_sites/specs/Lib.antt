@@ -1,4 +1,5 @@
 pub mod Sites
 pub mod Fabrics
+pub mod Settled
 pub mod Sessions
 pub mod Witnesses

@@ -1,11 +1,12 @@
 //! Theory, no part of a program. Among sites of bridges that are at rest, each attached to one
 //! edge, no frame runs in a circle, not even through tunnels. After sessions between processes of
-//! edges, their tables agree.
+//! edges, their tables agree. An edge's bridge is settled at every moment from its opening on.
 #![tactic(auto)]
 
 mod fabrics;
 mod laws;
 mod sessions;
+mod settled;
 mod witnesses;
 
 pub use fabrics::{every_run_can_be, no_circle_in_a_fabric};
@@ -13,6 +14,7 @@ pub use laws::{
     never_back_to_its_bridge, no_circle_through_tunnels, one_tunnel_at_most, sites_can_be_at_rest,
 };
 pub use sessions::{begun_anew, sessions_agree};
+pub use settled::{edges_stay_settled, fabrics_stay_settled};
 pub use witnesses::{
     a_session_can_be, an_advert_can_stay, fabric_carries_a_frame, fabric_has_sites,
     fabric_moves_a_station, fabric_moves_in_traffic,

@@ -1,0 +1,5 @@
+use Rattle.ev_sites.proofs.Staying.{fabrics_stay_settled}
+use Rattle.ev_sites.proofs.settled.fabrics_stay_settled.Goals as goal
+
+pub returns : goal.returns
+returns c = fabrics_stay_settled c.every_event_settles.ensures c.stays_settled.ensures
