@@ -20,9 +20,9 @@ import time
 import types
 from typing import Dict, List
 
-from fuzzing import ONE, PEER, TOP, TWO, VNI, Finding, Seen, Served, edge, expect, main, mutated, port, tried  # (first: it extends the path)
+from fuzzing import ONE, PEER, TOP, TWO, VNI, Finding, Seen, Served, cables, edge, expect, main, mutated, port, tried  # (first: it extends the path)
 
-from test_run import PATIENCE, Cable
+from test_run import PATIENCE
 from test_serve import Client
 
 NAME = "consoles"
@@ -177,8 +177,8 @@ def garbage(served: Served, numbers: random.Random) -> None:
 
 def case(numbers: random.Random, seen: Seen) -> int:
     """Runs one case."""
-    cables = [[Cable(it) for _ in range(2)] for it in (ONE, TWO)]
-    text = "".join(edge(name, place, "".join(map(port, ports))) for place, (name, ports) in enumerate(zip((ONE, TWO), cables), 1))
+    ends = [cables(it, 2) for it in (ONE, TWO)]
+    text = "".join(edge(name, place, "".join(map(port, ports))) for place, (name, ports) in enumerate(zip((ONE, TWO), ends), 1))
     served = Served([ONE, TWO], text, [PEER])
     try:
         console = Console(served)
@@ -198,7 +198,7 @@ def case(numbers: random.Random, seen: Seen) -> int:
             seen[f"note {line.split(': ')[-1][:12].strip()}"] += 1
         return LINES
     finally:
-        for it in (it for ports in cables for it in ports):
+        for it in (it for ports in ends for it in ports):
             it.here.close()
         served.kill()
 

@@ -14,9 +14,9 @@ import socket
 import sys
 from typing import List
 
-from fuzzing import ONE, PEER, STRANGER, TWO, VNI, Seen, Served, edge, expect, main, mutated, port, soon  # (first: it extends the path)
+from fuzzing import ONE, PEER, STRANGER, TWO, VNI, Seen, Served, cables, edge, expect, main, mutated, port, soon  # (first: it extends the path)
 
-from test_run import BROADCAST, TUNNELS, Cable, carry, frame
+from test_run import BROADCAST, TUNNELS, carry, frame
 
 NAME = "edges"
 INPUTS = 400
@@ -77,7 +77,7 @@ class Edges:
     """Two edges with three ports each, of which the second leads to a bridge, a peer and a stranger."""
 
     def __init__(self) -> None:
-        self.cables = [[Cable(it) for _ in range(3)] for it in (ONE, TWO)]
+        self.cables = [cables(it, 3) for it in (ONE, TWO)]
         text = ""
         for number, (name, (one, two, three)) in enumerate(zip((ONE, TWO), self.cables), 1):
             text += edge(name, number, port(one) + port(two, TO_BRIDGE) + port(three), "capacity = 4096\n")

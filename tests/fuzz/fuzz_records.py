@@ -16,11 +16,10 @@ import socket
 import sys
 from typing import Dict, List, Tuple
 
-from fuzzing import ONE, TWO, VNI, Seen, Served, edge, expect, first_life, main, mutated, port, soon, tried  # (first: it extends the path)
+from fuzzing import ONE, TWO, VNI, Seen, Served, cables, edge, expect, first_life, main, mutated, port, soon, tried  # (first: it extends the path)
 
 import report_model
 import update_records as records
-from test_run import Cable
 from test_serve import Client
 from update_records import Fault, Refused, Update
 
@@ -128,8 +127,8 @@ def case(numbers: random.Random, seen: Seen) -> int:
         streams.append(stream_of(numbers, streams))
         reports(streams[-1], seen)
         migrates(streams[-1], seen)
-    cables = [Cable(it) for it in (ONE, TWO)]
-    text = "".join(edge(it.address, place, port(it)) for place, it in enumerate(cables, 1))
+    ends = [*cables(ONE, 1), *cables(TWO, 1)]
+    text = "".join(edge(it.address, place, port(it)) for place, it in enumerate(ends, 1))
     served = Served([ONE, TWO], text, [records.address_text(it) for it in report_model.LISTED])
     try:
         newest = {report_model.register_of(it): it for it in OWN}
@@ -142,8 +141,8 @@ def case(numbers: random.Random, seen: Seen) -> int:
         served.end()
         return STREAMS
     finally:
-        for cable in cables:
-            cable.here.close()
+        for it in ends:
+            it.here.close()
         served.kill()
 
 

@@ -125,6 +125,11 @@ def soon(holds: Callable[[], bool], what: Callable[[], object], seconds: float =
 # ---- edges that are served -----------------------------------------------------------------------------------------
 
 
+def cables(address: str, count: int) -> List[Cable]:
+    """Returns the cables of an edge's ports. The system assigns no ports as low as theirs to other sockets."""
+    return [Cable(address, 20001 + it) for it in range(count)]
+
+
 def port(cable: Cable, keys: str = "admin_edge = true\n") -> str:
     """Returns a port of the network, with these keys, at a cable."""
     return f"[[edge.port]]\nvni = {VNI}\n{keys}{cable.keys()}"
