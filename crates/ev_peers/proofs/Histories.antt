@@ -125,7 +125,7 @@ seen_more k all more seats s seen pre at this n x lt h = by_case (decide n k)
     by_case : Same n k → IsPrefix x.log more
     by_case (same e) =
         let is : x ≡ s = cc (sym h ∙ (ap (slice_get seats) e ∙ at)) in subst (λ (y : SeatState). IsPrefix y.log more)
-            (sym is) this
+        (sym is) this
     by_case (other ne) = prefix_trans x.log all more (seen n x (omega (arith, lt, ne)) h) pre
 
 -- no seat is at place k

@@ -45,7 +45,7 @@ configs_of setups = map (λ setup. setup.config) setups
 -- There is one history of all these edges, which leads to these results. Each update that an edge took was announced
 -- before; if updates of other processes come in, it may be one of these.
 pub record IsHistoryOf (outside : Bool) (configs : List EdgeConfig) (rans : List (Result Outcome AllocError)) : Type 0
-    where
-  pub entries : List Entry
-  pub legal : IsHistory (Begins outside configs ∷ entries)
-  pub stand : RanStand (Begins outside configs ∷ entries) 0 rans
+  where
+    pub entries : List Entry
+    pub legal : IsHistory (Begins outside configs ∷ entries)
+    pub stand : RanStand (Begins outside configs ∷ entries) 0 rans

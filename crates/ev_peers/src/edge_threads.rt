@@ -48,8 +48,7 @@ struct ReadyThreads<'x, L: Placed, J: Naming, I: Drop, O: Drop, G, R> {
 }
 
 impl<'x, L: Placed, J: Naming, I: Drop, O: Drop, G, R> Model
-    for ReadyThreads<'x, L, J, I, O, G, R>
-{
+    for ReadyThreads<'x, L, J, I, O, G, R> {
     ghost use Rattle.std.specs.Prelude.{ℕ, vec_len, vec_capacity};
     ghost use Rattle.ev_peers.specs.Inner.EdgeThreads.{IsReady};
 
@@ -176,10 +175,7 @@ fn run_workers<
     O: LinkOut + PromptOut + Drop + Send + 'x,
     G: Gate + Sync + 'x,
     R: Threads + Wait + Sync + 'x,
->(
-    rt: &'x R,
-    ready_threads: ReadyThreads<'x, L, J, I, O, G, R>,
-) -> (Vec<Pass<L>>, Faults)
+>(rt: &'x R, ready_threads: ReadyThreads<'x, L, J, I, O, G, R>) -> (Vec<Pass<L>>, Faults)
     ensures { vec_len result.0 ≡ ready_threads.entry + 1 }
 {
     thread::scope(

@@ -76,11 +76,7 @@ fn settle_one<J: Naming, R: Wait>(rt: &R, front: &Front<J>, seat: &Option<Seat<J
 }
 
 /// Waits until each of these edges has no entries but those in this history.
-pub(crate) fn settle_all<J: Naming, R: Wait>(
-    rt: &R,
-    front: &Front<J>,
-    seats: &[Option<Seat<J>>],
-)
+pub(crate) fn settle_all<J: Naming, R: Wait>(rt: &R, front: &Front<J>, seats: &[Option<Seat<J>>])
     requires { AreSeen (length seats.now) front.now seats.now }
     ensures { AreSettled (length seats.now) front.now seats.now }
 {

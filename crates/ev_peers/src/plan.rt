@@ -74,10 +74,7 @@ pub(crate) struct EdgeThreads<L: Ledger, I: Drop, O: Drop> {
 }
 
 /// Returns an empty line to each of these links, which gets a handle of the link.
-fn empty_lines<K: PromptOut>(
-    alloc: Global,
-    links: &[K],
-) -> Result<Vec<SharedLine<K>>, AllocError>
+fn empty_lines<K: PromptOut>(alloc: Global, links: &[K]) -> Result<Vec<SharedLine<K>>, AllocError>
     ensures { IfOk result (λ lines. vec_len lines ≡ length links.now) }
 {
     let mut lines = Vec::with_capacity(alloc, links.len())?;

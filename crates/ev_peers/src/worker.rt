@@ -114,16 +114,14 @@ impl<L: Placed, J: Naming, O: Outlet<J> + Drop, G: Gate, R: Wait> Worker<'_, L, 
         ensures stays { self.new.shared_edge ≡ self.old.shared_edge }
     {
         let shared_edge = self.shared_edge;
-        let (answer, is_pending) =
-            shared_edge.enter(&mut self.pass, event, told, &mut self.scratch.reply);
-        let outlet = &mut self.outlet;
-        give_signs::<J, O>(
-            outlet,
-            carried.vni,
+        let (answer, is_pending) = shared_edge.enter(
+            &mut self.pass,
             event,
-            &answer,
-            &self.scratch.reply,
+            told,
+            &mut self.scratch.reply,
         );
+        let outlet = &mut self.outlet;
+        give_signs::<J, O>(outlet, carried.vni, event, &answer, &self.scratch.reply);
         give_answer::<J, O>(
             outlet,
             &mut self.scratch,
@@ -137,12 +135,7 @@ impl<L: Placed, J: Naming, O: Outlet<J> + Drop, G: Gate, R: Wait> Worker<'_, L, 
     /// Enters an event with the frame that it carries, and passes on the answer: frames to the
     /// links, messages for the operator to the board. If an announcement is pending then, sends
     /// the announcements to the other edges. So a frame of a known station enters the book once.
-    pub(crate) fn act(
-        &mut self,
-        event: &Event<'_>,
-        told: Option<&Told<J>>,
-        carried: &Carried<'_>,
-    )
+    pub(crate) fn act(&mut self, event: &Event<'_>, told: Option<&Told<J>>, carried: &Carried<'_>)
         requires fits { length carried.now.frame.now ≤ 9018 }
         requires covered { IsCovered event.now (option_copied told) }
         ensures passes { PassesOn self.old.shared_edge.now.bridge

@@ -348,10 +348,7 @@ pub fn peer_worker<
     O: Outlet<J> + Drop,
     G: Gate,
     R: Wait,
->(
-    worker: &mut Worker<'_, L, J, O, G, R>,
-    updates: &mut I,
-) -> Ended
+>(worker: &mut Worker<'_, L, J, O, G, R>, updates: &mut I) -> Ended
     ensures { PeerEnds result worker.old.shared_edge.now.bridge
         (I.came updates.old)
         (standing worker.old.pass (O.parcels worker.old.outlet) (O.records worker.old.outlet))

@@ -234,12 +234,7 @@ fn attend_seated<J: Naming + Send + Sync, R: Threads + Wait + Clock + Sync>(
 }
 
 /// Gives a client a seat and a thread, or writes `busy` to it if it gets no seat.
-fn let_in<
-    's,
-    'x: 's,
-    J: Naming + Send + Sync,
-    R: Threads + Wait + Clock + Sync,
->(
+fn let_in<'s, 'x: 's, J: Naming + Send + Sync, R: Threads + Wait + Clock + Sync>(
     scope: &Scope<'s, &'x ()>,
     hall: &'x Hall<'x, J, R>,
     stream: UnixStream,
@@ -261,12 +256,7 @@ fn let_in<
 }
 
 /// Accepts clients as they connect, until the hall is closed.
-fn receive<
-    's,
-    'x: 's,
-    J: Naming + Send + Sync,
-    R: Threads + Wait + Clock + Sync,
->(
+fn receive<'s, 'x: 's, J: Naming + Send + Sync, R: Threads + Wait + Clock + Sync>(
     scope: &Scope<'s, &'x ()>,
     hall: &'x Hall<'x, J, R>,
 ) {
@@ -303,13 +293,7 @@ fn watch_sessions<J: Naming, R: Wait + Clock>(hall: &Hall<'_, J, R>) {
 /// Reads an input out, and then closes the hall. Returns `true` if no read failed and the end came
 /// within 2^40 reads. Serves clients and watches sessions meanwhile, if a thread can be started for
 /// each of the two.
-fn read_beside<
-    's,
-    'x: 's,
-    J: Naming + Send + Sync,
-    R: Threads + Wait + Clock + Sync,
-    E: In,
->(
+fn read_beside<'s, 'x: 's, J: Naming + Send + Sync, R: Threads + Wait + Clock + Sync, E: In>(
     scope: &Scope<'s, &'x ()>,
     hall: &'x Hall<'x, J, R>,
     reader: &mut E,
@@ -354,12 +338,7 @@ impl<'x, J: Naming, R> Hall<'x, J, R> {
 }
 
 /// Reads an input out, and serves clients meanwhile. Returns once all clients have gone.
-fn read_serving<
-    'x,
-    J: Naming + Send + Sync,
-    R: Threads + Wait + Clock + Sync,
-    E: In,
->(
+fn read_serving<'x, J: Naming + Send + Sync, R: Threads + Wait + Clock + Sync, E: In>(
     hall: &'x Hall<'x, J, R>,
     reader: &mut E,
 ) -> bool
@@ -384,12 +363,7 @@ fn read_serving<
 
 /// Reads an input out, and serves the clients of a socket meanwhile, if there is one. Returns
 /// `true` if no read failed and the end came within 2^40 reads. Returns once all clients have gone.
-pub(crate) fn read_out<
-    'x,
-    J: Naming + Send + Sync,
-    R: Threads + Wait + Clock + Sync,
-    E: In,
->(
+pub(crate) fn read_out<'x, J: Naming + Send + Sync, R: Threads + Wait + Clock + Sync, E: In>(
     rt: &'x R,
     alloc: Global,
     running: Running<'x, J>,

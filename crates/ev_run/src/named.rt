@@ -26,12 +26,7 @@ pub(crate) type Reached = (Vec<Result<Outcome, AllocError>>, bool);
 
 /// Runs edges until the reader ends, and then stops them. Clients of a control socket may query
 /// them meanwhile.
-fn run_reading<
-    'x,
-    J: Naming + Send + Sync,
-    R: Threads + Wait + Clock + Sync,
-    E: In,
->(
+fn run_reading<'x, J: Naming + Send + Sync, R: Threads + Wait + Clock + Sync, E: In>(
     host: &Host<'x, R>,
     start: Start<J, Wire<'x, R>, UdpOut<'x>>,
     boards: &Boards,

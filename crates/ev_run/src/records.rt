@@ -269,12 +269,7 @@ fn hear<J: Naming, R: Wait + Clock>(connection: &Connection<'_, J, R>) {
 
 /// Receives from a connection while a thread sends the edges' updates on it, and then ends the
 /// connection.
-fn hear_beside<
-    's,
-    'x: 's,
-    J: Naming + Send + Sync,
-    R: Threads + Wait + Clock + Sync,
->(
+fn hear_beside<'s, 'x: 's, J: Naming + Send + Sync, R: Threads + Wait + Clock + Sync>(
     scope: &Scope<'s, &'x ()>,
     connection: &'x Connection<'x, J, R>,
 ) {
@@ -287,11 +282,7 @@ fn hear_beside<
 
 /// Returns the addresses of the edges of this process, or `None` if an edge has ended or memory is
 /// refused.
-fn own_edges<J: Naming, R: Wait>(
-    rt: &R,
-    alloc: Global,
-    running: Running<'_, J>,
-) -> Option<Known> {
+fn own_edges<J: Naming, R: Wait>(rt: &R, alloc: Global, running: Running<'_, J>) -> Option<Known> {
     let mut own = Known::new();
     for place in 0..running.edges() {
         let served = running.edge(place + 1)?.served(rt, alloc)?.ok()?;

@@ -17,7 +17,7 @@ loop-place-preserved g c =
     let there : k < length seats = search rules in
     let seat = c.index-seats-place.result in
     let at : slice_get seats k ≡ Some seat = slice_get_read seats (length seats) k seat refl there
-        c.index-seats-place.is in
+    c.index-seats-place.is in
     record {
       front = prefix_trans c.args.front all more inv.front c.with_seen-all.ensures.front;
       seen = seen_step k all more seats seat inv.seen c.with_seen-all.ensures.front at c.with_seen-all.ensures.seat;

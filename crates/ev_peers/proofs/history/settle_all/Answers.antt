@@ -13,7 +13,7 @@ settle_one-requires g c =
     let there : k < length seats = search rules in
     let seat = c.index-seats-place.result in
     let at : slice_get seats k ≡ Some seat = slice_get_read seats (length seats) k seat refl there
-        c.index-seats-place.is in
+    c.index-seats-place.is in
     seen_at k (length seats) c.args.front.now seats seat c.requires there at
 
 pub loop-place-preserved : goal.loop-place-preserved
@@ -23,5 +23,5 @@ loop-place-preserved g c =
     let there : k < length seats = search rules in
     let seat = c.index-seats-place.result in
     let at : slice_get seats k ≡ Some seat = slice_get_read seats (length seats) k seat refl there
-        c.index-seats-place.is in
+    c.index-seats-place.is in
     settled_step k c.args.front.now seats seat c.loop-place.invariant at c.settle_one.ensures
