@@ -99,5 +99,5 @@ pub drop_view : (bpdus : List (List ℕ)) (heads : List Head) (octets : List ℕ
 drop_view bpdus heads octets dropped few dropped' ended b f bs fs one two =
     let count = cut_length heads octets in
     let many : dropped' ≡ min (dropped + (length bpdus + length (cut heads octets))) (2 ^ 64 - 1) =
-        omega (arith, count, bs, fs, one, two) in
+    omega (arith, count, bs, fs, one, two) in
     ap (λ (n : ℕ). waiting_of [] [] n ended) many
