@@ -197,7 +197,7 @@ module _ (lists : SettledByLists) (happens : RunsHappen) where
             Ok (taking second_quiet flood_here),
             second_takes (first_with first_said 2 []) second_quiet agreed_pool 1 flood_here
                 (routes_with (speaker_with there second_heard 1 []) nobody_learnt) refl refl refl
-                (hears there here ((flood_register there, said_first) ∷ []) 1 [] nobody_learnt refl),
+                (hears 0 there here ((flood_register there, said_first) ∷ []) 1 [] nobody_learnt said_first refl),
             (
               fabric_with (first_with first_said 2 []) second_edge agreed_pool,
               Ok (taking (second_with second_heard []) guest_here),
@@ -209,7 +209,7 @@ module _ (lists : SettledByLists) (happens : RunsHappen) where
                 Ok (taking (first_with first_said 2 []) flood_there),
                 first_takes (first_with first_said 2 []) second_edge agreed_pool 3 flood_there
                     (routes_with (speaker_with here first_agreed 2 []) guest_learnt) refl refl refl
-                    (hears here there first_said 2 [] guest_learnt refl),
+                    (hears 0 here there first_said 2 [] guest_learnt said_first refl),
                 refl,
               ),
             ),

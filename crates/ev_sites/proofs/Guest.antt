@@ -40,9 +40,14 @@ said_gone = record { incarnation = 0; counter = 3; content = Withdrawn }
 
 -- ---- an edge of two ports that has taken these updates, the newest first
 
+-- in this incarnation
+abbrev pub speaker_in : ℕ → ℕ → List Said → ℕ → List Register → Speaker
+speaker_in life address said counter pending =
+    record { address = address; incarnation = life; table = table_with said; counter = counter; pending = pending }
+
+-- in the first one
 abbrev pub speaker_with : ℕ → List Said → ℕ → List Register → Speaker
-speaker_with address said counter pending =
-    record { address = address; incarnation = 0; table = table_with said; counter = counter; pending = pending }
+speaker_with address said counter pending = speaker_in 0 address said counter pending
 
 abbrev pub routes_with : Speaker → Learning → LocalRoutes
 routes_with speaker learned = record {
@@ -111,15 +116,15 @@ withdraws address other said counter pending learned v news lost =
     heard address other said counter pending learned v news true lost
 
 -- a flood list is taken unchanged
-pub hears : (address other : ℕ) (said : List Said) (counter : ℕ) (pending : List Register) (learned : Learning)
-    → is_news (looked_up said (flood_register other)) said_first ≡ true
-    → after_take (routes_with (speaker_with address said counter pending) learned)
-    (record { register = flood_register other; value = said_first })
-    ≡ routes_with (speaker_with address ((flood_register other, said_first) ∷ said) counter pending) learned
-hears address other said counter pending learned news =
+pub hears : (life address other : ℕ) (said : List Said) (counter : ℕ) (pending : List Register) (learned : Learning)
+    (v : Value) → is_news (looked_up said (flood_register other)) v ≡ true
+    → after_take (routes_with (speaker_in life address said counter pending) learned)
+    (record { register = flood_register other; value = v })
+    ≡ routes_with (speaker_in life address ((flood_register other, v) ∷ said) counter pending) learned
+hears life address other said counter pending learned v news =
     ap (λ (t : Table). routes_with
-    (record { address = address; incarnation = 0; table = t; counter = counter; pending = pending }) learned)
-    (taken said (flood_register other) said_first news)
+    (record { address = address; incarnation = life; table = t; counter = counter; pending = pending }) learned)
+    (taken said (flood_register other) v news)
 
 -- ---- the two edges' tables
 

@@ -12,3 +12,6 @@ pub mod Moved
 pub mod Trio
 pub mod Traffic
 pub mod Meetings
+pub mod Anew
+pub mod Sendings
+pub mod Returned

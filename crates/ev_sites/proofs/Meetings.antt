@@ -263,7 +263,7 @@ module _ (i j : ℕ) (old : Fabric) (steps : List Step) (new : Fabric) (parts : 
         (a, at_a, record { past = λ _. less; there = is })) [
           | inl held ↦ elim (runs_past parts.first old parts.held parts.begins i (update_of r v)
               (open_first i open_i) held) [
-                | inl was ↦ taken j (update_of r v) open_j (s.own v (was.0, was.1, was.2.there) in') b at_b
+                | inl was ↦ taken j (update_of r v) open_j (s.delivered.own v (was.0, was.1, was.2.there) in') b at_b
                 | inr t ↦ had (inl t)
               ]
           | inr t ↦ had (inr t)
@@ -291,7 +291,7 @@ module _ (i j : ℕ) (old : Fabric) (steps : List Step) (new : Fabric) (parts : 
             → (v ≡ told.says) ⊎ (v.counter < told.says.counter)
             → is_newest b.routes.speaker (update_of r v) ≡ false
         says told (inl equal) = taken j (update_of r v) open_j
-            (s.own v (x, at_x, told.there ∙ ap Some (sym equal)) in') b at_b
+            (s.delivered.own v (x, at_x, told.there ∙ ap Some (sym equal)) in') b at_b
         says told (inr less) =
             let high : is_newer told.says v ≡ false = ap (λ o. is_news o told.says) (sym is)
             ∙ began (update_of r told.says) (x, at_x, told.there) a at_a in
@@ -304,11 +304,11 @@ module _ (i j : ℕ) (old : Fabric) (steps : List Step) (new : Fabric) (parts : 
     there : (v : Value) → value_at (table_of a) r ≡ Some v → is_newest b.routes.speaker (update_of r v) ≡ false
     there v is = elim (Contains-append_cases old.pool parts_lead.more (update_of r v)
         (subst (λ l. Contains l (update_of r v)) parts_lead.pool
-        ((parts_sound.told i a at_a).own r v mine is s.quiet))) [
+        ((parts_sound.told i a at_a).own r v mine is s.delivered.quiet))) [
           | inl in' ↦ let x = there_at old.edges i (let low = slice_get_within new.edges i a at_a in
               let count = parts_lead.count in omega (arith, low, count)) in
               before v is in' x.0 x.1
-          | inr in' ↦ taken j (update_of r v) open_j (s.since parts_lead.more v parts_lead.pool in') b at_b
+          | inr in' ↦ taken j (update_of r v) open_j (s.delivered.since parts_lead.more v parts_lead.pool in') b at_b
         ]
 
     -- and the other way round
@@ -319,8 +319,8 @@ module _ (i j : ℕ) (old : Fabric) (steps : List Step) (new : Fabric) (parts : 
           | inl less ↦ elim (runs_past parts.second parts.held new parts.ends j (update_of r w)
               (open_second j open_j) (b, at_b, record { past = λ own. absurd (other own); there = is })) [
                 | inl held ↦ took_has parts.second parts.held new parts.ends i (update_of r w) held_sound
-                    (open_second i open_i) (s.back w (held.0, held.1, held.2.there)) a at_a
-                | inr t ↦ began (update_of r w) (s.later w less t) a at_a
+                    (open_second i open_i) (s.delivered.back w (held.0, held.1, held.2.there)) a at_a
+                | inr t ↦ began (update_of r w) (s.delivered.later w less t) a at_a
               ]
           | inr known ↦ known
         ]

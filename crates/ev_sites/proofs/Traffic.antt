@@ -50,7 +50,7 @@ use Rattle.ev_fabric.proofs.Example.{nobody_learnt}
 use Rattle.ev_fabric.proofs.StationRounds.{beside_runs}
 use Rattle.ev_sites.specs.Witnesses.{HasRun, IsPendingOf, Delivers, InTraffic, MoveInTraffic, all_steps}
 use Rattle.rstp_run.specs.Events.{start}
-use Rattle.rstp_net.proofs.Ring.{two_ports}
+use Rattle.rstp_net.proofs.Ring.{two_ports, root_bridge}
 use Rattle.ev_sites.proofs.Tables.{Said, table_with, looked_up, found}
 use Rattle.ev_sites.proofs.Guest.{guest, here, there, flood_register, guest_register, said_first, said_guest, said_gone}
 use Rattle.ev_sites.proofs.Guest.{speaker_with, routes_with, keeps, withdraws}
@@ -64,16 +64,16 @@ use Rattle.ev_sites.proofs.Trio.{telling, announces, takes, lodger, lodger_regis
 use Rattle.ev_sites.proofs.Trio.{IsFree, free_first, free_again, pins, unpins}
 
 -- ---- the updates
-abbrev flood_one : Fields
+abbrev pub flood_one : Fields
 flood_one = update (flood_register here) said_first
 
-abbrev flood_two : Fields
+abbrev pub flood_two : Fields
 flood_two = update (flood_register there) said_first
 
-abbrev flood_three : Fields
+abbrev pub flood_three : Fields
 flood_three = update (flood_register far) said_first
 
-abbrev guest_here : Fields
+abbrev pub guest_here : Fields
 guest_here = update (guest_register here) (said_guest 0)
 
 abbrev guest_there : Fields
@@ -82,16 +82,16 @@ guest_there = update (guest_register there) (said_guest 1)
 abbrev guest_gone : Fields
 guest_gone = update (guest_register here) said_gone
 
-abbrev lodger_first : Fields
+abbrev pub lodger_first : Fields
 lodger_first = update (lodger_register far) (said_fixed 2)
 
-abbrev lodger_gone : Fields
+abbrev pub lodger_gone : Fields
 lodger_gone = update (lodger_register far) (said_free 3)
 
 abbrev lodger_again : Fields
 lodger_again = update (lodger_register far) (said_fixed 4)
 
-abbrev said_of : Fields → Said
+abbrev pub said_of : Fields → Said
 said_of u = (u.register, u.value)
 
 -- ---- the tables of the three edges, by their updates, the newest first
@@ -116,7 +116,7 @@ a5 = said_of lodger_again ∷ a4
 abbrev b0 : List Said
 b0 = said_of flood_two ∷ []
 
-abbrev b1 : List Said
+abbrev pub b1 : List Said
 b1 = said_of guest_here ∷ b0
 
 abbrev b2 : List Said
@@ -143,7 +143,7 @@ c1 = said_of guest_here ∷ c0
 abbrev c2 : List Said
 c2 = said_of lodger_first ∷ c1
 
-abbrev c3 : List Said
+abbrev pub c3 : List Said
 c3 = said_of lodger_gone ∷ c2
 
 abbrev c4 : List Said
@@ -159,10 +159,10 @@ abbrev c7 : List Said
 c7 = said_of guest_gone ∷ c6
 
 -- ---- the learning tables, and the moves
-abbrev lodged : Learning
+abbrev pub lodged : Learning
 lodged = pinned_on nobody_learnt lodger 1
 
-abbrev left_once : Learning
+abbrev pub left_once : Learning
 left_once = gone lodged lodger
 
 abbrev lodged_again : Learning
@@ -190,7 +190,7 @@ first_learnt = telling here a1 2 (flood_register here ∷ guest_register here �
 abbrev first_half : Edge
 first_half = telling here a1 2 (guest_register here ∷ []) guest_learnt empty
 
-abbrev first_0 : Edge
+abbrev pub first_0 : Edge
 first_0 = telling here a1 2 [] guest_learnt empty
 
 abbrev first_1 : Edge
@@ -214,7 +214,7 @@ second_up = telling there b0 1 (flood_register there ∷ []) nobody_learnt empty
 abbrev second_told : Edge
 second_told = telling there b0 1 [] nobody_learnt empty
 
-abbrev second_0 : Edge
+abbrev pub second_0 : Edge
 second_0 = telling there b1 1 [] nobody_learnt empty
 
 abbrev second_1 : Edge
@@ -250,10 +250,10 @@ third_pinned = telling far c2 2 (lodger_register far ∷ []) lodged empty
 abbrev third_said : Edge
 third_said = telling far c2 2 [] lodged empty
 
-abbrev third_0 : Edge
+abbrev pub third_0 : Edge
 third_0 = telling far c3 3 (lodger_register far ∷ []) left_once empty
 
-abbrev third_1 : Edge
+abbrev pub third_1 : Edge
 third_1 = telling far c3 3 [] left_once empty
 
 abbrev third_2 : Edge
@@ -310,7 +310,7 @@ p8 = trio_with first_0 second_0 third_pinned (pool 4)
 abbrev p9 : Fabric
 p9 = trio_with first_0 second_0 third_said (pool 5)
 
-abbrev agreed : Fabric
+abbrev pub agreed : Fabric
 agreed = trio_with first_0 second_0 third_0 (pool 5)
 
 abbrev s0 : Fabric
@@ -387,7 +387,7 @@ p6_p7 = takes p6 3 2 third_told guest_here third_heard.routes refl refl refl ref
 
 p7_p8 : Going p7 (Local 3 (Pin lodger 1)) p8
 p7_p8 = does p7 3 third_heard third_pinned (Pin lodger 1) (alone None) refl
-    (pins far c1 1 [] nobody_learnt empty 0 free_first refl refl)
+    (pins 0 root_bridge far c1 1 [] nobody_learnt empty 0 free_first refl refl)
 
 p8_p9 : Going p8 (Announce 3) p9
 p8_p9 = announces p8 3 third_pinned third_said lodger_first (found c2 lodger_first.register) refl refl refl
@@ -416,7 +416,7 @@ s4_s5 = announces s4 3 third_0 third_1 lodger_gone (found c3 lodger_gone.registe
 
 s5_s6 : Going s5 (Local 3 (Pin lodger 1)) s6
 s5_s6 = does s5 3 third_1 third_2 (Pin lodger 1) (alone None) refl
-    (pins far c3 3 [] left_once empty 0 free_once refl refl)
+    (pins 0 root_bridge far c3 3 [] left_once empty 0 free_once refl refl)
 
 s6_s7 : Going s6 (Deliver 1 7) s7
 s6_s7 = takes s6 1 7 first_2 lodger_gone first_3.routes refl refl refl refl
@@ -1037,7 +1037,7 @@ module _ (lists : SettledByLists) (happens : RunsHappen) where
       (follows p4_p5 (follows p5_p6 (follows p6_p7 (follows p7_p8 (follows p8_p9
       (follows p9_agreed (record { run = refl }))))))))))))))))
 
-  has_run : HasRun agreed
+  pub has_run : HasRun agreed
   has_run = record {
     configs = configs_three;
     opened = trio_opened;

@@ -19,6 +19,8 @@ use Rattle.mac_arena.specs.Learning.{after_removal as gone}
 use Rattle.mac_arena.proofs.Entries.{station_total}
 use Rattle.ev_mobility.specs.declared.alert.Alert.TheVariants.{StaticElsewhere, CounterSpent, TableFull}
 use Rattle.ev_mobility.specs.declared.seq.Seq.TheVariants.{Next}
+use Rattle.rstp_run.specs.Rules.{Tree}
+use Rattle.rstp_net.proofs.Ring.{root_bridge}
 use Rattle.ev_claims.specs.Pending.{marked}
 use Rattle.ev_claims.specs.Speaker.{announced_of, is_at}
 use Rattle.ev_claims.specs.LocalRoutes.{LocalRoutes, key_of, fixed, after_take, after_losing_at, after_removal}
@@ -44,8 +46,8 @@ use Rattle.ev_fabric.specs.Opening.{AreConfigs, IsStart, ListsAll}
 use Rattle.ev_fabric.specs.Steps.{IsRefused, StepsAt, AnnouncesAt, FabricSteps, with_edge}
 use Rattle.ev_fabric.proofs.Example.{listeners, all_differ, config_of, fits, edge_of, opens, good, nobody_learnt}
 use Rattle.ev_sites.proofs.Tables.{Said, table_with, looked_up, found, taken, in_order, next_among, next_number}
-use Rattle.ev_sites.proofs.Guest.{here, there, speaker_with, routes_with}
-use Rattle.ev_sites.proofs.Risen.{Windows, root_settings, risen_edge}
+use Rattle.ev_sites.proofs.Guest.{here, there, speaker_in, speaker_with, routes_with}
+use Rattle.ev_sites.proofs.Risen.{Windows, root_settings, edge_with}
 use Rattle.ev_sites.proofs.Telling.{update, announcing, taking}
 
 -- ---- the fabric
@@ -57,8 +59,11 @@ abbrev pub configs_three : List EdgeConfig
 configs_three =
     config_of root_settings here ∷ config_of root_settings there ∷ config_of root_settings far ∷ []
 
+abbrev pub trio_of : List EdgeConfig → Edge → Edge → Edge → List Fields → Fabric
+trio_of configs a b c pool = record { edges = a ∷ b ∷ c ∷ []; configs = configs; pool = pool }
+
 abbrev pub trio_with : Edge → Edge → Edge → List Fields → Fabric
-trio_with a b c pool = record { edges = a ∷ b ∷ c ∷ []; configs = configs_three; pool = pool }
+trio_with a b c pool = trio_of configs_three a b c pool
 
 abbrev pub trio_opened : Fabric
 trio_opened = trio_with (edge_of root_settings here) (edge_of root_settings there) (edge_of root_settings far) []
@@ -118,7 +123,7 @@ pub record Going (f : Fabric) (step : Step) (g : Fabric) : Type 0 where
 pub record Ran (f : Fabric) (steps : List Step) (g : Fabric) : Type 0 where
   pub run : Runs f steps g
 
-pub follows : {f g k : Fabric} {step : Step} {steps : List Step} → Going f step g → Ran g steps k
+abbrev pub follows : {f g k : Fabric} {step : Step} {steps : List Step} → Going f step g → Ran g steps k
     → Ran f (step ∷ steps) k
 follows {f} {g} {k} {step} {steps} go rest = record { run = (g, Ok go.reply, go.goes, rest.run) }
 
@@ -131,9 +136,14 @@ does f e a b event reply at steps = record {
       (record { after = b; answer = Ok reply; steps = steps; result_is = refl; new_is = refl });
 }
 
--- the edge of this address, of two ports that are up
+-- the edge of this address, in this incarnation and with this bridge
+abbrev pub living : ℕ → Tree → ℕ → List Said → ℕ → List Register → Learning → Windows → Edge
+living life tree address said counter pending l w =
+    edge_with (routes_with (speaker_in life address said counter pending) l) tree w
+
+-- in the first one, of two ports that are up
 abbrev pub telling : ℕ → List Said → ℕ → List Register → Learning → Windows → Edge
-telling address said counter pending l w = risen_edge (speaker_with address said counter pending) l w
+telling address said counter pending l w = living 0 root_bridge address said counter pending l w
 
 -- the first pending update
 pub announces : (f : Fabric) (e : ℕ) (a b : Edge) (u : Fields) → value_at (table_of a) u.register ≡ Some u.value
@@ -157,30 +167,28 @@ announces f e a b u is pend at after = record {
     new : Fabric
     new = record (with_edge f e b) { pool = f.pool ++ u ∷ [] }
 
+-- an update that is announced
+pub delivers : (f : Fabric) (e k : ℕ) (a b : Edge) (u : Fields) (reply : Reply) → nth f.edges e ≡ Some a
+    → nth f.pool k ≡ Some u → Steps a (events.Take u) (Ok reply) b → Going f (Deliver e k) (with_edge f e b)
+delivers f e k a b u reply at there steps = record {
+  reply = reply;
+  goes = subst (λ o. MatchOption o (IsRefused NoSuchEdge f (Ok reply) (with_edge f e b))
+      (λ c. MatchOption (nth f.pool k) (IsRefused NoSuchUpdate f (Ok reply) (with_edge f e b))
+      (λ w. StepsAt f e c (events.Take w) (Ok reply) (with_edge f e b)))) (sym at)
+      (subst (λ o. MatchOption o (IsRefused NoSuchUpdate f (Ok reply) (with_edge f e b))
+      (λ w. StepsAt f e a (events.Take w) (Ok reply) (with_edge f e b))) (sym there)
+      (record { after = b; answer = Ok reply; steps = steps; result_is = refl; new_is = refl }));
+}
+
 -- another's update
 pub takes : (f : Fabric) (e k : ℕ) (a : Edge) (u : Fields) (c : LocalRoutes) → nth f.edges e ≡ Some a
     → nth f.pool k ≡ Some u → (u.register.originator == address_of a) ≡ false
     → is_listed (table_of a) u.register.originator ≡ true → after_take a.routes u ≡ c
     → Going f (Deliver e k) (with_edge f e (record a { routes = c }))
-takes f e k a u c at there other listed is = record {
-  reply = taking a u;
-  goes = subst (λ o. MatchOption o (IsRefused NoSuchEdge f (Ok (taking a u)) new)
-      (λ b. MatchOption (nth f.pool k) (IsRefused NoSuchUpdate f (Ok (taking a u)) new)
-      (λ w. StepsAt f e b (events.Take w) (Ok (taking a u)) new))) (sym at)
-      (subst (λ o. MatchOption o (IsRefused NoSuchUpdate f (Ok (taking a u)) new)
-      (λ w. StepsAt f e a (events.Take w) (Ok (taking a u)) new)) (sym there)
-      (record {
-        after = record a { routes = c };
-        answer = Ok (taking a u);
-        steps = subst (λ b. Takes b a u (Ok (taking a u)) (record a { routes = c })) (sym other)
-            (listed, refl, ap (λ d. record a { routes = d }) (sym is));
-        result_is = refl;
-        new_is = refl;
-      }));
-}
-  where
-    new : Fabric
-    new = with_edge f e (record a { routes = c })
+takes f e k a u c at there other listed is =
+    delivers f e k a (record a { routes = c }) u (taking a u) at there
+    (subst (λ b. Takes b a u (Ok (taking a u)) (record a { routes = c })) (sym other)
+    (listed, refl, ap (λ d. record a { routes = d }) (sym is)))
 
 -- ---- another station, at the third edge
 
@@ -190,8 +198,11 @@ lodger = record { vni = 5001; mac = 0x020000000002 }
 abbrev pub lodger_register : ℕ → Register
 lodger_register address = record { originator = address; key = key_of lodger }
 
+abbrev pub fixed_in : ℕ → ℕ → Value
+fixed_in life counter = record { incarnation = life; counter = counter; content = fixed }
+
 abbrev pub said_fixed : ℕ → Value
-said_fixed counter = record { incarnation = 0; counter = counter; content = fixed }
+said_fixed counter = fixed_in 0 counter
 
 abbrev pub said_free : ℕ → Value
 said_free counter = record { incarnation = 0; counter = counter; content = Withdrawn }
@@ -225,7 +236,7 @@ free_first = record {
   room = ap (λ n. n == 1) (len-empty station_cmp Entry);
 }
 
-pinned_entry : (l : Learning) → IsFree l → entry_at (pinned_on l lodger 1) lodger ≡ Some (pinned_at 1)
+pub pinned_entry : (l : Learning) → IsFree l → entry_at (pinned_on l lodger 1) lodger ≡ Some (pinned_at 1)
 pinned_entry l f =
     ap (λ m. get m lodger) (sets_pin l lodger 1 (λ none. f.room)).entries
     ∙ get-insert station_total l.entries lodger (pinned_at 1) lodger
@@ -247,19 +258,20 @@ free_again l f = record {
     places : length (gone (pinned_on l lodger 1) lodger).places ≡ length l.places
     places = removal_places (pinned_on l lodger 1) lodger ∙ (sets_pin l lodger 1 (λ none. f.room)).places
 
-pub pins : (address : ℕ) (said : List Said) (counter : ℕ) (pending : List Register) (l : Learning) (w : Windows) (n : ℕ)
+pub pins : (life : ℕ) (tree : Tree) (address : ℕ) (said : List Said) (counter : ℕ) (pending : List Register)
+    (l : Learning) (w : Windows) (n : ℕ)
     → IsFree l → next_among address 5001 lodger.mac (in_order said) ≡ Next n → nat_le (2 ^ 63) counter ≡ false
-    → Steps (telling address said counter pending l w) (events.Pin lodger 1) (Ok (alone None))
-    (telling address ((lodger_register address, said_fixed (counter + 1)) ∷ said) (counter + 1)
+    → Steps (living life tree address said counter pending l w) (events.Pin lodger 1) (Ok (alone None))
+    (living life tree address ((lodger_register address, fixed_in life (counter + 1)) ∷ said) (counter + 1)
     (marked pending (lodger_register address)) (pinned_on l lodger 1) w)
-pins address said counter pending l w n f next low =
+pins life tree address said counter pending l w n f next low =
     (subst (λ c. DoesPin c before lodger 1 None after) (sym is) (inl (refl, refl)), refl)
   where
     before : Edge
-    before = telling address said counter pending l w
+    before = living life tree address said counter pending l w
 
     after : Edge
-    after = telling address ((lodger_register address, said_fixed (counter + 1)) ∷ said) (counter + 1)
+    after = living life tree address ((lodger_register address, fixed_in life (counter + 1)) ∷ said) (counter + 1)
         (marked pending (lodger_register address)) (pinned_on l lodger 1) w
 
     is : pin_case before lodger 1 ≡ Pin

@@ -58,9 +58,9 @@ pub record Parts (old : Fabric) (steps : List Step) (new : Fabric) : Type 0 wher
 abbrev pub TookIn : (old : Fabric) (steps : List Step) (new : Fabric) → Parts old steps new → ℕ → Fields → Type 0
 TookIn old steps new s i u = Took i u s.first old s.held s.begins ⊎ Took i u s.second s.held new s.ends
 
--- A register of the edge at place i, which is a at the end, is sent to the edge at place j, and sent back as that edge
--- has it between the parts.
-pub record IsSent (i j : ℕ) (a : Edge) (r : Register) (old : Fabric) (steps : List Step) (new : Fabric)
+-- A register of the edge at place i, which is a at the end, is delivered to the edge at place j, and delivered back as
+-- that edge has it between the parts.
+pub record IsDelivered (i j : ℕ) (a : Edge) (r : Register) (old : Fabric) (steps : List Step) (new : Fabric)
     (s : Parts old steps new) : Type 0 where
   -- the edge at j takes its value as it is at the beginning, if that is announced already
   pub own : (v : Value) → Holds old i (update_of r v) → Contains old.pool (update_of r v)
@@ -76,7 +76,12 @@ pub record IsSent (i j : ℕ) (a : Edge) (r : Register) (old : Fabric) (steps : 
   -- second part, except those that the edge at i had at the beginning.
   pub later : (v : Value) → v.incarnation < incarnation_of a → Took j (update_of r v) s.second s.held new s.ends
       → Holds old i (update_of r v)
-  -- If the edge at i takes one of them, and has it at the end, the edge at j has it between the parts.
+
+-- A register is sent: also, if the edge at i takes an update of an earlier life, and has it at the end, the edge at j
+-- has it between the parts.
+pub record IsSent (i j : ℕ) (a : Edge) (r : Register) (old : Fabric) (steps : List Step) (new : Fabric)
+    (s : Parts old steps new) : Type 0 where
+  pub delivered : IsDelivered i j a r old steps new s
   pub alike : (v : Value) → v.incarnation < incarnation_of a → value_at (table_of a) r ≡ Some v
       → TookIn old steps new s i (update_of r v) → Holds s.held j (update_of r v)
 

@@ -1,27 +1,33 @@
 -- Fabrics that meet the laws' premises, each after some run from its opening.
-use Rattle.std.specs.Prelude.{◌≡◌, ◌≢◌, ◌⊎◌, ℕ, suc, ◌+◌, ◌*◌, ◌<◌, ◌≤◌, ◌^◌, true, false, Some, Ok, List, [], ◌∷◌}
-use Rattle.std.specs.Prelude.{◌++◌, length, Contains, slice_get}
+use Rattle.std.specs.Prelude.{◌≡◌, ◌≢◌, ◌⊎◌, ℕ, suc, ◌+◌, ◌*◌, ◌<◌, ◌≤◌, ◌^◌, true, false, Some, None, IsSome, Ok}
+use Rattle.std.specs.Prelude.{List, [], ◌∷◌, ◌++◌, length, Contains, slice_get}
 use Rattle.route_wire.specs.declared.update.Register.{Register}
 use Rattle.route_wire.specs.declared.update.Value.{Value}
+use Rattle.route_wire.specs.declared.update.Content.TheVariants.{Withdrawn}
 use Rattle.route_wire.specs.Fields.{Fields}
 use Rattle.route_wire.specs.Order.{is_newer}
-use Rattle.route_join.specs.Table.{value_at}
+use Rattle.route_join.specs.Table.{value_at, register_of}
+use Rattle.route_join.specs.Owner.{advert_in, advert_at}
 use Rattle.mac_arena.specs.declared.station.Station.{Station}
 use Rattle.mac_arena.specs.declared.station.Entry.{Entry}
+use Rattle.mac_arena.specs.Learning.{entry_at}
 use Rattle.rstp_run.specs.Events.{Passes}
 use Rattle.ev_tunnel.specs.Datagram.{datagram_of}
 use Rattle.ev_claims.specs.Speaker.{is_newest}
+use Rattle.ev_claims.specs.LocalRoutes.{key_of}
 use Rattle.ev_edge.specs.declared.config.EdgeConfig.{EdgeConfig}
 use Rattle.ev_edge.specs.declared.event.Event.{Event}
 use Rattle.ev_edge.specs.declared.reply.Reply.{Reply}
 use Rattle.ev_edge.specs.Edge.{Edge, table_of, address_of}
 use Rattle.ev_edge.specs.Steps.{Steps}
 use Rattle.ev_fabric.specs.declared.step.Step.{Step}
-use Rattle.ev_fabric.specs.declared.step.Step.TheVariants.{Deliver}
-use Rattle.ev_fabric.specs.Fabric.{Fabric, IsEdge}
+use Rattle.ev_fabric.specs.declared.step.Step.TheVariants.{Local, Deliver, Restart}
+use Rattle.ev_fabric.specs.declared.step.LocalEvent.{LocalEvent}
+use Rattle.ev_fabric.specs.Fabric.{Fabric, IsEdge, incarnation_of}
 use Rattle.ev_fabric.specs.Opening.{AreConfigs, IsStart}
 use Rattle.ev_fabric.specs.Agreed.{AllAgree, Advertises}
-use Rattle.ev_fabric.specs.Runs.{Runs}
+use Rattle.ev_fabric.specs.Runs.{Runs, StaysOpen}
+use Rattle.ev_fabric.specs.Sound.{update_of}
 use Rattle.ev_fabric.specs.Laws.{tunnel_frame_in, IsFrameFor, IsBehindPort, GoesTo, GoesOut}
 use Rattle.ev_fabric.specs.Convergence.{Rests}
 use Rattle.ev_fabric.specs.Steps.{FabricSteps}
@@ -31,6 +37,7 @@ use Rattle.ev_fabric.specs.Rounds.{IsOrderly, Rounds}
 use Rattle.ev_fabric.specs.Meanwhile.{IsFlooded}
 use Rattle.ev_sites.specs.Sites.{Site, Point, ByEdge, ByTunnel}
 use Rattle.ev_sites.specs.Fabrics.{AreSitesOf, SitesRest}
+use Rattle.ev_sites.specs.Sessions.{Holds, Parts, TookIn, IsDelivered, IsSent, Session, Knows}
 
 -- the fabric came by some run from its opening
 pub record HasRun (f : Fabric) : Type 0 where
@@ -202,3 +209,104 @@ pub record MoveInTraffic : Type 0 where
   pub sends : Steps edge event (Ok answer) after
   pub goes : GoesTo (address_of comes.from) answer ⊎ GoesTo (address_of comes.to) answer
       ⊎ IsFlooded after station port answer
+
+-- ---- a session after a restart
+
+-- A process has the edges at places 0 and 2 of a fabric, and another one has the edge at place 1. The edge at place 0
+-- begins anew, any steps follow, and then a session of the two processes. At its beginning the edge at place 1 has an
+-- advert of the earlier life, of a station that the edge at place 0 hasn't learnt since. At its end it has none.
+pub record SessionOfAFabric : Type 0 where
+  pub before : Fabric
+  pub has_run : HasRun before
+  pub three : length before.edges ≡ 3
+  pub life : ℕ
+  pub reply : Reply
+  pub began : Fabric
+  pub restart : FabricSteps before (Restart 1 life) (Ok reply) began
+  pub meanwhile : List Step
+  pub old : Fabric
+  pub goes_on : Runs began meanwhile old
+  pub steps : List Step
+  pub new : Fabric
+  pub session : Session (0 ∷ 2 ∷ []) (1 ∷ []) old steps new
+  -- the edges at the beginning and at the end
+  pub first_old : Edge
+  pub first : Edge
+  pub second : Edge
+  pub third : Edge
+  pub at_first_old : IsEdge old 0 first_old
+  pub at_first : IsEdge new 0 first
+  pub at_second : IsEdge new 1 second
+  pub at_third : IsEdge new 2 third
+  -- the advert of the earlier life
+  pub station : Station
+  pub earlier : Value
+  pub had : Holds old 1 (update_of (register_of (address_of first) (key_of station)) earlier)
+  pub was_advert : IsSome (advert_in earlier.content)
+  pub is_earlier : earlier.incarnation < life
+  pub not_learnt : entry_at first_old.routes.learned station ≡ None
+  pub gone : advert_at (table_of second) (address_of first) (key_of station) ≡ None
+  -- the withdrawal that both have in its place
+  pub withdrawal : Value
+  pub is_withdrawn : withdrawal.content ≡ Withdrawn
+  pub of_life : withdrawal.incarnation ≡ life
+  pub held_by_first : Holds new 0 (update_of (register_of (address_of first) (key_of station)) withdrawal)
+  pub held_by_second : Holds new 1 (update_of (register_of (address_of first) (key_of station)) withdrawal)
+  -- An event from outside comes between two deliveries of the session. By it the first edge learns another station. Its
+  -- advert is announced in the session, and both edges have it at the end.
+  pub sooner : List Step
+  pub later : List Step
+  pub event : LocalEvent
+  pub between : steps ≡ sooner ++ Local 1 event ∷ later
+  pub delivers : (k : ℕ) × Contains sooner (Deliver 2 k)
+  pub delivers_back : (k : ℕ) × Contains later (Deliver 1 k)
+  pub other : Station
+  pub present : Value
+  pub news : List Fields
+  pub announced : new.pool ≡ old.pool ++ news
+  pub among : Contains news (update_of (register_of (address_of first) (key_of other)) present)
+  pub is_advert : IsSome (advert_in present.content)
+  pub is_present : present.incarnation ≡ life
+  pub learnt_since : entry_at first_old.routes.learned other ≡ None
+  pub learnt : IsSome (entry_at first.routes.learned other)
+  pub first_has : Holds new 0 (update_of (register_of (address_of first) (key_of other)) present)
+  pub second_has : Holds new 1 (update_of (register_of (address_of first) (key_of other)) present)
+  -- The third edge began anew, too. It takes a withdrawal of its earlier life in the session, and keeps it.
+  pub kept : Fields
+  pub of_third : kept.register.originator ≡ address_of third
+  pub of_past : kept.value.incarnation < incarnation_of third
+  pub taken : TookIn old steps new session.there.parts 2 kept
+  pub third_has : Holds new 2 kept
+  -- by `sessions_agree`
+  pub first_agrees : Knows second first × Knows first second
+  pub third_agrees : Knows second third × Knows third second
+  -- by `begun_anew`
+  pub anew : (r : Register) (v : Value) → r.originator ≡ address_of first → value_at (table_of second) r ≡ Some v
+      → IsSome (advert_in v.content) → life ≤ v.incarnation
+
+-- ---- a session in all but one premise
+
+-- The registers of the edges at places 1 and 2 are delivered as in a session of these two, and those of the edge at
+-- place 1 are sent. Of the edge at place 2 only `alike` is left out. At the end the edge at place 1 still has an advert
+-- of an earlier life of the edge at place 2, which itself has a withdrawal, and hasn't learnt the station.
+pub record AdvertStays : Type 0 where
+  pub old : Fabric
+  pub has_run : HasRun old
+  pub steps : List Step
+  pub new : Fabric
+  pub parts : Parts old steps new
+  pub second_stays : StaysOpen 1 steps
+  pub third_stays : StaysOpen 2 steps
+  pub second : Edge
+  pub third : Edge
+  pub at_second : IsEdge new 1 second
+  pub at_third : IsEdge new 2 third
+  pub there : (r : Register) → r.originator ≡ address_of third → IsDelivered 2 1 third r old steps new parts
+  pub back : (r : Register) → r.originator ≡ address_of second → IsSent 1 2 second r old steps new parts
+  pub station : Station
+  pub earlier : Value
+  pub stays : Holds new 1 (update_of (register_of (address_of third) (key_of station)) earlier)
+  pub is_advert : IsSome (advert_in earlier.content)
+  pub is_earlier : earlier.incarnation < incarnation_of third
+  pub gone : advert_at (table_of third) (address_of third) (key_of station) ≡ None
+  pub not_learnt : entry_at third.routes.learned station ≡ None

@@ -2,12 +2,13 @@
 //! the contract states that there is one.
 
 ghost use Rattle.ev_sites.specs.Witnesses.{FrameOfAFabric, MoveInTraffic, MoveOfAFabric};
-ghost use Rattle.ev_sites.specs.Witnesses.{SitesOfAFabric};
+ghost use Rattle.ev_sites.specs.Witnesses.{SessionOfAFabric, SitesOfAFabric};
 
 use ev_fabric::{
     agrees_on, every_run, frames_meanwhile, from_port_to_port, starts, station_agrees,
     station_agrees_after_a_move, station_moves_anyhow, taken_stays,
 };
+use crate::sessions::{begun_anew, sessions_agree};
 use rstp_run::laws::{runs_happen, settled_by_lists};
 
 /// A witness of `no_circle_in_a_fabric`, and so of `no_circle_through_tunnels` and
@@ -61,4 +62,20 @@ pub fn fabric_moves_in_traffic()
     station_moves_anyhow();
     taken_stays();
     frames_meanwhile();
+}
+
+/// A witness of `sessions_agree` and `begun_anew`: two processes of edges, one with two and one
+/// with one. After a run from their opening the edges of the first process begin anew. The other
+/// process has an advert of an earlier life, of a station that its edge hasn't learnt since. A
+/// session follows, in which an edge learns another station. At its end the advert is gone, and
+/// both processes have the other station's advert.
+pub fn a_session_can_be()
+    ensures { SessionOfAFabric }
+{
+    settled_by_lists();
+    runs_happen();
+    starts();
+    every_run();
+    sessions_agree();
+    begun_anew();
 }

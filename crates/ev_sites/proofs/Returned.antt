@@ -1,0 +1,596 @@
+-- A process of two edges begins anew, and has a session with the process of the edge between them.
+use Rattle.std.proofs.Common.{◌≡◌, inl, inr, ℕ, None, List, [], ◌∷◌, ◌++◌, drop, take, refl, sym, ap, subst, arith, lit<}
+use Rattle.std.specs.Prelude.{Ok, IsSome, Contains}
+use Rattle.std.specs.FinMap.{empty, get-empty}
+use Rattle.route_wire.specs.declared.update.Register.{Register}
+use Rattle.route_wire.specs.declared.update.Value.{Value}
+use Rattle.route_wire.specs.declared.update.Content.TheVariants.{Withdrawn}
+use Rattle.route_wire.specs.Fields.{Fields}
+use Rattle.route_join.specs.Owner.{advert_of}
+use Rattle.mac_arena.specs.declared.station.Entry.{Entry}
+use Rattle.mac_arena.specs.Station.{station_cmp}
+use Rattle.rstp_run.specs.Events.{RunsHappen, start}
+use Rattle.rstp_run.specs.Settled.{SettledByLists}
+use Rattle.rstp_net.proofs.Ring.{two_ports}
+use Rattle.ev_edge.specs.declared.config.EdgeConfig.{EdgeConfig}
+use Rattle.ev_edge.specs.Edge.{Edge, address_of}
+use Rattle.ev_edge.specs.Steps.{alone}
+use Rattle.ev_fabric.specs.declared.step.LocalEvent.TheVariants.{Pin}
+use Rattle.ev_fabric.specs.declared.step.Step.{Step}
+use Rattle.ev_fabric.specs.declared.step.Step.TheVariants.{Local, Announce, Deliver, Restart}
+use Rattle.ev_fabric.specs.Fabric.{Fabric, IsEdge}
+use Rattle.ev_fabric.specs.Laws.{Starts, EveryRun}
+use Rattle.ev_fabric.specs.Sound.{IsSound}
+use Rattle.ev_fabric.proofs.Example.{config_of, nobody_learnt}
+use Rattle.ev_sites.specs.Sessions.{Took, Holds, Parts, TookIn, IsSent, Sends, Session, SessionsAgree, BegunAnew}
+use Rattle.ev_sites.specs.Witnesses.{HasRun, SessionOfAFabric}
+use Rattle.ev_sites.proofs.Tables.{Said, found}
+use Rattle.ev_sites.proofs.Guest.{guest, here, there, flood_register, guest_register, said_first, said_guest, keeps}
+use Rattle.ev_sites.proofs.Guest.{hears}
+use Rattle.ev_sites.proofs.Risen.{root_settings, runs_on}
+use Rattle.ev_sites.proofs.Telling.{update}
+use Rattle.ev_sites.proofs.Trio.{far, trio_of, trio_with, Going, Ran, follows, does, telling, announces, takes, lodger}
+use Rattle.ev_sites.proofs.Trio.{lodger_register, fixed_in, said_free, hears_of, free_first, pinned_entry, pins}
+use Rattle.ev_sites.proofs.Traffic.{flood_one, flood_two, flood_three, guest_here, lodger_first, lodger_gone, said_of}
+use Rattle.ev_sites.proofs.Traffic.{b1, c3, lodged, left_once, first_0, second_0, third_0, third_1, agreed, has_run}
+use Rattle.ev_sites.proofs.Anew.{flood_anew, anew, opened_anew, config_anew, reopens, returns, no_news, withdrawn, kept}
+use Rattle.ev_sites.proofs.Sendings.{Sending, delivered, alike, none_opens, one_place, two_places}
+
+-- ---- the updates
+
+abbrev flood_here : Fields
+flood_here = update (flood_register here) flood_anew
+
+abbrev flood_far : Fields
+flood_far = update (flood_register far) flood_anew
+
+abbrev lodger_here : Fields
+lodger_here = update (lodger_register here) (fixed_in 1 2)
+
+abbrev guest_left : Fields
+guest_left = update (guest_register here) (record { incarnation = 1; counter = 3; content = Withdrawn })
+
+abbrev pool : ℕ → List Fields
+pool n = take n (flood_one ∷ guest_here ∷ flood_two ∷ flood_three ∷ lodger_first ∷ lodger_gone ∷ flood_here ∷ flood_far
+    ∷ lodger_here ∷ guest_left ∷ [])
+
+-- ---- the tables
+
+abbrev a0 : List Said
+a0 = said_of flood_here ∷ []
+
+abbrev a1 : List Said
+a1 = said_of flood_two ∷ a0
+
+abbrev a2 : List Said
+a2 = said_of lodger_here ∷ a1
+
+abbrev a3 : List Said
+a3 = said_of guest_left ∷ said_of guest_here ∷ a2
+
+abbrev b2 : List Said
+b2 = said_of lodger_gone ∷ b1
+
+abbrev b3 : List Said
+b3 = said_of flood_here ∷ b2
+
+abbrev b4 : List Said
+b4 = said_of flood_far ∷ b3
+
+abbrev b5 : List Said
+b5 = said_of lodger_here ∷ b4
+
+abbrev b6 : List Said
+b6 = said_of guest_left ∷ b5
+
+abbrev c0 : List Said
+c0 = said_of flood_far ∷ []
+
+abbrev c1 : List Said
+c1 = said_of flood_two ∷ c0
+
+abbrev c2 : List Said
+c2 = said_of lodger_gone ∷ c1
+
+-- ---- the edges
+
+abbrev first_1 : Edge
+first_1 = anew here a0 1 [] nobody_learnt
+
+abbrev first_2 : Edge
+first_2 = anew here a1 1 [] nobody_learnt
+
+abbrev first_3 : Edge
+first_3 = anew here a2 2 (lodger_register here ∷ []) lodged
+
+abbrev first_4 : Edge
+first_4 = anew here a3 3 (lodger_register here ∷ guest_register here ∷ []) lodged
+
+abbrev first_5 : Edge
+first_5 = anew here a3 3 (guest_register here ∷ []) lodged
+
+abbrev first_6 : Edge
+first_6 = anew here a3 3 [] lodged
+
+abbrev second_with : List Said → Edge
+second_with said = telling there said 1 [] nobody_learnt empty
+
+abbrev third_with : List Said → Edge
+third_with said = anew far said 1 [] nobody_learnt
+
+-- ---- the fabrics
+
+abbrev told : Fabric
+told = trio_with first_0 second_0 third_1 (pool 6)
+
+abbrev before : Fabric
+before = trio_with first_0 (second_with b2) third_1 (pool 6)
+
+abbrev configs_one : List EdgeConfig
+configs_one = config_anew here ∷ config_of root_settings there ∷ config_of root_settings far ∷ []
+
+abbrev began : Fabric
+began = trio_of configs_one (opened_anew here) (second_with b2) third_1 (pool 6)
+
+abbrev among : Edge → Edge → Edge → ℕ → Fabric
+among a b c n = trio_of (config_anew here ∷ config_of root_settings there ∷ config_anew far ∷ []) a b c (pool n)
+
+abbrev old : Fabric
+old = among (opened_anew here) (second_with b2) (opened_anew far) 6
+
+abbrev f1 : Fabric
+f1 = among first_1 (second_with b2) (opened_anew far) 7
+
+abbrev f2 : Fabric
+f2 = among first_1 (second_with b2) (third_with c0) 8
+
+abbrev f3 : Fabric
+f3 = among first_1 (second_with b3) (third_with c0) 8
+
+abbrev f4 : Fabric
+f4 = among first_1 (second_with b4) (third_with c0) 8
+
+abbrev f5 : Fabric
+f5 = among first_2 (second_with b4) (third_with c0) 8
+
+abbrev f6 : Fabric
+f6 = among first_2 (second_with b4) (third_with c1) 8
+
+abbrev held : Fabric
+held = among first_3 (second_with b4) (third_with c1) 8
+
+abbrev f7 : Fabric
+f7 = among first_4 (second_with b4) (third_with c1) 8
+
+abbrev f8 : Fabric
+f8 = among first_4 (second_with b4) (third_with c2) 8
+
+abbrev f9 : Fabric
+f9 = among first_5 (second_with b4) (third_with c2) 9
+
+abbrev f10 : Fabric
+f10 = among first_6 (second_with b4) (third_with c2) 10
+
+abbrev f11 : Fabric
+f11 = among first_6 (second_with b5) (third_with c2) 10
+
+abbrev new : Fabric
+new = among first_6 (second_with b6) (third_with c2) 10
+
+-- ---- the steps before the session
+
+says_gone : Going agreed (Announce 3) told
+says_gone = announces agreed 3 third_0 third_1 lodger_gone (found c3 lodger_gone.register) refl refl refl
+
+hears_gone : Going told (Deliver 2 6) before
+hears_gone = takes told 2 6 second_0 lodger_gone (second_with b2).routes refl refl refl refl
+    (hears_of there far b1 1 [] nobody_learnt lodger_gone.value refl refl)
+
+first_opens : Going before (Restart 1 1) began
+first_opens = reopens before 1 first_0 here (0, lit< tt, refl) refl (lit< tt) refl
+
+third_opens : Going began (Restart 3 1) old
+third_opens = reopens began 3 third_1 far (2, lit< tt, refl) refl (lit< tt) refl
+
+-- ---- the steps of the session
+
+s1 : Going old (Announce 1) f1
+s1 = announces old 1 (opened_anew here) first_1 flood_here (found a0 flood_here.register) refl refl refl
+
+s2 : Going f1 (Announce 3) f2
+s2 = announces f1 3 (opened_anew far) (third_with c0) flood_far (found c0 flood_far.register) refl refl refl
+
+s3 : Going f2 (Deliver 2 7) f3
+s3 = takes f2 2 7 (second_with b2) flood_here (second_with b3).routes refl refl refl refl
+    (hears 0 there here b2 1 [] nobody_learnt flood_anew refl)
+
+s4 : Going f3 (Deliver 2 8) f4
+s4 = takes f3 2 8 (second_with b3) flood_far (second_with b4).routes refl refl refl refl
+    (hears 0 there far b3 1 [] nobody_learnt flood_anew refl)
+
+s5 : Going f4 (Deliver 1 3) f5
+s5 = takes f4 1 3 first_1 flood_two first_2.routes refl refl refl refl
+    (hears 1 here there a0 1 [] nobody_learnt said_first refl)
+
+s6 : Going f5 (Deliver 3 3) f6
+s6 = takes f5 3 3 (third_with c0) flood_two (third_with c1).routes refl refl refl refl
+    (hears 1 far there c0 1 [] nobody_learnt said_first refl)
+
+s7 : Going f6 (Local 1 (Pin lodger 1)) held
+s7 = does f6 1 first_2 first_3 (Pin lodger 1) (alone None) refl
+    (pins 1 (start root_settings two_ports) here a1 1 [] nobody_learnt empty 0 free_first refl refl)
+
+-- what the second edge has is delivered back
+t1 : Going held (Deliver 1 7) held
+t1 = returns held 1 7 first_3 flood_here first_3.routes refl refl refl
+    (no_news 1 here a2 2 (lodger_register here ∷ []) lodged (flood_register here) flood_anew refl)
+
+t2 : Going held (Deliver 1 2) f7
+t2 = returns held 1 2 first_3 guest_here first_4.routes refl refl refl
+    (withdrawn 1 here a2 2 (lodger_register here ∷ []) lodged (guest_register here) (said_guest 0) refl refl refl refl)
+
+t3 : Going f7 (Deliver 3 8) f7
+t3 = returns f7 3 8 (third_with c1) flood_far (third_with c1).routes refl refl refl
+    (no_news 1 far c1 1 [] nobody_learnt (flood_register far) flood_anew refl)
+
+t4 : Going f7 (Deliver 3 6) f8
+t4 = returns f7 3 6 (third_with c1) lodger_gone (third_with c2).routes refl refl refl
+    (kept 1 far c1 1 [] nobody_learnt (lodger_register far) (said_free 3) refl refl refl)
+
+-- and its own flood list
+t5 : Going f8 (Deliver 2 3) f8
+t5 = returns f8 2 3 (second_with b4) flood_two (second_with b4).routes refl refl refl
+    (no_news 0 there b4 1 [] nobody_learnt (flood_register there) said_first refl)
+
+t6 : Going f8 (Announce 1) f9
+t6 = announces f8 1 first_4 first_5 lodger_here (found a3 lodger_here.register) refl refl refl
+
+t7 : Going f9 (Announce 1) f10
+t7 = announces f9 1 first_5 first_6 guest_left (found a3 guest_left.register) refl refl refl
+
+t8 : Going f10 (Deliver 2 9) f11
+t8 = takes f10 2 9 (second_with b4) lodger_here (second_with b5).routes refl refl refl refl
+    (hears_of there here b4 1 [] nobody_learnt lodger_here.value refl refl)
+
+t9 : Going f11 (Deliver 2 10) new
+t9 = takes f11 2 10 (second_with b5) guest_left (second_with b6).routes refl refl refl refl
+    (keeps there here b5 1 [] nobody_learnt guest_left.value refl refl)
+
+-- ---- the session
+
+abbrev sooner : List Step
+sooner = Announce 1 ∷ Announce 3 ∷ Deliver 2 7 ∷ Deliver 2 8 ∷ Deliver 1 3 ∷ Deliver 3 3 ∷ []
+
+abbrev second_part : List Step
+second_part = Deliver 1 7 ∷ Deliver 1 2 ∷ Deliver 3 8 ∷ Deliver 3 6 ∷ Deliver 2 3 ∷ Announce 1 ∷ Announce 1
+    ∷ Deliver 2 9 ∷ Deliver 2 10 ∷ []
+
+abbrev first_part : List Step
+first_part = sooner ++ Local 1 (Pin lodger 1) ∷ []
+
+abbrev steps : List Step
+steps = first_part ++ second_part
+
+abbrev begins : Ran old first_part held
+begins = follows s1 (follows s2 (follows s3 (follows s4 (follows s5 (follows s6 (follows s7
+    (record { run = refl })))))))
+
+abbrev ends : Ran held second_part new
+ends = follows t1 (follows t2 (follows t3 (follows t4 (follows t5 (follows t6 (follows t7 (follows t8 (follows t9
+    (record { run = refl })))))))))
+
+abbrev parts : Parts old steps new
+parts = record {
+  first = first_part;
+  second = second_part;
+  is = refl;
+  held = held;
+  begins = begins.run;
+  ends = ends.run;
+}
+
+-- what the second edge takes
+second_flood_here : TookIn old steps new parts 1 flood_here
+second_flood_here = inl (inr (inr (inl (6, s3.reply, refl, refl, refl))))
+
+second_flood_far : TookIn old steps new parts 1 flood_far
+second_flood_far = inl (inr (inr (inr (inl (7, s4.reply, refl, refl, refl)))))
+
+second_lodger : TookIn old steps new parts 1 lodger_here
+second_lodger = inr (inr (inr (inr (inr (inr (inr (inr (inl (8, t8.reply, refl, refl, refl)))))))))
+
+second_left : TookIn old steps new parts 1 guest_left
+second_left = inr (inr (inr (inr (inr (inr (inr (inr (inr (inl (9, t9.reply, refl, refl, refl))))))))))
+
+second_back : Took 1 flood_two second_part held new ends.run
+second_back = inr (inr (inr (inr (inl (2, t5.reply, refl, refl, refl)))))
+
+-- what the other two take
+first_flood : TookIn old steps new parts 0 flood_two
+first_flood = inl (inr (inr (inr (inr (inl (2, s5.reply, refl, refl, refl))))))
+
+first_back : Took 0 flood_here second_part held new ends.run
+first_back = inl (6, t1.reply, refl, refl, refl)
+
+first_guest : Took 0 guest_here second_part held new ends.run
+first_guest = inr (inl (1, t2.reply, refl, refl, refl))
+
+third_flood : TookIn old steps new parts 2 flood_two
+third_flood = inl (inr (inr (inr (inr (inr (inl (2, s6.reply, refl, refl, refl)))))))
+
+third_back : Took 2 flood_far second_part held new ends.run
+third_back = inr (inr (inl (7, t3.reply, refl, refl, refl)))
+
+third_gone : Took 2 lodger_gone second_part held new ends.run
+third_gone = inr (inr (inr (inl (5, t4.reply, refl, refl, refl))))
+
+-- ---- the four directions
+
+abbrev more : List Said
+more = said_of flood_here ∷ said_of flood_far ∷ said_of lodger_here ∷ said_of guest_left ∷ []
+
+is_more : (us : List Fields) → new.pool ≡ old.pool ++ us → us ≡ flood_here ∷ flood_far ∷ lodger_here ∷ guest_left ∷ []
+is_more us is = sym (ap (drop 6) is)
+
+from_first : Sending 0 1 here 1 old steps new parts
+from_first = record {
+  before = opened_anew here;
+  after = first_6;
+  held = second_with b4;
+  at_before = refl;
+  at_after = refl;
+  at_held = refl;
+  said = a0;
+  last = a3;
+  heard = b4;
+  more = more;
+  is_said = refl;
+  is_last = refl;
+  is_heard = refl;
+  is_more = is_more;
+  address = refl;
+  life = refl;
+  own = (second_flood_here, tt);
+  since = (second_flood_here, (tt, (second_lodger, (second_left, tt))));
+  quiet = refl;
+  back = (tt, (first_back, (tt, (first_guest, (tt, tt)))));
+  later = refl;
+}
+
+from_third : Sending 2 1 far 1 old steps new parts
+from_third = record {
+  before = opened_anew far;
+  after = third_with c2;
+  held = second_with b4;
+  at_before = refl;
+  at_after = refl;
+  at_held = refl;
+  said = c0;
+  last = c2;
+  heard = b4;
+  more = more;
+  is_said = refl;
+  is_last = refl;
+  is_heard = refl;
+  is_more = is_more;
+  address = refl;
+  life = refl;
+  own = (second_flood_far, tt);
+  since = (tt, (second_flood_far, (tt, (tt, tt))));
+  quiet = refl;
+  back = (third_back, (tt, (third_gone, (tt, (tt, tt)))));
+  later = refl;
+}
+
+to_first : Sending 1 0 there 0 old steps new parts
+to_first = record {
+  before = second_with b2;
+  after = second_with b6;
+  held = first_3;
+  at_before = refl;
+  at_after = refl;
+  at_held = refl;
+  said = b2;
+  last = b6;
+  heard = a2;
+  more = more;
+  is_said = refl;
+  is_last = refl;
+  is_heard = refl;
+  is_more = is_more;
+  address = refl;
+  life = refl;
+  own = (tt, (tt, (first_flood, tt)));
+  since = (tt, (tt, (tt, (tt, tt))));
+  quiet = refl;
+  back = (tt, (second_back, (tt, tt)));
+  later = refl;
+}
+
+to_third : Sending 1 2 there 0 old steps new parts
+to_third = record {
+  before = second_with b2;
+  after = second_with b6;
+  held = third_with c1;
+  at_before = refl;
+  at_after = refl;
+  at_held = refl;
+  said = b2;
+  last = b6;
+  heard = c1;
+  more = more;
+  is_said = refl;
+  is_last = refl;
+  is_heard = refl;
+  is_more = is_more;
+  address = refl;
+  life = refl;
+  own = (tt, (tt, (third_flood, tt)));
+  since = (tt, (tt, (tt, (tt, tt))));
+  quiet = refl;
+  back = (second_back, (tt, tt));
+  later = refl;
+}
+
+-- updates of an earlier life that the other side has between the parts
+guest_there : Holds held 1 guest_here
+guest_there = (second_with b4, refl, found b4 guest_here.register)
+
+gone_there : Holds held 1 lodger_gone
+gone_there = (second_with b4, refl, found b4 lodger_gone.register)
+
+module _ (sound : IsSound old) where
+  first_sent : (a : Edge) (r : Register) → IsEdge new 0 a → r.originator ≡ address_of a
+      → IsSent 0 1 a r old steps new parts
+  unfolding from_first
+  first_sent a r at mine = record {
+    delivered = delivered 0 1 here 1 old steps new parts sound from_first a r at mine;
+    alike = λ v less is took. alike 0 1 here 1 old steps new parts sound from_first a r at mine
+        (tt, (guest_there, (tt, (tt, (tt, tt))))) v less is;
+  }
+
+  third_sent : (a : Edge) (r : Register) → IsEdge new 2 a → r.originator ≡ address_of a
+      → IsSent 2 1 a r old steps new parts
+  unfolding from_third
+  third_sent a r at mine = record {
+    delivered = delivered 2 1 far 1 old steps new parts sound from_third a r at mine;
+    alike = λ v less is took. alike 2 1 far 1 old steps new parts sound from_third a r at mine
+        (gone_there, (tt, (tt, tt))) v less is;
+  }
+
+  sent_first : (a : Edge) (r : Register) → IsEdge new 1 a → r.originator ≡ address_of a
+      → IsSent 1 0 a r old steps new parts
+  unfolding to_first
+  sent_first a r at mine = record {
+    delivered = delivered 1 0 there 0 old steps new parts sound to_first a r at mine;
+    alike = λ v less is took. alike 1 0 there 0 old steps new parts sound to_first a r at mine
+        (tt, (tt, (tt, (tt, (tt, (tt, (tt, tt))))))) v less is;
+  }
+
+  sent_third : (a : Edge) (r : Register) → IsEdge new 1 a → r.originator ≡ address_of a
+      → IsSent 1 2 a r old steps new parts
+  unfolding to_third
+  sent_third a r at mine = record {
+    delivered = delivered 1 2 there 0 old steps new parts sound to_third a r at mine;
+    alike = λ v less is took. alike 1 2 there 0 old steps new parts sound to_third a r at mine
+        (tt, (tt, (tt, (tt, (tt, (tt, (tt, tt))))))) v less is;
+  }
+
+  abbrev Sent : ℕ → ℕ → Type 0
+  Sent i j = (a : Edge) (r : Register) → IsEdge new i a → r.originator ≡ address_of a
+      → IsSent i j a r old steps new parts
+
+  session : Session (0 ∷ 2 ∷ []) (1 ∷ []) old steps new
+  session = record {
+    there = record {
+      parts = parts;
+      senders = λ i p. none_opens steps tt i;
+      takers = λ j q. none_opens steps tt j;
+      sent = λ i j a r in_p in_q. two_places (λ x. Sent x j) 0 2 (one_place (Sent 0) 1 first_sent j in_q)
+          (one_place (Sent 2) 1 third_sent j in_q) i in_p a r;
+    };
+    back = record {
+      parts = parts;
+      senders = λ i p. none_opens steps tt i;
+      takers = λ j q. none_opens steps tt j;
+      sent = λ i j a r in_q in_p. one_place (λ x. Sent x j) 1 (two_places (Sent 1) 0 2 sent_first sent_third j in_p) i
+          in_q a r;
+    };
+  }
+
+module _ (lists : SettledByLists) (happens : RunsHappen) where
+  before_run : HasRun before
+  before_run =
+      let h = has_run lists happens in
+      record {
+        configs = h.configs;
+        opened = h.opened;
+        steps = h.steps ++ Announce 3 ∷ Deliver 2 6 ∷ [];
+        fit = h.fit;
+        start = h.start;
+        run = runs_on h.steps (Announce 3 ∷ Deliver 2 6 ∷ []) h.opened agreed before h.run last.run;
+      }
+    where
+      last : Ran agreed (Announce 3 ∷ Deliver 2 6 ∷ []) before
+      last = follows says_gone (follows hears_gone (record { run = refl }))
+
+  pub session_of_a_fabric : Starts → EveryRun → SessionsAgree → BegunAnew → SessionOfAFabric
+  unfolding session
+  session_of_a_fabric starts every_run agree begun = record {
+    before = before;
+    has_run = before_run;
+    three = refl;
+    life = 1;
+    reply = first_opens.reply;
+    began = began;
+    restart = first_opens.goes;
+    meanwhile = Restart 3 1 ∷ [];
+    old = old;
+    goes_on = meanwhile.run;
+    steps = steps;
+    new = new;
+    session = session sound;
+    first_old = opened_anew here;
+    first = first_6;
+    second = second_with b6;
+    third = third_with c2;
+    at_first_old = refl;
+    at_first = refl;
+    at_second = refl;
+    at_third = refl;
+    station = guest;
+    earlier = said_guest 0;
+    had = (second_with b2, refl, found b2 guest_here.register);
+    was_advert = refl;
+    is_earlier = lit< tt;
+    not_learnt = get-empty {X = Entry} station_cmp guest;
+    gone = ap advert_of (found b6 guest_here.register);
+    withdrawal = guest_left.value;
+    is_withdrawn = refl;
+    of_life = refl;
+    held_by_first = (first_6, refl, found a3 guest_left.register);
+    held_by_second = (second_with b6, refl, found b6 guest_left.register);
+    sooner = sooner;
+    later = second_part;
+    event = Pin lodger 1;
+    between = refl;
+    delivers = (7, (2, omega arith, refl));
+    delivers_back = (2, (1, omega arith, refl));
+    other = lodger;
+    present = lodger_here.value;
+    news = flood_here ∷ flood_far ∷ lodger_here ∷ guest_left ∷ [];
+    announced = refl;
+    among = (2, omega arith, refl);
+    is_advert = refl;
+    is_present = refl;
+    learnt_since = get-empty {X = Entry} station_cmp lodger;
+    learnt = subst IsSome (sym (pinned_entry nobody_learnt free_first)) refl;
+    first_has = (first_6, refl, found a3 lodger_here.register);
+    second_has = (second_with b6, refl, found b6 lodger_here.register);
+    kept = lodger_gone;
+    of_third = refl;
+    of_past = lit< tt;
+    taken = inr third_gone;
+    third_has = (third_with c2, refl, found c2 lodger_gone.register);
+    first_agrees = agree (0 ∷ 2 ∷ []) (1 ∷ []) old steps new sound (session sound) 0 1 first_6 (second_with b6)
+        (0, omega arith, refl) (0, omega arith, refl) refl refl;
+    third_agrees = agree (0 ∷ 2 ∷ []) (1 ∷ []) old steps new sound (session sound) 2 1 (third_with c2) (second_with b6)
+        (1, omega arith, refl) (0, omega arith, refl) refl refl;
+    anew = begun (0 ∷ 2 ∷ []) (1 ∷ []) before began old new 0 1 1 first_opens.reply (Restart 3 1 ∷ []) steps
+        sound_before first_opens.goes meanwhile.run (session sound) first_6 (second_with b6) (0, omega arith, refl)
+        (0, omega arith, refl) refl refl;
+  }
+    where
+      sound_before : IsSound before
+      sound_before =
+          every_run before_run.steps before_run.opened before before_run.run
+          (starts before_run.configs before_run.opened before_run.fit before_run.start)
+
+      meanwhile : Ran began (Restart 3 1 ∷ []) old
+      meanwhile = follows third_opens (record { run = refl })
+
+      restarts : Ran before (Restart 1 1 ∷ Restart 3 1 ∷ []) old
+      restarts = follows first_opens meanwhile
+
+      sound : IsSound old
+      sound = every_run (Restart 1 1 ∷ Restart 3 1 ∷ []) before old restarts.run sound_before
