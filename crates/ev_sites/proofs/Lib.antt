@@ -15,3 +15,4 @@ pub mod Meetings
 pub mod Anew
 pub mod Sendings
 pub mod Returned
+pub mod Stale

@@ -41,7 +41,7 @@ use Rattle.ev_sites.proofs.Sendings.{Sending, delivered, alike, none_opens, one_
 abbrev flood_here : Fields
 flood_here = update (flood_register here) flood_anew
 
-abbrev flood_far : Fields
+abbrev pub flood_far : Fields
 flood_far = update (flood_register far) flood_anew
 
 abbrev lodger_here : Fields
@@ -83,13 +83,13 @@ b5 = said_of lodger_here ∷ b4
 abbrev b6 : List Said
 b6 = said_of guest_left ∷ b5
 
-abbrev c0 : List Said
+abbrev pub c0 : List Said
 c0 = said_of flood_far ∷ []
 
-abbrev c1 : List Said
+abbrev pub c1 : List Said
 c1 = said_of flood_two ∷ c0
 
-abbrev c2 : List Said
+abbrev pub c2 : List Said
 c2 = said_of lodger_gone ∷ c1
 
 -- ---- the edges
@@ -112,15 +112,15 @@ first_5 = anew here a3 3 (guest_register here ∷ []) lodged
 abbrev first_6 : Edge
 first_6 = anew here a3 3 [] lodged
 
-abbrev second_with : List Said → Edge
+abbrev pub second_with : List Said → Edge
 second_with said = telling there said 1 [] nobody_learnt empty
 
-abbrev third_with : List Said → Edge
+abbrev pub third_with : List Said → Edge
 third_with said = anew far said 1 [] nobody_learnt
 
 -- ---- the fabrics
 
-abbrev told : Fabric
+abbrev pub told : Fabric
 told = trio_with first_0 second_0 third_1 (pool 6)
 
 abbrev before : Fabric
@@ -179,7 +179,7 @@ new = among first_6 (second_with b6) (third_with c2) 10
 
 -- ---- the steps before the session
 
-says_gone : Going agreed (Announce 3) told
+pub says_gone : Going agreed (Announce 3) told
 says_gone = announces agreed 3 third_0 third_1 lodger_gone (found c3 lodger_gone.register) refl refl refl
 
 hears_gone : Going told (Deliver 2 6) before
@@ -337,19 +337,14 @@ from_first = record {
   before = opened_anew here;
   after = first_6;
   held = second_with b4;
-  at_before = refl;
-  at_after = refl;
-  at_held = refl;
+  edges = (refl, refl, refl);
   said = a0;
   last = a3;
   heard = b4;
   more = more;
-  is_said = refl;
-  is_last = refl;
-  is_heard = refl;
+  tables = (refl, refl, refl);
   is_more = is_more;
-  address = refl;
-  life = refl;
+  name = (refl, refl);
   own = (second_flood_here, tt);
   since = (second_flood_here, (tt, (second_lodger, (second_left, tt))));
   quiet = refl;
@@ -362,19 +357,14 @@ from_third = record {
   before = opened_anew far;
   after = third_with c2;
   held = second_with b4;
-  at_before = refl;
-  at_after = refl;
-  at_held = refl;
+  edges = (refl, refl, refl);
   said = c0;
   last = c2;
   heard = b4;
   more = more;
-  is_said = refl;
-  is_last = refl;
-  is_heard = refl;
+  tables = (refl, refl, refl);
   is_more = is_more;
-  address = refl;
-  life = refl;
+  name = (refl, refl);
   own = (second_flood_far, tt);
   since = (tt, (second_flood_far, (tt, (tt, tt))));
   quiet = refl;
@@ -387,19 +377,14 @@ to_first = record {
   before = second_with b2;
   after = second_with b6;
   held = first_3;
-  at_before = refl;
-  at_after = refl;
-  at_held = refl;
+  edges = (refl, refl, refl);
   said = b2;
   last = b6;
   heard = a2;
   more = more;
-  is_said = refl;
-  is_last = refl;
-  is_heard = refl;
+  tables = (refl, refl, refl);
   is_more = is_more;
-  address = refl;
-  life = refl;
+  name = (refl, refl);
   own = (tt, (tt, (first_flood, tt)));
   since = (tt, (tt, (tt, (tt, tt))));
   quiet = refl;
@@ -412,19 +397,14 @@ to_third = record {
   before = second_with b2;
   after = second_with b6;
   held = third_with c1;
-  at_before = refl;
-  at_after = refl;
-  at_held = refl;
+  edges = (refl, refl, refl);
   said = b2;
   last = b6;
   heard = c1;
   more = more;
-  is_said = refl;
-  is_last = refl;
-  is_heard = refl;
+  tables = (refl, refl, refl);
   is_more = is_more;
-  address = refl;
-  life = refl;
+  name = (refl, refl);
   own = (tt, (tt, (third_flood, tt)));
   since = (tt, (tt, (tt, (tt, tt))));
   quiet = refl;
@@ -498,21 +478,22 @@ module _ (sound : IsSound old) where
     };
   }
 
+-- ---- the witness
+
+pub goes_further : (f g : Fabric) (steps : List Step) → HasRun f → Ran f steps g → HasRun g
+goes_further f g steps h more = record {
+  configs = h.configs;
+  opened = h.opened;
+  steps = h.steps ++ steps;
+  fit = h.fit;
+  start = h.start;
+  run = runs_on h.steps steps h.opened f g h.run more.run;
+}
+
 module _ (lists : SettledByLists) (happens : RunsHappen) where
   before_run : HasRun before
-  before_run =
-      let h = has_run lists happens in
-      record {
-        configs = h.configs;
-        opened = h.opened;
-        steps = h.steps ++ Announce 3 ∷ Deliver 2 6 ∷ [];
-        fit = h.fit;
-        start = h.start;
-        run = runs_on h.steps (Announce 3 ∷ Deliver 2 6 ∷ []) h.opened agreed before h.run last.run;
-      }
-    where
-      last : Ran agreed (Announce 3 ∷ Deliver 2 6 ∷ []) before
-      last = follows says_gone (follows hears_gone (record { run = refl }))
+  before_run = goes_further agreed before (Announce 3 ∷ Deliver 2 6 ∷ []) (has_run lists happens)
+      (follows says_gone (follows hears_gone (record { run = refl })))
 
   pub session_of_a_fabric : Starts → EveryRun → SessionsAgree → BegunAnew → SessionOfAFabric
   unfolding session

@@ -143,20 +143,16 @@ pub record Sending (i j x n : ℕ) (old : Fabric) (steps : List Step) (new : Fab
   pub before : Edge
   pub after : Edge
   pub held : Edge
-  pub at_before : IsEdge old i before
-  pub at_after : IsEdge new i after
-  pub at_held : IsEdge s.held j held
+  pub edges : IsEdge old i before × IsEdge new i after × IsEdge s.held j held
   -- their tables, and what is announced
   pub said : List Said
   pub last : List Said
   pub heard : List Said
   pub more : List Said
-  pub is_said : table_of before ≡ table_with said
-  pub is_last : table_of after ≡ table_with last
-  pub is_heard : table_of held ≡ table_with heard
+  pub tables : (table_of before ≡ table_with said) × (table_of after ≡ table_with last)
+      × (table_of held ≡ table_with heard)
   pub is_more : (us : List Fields) → new.pool ≡ old.pool ++ us → us ≡ updates_of more
-  pub address : address_of after ≡ x
-  pub life : incarnation_of after ≡ n
+  pub name : (address_of after ≡ x) × (incarnation_of after ≡ n)
   -- the deliveries
   pub own : Each (λ u. When (u.register.originator == x) (TookIn old steps new s j u)) said
   pub since : Each (λ u. When (u.register.originator == x) (TookIn old steps new s j u)) more
@@ -168,29 +164,29 @@ module _ (i j x n : ℕ) (old : Fabric) (steps : List Step) (new : Fabric) (s : 
     (h : Sending i j x n old steps new s) (a : Edge) (r : Register) (at : IsEdge new i a)
     (mine : r.originator ≡ address_of a) where
   same : h.after ≡ a
-  same = one_there new i h.after a h.at_after at
+  same = one_there new i h.after a h.edges.1 at
 
   named : r.originator ≡ x
-  named = mine ∙ ap address_of (sym same) ∙ h.address
+  named = mine ∙ ap address_of (sym same) ∙ h.name.0
 
   test : (r.originator == x) ≡ true
   test = eq-eqb r.originator x named
 
   less_in : (v : Value) → v.incarnation < incarnation_of a → v.incarnation < n
-  less_in v less = subst (λ m. v.incarnation < m) (ap incarnation_of (sym same) ∙ h.life) less
+  less_in v less = subst (λ m. v.incarnation < m) (ap incarnation_of (sym same) ∙ h.name.1) less
 
   pub delivered : IsDelivered i j a r old steps new s
   delivered = record {
     own = λ v holds among. passed (TookIn old steps new s j (update_of r v)) (r.originator == x) test
         (each_held (λ u. When (u.register.originator == x) (TookIn old steps new s j u)) h.said h.own r v
-        (looked old i h.before h.said h.at_before h.is_said v holds));
+        (looked old i h.before h.said h.edges.0 h.tables.0 v holds));
     since = λ more v is among. passed (TookIn old steps new s j (update_of r v)) (r.originator == x) test
         (each_among (λ u. When (u.register.originator == x) (TookIn old steps new s j u)) h.more h.since (update_of r v)
         (subst (λ l. Contains l (update_of r v)) (h.is_more more is) among));
     quiet = λ among. nothing (subst (λ (e : Edge). Contains e.routes.speaker.pending r) (sym same) among);
     back = λ v holds. passed (Took i (update_of r v) s.second s.held new s.ends) (r.originator == x) test
         (each_held (λ u. When (u.register.originator == x) (Took i u s.second s.held new s.ends)) h.heard h.back r v
-        (looked s.held j h.held h.heard h.at_held h.is_heard v holds));
+        (looked s.held j h.held h.heard h.edges.2 h.tables.2 v holds));
     later = λ v less took.
         let past : true ≡ false = sym (past_test x n (update_of r v) named (less_in v less))
         ∙ took_present x n j (update_of r v) s.second s.held new s.ends (runs_sound s.first old s.held s.begins sound)
@@ -213,5 +209,5 @@ module _ (i j x n : ℕ) (old : Fabric) (steps : List Step) (new : Fabric) (s : 
   alike each v less is = passed (Holds s.held j (update_of r v)) (is_past x n (update_of r v))
       (past_test x n (update_of r v) named (less_in v less))
       (each_held (λ u. When (is_past x n u) (Holds s.held j u)) h.last each r v
-      (sym (found h.last r) ∙ ap (λ t. value_at t r) (sym h.is_last)
+      (sym (found h.last r) ∙ ap (λ t. value_at t r) (sym h.tables.1)
       ∙ ap (λ (b : Edge). value_at (table_of b) r) same ∙ is))

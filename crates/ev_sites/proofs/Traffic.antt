@@ -98,7 +98,7 @@ said_of u = (u.register, u.value)
 abbrev a0 : List Said
 a0 = said_of flood_one ∷ []
 
-abbrev a1 : List Said
+abbrev pub a1 : List Said
 a1 = said_of guest_here ∷ a0
 
 abbrev a2 : List Said

@@ -26,7 +26,7 @@ use Rattle.ev_fabric.specs.declared.step.LocalEvent.{LocalEvent}
 use Rattle.ev_fabric.specs.Fabric.{Fabric, IsEdge, incarnation_of}
 use Rattle.ev_fabric.specs.Opening.{AreConfigs, IsStart}
 use Rattle.ev_fabric.specs.Agreed.{AllAgree, Advertises}
-use Rattle.ev_fabric.specs.Runs.{Runs, StaysOpen}
+use Rattle.ev_fabric.specs.Runs.{Runs}
 use Rattle.ev_fabric.specs.Sound.{update_of}
 use Rattle.ev_fabric.specs.Laws.{tunnel_frame_in, IsFrameFor, IsBehindPort, GoesTo, GoesOut}
 use Rattle.ev_fabric.specs.Convergence.{Rests}
@@ -37,7 +37,7 @@ use Rattle.ev_fabric.specs.Rounds.{IsOrderly, Rounds}
 use Rattle.ev_fabric.specs.Meanwhile.{IsFlooded}
 use Rattle.ev_sites.specs.Sites.{Site, Point, ByEdge, ByTunnel}
 use Rattle.ev_sites.specs.Fabrics.{AreSitesOf, SitesRest}
-use Rattle.ev_sites.specs.Sessions.{Holds, Parts, TookIn, IsDelivered, IsSent, Session, Knows}
+use Rattle.ev_sites.specs.Sessions.{Took, Holds, Parts, TookIn, IsDelivered, IsSent, Session, Knows}
 
 -- the fabric came by some run from its opening
 pub record HasRun (f : Fabric) : Type 0 where
@@ -287,26 +287,35 @@ pub record SessionOfAFabric : Type 0 where
 -- ---- a session in all but one premise
 
 -- The registers of the edges at places 1 and 2 are delivered as in a session of these two, and those of the edge at
--- place 1 are sent. Of the edge at place 2 only `alike` is left out. At the end the edge at place 1 still has an advert
--- of an earlier life of the edge at place 2, which itself has a withdrawal, and hasn't learnt the station.
+-- place 1 are sent. Only `alike` is left out, for the registers of the edge at place 2, which began anew. A withdrawal
+-- of its earlier life, which the edge at place 0 has, comes first. Then the advert that the edge at place 1 has in its
+-- place comes back, is no news, and stays there.
 pub record AdvertStays : Type 0 where
   pub old : Fabric
   pub has_run : HasRun old
   pub steps : List Step
   pub new : Fabric
   pub parts : Parts old steps new
-  pub second_stays : StaysOpen 1 steps
-  pub third_stays : StaysOpen 2 steps
+  pub none : NoneRestarts steps
   pub second : Edge
   pub third : Edge
   pub at_second : IsEdge new 1 second
   pub at_third : IsEdge new 2 third
   pub there : (r : Register) → r.originator ≡ address_of third → IsDelivered 2 1 third r old steps new parts
   pub back : (r : Register) → r.originator ≡ address_of second → IsSent 1 2 second r old steps new parts
+  -- the advert
   pub station : Station
-  pub earlier : Value
-  pub stays : Holds new 1 (update_of (register_of (address_of third) (key_of station)) earlier)
-  pub is_advert : IsSome (advert_in earlier.content)
-  pub is_earlier : earlier.incarnation < incarnation_of third
-  pub gone : advert_at (table_of third) (address_of third) (key_of station) ≡ None
+  pub advert : Value
+  pub is_advert : IsSome (advert_in advert.content)
+  pub is_earlier : advert.incarnation < incarnation_of third
+  pub stays : Holds new 1 (update_of (register_of (address_of third) (key_of station)) advert)
   pub not_learnt : entry_at third.routes.learned station ≡ None
+  -- the withdrawal
+  pub withdrawal : Value
+  pub is_withdrawn : withdrawal.content ≡ Withdrawn
+  pub first_has : Holds old 0 (update_of (register_of (address_of third) (key_of station)) withdrawal)
+  pub comes : Took 2 (update_of (register_of (address_of third) (key_of station)) withdrawal) parts.first old parts.held
+      parts.begins
+  pub third_has : Holds new 2 (update_of (register_of (address_of third) (key_of station)) withdrawal)
+  -- by `sessions_agree`
+  pub no_session : Session (2 ∷ []) (1 ∷ []) old steps new → ⊥

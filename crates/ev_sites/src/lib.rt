@@ -14,6 +14,6 @@ pub use laws::{
 };
 pub use sessions::{begun_anew, sessions_agree};
 pub use witnesses::{
-    a_session_can_be, fabric_carries_a_frame, fabric_has_sites, fabric_moves_a_station,
-    fabric_moves_in_traffic,
+    a_session_can_be, an_advert_can_stay, fabric_carries_a_frame, fabric_has_sites,
+    fabric_moves_a_station, fabric_moves_in_traffic,
 };

@@ -1,8 +1,8 @@
 //! Fabrics that meet the premises of laws, here and in `ev_fabric`, as functions that do nothing:
 //! the contract states that there is one.
 
-ghost use Rattle.ev_sites.specs.Witnesses.{FrameOfAFabric, MoveInTraffic, MoveOfAFabric};
-ghost use Rattle.ev_sites.specs.Witnesses.{SessionOfAFabric, SitesOfAFabric};
+ghost use Rattle.ev_sites.specs.Witnesses.{AdvertStays, FrameOfAFabric, MoveInTraffic};
+ghost use Rattle.ev_sites.specs.Witnesses.{MoveOfAFabric, SessionOfAFabric, SitesOfAFabric};
 
 use ev_fabric::{
     agrees_on, every_run, frames_meanwhile, from_port_to_port, starts, station_agrees,
@@ -78,4 +78,18 @@ pub fn a_session_can_be()
     every_run();
     sessions_agree();
     begun_anew();
+}
+
+/// A counterexample to `sessions_agree` without its last premise (`alike`). Of two edges whose
+/// registers are delivered as in a session, one began anew. It takes a withdrawal of its earlier
+/// life first. Then an older advert comes back to it, and is no news. So it announces nothing, and
+/// the other edge keeps that advert.
+pub fn an_advert_can_stay()
+    ensures { AdvertStays }
+{
+    settled_by_lists();
+    runs_happen();
+    starts();
+    every_run();
+    sessions_agree();
 }
