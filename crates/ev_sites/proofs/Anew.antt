@@ -10,7 +10,7 @@ use Rattle.route_wire.specs.declared.update.Register.{Register}
 use Rattle.route_wire.specs.declared.update.Value.{Value}
 use Rattle.route_wire.specs.declared.update.Content.TheVariants.{Advert as Advertised, Withdrawn}
 use Rattle.route_wire.specs.Fields.{Fields, flood_advert}
-use Rattle.route_join.specs.Table.{Table, register_of, is_news, with_value}
+use Rattle.route_join.specs.Table.{Table, register_of, is_news}
 use Rattle.route_join.specs.Taken.{taken_of}
 use Rattle.route_join.specs.Owner.{advert_in}
 use Rattle.mac_arena.specs.Learning.{Learning}
@@ -37,7 +37,7 @@ use Rattle.ev_fabric.specs.declared.step.Step.TheVariants.{Deliver, Restart}
 use Rattle.ev_fabric.specs.Fabric.{Fabric, nth, incarnation_of}
 use Rattle.ev_fabric.specs.Steps.{IsRefused, RestartsAt, in_incarnation, with_edge, with_opened}
 use Rattle.ev_fabric.proofs.Example.{listeners, config_of, port_of, served, good, nobody_learnt}
-use Rattle.ev_sites.proofs.Tables.{Said, table_with, looked_up, found, taken}
+use Rattle.ev_sites.proofs.Tables.{Said, looked_up, found, taken, unchanged}
 use Rattle.ev_sites.proofs.Guest.{flood_register, speaker_in, routes_with}
 use Rattle.ev_sites.proofs.Risen.{root_settings}
 use Rattle.ev_sites.proofs.Telling.{update}
@@ -156,9 +156,7 @@ module _ (life address : ℕ) (said : List Said) (counter : ℕ) (pending : List
   no_news old = record {
     ahead = ap (λ b. b && nat_le life v.incarnation) (newest false old);
     spent = ap (λ b. b && nat_le (2 ^ 63) counter) back;
-    after = after_back false back ∙ ap (λ b. routes_with (record own {
-      table = cond b (with_value (table_with said) r v) (table_with said);
-    }) l) (newest false old);
+    after = after_back false back ∙ ap (λ (t : Table). routes_with (record own { table = t }) l) (unchanged said r v old);
   }
     where
       back : is_returning own (update r v) ≡ false

@@ -30,7 +30,7 @@ use Rattle.ev_sites.proofs.Guest.{hears}
 use Rattle.ev_sites.proofs.Risen.{root_settings, runs_on}
 use Rattle.ev_sites.proofs.Telling.{update}
 use Rattle.ev_sites.proofs.Trio.{far, trio_of, trio_with, Going, Ran, follows, does, telling, announces, takes, lodger}
-use Rattle.ev_sites.proofs.Trio.{lodger_register, fixed_in, said_free, hears_of, free_first, pinned_entry, pins}
+use Rattle.ev_sites.proofs.Trio.{lodger_register, fixed_in, said_free, hears_of, hears_again, free_first, pinned_entry, pins}
 use Rattle.ev_sites.proofs.Traffic.{flood_one, flood_two, flood_three, guest_here, lodger_first, lodger_gone, said_of}
 use Rattle.ev_sites.proofs.Traffic.{b1, c3, lodged, left_once, first_0, second_0, third_0, third_1, agreed, has_run}
 use Rattle.ev_sites.proofs.Anew.{flood_anew, anew, opened_anew, config_anew, reopens, returns, no_news, withdrawn, kept}
@@ -86,11 +86,11 @@ b6 = said_of guest_left ∷ b5
 abbrev pub c0 : List Said
 c0 = said_of flood_far ∷ []
 
-abbrev pub c1 : List Said
-c1 = said_of flood_two ∷ c0
+abbrev c1 : List Said
+c1 = said_of lodger_gone ∷ c0
 
-abbrev pub c2 : List Said
-c2 = said_of lodger_gone ∷ c1
+abbrev c2 : List Said
+c2 = said_of flood_two ∷ c1
 
 -- ---- the edges
 
@@ -115,6 +115,10 @@ first_6 = anew here a3 3 [] lodged
 abbrev pub second_with : List Said → Edge
 second_with said = telling there said 1 [] nobody_learnt empty
 
+-- the third edge's flood list is pending
+abbrev third_heard : Edge
+third_heard = anew far c1 1 (flood_register far ∷ []) nobody_learnt
+
 abbrev pub third_with : List Said → Edge
 third_with said = anew far said 1 [] nobody_learnt
 
@@ -135,44 +139,44 @@ began = trio_of configs_one (opened_anew here) (second_with b2) third_1 (pool 6)
 abbrev among : Edge → Edge → Edge → ℕ → Fabric
 among a b c n = trio_of (config_anew here ∷ config_of root_settings there ∷ config_anew far ∷ []) a b c (pool n)
 
+abbrev opened : Fabric
+opened = among (opened_anew here) (second_with b2) (opened_anew far) 6
+
 abbrev old : Fabric
-old = among (opened_anew here) (second_with b2) (opened_anew far) 6
+old = among (opened_anew here) (second_with b2) third_heard 6
 
 abbrev f1 : Fabric
-f1 = among first_1 (second_with b2) (opened_anew far) 7
+f1 = among first_1 (second_with b2) third_heard 7
 
 abbrev f2 : Fabric
-f2 = among first_1 (second_with b2) (third_with c0) 8
+f2 = among first_1 (second_with b2) (third_with c1) 8
 
 abbrev f3 : Fabric
-f3 = among first_1 (second_with b3) (third_with c0) 8
+f3 = among first_1 (second_with b3) (third_with c1) 8
 
 abbrev f4 : Fabric
-f4 = among first_1 (second_with b4) (third_with c0) 8
+f4 = among first_1 (second_with b4) (third_with c1) 8
 
 abbrev f5 : Fabric
-f5 = among first_2 (second_with b4) (third_with c0) 8
+f5 = among first_2 (second_with b4) (third_with c1) 8
 
 abbrev f6 : Fabric
-f6 = among first_2 (second_with b4) (third_with c1) 8
+f6 = among first_2 (second_with b4) (third_with c2) 8
 
 abbrev held : Fabric
-held = among first_3 (second_with b4) (third_with c1) 8
+held = among first_3 (second_with b4) (third_with c2) 8
 
 abbrev f7 : Fabric
-f7 = among first_4 (second_with b4) (third_with c1) 8
+f7 = among first_4 (second_with b4) (third_with c2) 8
 
 abbrev f8 : Fabric
-f8 = among first_4 (second_with b4) (third_with c2) 8
+f8 = among first_5 (second_with b4) (third_with c2) 9
 
 abbrev f9 : Fabric
-f9 = among first_5 (second_with b4) (third_with c2) 9
+f9 = among first_6 (second_with b4) (third_with c2) 10
 
 abbrev f10 : Fabric
-f10 = among first_6 (second_with b4) (third_with c2) 10
-
-abbrev f11 : Fabric
-f11 = among first_6 (second_with b5) (third_with c2) 10
+f10 = among first_6 (second_with b5) (third_with c2) 10
 
 abbrev new : Fabric
 new = among first_6 (second_with b6) (third_with c2) 10
@@ -189,8 +193,13 @@ hears_gone = takes told 2 6 second_0 lodger_gone (second_with b2).routes refl re
 first_opens : Going before (Restart 1 1) began
 first_opens = reopens before 1 first_0 here (0, lit< tt, refl) refl (lit< tt) refl
 
-third_opens : Going began (Restart 3 1) old
+third_opens : Going began (Restart 3 1) opened
 third_opens = reopens began 3 third_1 far (2, lit< tt, refl) refl (lit< tt) refl
+
+-- the third edge takes the withdrawal of its earlier life
+third_hears : Going opened (Deliver 3 6) old
+third_hears = returns opened 3 6 (opened_anew far) lodger_gone third_heard.routes refl refl refl
+    (kept 1 far c0 1 (flood_register far ∷ []) nobody_learnt (lodger_register far) (said_free 3) refl refl refl)
 
 -- ---- the steps of the session
 
@@ -198,7 +207,7 @@ s1 : Going old (Announce 1) f1
 s1 = announces old 1 (opened_anew here) first_1 flood_here (found a0 flood_here.register) refl refl refl
 
 s2 : Going f1 (Announce 3) f2
-s2 = announces f1 3 (opened_anew far) (third_with c0) flood_far (found c0 flood_far.register) refl refl refl
+s2 = announces f1 3 third_heard (third_with c1) flood_far (found c1 flood_far.register) refl refl refl
 
 s3 : Going f2 (Deliver 2 7) f3
 s3 = takes f2 2 7 (second_with b2) flood_here (second_with b3).routes refl refl refl refl
@@ -213,47 +222,52 @@ s5 = takes f4 1 3 first_1 flood_two first_2.routes refl refl refl refl
     (hears 1 here there a0 1 [] nobody_learnt said_first refl)
 
 s6 : Going f5 (Deliver 3 3) f6
-s6 = takes f5 3 3 (third_with c0) flood_two (third_with c1).routes refl refl refl refl
-    (hears 1 far there c0 1 [] nobody_learnt said_first refl)
+s6 = takes f5 3 3 (third_with c1) flood_two (third_with c2).routes refl refl refl refl
+    (hears 1 far there c1 1 [] nobody_learnt said_first refl)
 
 s7 : Going f6 (Local 1 (Pin lodger 1)) held
 s7 = does f6 1 first_2 first_3 (Pin lodger 1) (alone None) refl
     (pins 1 (start root_settings two_ports) here a1 1 [] nobody_learnt empty 0 free_first refl refl)
 
+-- the second edge takes the withdrawal from the third edge
+t1 : Going held (Deliver 2 6) held
+t1 = takes held 2 6 (second_with b4) lodger_gone (second_with b4).routes refl refl refl refl
+    (hears_again there far b4 1 [] nobody_learnt lodger_gone.value refl refl)
+
 -- what the second edge has is delivered back
-t1 : Going held (Deliver 1 7) held
-t1 = returns held 1 7 first_3 flood_here first_3.routes refl refl refl
+t2 : Going held (Deliver 1 7) held
+t2 = returns held 1 7 first_3 flood_here first_3.routes refl refl refl
     (no_news 1 here a2 2 (lodger_register here ∷ []) lodged (flood_register here) flood_anew refl)
 
-t2 : Going held (Deliver 1 2) f7
-t2 = returns held 1 2 first_3 guest_here first_4.routes refl refl refl
+t3 : Going held (Deliver 1 2) f7
+t3 = returns held 1 2 first_3 guest_here first_4.routes refl refl refl
     (withdrawn 1 here a2 2 (lodger_register here ∷ []) lodged (guest_register here) (said_guest 0) refl refl refl refl)
 
-t3 : Going f7 (Deliver 3 8) f7
-t3 = returns f7 3 8 (third_with c1) flood_far (third_with c1).routes refl refl refl
-    (no_news 1 far c1 1 [] nobody_learnt (flood_register far) flood_anew refl)
+t4 : Going f7 (Deliver 3 8) f7
+t4 = returns f7 3 8 (third_with c2) flood_far (third_with c2).routes refl refl refl
+    (no_news 1 far c2 1 [] nobody_learnt (flood_register far) flood_anew refl)
 
-t4 : Going f7 (Deliver 3 6) f8
-t4 = returns f7 3 6 (third_with c1) lodger_gone (third_with c2).routes refl refl refl
-    (kept 1 far c1 1 [] nobody_learnt (lodger_register far) (said_free 3) refl refl refl)
+t5 : Going f7 (Deliver 3 6) f7
+t5 = returns f7 3 6 (third_with c2) lodger_gone (third_with c2).routes refl refl refl
+    (no_news 1 far c2 1 [] nobody_learnt (lodger_register far) (said_free 3) refl)
 
 -- and its own flood list
-t5 : Going f8 (Deliver 2 3) f8
-t5 = returns f8 2 3 (second_with b4) flood_two (second_with b4).routes refl refl refl
+t6 : Going f7 (Deliver 2 3) f7
+t6 = returns f7 2 3 (second_with b4) flood_two (second_with b4).routes refl refl refl
     (no_news 0 there b4 1 [] nobody_learnt (flood_register there) said_first refl)
 
-t6 : Going f8 (Announce 1) f9
-t6 = announces f8 1 first_4 first_5 lodger_here (found a3 lodger_here.register) refl refl refl
+t7 : Going f7 (Announce 1) f8
+t7 = announces f7 1 first_4 first_5 lodger_here (found a3 lodger_here.register) refl refl refl
 
-t7 : Going f9 (Announce 1) f10
-t7 = announces f9 1 first_5 first_6 guest_left (found a3 guest_left.register) refl refl refl
+t8 : Going f8 (Announce 1) f9
+t8 = announces f8 1 first_5 first_6 guest_left (found a3 guest_left.register) refl refl refl
 
-t8 : Going f10 (Deliver 2 9) f11
-t8 = takes f10 2 9 (second_with b4) lodger_here (second_with b5).routes refl refl refl refl
+t9 : Going f9 (Deliver 2 9) f10
+t9 = takes f9 2 9 (second_with b4) lodger_here (second_with b5).routes refl refl refl refl
     (hears_of there here b4 1 [] nobody_learnt lodger_here.value refl refl)
 
-t9 : Going f11 (Deliver 2 10) new
-t9 = takes f11 2 10 (second_with b5) guest_left (second_with b6).routes refl refl refl refl
+t10 : Going f10 (Deliver 2 10) new
+t10 = takes f10 2 10 (second_with b5) guest_left (second_with b6).routes refl refl refl refl
     (keeps there here b5 1 [] nobody_learnt guest_left.value refl refl)
 
 -- ---- the session
@@ -262,8 +276,8 @@ abbrev sooner : List Step
 sooner = Announce 1 ∷ Announce 3 ∷ Deliver 2 7 ∷ Deliver 2 8 ∷ Deliver 1 3 ∷ Deliver 3 3 ∷ []
 
 abbrev second_part : List Step
-second_part = Deliver 1 7 ∷ Deliver 1 2 ∷ Deliver 3 8 ∷ Deliver 3 6 ∷ Deliver 2 3 ∷ Announce 1 ∷ Announce 1
-    ∷ Deliver 2 9 ∷ Deliver 2 10 ∷ []
+second_part = Deliver 2 6 ∷ Deliver 1 7 ∷ Deliver 1 2 ∷ Deliver 3 8 ∷ Deliver 3 6 ∷ Deliver 2 3 ∷ Announce 1
+    ∷ Announce 1 ∷ Deliver 2 9 ∷ Deliver 2 10 ∷ []
 
 abbrev first_part : List Step
 first_part = sooner ++ Local 1 (Pin lodger 1) ∷ []
@@ -277,7 +291,7 @@ begins = follows s1 (follows s2 (follows s3 (follows s4 (follows s5 (follows s6 
 
 abbrev ends : Ran held second_part new
 ends = follows t1 (follows t2 (follows t3 (follows t4 (follows t5 (follows t6 (follows t7 (follows t8 (follows t9
-    (record { run = refl })))))))))
+    (follows t10 (record { run = refl }))))))))))
 
 abbrev parts : Parts old steps new
 parts = record {
@@ -297,32 +311,35 @@ second_flood_far : TookIn old steps new parts 1 flood_far
 second_flood_far = inl (inr (inr (inr (inl (7, s4.reply, refl, refl, refl)))))
 
 second_lodger : TookIn old steps new parts 1 lodger_here
-second_lodger = inr (inr (inr (inr (inr (inr (inr (inr (inl (8, t8.reply, refl, refl, refl)))))))))
+second_lodger = inr (inr (inr (inr (inr (inr (inr (inr (inr (inl (8, t9.reply, refl, refl, refl))))))))))
 
 second_left : TookIn old steps new parts 1 guest_left
-second_left = inr (inr (inr (inr (inr (inr (inr (inr (inr (inl (9, t9.reply, refl, refl, refl))))))))))
+second_left = inr (inr (inr (inr (inr (inr (inr (inr (inr (inr (inl (9, t10.reply, refl, refl, refl)))))))))))
+
+second_gone : Took 1 lodger_gone second_part held new ends.run
+second_gone = inl (5, t1.reply, refl, refl, refl)
 
 second_back : Took 1 flood_two second_part held new ends.run
-second_back = inr (inr (inr (inr (inl (2, t5.reply, refl, refl, refl)))))
+second_back = inr (inr (inr (inr (inr (inl (2, t6.reply, refl, refl, refl))))))
 
 -- what the other two take
 first_flood : TookIn old steps new parts 0 flood_two
 first_flood = inl (inr (inr (inr (inr (inl (2, s5.reply, refl, refl, refl))))))
 
 first_back : Took 0 flood_here second_part held new ends.run
-first_back = inl (6, t1.reply, refl, refl, refl)
+first_back = inr (inl (6, t2.reply, refl, refl, refl))
 
 first_guest : Took 0 guest_here second_part held new ends.run
-first_guest = inr (inl (1, t2.reply, refl, refl, refl))
+first_guest = inr (inr (inl (1, t3.reply, refl, refl, refl)))
 
 third_flood : TookIn old steps new parts 2 flood_two
 third_flood = inl (inr (inr (inr (inr (inr (inl (2, s6.reply, refl, refl, refl)))))))
 
 third_back : Took 2 flood_far second_part held new ends.run
-third_back = inr (inr (inl (7, t3.reply, refl, refl, refl)))
+third_back = inr (inr (inr (inl (7, t4.reply, refl, refl, refl))))
 
 third_gone : Took 2 lodger_gone second_part held new ends.run
-third_gone = inr (inr (inr (inl (5, t4.reply, refl, refl, refl))))
+third_gone = inr (inr (inr (inr (inl (5, t5.reply, refl, refl, refl)))))
 
 -- ---- the four directions
 
@@ -349,27 +366,35 @@ from_first = record {
   since = (second_flood_here, (tt, (second_lodger, (second_left, tt))));
   quiet = refl;
   back = (tt, (first_back, (tt, (first_guest, (tt, tt)))));
+  late = 0;
   later = refl;
+  had = λ u is. cc;
 }
+
+-- the withdrawal that the third edge has at the beginning
+gone_known : Holds old 2 lodger_gone
+gone_known = (third_heard, refl, found c1 lodger_gone.register)
 
 from_third : Sending 2 1 far 1 old steps new parts
 from_third = record {
-  before = opened_anew far;
+  before = third_heard;
   after = third_with c2;
   held = second_with b4;
   edges = (refl, refl, refl);
-  said = c0;
+  said = c1;
   last = c2;
   heard = b4;
   more = more;
   tables = (refl, refl, refl);
   is_more = is_more;
   name = (refl, refl);
-  own = (second_flood_far, tt);
+  own = (inr second_gone, (second_flood_far, tt));
   since = (tt, (second_flood_far, (tt, (tt, tt))));
   quiet = refl;
   back = (third_back, (tt, (third_gone, (tt, (tt, tt)))));
+  late = 6;
   later = refl;
+  had = λ u is. let same : lodger_gone ≡ u = cc in subst (Holds old 2) same gone_known;
 }
 
 to_first : Sending 1 0 there 0 old steps new parts
@@ -389,18 +414,20 @@ to_first = record {
   since = (tt, (tt, (tt, (tt, tt))));
   quiet = refl;
   back = (tt, (second_back, (tt, tt)));
+  late = 0;
   later = refl;
+  had = λ u is. cc;
 }
 
 to_third : Sending 1 2 there 0 old steps new parts
 to_third = record {
   before = second_with b2;
   after = second_with b6;
-  held = third_with c1;
+  held = third_with c2;
   edges = (refl, refl, refl);
   said = b2;
   last = b6;
-  heard = c1;
+  heard = c2;
   more = more;
   tables = (refl, refl, refl);
   is_more = is_more;
@@ -408,8 +435,10 @@ to_third = record {
   own = (tt, (tt, (third_flood, tt)));
   since = (tt, (tt, (tt, (tt, tt))));
   quiet = refl;
-  back = (second_back, (tt, tt));
+  back = (second_back, (tt, (tt, tt)));
+  late = 0;
   later = refl;
+  had = λ u is. cc;
 }
 
 -- updates of an earlier life that the other side has between the parts
@@ -435,7 +464,7 @@ module _ (sound : IsSound old) where
   third_sent a r at mine = record {
     delivered = delivered 2 1 far 1 old steps new parts sound from_third a r at mine;
     alike = λ v less is took. alike 2 1 far 1 old steps new parts sound from_third a r at mine
-        (gone_there, (tt, (tt, tt))) v less is;
+        (tt, (gone_there, (tt, tt))) v less is;
   }
 
   sent_first : (a : Edge) (r : Register) → IsEdge new 1 a → r.originator ≡ address_of a
@@ -505,9 +534,10 @@ module _ (lists : SettledByLists) (happens : RunsHappen) where
     reply = first_opens.reply;
     began = began;
     restart = first_opens.goes;
-    meanwhile = Restart 3 1 ∷ [];
+    meanwhile = Restart 3 1 ∷ Deliver 3 6 ∷ [];
     old = old;
     goes_on = meanwhile.run;
+    sound = sound;
     steps = steps;
     new = new;
     session = session sound;
@@ -536,7 +566,7 @@ module _ (lists : SettledByLists) (happens : RunsHappen) where
     event = Pin lodger 1;
     between = refl;
     delivers = (7, (2, omega arith, refl));
-    delivers_back = (2, (1, omega arith, refl));
+    delivers_back = (2, (2, omega arith, refl));
     other = lodger;
     present = lodger_here.value;
     news = flood_here ∷ flood_far ∷ lodger_here ∷ guest_left ∷ [];
@@ -551,13 +581,16 @@ module _ (lists : SettledByLists) (happens : RunsHappen) where
     kept = lodger_gone;
     of_third = refl;
     of_past = lit< tt;
-    taken = inr third_gone;
+    third_had = gone_known;
+    second_takes = second_gone;
+    third_takes = third_gone;
     third_has = (third_with c2, refl, found c2 lodger_gone.register);
     first_agrees = agree (0 ∷ 2 ∷ []) (1 ∷ []) old steps new sound (session sound) 0 1 first_6 (second_with b6)
         (0, omega arith, refl) (0, omega arith, refl) refl refl;
     third_agrees = agree (0 ∷ 2 ∷ []) (1 ∷ []) old steps new sound (session sound) 2 1 (third_with c2) (second_with b6)
         (1, omega arith, refl) (0, omega arith, refl) refl refl;
-    anew = begun (0 ∷ 2 ∷ []) (1 ∷ []) before began old new 0 1 1 first_opens.reply (Restart 3 1 ∷ []) steps
+    anew = begun (0 ∷ 2 ∷ []) (1 ∷ []) before began old new 0 1 1 first_opens.reply
+        (Restart 3 1 ∷ Deliver 3 6 ∷ []) steps
         sound_before first_opens.goes meanwhile.run (session sound) first_6 (second_with b6) (0, omega arith, refl)
         (0, omega arith, refl) refl refl;
   }
@@ -567,11 +600,11 @@ module _ (lists : SettledByLists) (happens : RunsHappen) where
           every_run before_run.steps before_run.opened before before_run.run
           (starts before_run.configs before_run.opened before_run.fit before_run.start)
 
-      meanwhile : Ran began (Restart 3 1 ∷ []) old
-      meanwhile = follows third_opens (record { run = refl })
+      meanwhile : Ran began (Restart 3 1 ∷ Deliver 3 6 ∷ []) old
+      meanwhile = follows third_opens (follows third_hears (record { run = refl }))
 
-      restarts : Ran before (Restart 1 1 ∷ Restart 3 1 ∷ []) old
+      restarts : Ran before (Restart 1 1 ∷ Restart 3 1 ∷ Deliver 3 6 ∷ []) old
       restarts = follows first_opens meanwhile
 
       sound : IsSound old
-      sound = every_run (Restart 1 1 ∷ Restart 3 1 ∷ []) before old restarts.run sound_before
+      sound = every_run (Restart 1 1 ∷ Restart 3 1 ∷ Deliver 3 6 ∷ []) before old restarts.run sound_before

@@ -1,7 +1,7 @@
 -- The deliveries of a session between edges whose tables are given as lists of updates.
-use Rattle.std.proofs.Common.{◌≡◌, ◌==◌, ◌&&◌, ◌⊎◌, inl, inr, ℕ, zero, suc, ◌<◌, Bool, true, false, not, cond, Option}
+use Rattle.std.proofs.Common.{◌≡◌, ◌==◌, ◌&&◌, ◌||◌, ◌⊎◌, inl, inr, ℕ, zero, suc, ◌<◌, Bool, true, false, not, cond, Option}
 use Rattle.std.proofs.Common.{Some, None, List, [], ◌∷◌, ◌++◌, refl, sym, ap, subst, ◌∙◌, arith}
-use Rattle.std.proofs.lemmas.Bool.{and_parts, eq-eqb}
+use Rattle.std.proofs.lemmas.Bool.{and_parts, eq-eqb, eqb-true}
 use Rattle.std.proofs.lemmas.Bool.Decides.{nat_tests}
 use Rattle.std.specs.Prelude.{Contains, map, nat_lt, slice_get}
 use Rattle.std.specs.Ordering.{eq_by_cmp}
@@ -74,41 +74,53 @@ past_test x n u own less =
     let early : nat_lt u.value.incarnation n ≡ true = grind (arith, nat_tests) in
     ap (λ b. b && nat_lt u.value.incarnation n) (eq-eqb u.register.originator x own) ∙ early
 
--- no step delivers one to edge e, counted from 1
-abbrev pub none_past : ℕ → ℕ → ℕ → List Fields → List Step → Bool
-none_past x n e pool [] = true
-none_past x n e pool (Local d event ∷ steps) = none_past x n e pool steps
-none_past x n e pool (Announce d ∷ steps) = none_past x n e pool steps
-none_past x n e pool (Deliver d k ∷ steps) = not ((d == e) && past_at x n (nth pool k)) && none_past x n e pool steps
-none_past x n e pool (Restart d m ∷ steps) = none_past x n e pool steps
+-- No step delivers one to edge e. Edges are counted from 1, and so are updates; the update at place m is left out.
+abbrev pub none_past : ℕ → ℕ → ℕ → ℕ → List Fields → List Step → Bool
+none_past x n m e pool [] = true
+none_past x n m e pool (Local d event ∷ steps) = none_past x n m e pool steps
+none_past x n m e pool (Announce d ∷ steps) = none_past x n m e pool steps
+none_past x n m e pool (Deliver d k ∷ steps) =
+    (not (d == e) || (k == m) || not (past_at x n (nth pool k))) && none_past x n m e pool steps
+none_past x n m e pool (Restart d i ∷ steps) = none_past x n m e pool steps
 
-rest_past : (x n e : ℕ) (pool : List Fields) (step : Step) (steps : List Step)
-    → none_past x n e pool (step ∷ steps) ≡ true → none_past x n e pool steps ≡ true
-rest_past x n e pool (Local d event) steps h = h
-rest_past x n e pool (Announce d) steps h = h
-rest_past x n e pool (Deliver d k) steps h =
-    (and_parts (not ((d == e) && past_at x n (nth pool k))) (none_past x n e pool steps) h).1
-rest_past x n e pool (Restart d m) steps h = h
+rest_past : (x n m e : ℕ) (pool : List Fields) (step : Step) (steps : List Step)
+    → none_past x n m e pool (step ∷ steps) ≡ true → none_past x n m e pool steps ≡ true
+rest_past x n m e pool (Local d event) steps h = h
+rest_past x n m e pool (Announce d) steps h = h
+rest_past x n m e pool (Deliver d k) steps h =
+    (and_parts (not (d == e) || (k == m) || not (past_at x n (nth pool k))) (none_past x n m e pool steps) h).1
+rest_past x n m e pool (Restart d i) steps h = h
 
-isnt : (b c : Bool) → b ≡ true → not (b && c) ≡ true → c ≡ false
-isnt true true is h = cc
-isnt true false is h = refl
-isnt false c is h = cc
+one_is : (k m : ℕ) (b c : Bool) → c ≡ true → (not c || (k == m) || not b) ≡ true → (k ≡ m) ⊎ (b ≡ false)
+one_is k m b true is h = go (k == m) refl h
+  where
+    go : (same : Bool) → (k == m) ≡ same → (same || not b) ≡ true → (k ≡ m) ⊎ (b ≡ false)
+    go true e h' = inl (eqb-true k m e)
+    go false e h' = inr (flip b h')
+      where
+        flip : (a : Bool) → not a ≡ true → a ≡ false
+        flip false p = refl
+        flip true p = cc
+one_is k m b false is h = cc
 
-took_present : (x n j : ℕ) (u : Fields) (steps : List Step) (old new : Fabric) (run : Runs old steps new) → IsSound old
-    → none_past x n (suc j) new.pool steps ≡ true → Took j u steps old new run → is_past x n u ≡ false
-took_present x n j u [] old new run sound h took = absurd took
-took_present x n j u (step ∷ steps) old new run sound h (inl (k, reply, is, there, ok)) =
+took_present : (x n m j : ℕ) (u : Fields) (steps : List Step) (old new : Fabric) (run : Runs old steps new)
+    → IsSound old → none_past x n m (suc j) new.pool steps ≡ true → Took j u steps old new run
+    → (nth new.pool m ≡ Some u) ⊎ (is_past x n u ≡ false)
+took_present x n m j u [] old new run sound h took = absurd took
+took_present x n m j u (step ∷ steps) old new run sound h (inl (k, reply, is, there, ok)) =
     let lead = runs_lead (step ∷ steps) old new sound run in
     let at : slice_get new.pool k ≡ Some u =
     ap (λ l. slice_get l k) lead.pool ∙ get_before old.pool lead.more k u there in
-    ap (past_at x n) (sym at)
-    ∙ isnt (suc j == suc j) (past_at x n (nth new.pool (suc k))) (eq-eqb (suc j) (suc j) refl)
-    (and_parts (not ((suc j == suc j) && past_at x n (nth new.pool (suc k)))) (none_past x n (suc j) new.pool steps)
-    (subst (λ s. none_past x n (suc j) new.pool (s ∷ steps) ≡ true) is h)).0
-took_present x n j u (step ∷ steps) old new run sound h (inr took) =
-    took_present x n j u steps run.0 new run.3 (step_sound old run.0 step run.1 run.2 sound)
-    (rest_past x n (suc j) new.pool step steps h) took
+    elim (one_is (suc k) m (past_at x n (nth new.pool (suc k))) (suc j == suc j) (eq-eqb (suc j) (suc j) refl)
+    (and_parts (not (suc j == suc j) || (suc k == m) || not (past_at x n (nth new.pool (suc k))))
+    (none_past x n m (suc j) new.pool steps)
+    (subst (λ s. none_past x n m (suc j) new.pool (s ∷ steps) ≡ true) is h)).0) [
+      | inl same ↦ inl (ap (nth new.pool) (sym same) ∙ at)
+      | inr none ↦ inr (ap (past_at x n) (sym at) ∙ none)
+    ]
+took_present x n m j u (step ∷ steps) old new run sound h (inr took) =
+    took_present x n m j u steps run.0 new run.3 (step_sound old run.0 step run.1 run.2 sound)
+    (rest_past x n m (suc j) new.pool step steps h) took
 
 -- ---- processes
 
@@ -158,7 +170,10 @@ pub record Sending (i j x n : ℕ) (old : Fabric) (steps : List Step) (new : Fab
   pub since : Each (λ u. When (u.register.originator == x) (TookIn old steps new s j u)) more
   pub quiet : after.routes.speaker.pending ≡ []
   pub back : Each (λ u. When (u.register.originator == x) (Took i u s.second s.held new s.ends)) heard
-  pub later : none_past x n (suc j) new.pool s.second ≡ true
+  -- only the update at place late may be of an earlier life, if there is one
+  pub late : ℕ
+  pub later : none_past x n late (suc j) new.pool s.second ≡ true
+  pub had : (u : Fields) → nth new.pool late ≡ Some u → Holds old i u
 
 module _ (i j x n : ℕ) (old : Fabric) (steps : List Step) (new : Fabric) (s : Parts old steps new) (sound : IsSound old)
     (h : Sending i j x n old steps new s) (a : Edge) (r : Register) (at : IsEdge new i a)
@@ -187,11 +202,13 @@ module _ (i j x n : ℕ) (old : Fabric) (steps : List Step) (new : Fabric) (s : 
     back = λ v holds. passed (Took i (update_of r v) s.second s.held new s.ends) (r.originator == x) test
         (each_held (λ u. When (u.register.originator == x) (Took i u s.second s.held new s.ends)) h.heard h.back r v
         (looked s.held j h.held h.heard h.edges.2 h.tables.2 v holds));
-    later = λ v less took.
-        let past : true ≡ false = sym (past_test x n (update_of r v) named (less_in v less))
-        ∙ took_present x n j (update_of r v) s.second s.held new s.ends (runs_sound s.first old s.held s.begins sound)
-        h.later took in
-        let no : ⊥ = cc in absurd no;
+    later = λ v less took. elim (took_present x n h.late j (update_of r v) s.second s.held new s.ends
+        (runs_sound s.first old s.held s.begins sound) h.later took) [
+          | inl is ↦ h.had (update_of r v) is
+          | inr none ↦
+              let past : true ≡ false = sym (past_test x n (update_of r v) named (less_in v less)) ∙ none in
+              let no : ⊥ = cc in absurd no
+        ];
   }
     where
       looked : (f : Fabric) (y : ℕ) (e : Edge) (said : List Said) → IsEdge f y e → table_of e ≡ table_with said

@@ -28,9 +28,15 @@ use Rattle.ev_sites.proofs.Traffic.{flood_one, flood_two, flood_three, guest_her
 use Rattle.ev_sites.proofs.Traffic.{a1, b1, first_0, second_0, third_1, agreed, has_run}
 use Rattle.ev_sites.proofs.Anew.{flood_anew, opened_anew, config_anew, reopens, returns, no_news, kept}
 use Rattle.ev_sites.proofs.Sendings.{Sending, delivered, alike}
-use Rattle.ev_sites.proofs.Returned.{flood_far, c0, c1, c2, second_with, third_with, told, says_gone, goes_further}
+use Rattle.ev_sites.proofs.Returned.{flood_far, c0, second_with, third_with, told, says_gone, goes_further}
 
 -- ---- the fabrics
+
+abbrev c1 : List Said
+c1 = said_of flood_two ∷ c0
+
+abbrev c2 : List Said
+c2 = said_of lodger_gone ∷ c1
 
 abbrev pool : ℕ → List Fields
 pool n = take n (flood_one ∷ guest_here ∷ flood_two ∷ flood_three ∷ lodger_first ∷ lodger_gone ∷ flood_far ∷ [])
@@ -174,7 +180,9 @@ from_third = record {
   since = (second_flood, tt);
   quiet = refl;
   back = (third_back, (third_advert, (tt, (tt, tt))));
+  late = 0;
   later = refl;
+  had = λ u is. cc;
 }
 
 to_third : Sending 1 2 there 0 old steps held parts
@@ -194,7 +202,9 @@ to_third = record {
   since = (tt, tt);
   quiet = refl;
   back = (tt, (second_back, (tt, tt)));
+  late = 0;
   later = refl;
+  had = λ u is. cc;
 }
 
 sent_third : IsSound old → (r : Register) → r.originator ≡ address_of (second_with b3)
@@ -215,6 +225,7 @@ module _ (lists : SettledByLists) (happens : RunsHappen) where
   advert_stays starts every_run agree = record {
     old = old;
     has_run = old_run;
+    sound = sound;
     steps = steps;
     new = held;
     parts = parts;

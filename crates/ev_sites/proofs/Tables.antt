@@ -49,6 +49,13 @@ taken es r v news =
     ap (λ o. cond (is_news o v) (with_value (table_with es) r v) (table_with es)) (found es r)
     ∙ ap (λ b. cond b (with_value (table_with es) r v) (table_with es)) news
 
+-- one that is no news isn't
+pub unchanged : (es : List Said) (r : Register) (v : Value) → is_news (looked_up es r) v ≡ false
+    → with_update (table_with es) (record { register = r; value = v }) ≡ table_with es
+unchanged es r v old =
+    ap (λ o. cond (is_news o v) (with_value (table_with es) r v) (table_with es)) (found es r)
+    ∙ ap (λ b. cond b (with_value (table_with es) r v) (table_with es)) old
+
 -- ---- all registers, in their order
 
 abbrev pub in_order : List Said → List Said

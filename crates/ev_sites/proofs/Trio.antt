@@ -45,7 +45,8 @@ use Rattle.ev_fabric.specs.Local.{event_of}
 use Rattle.ev_fabric.specs.Opening.{AreConfigs, IsStart, ListsAll}
 use Rattle.ev_fabric.specs.Steps.{IsRefused, StepsAt, AnnouncesAt, FabricSteps, with_edge}
 use Rattle.ev_fabric.proofs.Example.{listeners, all_differ, config_of, fits, edge_of, opens, good, nobody_learnt}
-use Rattle.ev_sites.proofs.Tables.{Said, table_with, looked_up, found, taken, in_order, next_among, next_number}
+use Rattle.ev_sites.proofs.Tables.{Said, table_with, looked_up, found, taken, unchanged, in_order, next_among}
+use Rattle.ev_sites.proofs.Tables.{next_number}
 use Rattle.ev_sites.proofs.Guest.{here, there, speaker_in, speaker_with, routes_with}
 use Rattle.ev_sites.proofs.Risen.{Windows, root_settings, edge_with}
 use Rattle.ev_sites.proofs.Telling.{update, announcing, taking}
@@ -207,7 +208,18 @@ said_fixed counter = fixed_in 0 counter
 abbrev pub said_free : ℕ → Value
 said_free counter = record { incarnation = 0; counter = counter; content = Withdrawn }
 
--- an edge that doesn't advertise it takes an update about it unchanged
+-- an edge that doesn't advertise it doesn't lose it
+unlost : (address : ℕ) (said : List Said) (counter : ℕ) (pending : List Register) (learned : Learning)
+    → looked_up said (lodger_register address) ≡ None
+    → after_losing_at (routes_with (speaker_with address said counter pending) learned) lodger
+    ≡ routes_with (speaker_with address said counter pending) learned
+unlost address said counter pending learned none =
+    ap (λ o. cond (is_some (advert_of o) && not (is_at (owner (table_with said) 5001 lodger.mac) address))
+    (after_removal (routes_with (speaker_with address said counter pending) learned) lodger)
+    (routes_with (speaker_with address said counter pending) learned))
+    (found said (lodger_register address) ∙ none)
+
+-- it takes an update about it unchanged
 pub hears_of : (address other : ℕ) (said : List Said) (counter : ℕ) (pending : List Register) (learned : Learning)
     (v : Value)
     → is_news (looked_up said (lodger_register other)) v ≡ true
@@ -219,11 +231,20 @@ hears_of address other said counter pending learned v news none =
     ap (λ (t : Table). after_losing_at
     (routes_with (record { address = address; incarnation = 0; table = t; counter = counter; pending = pending })
     learned) lodger) (taken said (lodger_register other) v news)
-    ∙ ap (λ o. cond (is_some (advert_of o) && not (is_at (owner (table_with ((lodger_register other, v) ∷ said)) 5001
-    lodger.mac) address)) (after_removal
-    (routes_with (speaker_with address ((lodger_register other, v) ∷ said) counter pending) learned) lodger)
-    (routes_with (speaker_with address ((lodger_register other, v) ∷ said) counter pending) learned))
-    (found ((lodger_register other, v) ∷ said) (lodger_register address) ∙ none)
+    ∙ unlost address ((lodger_register other, v) ∷ said) counter pending learned none
+
+-- and one that is no news
+pub hears_again : (address other : ℕ) (said : List Said) (counter : ℕ) (pending : List Register) (learned : Learning)
+    (v : Value)
+    → is_news (looked_up said (lodger_register other)) v ≡ false → looked_up said (lodger_register address) ≡ None
+    → after_take (routes_with (speaker_with address said counter pending) learned)
+    (record { register = lodger_register other; value = v })
+    ≡ routes_with (speaker_with address said counter pending) learned
+hears_again address other said counter pending learned v old none =
+    ap (λ (t : Table). after_losing_at
+    (routes_with (record { address = address; incarnation = 0; table = t; counter = counter; pending = pending })
+    learned) lodger) (unchanged said (lodger_register other) v old)
+    ∙ unlost address said counter pending learned none
 
 -- nothing is learnt of it, and there is room
 pub record IsFree (l : Learning) : Type 0 where

@@ -27,7 +27,7 @@ use Rattle.ev_fabric.specs.Fabric.{Fabric, IsEdge, incarnation_of}
 use Rattle.ev_fabric.specs.Opening.{AreConfigs, IsStart}
 use Rattle.ev_fabric.specs.Agreed.{AllAgree, Advertises}
 use Rattle.ev_fabric.specs.Runs.{Runs}
-use Rattle.ev_fabric.specs.Sound.{update_of}
+use Rattle.ev_fabric.specs.Sound.{update_of, IsSound}
 use Rattle.ev_fabric.specs.Laws.{tunnel_frame_in, IsFrameFor, IsBehindPort, GoesTo, GoesOut}
 use Rattle.ev_fabric.specs.Convergence.{Rests}
 use Rattle.ev_fabric.specs.Steps.{FabricSteps}
@@ -37,7 +37,7 @@ use Rattle.ev_fabric.specs.Rounds.{IsOrderly, Rounds}
 use Rattle.ev_fabric.specs.Meanwhile.{IsFlooded}
 use Rattle.ev_sites.specs.Sites.{Site, Point, ByEdge, ByTunnel}
 use Rattle.ev_sites.specs.Fabrics.{AreSitesOf, SitesRest}
-use Rattle.ev_sites.specs.Sessions.{Took, Holds, Parts, TookIn, IsDelivered, IsSent, Session, Knows}
+use Rattle.ev_sites.specs.Sessions.{Took, Holds, Parts, IsDelivered, IsSent, Session, Knows}
 
 -- the fabric came by some run from its opening
 pub record HasRun (f : Fabric) : Type 0 where
@@ -226,6 +226,7 @@ pub record SessionOfAFabric : Type 0 where
   pub meanwhile : List Step
   pub old : Fabric
   pub goes_on : Runs began meanwhile old
+  pub sound : IsSound old
   pub steps : List Step
   pub new : Fabric
   pub session : Session (0 ∷ 2 ∷ []) (1 ∷ []) old steps new
@@ -271,11 +272,14 @@ pub record SessionOfAFabric : Type 0 where
   pub learnt : IsSome (entry_at first.routes.learned other)
   pub first_has : Holds new 0 (update_of (register_of (address_of first) (key_of other)) present)
   pub second_has : Holds new 1 (update_of (register_of (address_of first) (key_of other)) present)
-  -- The third edge began anew, too. It takes a withdrawal of its earlier life in the session, and keeps it.
+  -- The third edge began anew, too, and has a withdrawal of its earlier life at the beginning. After the tables were
+  -- sent back the second edge takes it, and the third edge takes it back, and keeps it.
   pub kept : Fields
   pub of_third : kept.register.originator ≡ address_of third
   pub of_past : kept.value.incarnation < incarnation_of third
-  pub taken : TookIn old steps new session.there.parts 2 kept
+  pub third_had : Holds old 2 kept
+  pub second_takes : Took 1 kept session.there.parts.second session.there.parts.held new session.there.parts.ends
+  pub third_takes : Took 2 kept session.there.parts.second session.there.parts.held new session.there.parts.ends
   pub third_has : Holds new 2 kept
   -- by `sessions_agree`
   pub first_agrees : Knows second first × Knows first second
@@ -293,6 +297,7 @@ pub record SessionOfAFabric : Type 0 where
 pub record AdvertStays : Type 0 where
   pub old : Fabric
   pub has_run : HasRun old
+  pub sound : IsSound old
   pub steps : List Step
   pub new : Fabric
   pub parts : Parts old steps new
