@@ -1,5 +1,5 @@
 -- Edges that are opened again in incarnation 1, and own updates that come back to an edge.
-use Rattle.std.proofs.Common.{◌≡◌, ◌==◌, ◌&&◌, ◌<◌, ◌^◌, ◌+◌, ℕ, Bool, true, false, cond, Some, None, List, [], ◌∷◌}
+use Rattle.std.proofs.Common.{◌≡◌, ◌==◌, ◌&&◌, ◌<◌, ◌^◌, ◌+◌, ℕ, Bool, true, false, cond, Some, List, [], ◌∷◌}
 use Rattle.std.proofs.Common.{refl, sym, ap, subst, ◌∙◌, arith, lit<, lit≤}
 use Rattle.std.specs.Prelude.{Ok, Contains, is_some, nat_le, nat_lt}
 use Rattle.std.specs.FinMap.{empty}
@@ -25,7 +25,6 @@ use Rattle.ev_claims.proofs.Hearing.{silent_speaker}
 use Rattle.ev_claims.proofs.Numbers.{said_numbers}
 use Rattle.ev_claims.proofs.Opened.{opened_routes}
 use Rattle.ev_edge.specs.declared.config.EdgeConfig.{EdgeConfig}
-use Rattle.ev_edge.specs.declared.event.Event.TheVariants as events
 use Rattle.ev_edge.specs.declared.reply.Reply.{Reply}
 use Rattle.ev_edge.specs.Config.{settings_of}
 use Rattle.ev_edge.specs.Edge.{Edge, IsGoodEdge, table_of, address_of}

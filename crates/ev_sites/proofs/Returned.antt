@@ -1,9 +1,8 @@
 -- A process of two edges begins anew, and has a session with the process of the edge between them.
 use Rattle.std.proofs.Common.{◌≡◌, inl, inr, ℕ, None, List, [], ◌∷◌, ◌++◌, drop, take, refl, sym, ap, subst, arith, lit<}
-use Rattle.std.specs.Prelude.{Ok, IsSome, Contains}
+use Rattle.std.specs.Prelude.{IsSome}
 use Rattle.std.specs.FinMap.{empty, get-empty}
 use Rattle.route_wire.specs.declared.update.Register.{Register}
-use Rattle.route_wire.specs.declared.update.Value.{Value}
 use Rattle.route_wire.specs.declared.update.Content.TheVariants.{Withdrawn}
 use Rattle.route_wire.specs.Fields.{Fields}
 use Rattle.route_join.specs.Owner.{advert_of}
@@ -22,7 +21,7 @@ use Rattle.ev_fabric.specs.Fabric.{Fabric, IsEdge}
 use Rattle.ev_fabric.specs.Laws.{Starts, EveryRun}
 use Rattle.ev_fabric.specs.Sound.{IsSound}
 use Rattle.ev_fabric.proofs.Example.{config_of, nobody_learnt}
-use Rattle.ev_sites.specs.Sessions.{Took, Holds, Parts, TookIn, IsSent, Sends, Session, SessionsAgree, BegunAnew}
+use Rattle.ev_sites.specs.Sessions.{Took, Holds, Parts, TookIn, IsSent, Session, SessionsAgree, BegunAnew}
 use Rattle.ev_sites.specs.Witnesses.{HasRun, SessionOfAFabric}
 use Rattle.ev_sites.proofs.Tables.{Said, found}
 use Rattle.ev_sites.proofs.Guest.{guest, here, there, flood_register, guest_register, said_first, said_guest, keeps}
@@ -32,7 +31,7 @@ use Rattle.ev_sites.proofs.Telling.{update}
 use Rattle.ev_sites.proofs.Trio.{far, trio_of, trio_with, Going, Ran, follows, does, telling, announces, takes, lodger}
 use Rattle.ev_sites.proofs.Trio.{lodger_register, fixed_in, said_free, hears_of, hears_again, free_first, pinned_entry, pins}
 use Rattle.ev_sites.proofs.Traffic.{flood_one, flood_two, flood_three, guest_here, lodger_first, lodger_gone, said_of}
-use Rattle.ev_sites.proofs.Traffic.{b1, c3, lodged, left_once, first_0, second_0, third_0, third_1, agreed, has_run}
+use Rattle.ev_sites.proofs.Traffic.{b1, c3, lodged, first_0, second_0, third_0, third_1, agreed, has_run}
 use Rattle.ev_sites.proofs.Anew.{flood_anew, anew, opened_anew, config_anew, reopens, returns, no_news, withdrawn, kept}
 use Rattle.ev_sites.proofs.Sendings.{Sending, delivered, alike, none_opens, one_place, two_places}
 

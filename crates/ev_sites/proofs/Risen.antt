@@ -16,7 +16,6 @@ use Rattle.rstp_run.specs.declared.event.Event.{Event}
 use Rattle.rstp_run.specs.declared.event.Event.TheVariants as tree_events
 use Rattle.rstp_run.specs.Events.{direct, start, sent_from, firings_at, Happens, RunsHappen, Passes, Learns, IsPort}
 use Rattle.rstp_run.specs.Rules.{Tree}
-use Rattle.rstp_run.specs.Runs.{IsSettled}
 use Rattle.rstp_run.specs.Settled.{SettledByLists}
 use Rattle.rstp_net.proofs.Histories.{AreSwept, runs, coming_up, swept-is}
 use Rattle.rstp_net.proofs.Ring.{settings_of, two_ports, root_bridge, root_settled}

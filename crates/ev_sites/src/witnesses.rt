@@ -4,11 +4,11 @@
 ghost use Rattle.ev_sites.specs.Witnesses.{AdvertStays, FrameOfAFabric, MoveInTraffic};
 ghost use Rattle.ev_sites.specs.Witnesses.{MoveOfAFabric, SessionOfAFabric, SitesOfAFabric};
 
+use crate::sessions::{begun_anew, sessions_agree};
 use ev_fabric::{
     agrees_on, every_run, frames_meanwhile, from_port_to_port, starts, station_agrees,
     station_agrees_after_a_move, station_moves_anyhow, taken_stays,
 };
-use crate::sessions::{begun_anew, sessions_agree};
 use rstp_run::laws::{runs_happen, settled_by_lists};
 
 /// A witness of `no_circle_in_a_fabric`, and so of `no_circle_through_tunnels` and
