@@ -155,7 +155,8 @@ module _ (life address : ℕ) (said : List Said) (counter : ℕ) (pending : List
   no_news old = record {
     ahead = ap (λ b. b && nat_le life v.incarnation) (newest false old);
     spent = ap (λ b. b && nat_le (2 ^ 63) counter) back;
-    after = after_back false back ∙ ap (λ (t : Table). routes_with (record own { table = t }) l) (unchanged said r v old);
+    after = after_back false back
+        ∙ ap (λ (t : Table). routes_with (record own { table = t }) l) (unchanged said r v old);
   }
     where
       back : is_returning own (update r v) ≡ false

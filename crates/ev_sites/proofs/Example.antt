@@ -85,8 +85,8 @@ more = (
     Ok (taking first flood_of_second),
     first_takes first second_told (flood_of_second ∷ []) 1 flood_of_second
         (routes_with (speaker_with here heard_both 1 (flood_register here ∷ [])) nobody_learnt) refl refl refl
-        (hears 0 here there ((flood_register here, said_first) ∷ []) 1 (flood_register here ∷ []) nobody_learnt said_first
-        refl),
+        (hears 0 here there ((flood_register here, said_first) ∷ []) 1 (flood_register here ∷ []) nobody_learnt
+        said_first refl),
     refl,
   ),
 )

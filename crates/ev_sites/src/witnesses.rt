@@ -68,7 +68,8 @@ pub fn fabric_moves_in_traffic()
 /// with one. After a run from their opening the edges of the first process begin anew. The other
 /// process has an advert of an earlier life, of a station that its edge hasn't learnt since. A
 /// session follows, in which an edge learns another station. At its end the advert is gone, and
-/// both processes have the other station's advert.
+/// both processes have the other station's advert. These steps are also a session of each two of
+/// the three edges, if each edge is a process of its own.
 pub fn a_session_can_be()
     ensures { SessionOfAFabric }
 {
