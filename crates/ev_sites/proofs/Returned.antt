@@ -1,4 +1,4 @@
--- A process of two edges begins anew, and has a session with the process of the edge between them.
+-- A process of two edges restarts, and has a session with the process of the edge between them.
 use Rattle.std.proofs.Common.{◌≡◌, ◌≢◌, ◌<◌, inl, inr, ℕ, zero, suc, Some, None, List, [], ◌∷◌, ◌++◌, drop, take, refl}
 use Rattle.std.proofs.Common.{sym, ap, subst, ◌∙◌, arith, lit<}
 use Rattle.std.specs.Prelude.{IsSome, Contains, slice_get}
@@ -271,7 +271,7 @@ t1 : Going held (Deliver 2 6) held
 t1 = takes held 2 6 (second_with b4) lodger_gone (second_with b4).routes refl refl refl refl
     (hears_again 0 there far b4 1 [] nobody_learnt lodger_gone.value refl refl)
 
--- what the others have of them is delivered back to the first and the third edge
+-- the first and the third edge take back the values that the others have of their registers
 t2 : Going held (Deliver 1 7) held
 t2 = returns held 1 7 (first_pinned a4 2 (lodger_register here ∷ [])) flood_here
     (first_pinned a4 2 (lodger_register here ∷ [])).routes refl refl refl

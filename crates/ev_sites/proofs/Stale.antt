@@ -1,4 +1,4 @@
--- An edge begins anew. A withdrawal of its earlier life comes to it before an older advert, which then stays elsewhere.
+-- An edge restarts. A withdrawal of its earlier life comes to it before an older advert, which another edge then keeps.
 use Rattle.std.proofs.Common.{◌≡◌, inl, inr, ℕ, List, [], ◌∷◌, ◌++◌, drop, take, refl, sym, ap, ◌∙◌, arith, lit<}
 use Rattle.std.specs.Prelude.{Some}
 use Rattle.std.specs.FinMap.{empty, get-empty}

@@ -217,7 +217,7 @@ abbrev pub each_alone : List Process
 each_alone = (0 ∷ []) ∷ (1 ∷ []) ∷ (2 ∷ []) ∷ []
 
 -- A process has the edges at places 0 and 2 of a fabric, and another one has the edge at place 1. The edge at place 0
--- begins anew, any steps follow, and then a session of the two processes. At its beginning the edge at place 1 has an
+-- restarts, any steps follow, and then a session of the two processes. At its beginning the edge at place 1 has an
 -- advert of the earlier life, of a station that the edge at place 0 hasn't learnt since. At its end it has none.
 pub record SessionOfAFabric : Type 0 where
   pub before : Fabric
@@ -276,7 +276,7 @@ pub record SessionOfAFabric : Type 0 where
   pub learnt : IsSome (entry_at first.routes.learned other)
   pub first_has : Holds new 0 (update_of (register_of (address_of first) (key_of other)) present)
   pub second_has : Holds new 1 (update_of (register_of (address_of first) (key_of other)) present)
-  -- The third edge began anew, too, and has a withdrawal of its earlier life at the beginning. After the tables were
+  -- The third edge restarted, too, and has a withdrawal of its earlier life at the beginning. After the tables were
   -- sent back the second edge takes it, and the third edge takes it back, and keeps it.
   pub kept : Fields
   pub of_third : kept.register.originator ≡ address_of third
@@ -299,9 +299,9 @@ pub record SessionOfAFabric : Type 0 where
 -- ---- a session in all but one premise
 
 -- The registers of the edges at places 1 and 2 are delivered as in a session of these two, and those of the edge at
--- place 1 are sent. Only `alike` is left out, for the registers of the edge at place 2, which began anew. A withdrawal
--- of its earlier life, which the edge at place 0 has, comes first. Then the advert that the edge at place 1 has in its
--- place comes back, is no news, and stays there.
+-- place 1 are sent. Only `alike` is left out, for the registers of the edge at place 2, which restarted. A withdrawal
+-- of its earlier life, which the edge at place 0 has, comes first. Then the older advert that the edge at place 1 has
+-- comes back, and is no news. So the edge at place 1 keeps it.
 pub record AdvertStays : Type 0 where
   pub old : Fabric
   pub has_run : HasRun old
