@@ -4,7 +4,7 @@ ghost use Rattle.std.specs.Prelude.{◌≡◌, ◌≢◌, ◌⊎◌, ◌+◌, �
 ghost use Rattle.ether_wire.specs.Addr.{is_group};
 ghost use Rattle.route_join.specs.Table.{AreOriginators, value_at, is_listed};
 ghost use Rattle.route_join.specs.Taken.{taken_of};
-ghost use Rattle.mac_arena.specs.Learning.{entry_at, is_full, is_pinned, IsLatest};
+ghost use Rattle.mac_arena.specs.Learning.{entry_at, is_full, is_pinned, learned_at, IsLatest};
 ghost use Rattle.ether_wire.specs.Ports.{has_port};
 ghost use Rattle.ev_claims.specs.Speaker.{announced, is_originated, is_ahead, is_spent, is_returning, IsOwnAt, IsNoOwnAt};
 ghost use Rattle.ev_claims.specs.LocalRoutes.{AreGood, entries, vni_at, is_member, key_of, station_of, after_advert, after_refresh, after_pin, after_shift, after_update, after_removal, after_take, after_losing_at, after_own, after_announcement, lost_at, loses_pinned};
@@ -17,7 +17,7 @@ pub use crate::speaker::OwnError;
 use crate::speaker::Speaker;
 use arrayvec::ArrayVec;
 use ether_wire::{Addr, Mac, NO_PORTS, Vni, place_of_port, with_port};
-use mac_arena::{Entry, MacTable, Station};
+use mac_arena::{Entry, Learned, MacTable, Station};
 use route_join::{Table, TakeError, Taken};
 use route_wire::{Advert, Content, Ip, Key, Update};
 use std::alloc::{AllocError, Global};
@@ -242,16 +242,25 @@ impl LocalRoutes {
         Ok(())
     }
 
+    /// Returns the node of a learnt station, with its content: `refresh` takes them.
+    pub fn seek(&self, station: &Station) -> Option<(usize, Learned)>
+        ensures found { IfSome result (λ f. learned_at self.now.learned f.0 ≡ Some f.1) }
+        ensures same { IfSome result (λ f. f.1.station ≡ station.now) }
+        ensures missing { IfNone result (entry_at self.now.learned station.now ≡ None) }
+    {
+        self.learned.seek(station)
+    }
+
     /// Notes a frame of a learnt, unpinned station on a port of its VNI, the same or another one,
     /// at a second that is not below an earlier one. No update is made, and it takes no memory.
-    pub fn refresh(&mut self, station: &Station, port: u8, second: u64)
-        requires port { vni_at self.old.ports port ≡ Some station.now.vni }
-        requires there { IsSome (entry_at self.old.learned station.now) }
-        requires unpinned { is_pinned (entry_at self.old.learned station.now) ≡ false }
+    pub fn refresh(&mut self, node: usize, learned: &Learned, port: u8, second: u64)
+        requires there { learned_at self.old.learned node ≡ Some learned.now }
+        requires unpinned { learned.now.entry.pinned ≡ false }
+        requires port { vni_at self.old.ports port ≡ Some learned.now.station.vni }
         requires latest { IsLatest self.old.learned second }
-        ensures { self.new ≡ after_refresh self.old station.now port second }
+        ensures { self.new ≡ after_refresh self.old learned.now.station port second }
     {
-        let _learnt = self.learned.learn(station, port, second);
+        let _learnt = self.learned.learn_again(node, learned, port, second);
     }
 
     /// Pins a station on a port of its VNI, whether it is learnt or not, and

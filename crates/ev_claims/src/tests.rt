@@ -61,14 +61,14 @@ impl Edge {
 
     /// Whether a station that is learnt and not pinned could be heard again.
     fn refresh(&mut self, station: Station, port: u8, second: u64) -> bool {
-        let Some(entry) = self.routes.look(&station) else {
+        let Some((node, learned)) = self.routes.seek(&station) else {
             return false
         };
-        if entry.pinned || self.routes.vni_of(port) != Some(station.vni) || second < self.now {
+        if learned.entry.pinned || self.routes.vni_of(port) != Some(station.vni) || second < self.now {
             return false;
         }
         self.now = second;
-        self.routes.refresh(&station, port, second);
+        self.routes.refresh(node, &learned, port, second);
         true
     }
 

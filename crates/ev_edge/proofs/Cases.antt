@@ -1,12 +1,14 @@
 -- What holds of a station in each case of learning, and what learning leaves.
-use Rattle.std.proofs.Common.{◌≡◌, inl, inr, ℕ, Bool, true, false, cond, eqb, Option, Some, None}
+use Rattle.std.proofs.Common.{◌≡◌, ◌≢◌, inl, inr, ℕ, Bool, true, false, cond, eqb, Option, Some, None}
 use Rattle.std.proofs.Common.{refl, sym, ap, subst, ◌∙◌, arith}
 use Rattle.std.specs.Prelude.{IsSome}
 use Rattle.std.specs.FinMap.{get}
 use Rattle.std.proofs.lemmas.Bool.Decides.{nat_tests}
 use Rattle.mac_arena.specs.declared.station.Station.{Station}
 use Rattle.mac_arena.specs.declared.station.Entry.{Entry}
-use Rattle.mac_arena.specs.Learning.{entry_at, is_full, is_pinned}
+use Rattle.mac_arena.specs.declared.station.Learned.{Learned}
+use Rattle.mac_arena.specs.Learning.{entry_at, is_full, is_pinned, learned_at}
+use Rattle.mac_arena.proofs.Values.{known_at}
 use Rattle.ev_mobility.specs.declared.alert.Alert.{Alert}
 use Rattle.ev_mobility.specs.declared.alert.Alert.TheVariants.{CounterSpent, TableFull}
 use Rattle.ev_mobility.specs.declared.seq.Seq.{Seq}
@@ -17,7 +19,7 @@ use Rattle.ev_edge.specs.declared.learning.Case.{Case}
 use Rattle.ev_edge.specs.declared.learning.Case.TheVariants.{Leave, Refresh, Refuse, Freeze, Learn, Move}
 use Rattle.ev_edge.specs.Edge.{Edge, table_of, address_of}
 use Rattle.ev_edge.specs.Learning.{is_spent, move_case, numbered_case, case_at, case_of, refreshed, moved, learnt}
-use Rattle.ev_edge.specs.Learning.{OrNoMemory, Does}
+use Rattle.ev_edge.specs.Learning.{OrNoMemory, Does, Learning}
 use Rattle.ev_edge.specs.Steps.{LearnsIf}
 
 -- what holds where a station is learnt with this number
@@ -73,6 +75,26 @@ module _ (e : Edge) (s : Station) where
   at_entry : (o : Option Entry) → entry_at e.routes.learned s ≡ o → Holds e s (case_at e s o)
   at_entry (Some x) at = known x at x.pinned refl
   at_entry None at = new at (is_frozen (get e.windows s)) (seq_for (table_of e) (address_of e) s.vni s.mac) refl
+
+  -- a station that isn't learnt isn't heard again
+  pub not_heard : entry_at e.routes.learned s ≡ None → case_of e s ≢ Refresh
+  not_heard none is = subst IsSome none
+      (subst (Holds e s) is (at_entry (entry_at e.routes.learned s) refl)).known
+
+  -- a station that is learnt with this content
+  module _ (port n : ℕ) (x : Learned) (at : learned_at e.routes.learned n ≡ Some x) (same : x.station ≡ s) where
+    its_case : (b : Bool) → x.entry.pinned ≡ b → case_of e s ≡ cond b Leave Refresh
+    its_case b pinned =
+        ap (case_at e s) (subst (λ q. entry_at e.routes.learned q ≡ Some x.entry) same
+        (known_at e.routes.learned n x at)) ∙ ap (λ p. cond p Leave Refresh) pinned
+
+    pub left_pinned : x.entry.pinned ≡ true → Learning e s port None e
+    left_pinned pinned = subst (λ c. Does c e s port None e) (sym (its_case true pinned)) (refl, refl)
+
+    pub heard_again : (e' : Edge) → x.entry.pinned ≡ false → e' ≡ refreshed e x.station port
+        → Learning e s port None e'
+    heard_again e' loose is = subst (λ c. Does c e s port None e') (sym (its_case false loose))
+        (refl, is ∙ ap (λ q. refreshed e q port) same)
 
 -- what holds of the edge before and of the one after holds where memory was refused too
 pub or_refused : {needs : Bool} {e after e' : Edge} {alert told : Option Alert} (P : Edge → Type 0) → P e → P after

@@ -1,5 +1,5 @@
 //! Learning the source of a frame: which of the ten cases it is, and what that does.
-ghost use Rattle.std.specs.Prelude.{◌≡◌, ◌<◌, ◌^◌, ◌||◌, true, false, None, Some};
+ghost use Rattle.std.specs.Prelude.{◌≡◌, ◌≢◌, ◌<◌, ◌^◌, ◌||◌, true, false, None, Some};
 ghost use Rattle.std.specs.FinMap.{get};
 ghost use Rattle.ether_wire.specs.Addr.{is_group};
 ghost use Rattle.mac_arena.specs.Learning.{entry_at, is_full};
@@ -39,12 +39,26 @@ impl Edge {
         requires port { vni_at self.old.routes.ports port ≡ Some station.now.vni }
         ensures { Learning self.old station.now port result self.new }
     {
-        match self.case_of(station) {
-            Case::Leave => None,
-            Case::Refresh => {
-                self.routes.refresh(station, port, self.clock);
+        match self.routes.seek(station) {
+            Some((node, learned)) => {
+                if !learned.entry.pinned {
+                    self.routes.refresh(node, &learned, port, self.clock);
+                }
                 None
             }
+            None => self.learn_unknown(station, port),
+        }
+    }
+
+    /// Learns a station that isn't learnt, on a port of its VNI.
+    fn learn_unknown(&mut self, station: &Station, port: u8) -> Option<Alert>
+        requires individual { is_group station.now.mac ≡ false }
+        requires port { vni_at self.old.routes.ports port ≡ Some station.now.vni }
+        requires unknown { entry_at self.old.routes.learned station.now ≡ None }
+        ensures { Learning self.old station.now port result self.new }
+    {
+        match self.case_of(station) {
+            Case::Leave | Case::Refresh => None,
             Case::Refuse(alert) => Some(alert),
             Case::Freeze => self.freeze(station),
             Case::Learn => self.learn_first(station, port),
@@ -52,18 +66,14 @@ impl Edge {
         }
     }
 
-    /// The case of a station.
+    /// The case of a station that isn't learnt, and so not heard again.
+    #[tactic(auto, using(crate::proofs::Cases::not_heard))]
     fn case_of(&self, station: &Station) -> Case
-        ensures { result ≡ case_of self.now station.now }
+        requires { entry_at self.now.routes.learned station.now ≡ None }
+        ensures value { result ≡ case_of self.now station.now }
+        ensures new { result ≢ Case.Refresh }
     {
-        match self.routes.look(station) {
-            Some(entry) => if entry.pinned {
-                Case::Leave
-            } else {
-                Case::Refresh
-            },
-            None => self.new_case(station),
-        }
+        self.new_case(station)
     }
 
     /// The case of a station that isn't learnt.

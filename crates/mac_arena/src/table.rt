@@ -145,6 +145,15 @@ impl MacTable {
         }
     }
 
+    /// Returns the node of a station, with its content: `learn_again` takes them.
+    pub fn seek(&self, key: &Station) -> Option<(usize, Learned)>
+        ensures found { IfSome result (λ f. learned_at self.now f.0 ≡ Some f.1) }
+        ensures same { IfSome result (λ f. f.1.station ≡ key.now) }
+        ensures missing { IfNone result (entry_at self.now key.now ≡ None) }
+    {
+        self.find(key, self.bucket(key))
+    }
+
     /// Returns the unpinned station that has been silent longest.
     pub fn oldest(&self) -> Option<Station>
         ensures { result ≡ slice_get self.now.ageing 0 }
@@ -288,9 +297,9 @@ impl MacTable {
         Learnt::New
     }
 
-    /// Learns a station that is known.
+    /// Learns a station that is known, at its node.
     #[inline(always)]
-    fn learn_again(&mut self, node: usize, learned: &Learned, port: u8, second: u64) -> Learnt
+    pub fn learn_again(&mut self, node: usize, learned: &Learned, port: u8, second: u64) -> Learnt
         requires some { 0 < port }
         requires port { port ≤ length self.old.ports }
         requires latest { IsLatest self.old second }

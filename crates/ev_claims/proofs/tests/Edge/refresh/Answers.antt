@@ -16,7 +16,7 @@ invariant_of-self c =
     let later : edge.now ≤ c.args.second = omega arith in
     record {
       latest = subst (λ (e : LocalRoutes). IsLatest e.learned c.args.second) (sym c.refresh.ensures)
-          (latest_learn edge.routes.learned c.args.station c.args.port c.args.second
-          (learnt_of edge.routes.learned c.args.station c.args.port)
+          (latest_learn edge.routes.learned c.in-Some.learned.station c.args.port c.args.second
+          (learnt_of edge.routes.learned c.in-Some.learned.station c.args.port)
           (latest_later edge.routes.learned edge.now c.args.second later edge.latest));
     }
