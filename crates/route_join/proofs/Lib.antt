@@ -18,6 +18,7 @@ pub mod Lines
 pub mod Merging
 pub mod Sames
 pub mod WinnerTrees
+pub mod Sourced
 pub mod Trees
 pub mod Abouts
 pub mod HexGroups

@@ -7,6 +7,8 @@ pub mod Names
 pub mod Place
 pub mod Ranks
 pub mod Report
+pub mod SourceOrder
+pub mod Sources
 pub mod Storage
 pub mod Subject
 pub mod WinnerTree

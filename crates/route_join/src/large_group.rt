@@ -1,6 +1,6 @@
 //! The updates of one subject, for any number of updates: in the order in which they came, found by
 //! a tree of their registers, and the best advert among them.
-ghost use Rattle.std.specs.Prelude.{◌≡◌, ◌<◌, Some, None, IfOk, IfSome, OnOk, OnErr, MatchOption, if◌then◌else◌};
+ghost use Rattle.std.specs.Prelude.{◌≡◌, Some, None, IfOk, IfSome, OnOk, OnErr, MatchOption, if◌then◌else◌};
 ghost use Rattle.std.specs.FinMap.Entries.{put};
 ghost use Rattle.std.specs.List.{slice_get};
 ghost use Rattle.std.specs.Iterator.{YieldsFirstBy, item_count};
@@ -9,21 +9,27 @@ ghost use Rattle.route_join.specs.Table.{entries_of, IsOrdered};
 ghost use Rattle.route_join.specs.Inner.Group.{Takes, update_among, IsLeader, IsSilent};
 ghost use Rattle.route_join.specs.Inner.WinnerTree.{owns};
 ghost use Rattle.route_join.specs.Inner.LargeGroup.{IsLargeGroup, place_at, large_updates};
+ghost use Rattle.route_join.specs.Inner.Sources.{IsOf, registers_in};
+ghost use Rattle.route_join.specs.Subject.{subject_of};
+ghost use Rattle.route_join.specs.Group.{AreAbout};
 
-use crate::register_key::RegisterKey;
+use crate::sources::{Source, Sources};
+use crate::subject::{Subject, subject_of};
 use crate::table::Taken;
 use crate::winner_tree::{WinnerNode, best, own_at, push, replace, reserve, said_at};
-use ether_wire::Addr;
-use route_wire::{Register, Update};
+use ether_wire::{Addr, Mac, Vni};
+use route_wire::{Key, Register, Update};
 use std::alloc::{AllocError, Global};
 use std::collections::{BTreeMap, btree_map};
 use std::marker::Model;
 
 /// Returns the place of a register, if it has one.
-fn place_at(tree: &BTreeMap<RegisterKey, u32>, register: &Register) -> Option<u32>
-    ensures { result ≡ place_at tree.now.entries register.now }
+#[tactic(auto, using(crate::proofs::Sourced::same_place))]
+fn place_at(sources: &Sources, register: &Register) -> Option<u32>
+    requires { IsOf sources.now register.now }
+    ensures { result ≡ place_at (registers_in sources.now) register.now }
 {
-    match tree.get(&RegisterKey::new(*register)) {
+    match sources.tree.get(&Source::of(register)) {
         None => None,
         Some(place) => Some(*place),
     }
@@ -32,24 +38,24 @@ fn place_at(tree: &BTreeMap<RegisterKey, u32>, register: &Register) -> Option<u3
 /// Enters the first update of a register. It reserves the memory for each growth before anything
 /// changes.
 fn enter(
-    tree: &mut BTreeMap<RegisterKey, u32>,
+    sources: &mut Sources,
     nodes: &mut Vec<WinnerNode>,
     update: &Update,
 ) -> Result<(), AllocError>
-    requires kept { IsLargeGroup tree.old.entries nodes.old.items }
-    requires new { place_at tree.old.entries update.now.register ≡ None }
-    ensures kept { IsLargeGroup tree.new.entries nodes.new.items }
-    ensures ok { OnOk result (entries_of (large_updates tree.new.entries nodes.new.items)
+    requires about { IsOf sources.old update.now.register }
+    requires kept { IsLargeGroup (registers_in sources.old) nodes.old.items }
+    requires new { place_at (registers_in sources.old) update.now.register ≡ None }
+    ensures same { (sources.new.vni ≡ sources.old.vni) × (sources.new.mac ≡ sources.old.mac) }
+    ensures kept { IsLargeGroup (registers_in sources.new) nodes.new.items }
+    ensures ok { OnOk result (entries_of (large_updates (registers_in sources.new) nodes.new.items)
         ≡ put register_cmp update.now.register update.now.value
-        (entries_of (large_updates tree.old.entries nodes.old.items))) }
-    ensures err { OnErr result (large_updates tree.new.entries nodes.new.items
-        ≡ large_updates tree.old.entries nodes.old.items) }
+        (entries_of (large_updates (registers_in sources.old) nodes.old.items))) }
+    ensures err { OnErr result (large_updates (registers_in sources.new) nodes.new.items
+        ≡ large_updates (registers_in sources.old) nodes.old.items) }
 {
     let place = reserve(nodes)?;
-    if tree
-        .insert(RegisterKey::new(update.register()), place)
-        .is_err()
-    {
+    let source = Source::of(&update.register());
+    if sources.tree.insert(source, place).is_err() {
         return Err(AllocError);
     }
     push(nodes, place, update);
@@ -67,11 +73,11 @@ fn is_newer_there(nodes: &[WinnerNode], place: u32, update: &Update) -> bool
     }
 }
 
-/// The updates of one subject, each once: in a winner tree for the best advert. A second tree has
-/// the place of each register.
+/// The updates of one MAC address, each once: in a winner tree for the best advert. A second tree
+/// has the place of each register.
 #[derive(Drop)]
 pub(crate) struct LargeGroup {
-    tree: BTreeMap<RegisterKey, u32>,
+    sources: Sources,
     nodes: Vec<WinnerNode>,
 }
 
@@ -79,29 +85,40 @@ impl Model for LargeGroup {
     ghost use Rattle.std.specs.Prelude.{List};
     ghost use Rattle.std.specs.Coded.{codes};
     ghost use Rattle.route_wire.specs.Fields.{Fields};
-    ghost use Rattle.route_join.specs.Inner.LargeGroup.{IsLargeGroup, large_updates};
+    ghost use Rattle.route_join.specs.Inner.LargeGroup.{large_updates};
+    ghost use Rattle.route_join.specs.Inner.Sources.{registers_in, IsSourced};
 
     ghost Value = { List Fields };
 
     ghost coded = { Prim.hlevel codes };
 
-    ghost view = { λ m. large_updates m.tree.entries m.nodes.items };
+    ghost view = { λ m. large_updates (registers_in m.sources) m.nodes.items };
 
-    ghost invariant = { λ m. IsLargeGroup m.tree.entries m.nodes.items };
+    ghost invariant = { λ m. IsSourced m.sources m.nodes.items };
 }
 
 impl LargeGroup {
-    /// Returns the same updates in a tree.
+    /// Returns the same updates in a tree, if they are of one MAC address.
     pub(crate) fn of(alloc: Global, updates: &[Update]) -> Result<Self, AllocError>
         requires { IsOrdered updates.now }
         ensures { IfOk result (λ m. m ≡ updates.now) }
     {
-        let mut tree = BTreeMap::new(alloc);
+        let Some((first, _)) = updates.split_first() else {
+            return Err(AllocError);
+        };
+        let Key::Mac(vni, mac, _) = first.register().key else {
+            return Err(AllocError);
+        };
+        let tree = BTreeMap::new(alloc);
+        let mut sources = Sources { vni, mac, tree };
         let mut nodes = Vec::new(alloc);
         for update in updates {
-            enter(&mut tree, &mut nodes, update)?;
+            if subject_of(&update.register().key) != Subject::address(vni, mac) {
+                return Err(AllocError);
+            }
+            enter(&mut sources, &mut nodes, update)?;
         }
-        Ok(LargeGroup { tree, nodes })
+        Ok(LargeGroup { sources, nodes })
     }
 
     /// Returns the updates, in the order of their registers.
@@ -110,16 +127,19 @@ impl LargeGroup {
         ensures ordered { IsOrdered self.now }
     {
         LargeUpdates {
-            places: self.tree.iter(),
+            vni: self.sources.vni,
+            mac: self.sources.mac,
+            places: self.sources.tree.iter(),
             nodes: &self.nodes,
         }
     }
 
     /// Returns the update of a register, if there is one.
     pub(crate) fn register(&self, register: &Register) -> Option<Update>
+        requires { AreAbout (subject_of register.now.key) (entries_of self.now) }
         ensures { result ≡ update_among self.now register.now }
     {
-        match said_at(&self.nodes, place_at(&self.tree, register)) {
+        match said_at(&self.nodes, place_at(&self.sources, register)) {
             None => None,
             Some(update) => Some(*update),
         }
@@ -138,11 +158,12 @@ impl LargeGroup {
     /// Takes an update: its register then has the newer of the update and its value so far. A known
     /// register takes no memory, and a new one is one more held register.
     pub(crate) fn take(&mut self, held: &mut usize, update: &Update) -> Result<Taken, AllocError>
+        requires { AreAbout (subject_of update.now.register.key) (entries_of self.old) }
         ensures takes { Takes (entries_of self.old) update.now held.old result
             (entries_of self.new) held.new }
         ensures err { OnErr result (self.new ≡ self.old) }
     {
-        match place_at(&self.tree, &update.register()) {
+        match place_at(&self.sources, &update.register()) {
             Some(place) => {
                 if !is_newer_there(&self.nodes, place, update) {
                     return Ok(Taken::Known);
@@ -154,7 +175,7 @@ impl LargeGroup {
                 let Some(more) = held.checked_add(1) else {
                     return Err(AllocError);
                 };
-                if enter(&mut self.tree, &mut self.nodes, update).is_err() {
+                if enter(&mut self.sources, &mut self.nodes, update).is_err() {
                     return Err(AllocError);
                 }
                 *held = more;
@@ -167,7 +188,9 @@ impl LargeGroup {
 /// The updates in the order of their registers, seen as the list of those that are left.
 #[derive(Drop)]
 pub(crate) struct LargeUpdates<'a> {
-    places: btree_map::Iter<'a, RegisterKey, u32>,
+    vni: Vni,
+    mac: Mac,
+    places: btree_map::Iter<'a, Source, u32>,
     nodes: &'a [WinnerNode],
 }
 
@@ -176,12 +199,14 @@ impl<'a> Model for LargeUpdates<'a> {
     ghost use Rattle.route_wire.specs.Fields.{Fields};
     ghost use Rattle.route_join.specs.Inner.WinnerTree.{owns};
     ghost use Rattle.route_join.specs.Inner.LargeGroup.{ArePlaced, updates_along};
+    ghost use Rattle.route_join.specs.Inner.Sources.{registers_by};
 
     ghost Value = { List Fields };
 
-    ghost view = { λ it. updates_along (owns it.nodes.now) it.places };
+    ghost view = { λ it. updates_along (owns it.nodes.now) (registers_by it.vni it.mac it.places) };
 
-    ghost invariant = { λ it. ArePlaced (owns it.nodes.now) it.places };
+    ghost invariant = { λ it. ArePlaced (owns it.nodes.now)
+        (registers_by it.vni it.mac it.places) };
 }
 
 impl<'a> Iterator for LargeUpdates<'a> {

@@ -13,6 +13,7 @@ mod register_key;
 mod report;
 mod salt;
 mod small_group;
+mod sources;
 mod subject;
 mod table;
 #[cfg(test)]

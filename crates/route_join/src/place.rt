@@ -27,7 +27,7 @@ fn cmp_numbers(one: Ip, other: Ip) -> Ordering
 
 /// Returns the order of two IP addresses, none first.
 #[tactic(auto, using(crate::proofs::Within::none_first, crate::proofs::Within::none_last))]
-fn cmp_ips(one: Option<Ip>, other: Option<Ip>) -> Ordering
+pub(crate) fn cmp_ips(one: Option<Ip>, other: Option<Ip>) -> Ordering
     ensures { result ≡ ip_cmp one other }
 {
     match (one, other) {
