@@ -55,7 +55,7 @@ fn port() -> PortConfig
             auto_edge: true,
             point_to_point: true,
         },
-        limits: Limits::default(),
+        limits: Limits::none(),
     }
 }
 

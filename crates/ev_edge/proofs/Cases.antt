@@ -52,7 +52,7 @@ abbrev Holds : Edge → Station → Case → Type 0
 Holds e s Leave = Unit {0}
 Holds e s Refresh = IsKnown e s
 Holds e s (Refuse alert) = Unit {0}
-Holds e s Freeze = Unit {0}
+Holds e s Freeze = is_fifth (get e.windows s) e.clock ≡ true
 Holds e s Learn = IsFree e s 0
 Holds e s (Move n) = IsFree e s n
 
@@ -61,16 +61,16 @@ abbrev pub HoldsOn : Edge → Station → ℕ → Case → Type 0
 HoldsOn e s port Leave = Unit {0}
 HoldsOn e s port Refresh = IsHeard e s port
 HoldsOn e s port (Refuse alert) = Unit {0}
-HoldsOn e s port Freeze = Unit {0}
+HoldsOn e s port Freeze = is_fifth (get e.windows s) e.clock ≡ true
 HoldsOn e s port Learn = IsNew e s port 0
 HoldsOn e s port (Move n) = IsNew e s port n
 
 module _ (e : Edge) (s : Station) where
   move : (n : ℕ) → IsFree e s n → (b : Bool) → eqb n 0 ≡ b → (fifth : Bool)
-      → Holds e s (cond b Learn (cond fifth Freeze (Move n)))
-  move n new true zero fifth = subst (IsFree e s) (let is : n ≡ 0 = grind (arith, nat_tests) in is) new
-  move n new false zero true = tt
-  move n new false zero false = new
+      → is_fifth (get e.windows s) e.clock ≡ fifth → Holds e s (cond b Learn (cond fifth Freeze (Move n)))
+  move n new true zero fifth is = subst (IsFree e s) (let is : n ≡ 0 = grind (arith, nat_tests) in is) new
+  move n new false zero true is = is
+  move n new false zero false is = new
 
   numbered : (n : ℕ) → entry_at e.routes.learned s ≡ None → seq_for (table_of e) (address_of e) s.vni s.mac ≡ Next n
       → (spent full : Bool) → is_spent e.routes ≡ spent → is_full e.routes.learned ≡ full
@@ -80,6 +80,7 @@ module _ (e : Edge) (s : Station) where
   numbered n none next false true few room = tt
   numbered n none next false false few room = move n
       (record { none = none; room = room; few = few; next = next }) (eqb n 0) refl (is_fifth (get e.windows s) e.clock)
+      refl
 
   new : entry_at e.routes.learned s ≡ None → (frozen : Bool) → (q : Seq)
       → seq_for (table_of e) (address_of e) s.vni s.mac ≡ q
@@ -128,12 +129,15 @@ module _ (e : Edge) (s : Station) (port : ℕ) where
   holds_limited Leave h = tt
   holds_limited Refresh h = refresh_limited h (is_crowded e s port) refl
   holds_limited (Refuse alert) h = tt
-  holds_limited Freeze h = new_limited Freeze (λ place calm. tt) (is_crowded e s port) (is_busy e s port) refl refl
+  holds_limited Freeze h = new_limited Freeze (λ place calm. h) (is_crowded e s port) (is_busy e s port) refl refl
   holds_limited Learn h = new_limited Learn (new_on 0 h) (is_crowded e s port) (is_busy e s port) refl refl
   holds_limited (Move n) h = new_limited (Move n) (new_on n h) (is_crowded e s port) (is_busy e s port) refl refl
 
   pub holds_on : HoldsOn e s port (case_on e s port)
   holds_on = holds_limited (case_of e s) (at_entry e s (entry_at e.routes.learned s) refl)
+
+  pub case_holds : (c : Case) → c ≡ case_on e s port → HoldsOn e s port c
+  case_holds c is = subst (HoldsOn e s port) (sym is) holds_on
 
 -- what holds of the edge before and of the one after holds where memory was refused too
 pub or_refused : {needs : Bool} {e after e' : Edge} {alert told : Option Alert} (P : Edge → Type 0) → P e → P after

@@ -3,7 +3,7 @@
 use Rattle.std.proofs.Common.{◌≡◌, ◌⊎◌, inl, inr, ℕ, zero, suc, ◌+◌, ◌-◌, ◌<◌, ◌≤◌, Bool, true, false, cond, not, ◌&&◌, ◌||◌}
 use Rattle.std.proofs.Common.{eqb, Option, Some, None, Result, Ok, Err, List, [], ◌∷◌, ◌++◌, length, map, refl, sym, ap}
 use Rattle.std.proofs.Common.{subst, ◌∙◌, arith}
-use Rattle.std.specs.Prelude.{is_some, nat_le, slice_index_or, slice_set, ◌^◌}
+use Rattle.std.specs.Prelude.{is_some, nat_le, slice_set, ◌^◌}
 use Rattle.std.proofs.lemmas.Bool.{false≢true, eq-eqb}
 use Rattle.std.proofs.lemmas.Bool.Decides.{nat_tests}
 use Rattle.ether_wire.specs.Addr.{is_group}
@@ -39,7 +39,7 @@ use Rattle.ev_edge.specs.declared.refusal.EdgeRefusal.{EdgeRefusal}
 use Rattle.ev_edge.specs.declared.refusal.Refusal.{Refusal}
 use Rattle.ev_edge.specs.declared.reply.Reply.{Reply}
 use Rattle.ev_edge.specs.Edge.{Edge, IsGoodEdge, table_of, address_of}
-use Rattle.ev_edge.specs.Limits.{no_limits, no_quota, is_met, IsWithin, quota_at, counting, with_counted}
+use Rattle.ev_edge.specs.Limits.{no_limits, is_met, IsWithin, quota_in, quota_at, counting, with_counted}
 use Rattle.ev_edge.specs.Learning.{needs_register, limits_at, is_there, is_crowded, is_busy, limited_new, limited, case_of}
 use Rattle.ev_edge.specs.Learning.{case_on, is_counted, quotas_with, learnt}
 use Rattle.ev_edge.specs.Bridging.{aged, next_second}
@@ -85,8 +85,7 @@ limits_nothing e s port h = (free e s port h (case_of e s), uncounted e s port h
 
 -- what counting doesn't change in a quota stays in all
 pub same_in : {A : Type 0} (f : Quota → A) (qs : List Quota) (l : ℕ) (q : Quota) (n : ℕ)
-    → f q ≡ f (slice_index_or qs l no_quota) → f (slice_index_or (slice_set qs l q) n no_quota)
-    ≡ f (slice_index_or qs n no_quota)
+    → f q ≡ f (quota_in qs l) → f (quota_in (slice_set qs l q) n) ≡ f (quota_in qs n)
 same_in f [] l q n h = refl
 same_in f (x ∷ xs) zero q zero h = h
 same_in f (x ∷ xs) zero q (suc n) h = refl

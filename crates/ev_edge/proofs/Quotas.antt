@@ -1,15 +1,16 @@
 -- What is kept of the quotas of ports.
-use Rattle.std.proofs.Common.{◌≡◌, ℕ, zero, suc, ◌+◌, ◌≤◌, Bool, true, false, cond, Option, Some, None, List, [], ◌∷◌}
+use Rattle.std.proofs.Common.{◌≡◌, ℕ, zero, suc, ◌+◌, ◌≤◌, Bool, true, false, cond, not, Option, Some, None, List, [], ◌∷◌, length}
 use Rattle.std.proofs.Common.{refl, sym, ap, subst, ◌∙◌, arith}
-use Rattle.std.specs.Prelude.{nat_le, nat_lt, ◌&&◌, is_some, slice_index_or, slice_set}
+use Rattle.std.specs.Prelude.{nat_le, ◌&&◌, is_some, slice_set}
+use Rattle.std.proofs.Math.Seq.{set_out}
 use Rattle.std.proofs.lemmas.Bool.{false≢true}
 use Rattle.std.proofs.lemmas.Bool.Decides.{nat_tests}
 use Rattle.ether_wire.specs.Ports.{place_of_port}
 use Rattle.mac_arena.specs.declared.station.Station.{Station}
 use Rattle.ev_edge.specs.declared.config.PortConfig.{PortConfig}
 use Rattle.ev_edge.specs.declared.limits.Quota.{Quota}
-use Rattle.ev_edge.specs.Limits.{is_met, IsWithin, no_quota, quotas_of, quota_at, runs, count_in, start_in, counting}
-use Rattle.ev_edge.specs.Limits.{with_counted, IsKept, AreKept}
+use Rattle.ev_edge.specs.Limits.{is_met, quotas_of, quota_in, quota_at, runs, count_in, counting, with_counted}
+use Rattle.ev_edge.specs.Limits.{IsKept, AreKept}
 use Rattle.ev_edge.specs.Edge.{Edge}
 use Rattle.ev_edge.specs.Learning.{needs_register, limits_at, is_busy, is_counted, quotas_with}
 
@@ -21,13 +22,22 @@ later_kept qs second later less h = λ port. record {
 }
 
 -- at the opening
-kept_at : (ports : List PortConfig) (n : ℕ) → IsKept (slice_index_or (quotas_of ports) n no_quota) 0
+kept_at : (ports : List PortConfig) (n : ℕ) → IsKept (quota_in (quotas_of ports) n) 0
 kept_at [] n = record { started = omega arith; within = λ most e. omega arith }
 kept_at (p ∷ ports) zero = record { started = omega arith; within = λ most e. omega arith }
 kept_at (p ∷ ports) (suc n) = kept_at ports n
 
 pub opened_kept : (ports : List PortConfig) → AreKept (quotas_of ports) 0
 opened_kept ports = λ port. kept_at ports (place_of_port port)
+
+-- nothing is counted at a port that isn't there
+pub counted_out : (qs : List Quota) (l : ℕ) (q : Quota) → length qs ≤ l → slice_set qs l q ≡ qs
+counted_out qs l q past = set_out qs l q past
+
+-- a station that isn't at the port
+pub met_elsewhere : (met there : Bool) → there ≡ false → met ≡ (met && not there)
+met_elsewhere true there away = sym (ap not away)
+met_elsewhere false there away = refl
 
 -- ---- one more new station
 
@@ -49,8 +59,7 @@ counting_kept q second h free = record {
     start false = omega arith
 
 set_kept : (qs : List Quota) (l : ℕ) (q : Quota) (second : ℕ) → IsKept q second
-    → ((n : ℕ) → IsKept (slice_index_or qs n no_quota) second)
-    → (n : ℕ) → IsKept (slice_index_or (slice_set qs l q) n no_quota) second
+    → ((n : ℕ) → IsKept (quota_in qs n) second) → (n : ℕ) → IsKept (quota_in (slice_set qs l q) n) second
 set_kept [] l q second new old n = old n
 set_kept (x ∷ xs) zero q second new old zero = new
 set_kept (x ∷ xs) zero q second new old (suc n) = old (suc n)
@@ -58,7 +67,7 @@ set_kept (x ∷ xs) (suc l) q second new old zero = old zero
 set_kept (x ∷ xs) (suc l) q second new old (suc n) = set_kept xs l q second new (λ k. old (suc k)) n
 
 -- by index, as the ports are counted from 1
-by_index : (qs : List Quota) (second : ℕ) → AreKept qs second → (n : ℕ) → IsKept (slice_index_or qs n no_quota) second
+by_index : (qs : List Quota) (second : ℕ) → AreKept qs second → (n : ℕ) → IsKept (quota_in qs n) second
 by_index qs second h n = h (suc n)
 
 pub counted_kept : (qs : List Quota) (port second : ℕ) → AreKept qs second

@@ -2,7 +2,7 @@
 use Rattle.std.proofs.Common.{◌≡◌, ◌≢◌, ◌⊎◌, inl, inr, ℕ, zero, suc, ◌+◌, ◌-◌, ◌*◌, ◌<◌, ◌≤◌, Bool, true, false, cond, not}
 use Rattle.std.proofs.Common.{◌&&◌, ◌||◌, eqb, Option, Some, None, Result, Ok, Err, List, [], ◌∷◌, length, refl, sym, ap, subst}
 use Rattle.std.proofs.Common.{◌∙◌, arith}
-use Rattle.std.specs.Prelude.{is_some, IsSome, nat_lt, slice_index_or, slice_set}
+use Rattle.std.specs.Prelude.{is_some, IsSome, nat_lt, slice_set}
 use Rattle.std.specs.Option.{option_map}
 use Rattle.std.specs.FinMap.{len, len-insert}
 use Rattle.std.proofs.lemmas.Bool.{false≢true}
@@ -39,7 +39,7 @@ use Rattle.ev_edge.specs.declared.limits.Quota.{Quota}
 use Rattle.ev_edge.specs.declared.refusal.Refusal.{Refusal}
 use Rattle.ev_edge.specs.declared.reply.Reply.{Reply}
 use Rattle.ev_edge.specs.Edge.{Edge, IsGoodEdge, table_of}
-use Rattle.ev_edge.specs.Limits.{no_quota, quotas_of, quota_at, IsKept, runs, count_in, start_in, counting, with_counted}
+use Rattle.ev_edge.specs.Limits.{quotas_of, quota_in, quota_at, IsKept, runs, count_in, start_in, counting, with_counted}
 use Rattle.ev_edge.specs.Learning.{needs_register, limits_at, is_counted, quotas_with, learnt, moved}
 use Rattle.ev_edge.specs.Opening.{IsOpening}
 use Rattle.ev_edge.specs.Arrival.{frame_arrival}
@@ -122,7 +122,7 @@ flush_size c set h lists = removals_size c (flushed_in c.learned set)
 -- ---- the quota of another port
 
 set_apart : (qs : List Quota) (l : ℕ) (q : Quota) (n : ℕ) → n ≢ l
-    → slice_index_or (slice_set qs l q) n no_quota ≡ slice_index_or qs n no_quota
+    → quota_in (slice_set qs l q) n ≡ quota_in qs n
 set_apart [] l q n ne = refl
 set_apart (x ∷ xs) zero q zero ne = absurd (ne refl)
 set_apart (x ∷ xs) zero q (suc n) ne = refl
@@ -131,7 +131,7 @@ set_apart (x ∷ xs) (suc l) q (suc n) ne = set_apart xs l q n (λ is. ne (ap su
 
 -- a port with a limit has a quota, so it is the one that is set
 set_here : (qs : List Quota) (l : ℕ) (q : Quota) (limit : ℕ)
-    → (slice_index_or qs l no_quota).limits.new_stations ≡ Some limit → slice_index_or (slice_set qs l q) l no_quota ≡ q
+    → (quota_in qs l).limits.new_stations ≡ Some limit → quota_in (slice_set qs l q) l ≡ q
 set_here [] l q limit is = cc
 set_here (x ∷ xs) zero q limit is = refl
 set_here (x ∷ xs) (suc l) q limit is = set_here xs l q limit is
@@ -392,7 +392,7 @@ registers_are_few run e e' port limit minutes n good some is h below =
     at true on = grind (arith, nat_tests)
     at false on = omega arith
 
-opened_at : (ports : List PortConfig) (n : ℕ) → (slice_index_or (quotas_of ports) n no_quota).start ≡ 0
+opened_at : (ports : List PortConfig) (n : ℕ) → (quota_in (quotas_of ports) n).start ≡ 0
 opened_at [] n = refl
 opened_at (p ∷ ports) zero = refl
 opened_at (p ∷ ports) (suc n) = opened_at ports n

@@ -1,6 +1,7 @@
 -- The limits of a port: how many stations it may have at once, and how many new ones it may bring within 60 seconds.
-use Rattle.std.specs.Prelude.{ℕ, ◌+◌, ◌≤◌, ◌≡◌, nat_le, nat_lt, Bool, false, true, Option, Some, None, is_some}
-use Rattle.std.specs.Prelude.{if◌then◌else◌, List, map, slice_index_or, slice_set}
+use Rattle.std.specs.Prelude.{ℕ, ◌+◌, ◌≤◌, ◌≡◌, nat_le, nat_lt, Bool, false, Option, Some, None, if◌then◌else◌, List, map}
+use Rattle.std.specs.Prelude.{slice_get, slice_set}
+use Rattle.std.specs.Option.{unwrap_or}
 use Rattle.ether_wire.specs.Ports.{place_of_port}
 use Rattle.ev_edge.specs.declared.config.PortConfig.{PortConfig}
 use Rattle.ev_edge.specs.declared.limits.Limits.{Limits}
@@ -36,9 +37,12 @@ opened_quota p = quota_of p.limits
 abbrev pub quotas_of : List PortConfig → List Quota
 quotas_of ports = map opened_quota ports
 
+abbrev pub quota_in : List Quota → ℕ → Quota
+quota_in qs l = unwrap_or (slice_get qs l) no_quota
+
 -- the quota of a port, counted from 1
 abbrev pub quota_at : List Quota → ℕ → Quota
-quota_at qs port = slice_index_or qs (place_of_port port) no_quota
+quota_at qs port = quota_in qs (place_of_port port)
 
 -- the window lasts for 60 seconds
 abbrev pub runs : Quota → ℕ → Bool

@@ -30,7 +30,7 @@ impl Default for PortConfig {
                 auto_edge: true,
                 point_to_point: true,
             },
-            limits: Limits::default(),
+            limits: Limits::none(),
         }
     }
 }

@@ -32,7 +32,7 @@ pub use laws::{
     reserved_in_tunnel_goes_nowhere, stations_are_few, stays_good, steps_remove, takes_no_memory,
 };
 pub use learning::Case;
-pub use limits::{Limits, Quota};
+pub use limits::Limits;
 pub use pinning::PinCase;
 pub use refusal::{EdgeRefusal, Refusal};
 pub use reply::Reply;

@@ -1,10 +1,10 @@
 //! The limits of a port: how many stations it may have at once, and how many new ones it may bring
 //! within 60 seconds. They keep one host from filling the learning table, and from making registers
 //! without end: each edge keeps a register for good.
-ghost use Rattle.std.specs.Prelude.{◌≡◌, ◌<◌, ◌-◌, ◌^◌, false, IsSome};
+ghost use Rattle.std.specs.Prelude.{◌≡◌, ◌<◌, ◌-◌, ◌^◌, false, Some, IsSome};
 ghost use Rattle.mac_arena.specs.Learning.{entry_at};
 ghost use Rattle.ev_claims.specs.LocalRoutes.{vni_at};
-ghost use Rattle.ev_edge.specs.Limits.{no_limits, no_quota, is_met, quotas_of, quota_at, runs, count_in, counting, with_counted};
+ghost use Rattle.ev_edge.specs.Limits.{no_limits, quota_of, is_met, quotas_of, quota_at, runs, count_in, counting, with_counted};
 ghost use Rattle.ev_edge.specs.Learning.{needs_register, limits_at, is_there, is_crowded, is_busy, is_counted};
 
 use crate::config::PortConfig;
@@ -27,9 +27,9 @@ pub struct Limits {
     pub new_stations: Option<u64>,
 }
 
-impl Default for Limits {
-    /// No limits.
-    fn default() -> Self
+impl Limits {
+    /// Returns no limits.
+    pub fn none() -> Self
         ensures { result ≡ no_limits }
     {
         Limits {
@@ -41,22 +41,29 @@ impl Default for Limits {
 
 /// The limits of a port, and its newest window: the 60 seconds in which new stations are counted.
 #[derive(Clone, Copy, Debug, PartialEq, Eq)]
-pub struct Quota {
+pub(crate) struct Quota {
     /// The port's limits.
-    pub limits: Limits,
+    pub(crate) limits: Limits,
     /// The second at which the window started.
-    pub start: u64,
+    pub(crate) start: u64,
     /// How many new stations the port has brought since.
-    pub count: u64,
+    pub(crate) count: u64,
 }
 
 impl Default for Quota {
-    /// No limits, and nothing was counted.
-    fn default() -> Self
-        ensures { result ≡ no_quota }
+    /// Returns the content of an unused place of a list.
+    fn default() -> Self {
+        Quota::new(Limits::none())
+    }
+}
+
+impl Quota {
+    /// Returns the quota of a port at the opening: its window starts at second 0.
+    fn new(limits: Limits) -> Self
+        ensures { result ≡ quota_of limits }
     {
         Quota {
-            limits: Limits::default(),
+            limits,
             start: 0,
             count: 0,
         }
@@ -111,11 +118,7 @@ pub(crate) fn quotas_of(ports: &ArrayVec<PortConfig, 64>) -> ArrayVec<Quota, 64>
     let mut quotas = ArrayVec::new();
     let ports = ports.as_slice();
     for port in ports {
-        quotas.push(Quota {
-            limits: port.limits,
-            start: 0,
-            count: 0,
-        });
+        quotas.push(Quota::new(port.limits));
     }
     quotas
 }
@@ -125,35 +128,34 @@ fn quota_at(quotas: &ArrayVec<Quota, 64>, port: u8) -> Quota
     requires { 0 < port }
     ensures { result ≡ quota_at quotas.now.items port }
 {
-    match quotas.as_slice().get(place_of_port(port)) {
-        Some(quota) => *quota,
-        None => Quota::default(),
-    }
+    let quota = quotas.as_slice().get(place_of_port(port)).copied();
+    quota.unwrap_or(Quota::new(Limits::none()))
 }
 
 /// Counts one more new station of a port at this second.
+#[tactic(auto, using(crate::proofs::Quotas::counted_out))]
 fn count_at(quotas: &mut ArrayVec<Quota, 64>, port: u8, second: u64)
     requires port { 0 < port }
     requires few { count_in (quota_at quotas.old.items port) second < 2 ^ 64 - 1 }
     ensures { quotas.new.items ≡ with_counted quotas.old.items port second }
 {
-    let quota = quota_at(quotas, port);
-    if let Some(place) = quotas.as_mut_slice().get_mut(place_of_port(port)) {
-        *place = counting(&quota, second);
+    let place = place_of_port(port);
+    let quota = counting(&quota_at(quotas, port), second);
+    if place < quotas.len() {
+        quotas.as_mut_slice()[place] = quota;
     }
 }
 
 impl Edge {
-    /// Returns `true` if one more station at the port would be one too many.
+    /// Returns `true` if the station, which isn't at the port, would be one too many there.
+    #[tactic(auto, using(crate::proofs::Places::some_port, crate::proofs::Quotas::met_elsewhere))]
     pub(crate) fn is_crowded(&self, station: &Station, port: u8) -> bool
-        requires port { IsSome (vni_at self.now.routes.ports port) }
+        requires port { vni_at self.now.routes.ports port ≡ Some station.now.vni }
         requires elsewhere { is_there (entry_at self.now.routes.learned station.now) port ≡ false }
         ensures { result ≡ is_crowded self.now station.now port }
     {
-        match quota_at(&self.quotas, port).limits.stations {
-            Some(limit) => limit <= self.routes.stations_on(port) as u64,
-            None => false,
-        }
+        let limit = quota_at(&self.quotas, port).limits.stations;
+        is_met(limit, self.routes.stations_on(port) as u64)
     }
 
     /// Returns `true` if the station is new, and one too many within 60 seconds.

@@ -81,7 +81,7 @@ fn port_of(vni: Vni, admin_edge: bool) -> PortConfig
             auto_edge: true,
             point_to_point: true,
         },
-        limits: Limits::default(),
+        limits: Limits::none(),
     }
 }
 

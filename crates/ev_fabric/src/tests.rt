@@ -50,7 +50,7 @@ fn port_of(vni: Vni) -> PortConfig
             auto_edge: true,
             point_to_point: true,
         },
-        limits: Limits::default(),
+        limits: Limits::none(),
     }
 }
 
