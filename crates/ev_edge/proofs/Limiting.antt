@@ -1,10 +1,12 @@
--- The limits of ports: without limits nothing changes, no event changes a limit, and a port gets no more stations by its
--- frames than its limit allows.
-use Rattle.std.proofs.Common.{◌≡◌, ◌⊎◌, inl, inr, ℕ, zero, suc, ◌+◌, ◌-◌, ◌<◌, ◌≤◌, Bool, true, false, cond, not, ◌&&◌, ◌||◌}
+-- The limits of ports: without limits nothing changes, no event changes a limit, and a port gets no more stations by
+-- its frames than its limit allows.
+use Rattle.std.proofs.Common.{◌≡◌, ◌⊎◌, inl, inr, ℕ, zero, suc, ◌+◌, ◌-◌, ◌<◌, ◌≤◌, Bool, true, false, cond, not, ◌&&◌}
+use Rattle.std.proofs.Common.{◌||◌}
 use Rattle.std.proofs.Common.{eqb, Option, Some, None, Result, Ok, Err, List, [], ◌∷◌, ◌++◌, length, map, refl, sym, ap}
 use Rattle.std.proofs.Common.{subst, ◌∙◌, arith}
 use Rattle.std.specs.Prelude.{is_some, nat_le, slice_set, ◌^◌}
 use Rattle.std.proofs.lemmas.Bool.{false≢true, eq-eqb}
+use Rattle.std.proofs.lemmas.List.{length-append}
 use Rattle.std.proofs.lemmas.Bool.Decides.{nat_tests}
 use Rattle.ether_wire.specs.Addr.{is_group}
 use Rattle.ether_wire.specs.Ports.{place_of_port}
@@ -17,13 +19,14 @@ use Rattle.mac_arena.specs.declared.station.Entry.{Entry}
 use Rattle.mac_arena.specs.declared.table.Learnt.{Learnt}
 use Rattle.mac_arena.specs.declared.table.Learnt.TheVariants.{New, Moved, Refreshed, Pinned, Full}
 use Rattle.mac_arena.specs.Station.{is_same}
-use Rattle.mac_arena.specs.Learning.{Learning, entry_at, is_full, is_pinned, stations_at, left, answer_of, learnt_of, after_learn}
+use Rattle.mac_arena.specs.Learning.{Learning, entry_at, is_full, is_pinned, stations_at, left, answer_of, learnt_of}
+use Rattle.mac_arena.specs.Learning.{after_learn}
 use Rattle.mac_arena.specs.Learning.{after_removal as gone, after_removal_at}
 use Rattle.ev_mobility.specs.declared.alert.Alert.{Alert}
 use Rattle.ev_mobility.specs.declared.alert.Alert.TheVariants.{PortFull, PortBusy}
 use Rattle.rstp_run.specs.declared.event.Event as tree
 use Rattle.ev_claims.specs.LocalRoutes.{LocalRoutes, stations_on, vni_at, is_lost, after_removal, after_removals}
-use Rattle.ev_claims.specs.LocalRoutes.{after_update, after_losing, after_take, after_own}
+use Rattle.ev_claims.specs.LocalRoutes.{after_update, after_losing, after_take, after_own, after_announcement}
 use Rattle.ev_claims.specs.Leaving.{after_flush, after_ageing, flushed_in, due_in}
 use Rattle.ev_edge.specs.declared.arrival.Arrival.{Arrival}
 use Rattle.ev_edge.specs.declared.arrival.Arrival.TheVariants.{Dropped, Message, Data}
@@ -39,15 +42,18 @@ use Rattle.ev_edge.specs.declared.refusal.EdgeRefusal.{EdgeRefusal}
 use Rattle.ev_edge.specs.declared.refusal.Refusal.{Refusal}
 use Rattle.ev_edge.specs.declared.reply.Reply.{Reply}
 use Rattle.ev_edge.specs.Edge.{Edge, IsGoodEdge, table_of, address_of}
-use Rattle.ev_edge.specs.Limits.{no_limits, is_met, IsWithin, quota_in, quota_at, counting, with_counted}
-use Rattle.ev_edge.specs.Learning.{needs_register, limits_at, is_there, is_crowded, is_busy, limited_new, limited, case_of}
+use Rattle.ev_edge.specs.Limits.{no_limits, is_met, IsWithin, quota_in, quota_at, count_in, counting, with_counted}
+use Rattle.ev_edge.specs.Learning.{needs_register, limits_at, is_there, is_crowded, is_busy, limited_new, limited}
+use Rattle.ev_edge.specs.Learning.{case_of}
 use Rattle.ev_edge.specs.Learning.{case_on, is_counted, quotas_with, learnt}
 use Rattle.ev_edge.specs.Bridging.{aged, next_second}
 use Rattle.ev_edge.specs.Pinning.{DoesPin, pin_case, refused_pin, after_unpin, after_thawing}
 use Rattle.ev_edge.specs.Arrival.{frame_arrival, tunnel_arrival}
-use Rattle.ev_edge.specs.Steps.{Steps, LearnsIf, FrameSteps, TunnelSteps, Bridges, BridgesAt, Seconds, Takes, Pins, Marks}
+use Rattle.ev_edge.specs.Steps.{Steps, LearnsIf, FrameSteps, TunnelSteps, Bridges, BridgesAt, Seconds, Takes, Pins}
+use Rattle.ev_edge.specs.Steps.{Marks}
 use Rattle.ev_edge.specs.AwayLaws.{Entered, EdgeRuns}
-use Rattle.ev_edge.specs.LimitLaws.{LimitsNothing, KeepsLimits, KeepsToStations, StationsAreFew, comes_at, is_pin, has_pin}
+use Rattle.ev_edge.specs.LimitLaws.{LimitsNothing, KeepsLimits, KeepsToStations, StationsAreFew, comes_at, is_pin}
+use Rattle.ev_edge.specs.LimitLaws.{has_pin}
 use Rattle.ev_edge.proofs.Cases.{IsNew, IsHeard, learnt_by, or_refused}
 use Rattle.ev_edge.proofs.Quotas.{met_above}
 use Rattle.ev_edge.proofs.Places.{there_port}
@@ -61,7 +67,7 @@ module _ (e : Edge) (s : Station) (port : ℕ) (h : limits_at e port ≡ no_limi
       && not (is_there (entry_at e.routes.learned s) port)) h
 
   calm : is_busy e s port ≡ false
-  calm = ap (λ (l : Limits). is_met l.new_stations _ && needs_register e s) h
+  calm = ap (λ (l : Limits). is_met l.new_stations (count_in (quota_at e.quotas port) e.clock) && needs_register e s) h
 
   new_free : (c : Case) → limited_new e s port c ≡ c
   new_free c = λ i. cond (roomy i) (Refuse (PortFull port)) (cond (calm i) (Refuse (PortBusy port)) c)
@@ -99,6 +105,9 @@ counted_limits e s q p = go (is_counted e s q)
     go true = same_in (λ (x : Quota). x.limits) e.quotas (place_of_port q) (counting (quota_at e.quotas q) e.clock)
         (place_of_port p) refl
     go false = refl
+
+no_more : (n : ℕ) → n ≤ n
+no_more n = omega arith
 
 -- ---- lists of stations
 
@@ -148,7 +157,7 @@ record Grows (t u : Learning) (port k : ℕ) (a : Learnt) : Type 0 where
   one : at_place u k ≤ at_place t (place_of_port port) + 1
 
 added : (s : Station) (ys : List Station) → length (ys ++ s ∷ []) ≤ length ys + 1
-added s ys = omega arith
+added s ys = let is = length-append ys (s ∷ []) in omega (arith, is)
 
 joins_at : (t : Learning) (s : Station) (port second : ℕ) (a : Learnt) (k : ℕ)
     → (at_place (after_learn t s port second a) k ≤ at_place t k)
@@ -178,16 +187,15 @@ joins_at t s port second Moved k =
       | inr same ↦ inl (let is = ap length (same ∙ left_at s t.ports k) in
           let less = left_fewer s (stations_at t.ports k) in omega (arith, is, less))
     ]
-joins_at t s port second Refreshed k = inl (omega arith)
-joins_at t s port second Pinned k = inl (omega arith)
-joins_at t s port second Full k = inl (omega arith)
+joins_at t s port second Refreshed k = inl (no_more (at_place t k))
+joins_at t s port second Pinned k = inl (no_more (at_place t k))
+joins_at t s port second Full k = inl (no_more (at_place t k))
 
 -- a station that comes to the port wasn't there
 comes_from : (o : Option Entry) (full : Bool) (port : ℕ) → comes (answer_of o full port) ≡ true
     → is_there o port ≡ false
 comes_from None full port h = refl
-comes_from (Some x) true port h = absurd (false≢true h)
-comes_from (Some x) false port h = go x.pinned (eqb x.port port) refl h
+comes_from (Some x) full port h = go x.pinned (eqb x.port port) refl h
   where
     go : (pinned there : Bool) → eqb x.port port ≡ there
         → comes (cond pinned Pinned (cond there Refreshed Moved)) ≡ true → eqb x.port port ≡ false
@@ -234,16 +242,17 @@ came e s port p x a some some' place away is =
 
 learnt_few : (e : Edge) (s : Station) (port p : ℕ) (told : Option Alert) (e' : Edge) (b : Bool) → 0 < port → 0 < p
     → LearnsIf b e s port told e' → Keeps e port p e'
-learnt_few e s port p told e' b some some' h = learnt_by (Keeps e port p) e s port told e' (inl (omega arith))
+learnt_few e s port p told e' b some some' h =
+    learnt_by (Keeps e port p) e s port told e' (inl (no_more (stations_on e.routes p)))
     (λ heard. came e s port p _ (learnt_of e.routes.learned s port) some some' heard.place
     (comes_from (entry_at e.routes.learned s) (is_full e.routes.learned) port) refl)
-    (inl (omega arith))
+    (inl (no_more (stations_on e.routes p)))
     (λ new. came e s port p _ New some some' new.place (λ by. ap (λ o. is_there o port) new.none) refl)
     (λ n new. came e s port p _ New some some' new.place (λ by. ap (λ o. is_there o port) new.none) refl) b h
 
 -- ---- stations that go
 
-abbrev Fewer : LocalRoutes → LocalRoutes → Type 0
+abbrev pub Fewer : LocalRoutes → LocalRoutes → Type 0
 Fewer c d = (p : ℕ) → stations_on d p ≤ stations_on c p
 
 removal_fewer : (c : LocalRoutes) (s : Station) → Fewer c (after_removal c s)
@@ -251,12 +260,12 @@ removal_fewer c s p = go (entry_at c.learned s)
   where
     go : (o : Option Entry) → at_place (after_removal_at c.learned s o) (place_of_port p)
         ≤ at_place c.learned (place_of_port p)
-    go None = omega arith
+    go None = no_more (at_place c.learned (place_of_port p))
     go (Some x) = let is = ap length (left_at s c.learned.ports (place_of_port p)) in
         let less = left_fewer s (stations_at c.learned.ports (place_of_port p)) in omega (arith, is, less)
 
 removals_fewer : (c : LocalRoutes) (ss : List Station) → Fewer c (after_removals c ss)
-removals_fewer c [] p = omega arith
+removals_fewer c [] p = no_more (stations_on c p)
 removals_fewer c (s ∷ ss) p = let first = removal_fewer c s p in let rest = removals_fewer (after_removal c s) ss p in
     omega (arith, first, rest)
 
@@ -265,7 +274,7 @@ aged_fewer c ageing clock p = go (nat_le ageing clock)
   where
     go : (b : Bool) → stations_on (cond b (after_ageing c (clock - ageing)) c) p ≤ stations_on c p
     go true = removals_fewer c (due_in c.learned (clock - ageing)) p
-    go false = omega arith
+    go false = no_more (stations_on c p)
 
 taken_fewer : (c : LocalRoutes) (u : Fields) → Fewer c (after_take c u)
 taken_fewer c u p = go u.register.key
@@ -273,10 +282,10 @@ taken_fewer c u p = go u.register.key
     pick : (s : Station) (b : Bool) → stations_on (cond b (after_removal (after_update c u) s) (after_update c u)) p
         ≤ stations_on c p
     pick s true = removal_fewer (after_update c u) s p
-    pick s false = omega arith
+    pick s false = no_more (stations_on c p)
 
     go : (k : Key) → stations_on (after_losing (after_update c u) k) p ≤ stations_on c p
-    go (Flood v) = omega arith
+    go (Flood v) = no_more (stations_on c p)
     go (Mac v m ip) = pick (record { vni = v; mac = m }) (is_lost (after_update c u) (record { vni = v; mac = m }))
 
 -- ---- events by which nothing is learnt
@@ -296,13 +305,17 @@ same_rests e e' is = record {
 
 -- only the routes change
 routes_rest : (e e' : Edge) (c : LocalRoutes) → Fewer e.routes c → e' ≡ record e { routes = c } → Rests e e'
-routes_rest e e' c few is = subst (Rests e) (sym is) (record { quotas = refl; later = omega arith; fewer = few })
+routes_rest e e' c few is = subst (Rests e) (sym is) (record {
+  quotas = refl;
+  later = no_more e.clock;
+  fewer = few;
+})
 
 pub bridge_rests : (event : tree.Event) (e : Edge) (result : Result Reply Refusal) (e' : Edge)
     → Bridges event e result e' → Rests e e'
 bridge_rests event e (Ok reply) e' h = subst (Rests e) (sym h.after) (record {
   quotas = refl;
-  later = omega arith;
+  later = no_more e.clock;
   fewer = removals_fewer e.routes (flushed_in e.routes.learned h.flush);
 })
 bridge_rests event e (Err r) e' h = absurd h
@@ -339,7 +352,8 @@ tunnel_rests (Ok (Data vni destination source)) e (Err r) e' h = absurd h
 
 take_rests : (b : Bool) (e : Edge) (u : Fields) (result : Result Reply Refusal) (e' : Edge) → Takes b e u result e'
     → Rests e e'
-take_rests true e u (Ok reply) e' h = routes_rest e e' (after_own e.routes u) (λ p. omega arith) h.3
+take_rests true e u (Ok reply) e' h = routes_rest e e' (after_own e.routes u)
+    (λ p. no_more (stations_on e.routes p)) h.3
 take_rests true e u (Err r) e' h = same_rests e e' h.1
 take_rests false e u (Ok reply) e' h = routes_rest e e' (after_take e.routes u) (taken_fewer e.routes u) h.2
 take_rests false e u (Err r) e' h = same_rests e e' h.1
@@ -353,53 +367,49 @@ unpin_rests e s e' is = go (is_pinned (entry_at e.routes.learned s)) is
 
 thaw_rests : (e : Edge) (s : Station) (e' : Edge) → e' ≡ after_thawing e s → Rests e e'
 thaw_rests e s e' is = subst (Rests e) (sym is)
-    (record { quotas = refl; later = omega arith; fewer = λ p. omega arith })
+    (record { quotas = refl; later = no_more e.clock; fewer = λ p. no_more (stations_on e.routes p) })
 
 mark_rests : (b : Bool) (e : Edge) (away : List ℕ) (result : Result Reply Refusal) (e' : Edge)
     → Marks b e away result e' → Rests e e'
 mark_rests true e away result e' h = subst (Rests e) (sym h.1)
-    (record { quotas = refl; later = omega arith; fewer = λ p. omega arith })
+    (record { quotas = refl; later = no_more e.clock; fewer = λ p. no_more (stations_on e.routes p) })
 mark_rests false e away result e' h = same_rests e e' h.1
 
 -- ---- pins
 
--- a pin counts nothing, and takes no time
-pub pin_counts : (e : Edge) (s : Station) (port : ℕ) (result : Result Reply Refusal) (e' : Edge)
-    (refused : Option EdgeRefusal) → Pins refused e s port result e' → (e'.quotas ≡ e.quotas) × (e.clock ≤ e'.clock)
-pin_counts e s port result e' (Some r) h = of_same e e' h.1
-  where
-    of_same : (e e' : Edge) → e' ≡ e → (e'.quotas ≡ e.quotas) × (e.clock ≤ e'.clock)
-    of_same e e' is = let r = same_rests e e' is in (r.quotas, r.later)
-pin_counts e s port (Err r) e' None h = absurd h
-pin_counts e s port (Ok reply) e' None h = does (pin_case e s port) h.0
-  where
-    abbrev P : Edge → Type 0
-    P x = (x.quotas ≡ e.quotas) × (e.clock ≤ x.clock)
+abbrev CountsNone : Edge → Edge → Type 0
+CountsNone e x = (x.quotas ≡ e.quotas) × (e.clock ≤ x.clock)
 
-    does : (c : PinCase) → DoesPin c e s port reply.alert e' → P e'
-    does Keep d = subst P (sym d.1) (refl, omega arith)
-    does Shift d = subst P (sym d.1) (refl, omega arith)
-    does (Deny alert) d = subst P (sym d.1) (refl, omega arith)
-    does Pin d = or_refused P (refl, omega arith) (refl, omega arith) d
+pin_does : (e : Edge) (s : Station) (port : ℕ) (told : Option Alert) (e' : Edge) (c : PinCase)
+    → DoesPin c e s port told e' → CountsNone e e'
+pin_does e s port told e' Keep h = subst (CountsNone e) (sym h.1) (refl, no_more e.clock)
+pin_does e s port told e' Shift h = subst (CountsNone e) (sym h.1) (refl, no_more e.clock)
+pin_does e s port told e' (Deny alert) h = subst (CountsNone e) (sym h.1) (refl, no_more e.clock)
+pin_does e s port told e' Pin h = or_refused (CountsNone e) (refl, no_more e.clock) (refl, no_more e.clock) h
+
+-- a pin counts nothing, and takes no time
+pin_counts : (e : Edge) (s : Station) (port : ℕ) (result : Result Reply Refusal) (e' : Edge)
+    (refused : Option EdgeRefusal) → Pins refused e s port result e' → CountsNone e e'
+pin_counts e s port result e' (Some r) h = subst (CountsNone e) (sym h.1) (refl, no_more e.clock)
+pin_counts e s port (Err r) e' None h = absurd h
+pin_counts e s port (Ok reply) e' None h = pin_does e s port reply.alert e' (pin_case e s port) h.0
 
 -- ---- each event
 
 -- the limits and the time, of a frame
 frame_limits : (a : Result Arrival Refusal) (e : Edge) (port : ℕ) (result : Result Reply Refusal) (e' : Edge) (p : ℕ)
     → FrameSteps a e port result e' → (limits_at e' p ≡ limits_at e p) × (e.clock ≤ e'.clock)
-frame_limits (Err r) e port result e' p h = rest_limits e e' p (same_rests e e' h.1)
-  where
-    rest_limits : (e e' : Edge) (p : ℕ) → Rests e e' → (limits_at e' p ≡ limits_at e p) × (e.clock ≤ e'.clock)
-    rest_limits e e' p r = (ap (λ qs. (quota_at qs p).limits) r.quotas, r.later)
+frame_limits (Err r) e port result e' p h = (ap (λ (x : Edge). limits_at x p) h.1,
+    let same = ap (λ (x : Edge). x.clock) h.1 in omega (arith, same))
 frame_limits (Ok Dropped) e port result e' p h = (ap (λ (x : Edge). limits_at x p) h.1,
     let same = ap (λ (x : Edge). x.clock) h.1 in omega (arith, same))
 frame_limits (Ok (Message b)) e port result e' p h = let r = bridge_rests _ e result e' h in
     (ap (λ qs. (quota_at qs p).limits) r.quotas, r.later)
 frame_limits (Ok (Data vni destination source)) e port (Ok reply) e' p h =
     learnt_by (λ x. (limits_at x p ≡ limits_at e p) × (e.clock ≤ x.clock)) e (record { vni = vni; mac = source }) port
-    reply.alert e' (refl, omega arith) (λ heard. (refl, omega arith)) (refl, omega arith)
-    (λ new. (counted_limits e (record { vni = vni; mac = source }) port p, omega arith))
-    (λ n new. (counted_limits e (record { vni = vni; mac = source }) port p, omega arith))
+    reply.alert e' (refl, no_more e.clock) (λ heard. (refl, no_more e.clock)) (refl, no_more e.clock)
+    (λ new. (counted_limits e (record { vni = vni; mac = source }) port p, no_more e.clock))
+    (λ n new. (counted_limits e (record { vni = vni; mac = source }) port p, no_more e.clock))
     (h.learning.learns && not (is_group source)) h.learning.learning
 frame_limits (Ok (Data vni destination source)) e port (Err r) e' p h = absurd h
 
@@ -458,7 +468,7 @@ kind_of e (events.Mcheck port) result e' h = inl (record {
 })
 kind_of e events.Announce result e' h = inl (record {
   none = λ p. refl;
-  rests = routes_rest e e' _ (λ p. omega arith) h.1;
+  rests = routes_rest e e' (after_announcement e.routes) (λ p. no_more (stations_on e.routes p)) h.1;
 })
 kind_of e (events.Away a) result e' h = inl (record {
   none = λ p. refl;
@@ -500,21 +510,23 @@ pub port_there : (e : Edge) (port : ℕ) (octets : List ℕ) (vni destination so
 port_there e port octets vni destination source is =
     (there_port e.routes.ports port (ap is_some (data_port e port octets vni destination source is))).0
 
+abbrev FewAt : Edge → Event → ℕ → Edge → Type 0
+FewAt e event port e' =
+    (stations_on e'.routes port ≤ stations_on e.routes port)
+    ⊎ ((comes_at port event ≡ true) × IsWithin (limits_at e port).stations (stations_on e'.routes port))
+
+few_by_frame : (e : Edge) (event : Event) (result : Result Reply Refusal) (e' : Edge) (port : ℕ)
+    → (k : FrameOf e event result e') → Keeps e k.port port e' → FewAt e event port e'
+few_by_frame e event result e' port k (inl few) = inl few
+few_by_frame e event result e' port k (inr full) = inr (k.at port ∙ eq-eqb k.port port full.0, full.1)
+
 pub keeps_to_stations : KeepsToStations
 keeps_to_stations e e' event result port good some pin h = go (kind_of e event result e' h)
   where
-    abbrev Few : Type 0
-    Few = (stations_on e'.routes port ≤ stations_on e.routes port)
-        ⊎ ((comes_at port event ≡ true) × IsWithin (limits_at e port).stations (stations_on e'.routes port))
-
-    by_frame : (k : FrameOf e event result e') → Keeps e k.port port e' → Few
-    by_frame k (inl few) = inl few
-    by_frame k (inr full) = inr (k.at port ∙ eq-eqb k.port port full.0, full.1)
-
-    go : KindOf e event result e' → Few
+    go : KindOf e event result e' → FewAt e event port e'
     go (inl k) = inl (k.rests.fewer port)
-    go (inr (inl k)) = by_frame k (frame_few (frame_arrival e k.port k.octets) e k.port result e' port some
-        (port_there e k.port k.octets) k.steps)
+    go (inr (inl k)) = few_by_frame e event result e' port k (frame_few (frame_arrival e k.port k.octets) e k.port
+        result e' port some (port_there e k.port k.octets) k.steps)
     go (inr (inr k)) = absurd (false≢true (sym pin ∙ k.pin))
 
 pub stations_are_few : StationsAreFew

@@ -92,7 +92,8 @@ nobody_individual s c h = subst AreIndividual (sym h.learned)
     never_learnt (Some a) is some = cc
 
 pub opened : (s : Start) (c : LocalRoutes) (settings : Settings) (ports : List PortSettings) (ageing : ℕ) (tree : Tree)
-    (moves : Moves) (quotas : List Quota) → IsOpening s c → tree ≡ start settings ports → length s.ports.items ≡ length ports
+    (moves : Moves) (quotas : List Quota) → IsOpening s c → tree ≡ start settings ports
+    → length s.ports.items ≡ length ports
     → ((v : ℕ) → Contains s.ports.items v → Contains s.vnis.items v) → 0 < s.buckets
     → AreKept quotas 0 → IsEdge (edge_of c 0 ageing tree moves [] quotas) 0
 opened s c settings ports ageing tree moves quotas h is size serves some kept =

@@ -1,5 +1,6 @@
--- What is kept of the quotas of ports.
-use Rattle.std.proofs.Common.{◌≡◌, ℕ, zero, suc, ◌+◌, ◌≤◌, Bool, true, false, cond, not, Option, Some, None, List, [], ◌∷◌, length}
+-- The invariant of the quotas of ports.
+use Rattle.std.proofs.Common.{◌≡◌, ℕ, zero, suc, ◌+◌, ◌-◌, ◌≤◌, Bool, true, false, cond, not, Option, Some, None, List}
+use Rattle.std.proofs.Common.{[], ◌∷◌, length}
 use Rattle.std.proofs.Common.{refl, sym, ap, subst, ◌∙◌, arith}
 use Rattle.std.specs.Prelude.{nat_le, ◌&&◌, is_some, slice_set}
 use Rattle.std.proofs.Math.Seq.{set_out}
@@ -41,7 +42,7 @@ met_elsewhere false there away = refl
 
 -- ---- one more new station
 
-met_above : (limit : Option ℕ) (n most : ℕ) → is_met limit n ≡ false → limit ≡ Some most → n + 1 ≤ most
+pub met_above : (limit : Option ℕ) (n most : ℕ) → is_met limit n ≡ false → limit ≡ Some most → n + 1 ≤ most
 met_above None n most free is = cc
 met_above (Some m) n most free is = let same : m ≡ most = cc in
     let less : m ≤ n → ⊥ = (λ h. grind (arith, nat_tests)) in
@@ -68,7 +69,8 @@ set_kept (x ∷ xs) (suc l) q second new old (suc n) = set_kept xs l q second ne
 
 -- by index, as the ports are counted from 1
 by_index : (qs : List Quota) (second : ℕ) → AreKept qs second → (n : ℕ) → IsKept (quota_in qs n) second
-by_index qs second h n = h (suc n)
+by_index qs second h n = let is : suc n - 1 ≡ n = omega arith in
+    subst (λ k. IsKept (quota_in qs k) second) is (h (suc n))
 
 pub counted_kept : (qs : List Quota) (port second : ℕ) → AreKept qs second
     → is_met (quota_at qs port).limits.new_stations (count_in (quota_at qs port) second) ≡ false

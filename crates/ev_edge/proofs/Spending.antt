@@ -1,6 +1,8 @@
 -- How many registers the frames of a port make: no more in each minute than the port's limit allows.
-use Rattle.std.proofs.Common.{◌≡◌, ◌≢◌, ◌⊎◌, inl, inr, ℕ, zero, suc, ◌+◌, ◌-◌, ◌*◌, ◌<◌, ◌≤◌, Bool, true, false, cond, not}
-use Rattle.std.proofs.Common.{◌&&◌, ◌||◌, eqb, Option, Some, None, Result, Ok, Err, List, [], ◌∷◌, length, refl, sym, ap, subst}
+use Rattle.std.proofs.Common.{◌≡◌, ◌≢◌, ◌⊎◌, inl, inr, ℕ, zero, suc, ◌+◌, ◌-◌, ◌*◌, ◌<◌, ◌≤◌, Bool, true, false, cond}
+use Rattle.std.proofs.Common.{not}
+use Rattle.std.proofs.Common.{◌&&◌, ◌||◌, eqb, Option, Some, None, Result, Ok, Err, List, [], ◌∷◌, length, refl, sym}
+use Rattle.std.proofs.Common.{ap, subst}
 use Rattle.std.proofs.Common.{◌∙◌, arith}
 use Rattle.std.specs.Prelude.{is_some, IsSome, nat_lt, slice_set}
 use Rattle.std.specs.Option.{option_map}
@@ -24,8 +26,10 @@ use Rattle.mac_arena.specs.ListsName.{ListsName, stands}
 use Rattle.mac_arena.proofs.Entries.{eq_same}
 use Rattle.ev_mobility.specs.declared.alert.Alert.{Alert}
 use Rattle.rstp_run.specs.declared.event.Event as tree
-use Rattle.ev_claims.specs.Speaker.{Speaker, own_register, own, own_advert, originated_in, next_value, after_originating}
-use Rattle.ev_claims.specs.LocalRoutes.{LocalRoutes, KeepsRoutes, key_of, moving, after_removal, after_removals, after_advert}
+use Rattle.ev_claims.specs.Speaker.{Speaker, own_register, own, own_advert, originated_in, next_value}
+use Rattle.ev_claims.specs.Speaker.{after_originating}
+use Rattle.ev_claims.specs.LocalRoutes.{LocalRoutes, KeepsRoutes, key_of, moving, after_removal, after_removals}
+use Rattle.ev_claims.specs.LocalRoutes.{after_advert}
 use Rattle.ev_claims.specs.Leaving.{after_flush, flushed_in}
 use Rattle.ev_claims.proofs.Numbers.{key_or_other, own_same, own_other}
 use Rattle.ev_claims.proofs.Leaving.{flush_known}
@@ -39,7 +43,8 @@ use Rattle.ev_edge.specs.declared.limits.Quota.{Quota}
 use Rattle.ev_edge.specs.declared.refusal.Refusal.{Refusal}
 use Rattle.ev_edge.specs.declared.reply.Reply.{Reply}
 use Rattle.ev_edge.specs.Edge.{Edge, IsGoodEdge, table_of}
-use Rattle.ev_edge.specs.Limits.{quotas_of, quota_in, quota_at, IsKept, runs, count_in, start_in, counting, with_counted}
+use Rattle.ev_edge.specs.Limits.{quotas_of, quota_in, quota_at, IsKept, runs, count_in, start_in, counting}
+use Rattle.ev_edge.specs.Limits.{with_counted}
 use Rattle.ev_edge.specs.Learning.{needs_register, limits_at, is_counted, quotas_with, learnt, moved}
 use Rattle.ev_edge.specs.Opening.{IsOpening}
 use Rattle.ev_edge.specs.Arrival.{frame_arrival}
@@ -49,6 +54,9 @@ use Rattle.ev_edge.specs.LimitLaws.{comes_at, registers, made_at, Makes, Registe
 use Rattle.ev_edge.proofs.Cases.{IsNew, learnt_by}
 use Rattle.ev_edge.proofs.Limiting.{KindOf, FrameOf, PinOf, RestOf, kind_of, bridge_rests, steps_limits, port_there}
 use Rattle.ev_edge.proofs.Remaining.{steps_good}
+
+no_more : (n : ℕ) → n ≤ n
+no_more n = omega arith
 
 -- ---- registers that are made
 
@@ -232,8 +240,8 @@ frame_counts (Ok (Message b)) e event port p limit (Ok reply) e' good some there
     (ap (λ qs. quota_at qs p) r.quotas) r.later
 frame_counts (Ok (Message b)) e event port p limit (Err r) e' good some there is at h = absurd h
 frame_counts (Ok (Data vni destination source)) e event port p limit (Ok reply) e' good some there is at h =
-    learnt_by (Counts p event e) e s port reply.alert e' (idle e e event p refl refl (omega arith))
-    (λ heard. idle e _ event p refl refl (omega arith)) (idle e _ event p refl refl (omega arith))
+    learnt_by (Counts p event e) e s port reply.alert e' (idle e e event p refl refl (no_more e.clock))
+    (λ heard. idle e _ event p refl refl (no_more e.clock)) (idle e _ event p refl refl (no_more e.clock))
     (λ new. learns_at e _ event s port p 0 limit some (there vni destination source refl) is at refl refl refl)
     (λ n new. learns_at e _ event s port p n limit some (there vni destination source refl) is at refl refl refl)
     (h.learning.learns && not (is_group source)) h.learning.learning
@@ -277,7 +285,8 @@ Allows q second end limit n =
     (minutes : ℕ) → end < start_in q second + minutes * 60 → n + count_in q second ≤ minutes * limit
 
 -- the window of a quota, running or over
-running : (q : Quota) (second : ℕ) → runs q second ≡ true → (start_in q second ≡ q.start) × (count_in q second ≡ q.count)
+running : (q : Quota) (second : ℕ) → runs q second ≡ true
+    → (start_in q second ≡ q.start) × (count_in q second ≡ q.count)
 running q second is = (ap (λ b. cond b q.start second) is, ap (λ b. cond b q.count 0) is)
 
 over : (q : Quota) (second : ℕ) → runs q second ≡ false → (start_in q second ≡ second) × (count_in q second ≡ 0)
@@ -383,7 +392,8 @@ spent (x ∷ run) e e' p limit n good some is h minutes below =
 
 pub registers_are_few : RegistersAreFew
 registers_are_few run e e' port limit minutes n good some is h below =
-    let near : e.clock < start_in (quota_at e.quotas port) e.clock + 60 = at (runs (quota_at e.quotas port) e.clock) refl in
+    let near : e.clock < start_in (quota_at e.quotas port) e.clock + 60 =
+    at (runs (quota_at e.quotas port) e.clock) refl in
     let all = spent run e e' port limit n good some is h (suc minutes) (omega (arith, near, below)) in
     omega (arith, all)
   where

@@ -19,8 +19,8 @@ use Rattle.ev_edge.specs.Limits.{AreKept}
 use Rattle.ev_claims.specs.LocalRoutes.{LocalRoutes, AreGood, key_of}
 
 -- The local routes, the second, how many seconds an entry lives, the bridge, the windows of the stations that have
--- moved, the other edges that are away: the edge gives them no frame; and the quota of each port, port 1 first. Ports are
--- numbered from 1.
+-- moved, the other edges that are away: the edge gives them no frame; and the quota of each port, port 1 first. Ports
+-- are numbered from 1.
 pub record Edge : Type 0 where
   pub routes : LocalRoutes
   pub clock : ℕ

@@ -1,5 +1,6 @@
 -- The limits of a port: how many stations it may have at once, and how many new ones it may bring within 60 seconds.
-use Rattle.std.specs.Prelude.{ℕ, ◌+◌, ◌≤◌, ◌≡◌, nat_le, nat_lt, Bool, false, Option, Some, None, if◌then◌else◌, List, map}
+use Rattle.std.specs.Prelude.{ℕ, ◌+◌, ◌≤◌, ◌≡◌, nat_le, nat_lt, Bool, false, Option, Some, None, if◌then◌else◌, List}
+use Rattle.std.specs.Prelude.{map}
 use Rattle.std.specs.Prelude.{slice_get, slice_set}
 use Rattle.std.specs.Option.{unwrap_or}
 use Rattle.ether_wire.specs.Ports.{place_of_port}
@@ -63,13 +64,13 @@ counting q second = record q { start = start_in q second; count = count_in q sec
 abbrev pub with_counted : List Quota → ℕ → ℕ → List Quota
 with_counted qs port second = slice_set qs (place_of_port port) (counting (quota_at qs port) second)
 
--- ---- what is kept of a quota at a second
+-- ---- the invariant of a quota at a second
 
--- its window has started, and the limit allows what it has counted
+-- its window has started, and the limit allows its count
 pub record IsKept (q : Quota) (second : ℕ) : Type 0 where
   pub started : q.start ≤ second
   pub within : IsWithin q.limits.new_stations q.count
 
--- so it is with the quota of each port
+-- the quota of each port is so
 abbrev pub AreKept : List Quota → ℕ → Type 0
 AreKept qs second = (port : ℕ) → IsKept (quota_at qs port) second

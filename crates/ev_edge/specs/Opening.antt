@@ -23,8 +23,8 @@ start_of c = record {
 }
 
 -- Nothing is learnt, and it is second 0. The edge advertises the flood list of each VNI, the lowest first, numbered
--- from
--- 1 and pending in this order. No station has moved, the bridge is as it starts, no edge is away, and no new station was counted.
+-- from 1 and pending in this order. No station has moved, the bridge is as it starts, no edge is away, and no new
+-- station was counted.
 pub record IsOpening (c : EdgeConfig) (e : Edge) : Type 0 where
   pub routes : routes.IsOpening (start_of c) e.routes
   pub clock : e.clock ≡ 0

@@ -204,10 +204,10 @@ impl Edge {
     {
         self.routes.always_good();
         self.moves.always_placed();
+        let is_counted = self.is_counted(station, port);
         if self.moves.room(station).is_err() {
             return Some(Alert::NoMemory);
         }
-        let is_counted = self.is_counted(station, port);
         let clock = self.clock;
         if self.routes.advertise(station, port, clock, number).is_err() {
             return Some(Alert::NoMemory);

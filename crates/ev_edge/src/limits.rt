@@ -133,16 +133,19 @@ fn quota_at(quotas: &ArrayVec<Quota, 64>, port: u8) -> Quota
 }
 
 /// Counts one more new station of a port at this second.
-#[tactic(auto, using(crate::proofs::Quotas::counted_out))]
+#[tactic(auto, using(crate::proofs::Quotas::counted_out, crate::proofs::Quotas::met_above))]
 fn count_at(quotas: &mut ArrayVec<Quota, 64>, port: u8, second: u64)
     requires port { 0 < port }
-    requires few { count_in (quota_at quotas.old.items port) second < 2 ^ 64 - 1 }
+    requires some { IsSome (quota_at quotas.old.items port).limits.new_stations }
+    requires few { is_met (quota_at quotas.old.items port).limits.new_stations
+        (count_in (quota_at quotas.old.items port) second) ≡ false }
     ensures { quotas.new.items ≡ with_counted quotas.old.items port second }
 {
+    let quota = quota_at(quotas, port);
+    let Some(_limit) = quota.limits.new_stations else { return };
     let place = place_of_port(port);
-    let quota = counting(&quota_at(quotas, port), second);
     if place < quotas.len() {
-        quotas.as_mut_slice()[place] = quota;
+        quotas.as_mut_slice()[place] = counting(&quota, second);
     }
 }
 

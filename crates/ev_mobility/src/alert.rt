@@ -62,8 +62,8 @@ impl Alert {
 impl Display for Alert {
     fn fmt<W: Write>(&self, f: &mut Formatter<W>) -> Result<(), Error> {
         let text = match self {
-            Alert::PortFull(port) => return write!(f, "port {port} has all stations that it may have"),
-            Alert::PortBusy(port) => return write!(f, "too many new addresses at port {port}"),
+            Alert::PortFull(port) => return write!(f, "too many stations at port {port}"),
+            Alert::PortBusy(port) => return write!(f, "too many new stations at port {port}"),
             Alert::StaticElsewhere => "static at another edge",
             Alert::SequenceSpent => "sequence numbers are spent",
             Alert::Duplicate => "duplicate: frozen after five moves",
