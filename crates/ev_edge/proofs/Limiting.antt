@@ -45,7 +45,7 @@ use Rattle.ev_edge.specs.Edge.{Edge, IsGoodEdge, table_of, address_of}
 use Rattle.ev_edge.specs.Limits.{no_limits, is_met, IsWithin, quota_in, quota_at, count_in, counting, with_counted}
 use Rattle.ev_edge.specs.Learning.{needs_register, limits_at, is_there, is_crowded, is_busy, limited_new, limited}
 use Rattle.ev_edge.specs.Learning.{case_of}
-use Rattle.ev_edge.specs.Learning.{case_on, is_counted, quotas_with, learnt}
+use Rattle.ev_edge.specs.Learning.{case_on, is_counted, quotas_with, refreshed, moved, learnt}
 use Rattle.ev_edge.specs.Bridging.{aged, next_second}
 use Rattle.ev_edge.specs.Pinning.{DoesPin, pin_case, refused_pin, after_unpin, after_thawing}
 use Rattle.ev_edge.specs.Arrival.{frame_arrival, tunnel_arrival}
@@ -113,11 +113,11 @@ no_more n = omega arith
 
 left_fewer : (s : Station) (xs : List Station) → length (left s xs) ≤ length xs
 left_fewer s [] = omega arith
-left_fewer s (x ∷ xs) = go (is_same x s)
+left_fewer s (x ∷ xs) = go (left_fewer s xs) (is_same x s)
   where
-    go : (b : Bool) → length (cond b xs (x ∷ left s xs)) ≤ suc (length xs)
-    go true = omega arith
-    go false = let less = left_fewer s xs in omega (arith, less)
+    go : length (left s xs) ≤ length xs → (b : Bool) → length (cond b xs (x ∷ left s xs)) ≤ suc (length xs)
+    go less true = omega arith
+    go less false = omega (arith, less)
 
 left_at : (s : Station) (lists : List (List Station)) (k : ℕ)
     → stations_at (map (left s) lists) k ≡ left s (stations_at lists k)
@@ -244,11 +244,11 @@ learnt_few : (e : Edge) (s : Station) (port p : ℕ) (told : Option Alert) (e' :
     → LearnsIf b e s port told e' → Keeps e port p e'
 learnt_few e s port p told e' b some some' h =
     learnt_by (Keeps e port p) e s port told e' (inl (no_more (stations_on e.routes p)))
-    (λ heard. came e s port p _ (learnt_of e.routes.learned s port) some some' heard.place
+    (λ heard. came e s port p (refreshed e s port) (learnt_of e.routes.learned s port) some some' heard.place
     (comes_from (entry_at e.routes.learned s) (is_full e.routes.learned) port) refl)
     (inl (no_more (stations_on e.routes p)))
-    (λ new. came e s port p _ New some some' new.place (λ by. ap (λ o. is_there o port) new.none) refl)
-    (λ n new. came e s port p _ New some some' new.place (λ by. ap (λ o. is_there o port) new.none) refl) b h
+    (λ new. came e s port p (learnt e s port 0) New some some' new.place (λ by. ap (λ o. is_there o port) new.none) refl)
+    (λ n new. came e s port p (learnt (moved e s) s port n) New some some' new.place (λ by. ap (λ o. is_there o port) new.none) refl) b h
 
 -- ---- stations that go
 
@@ -531,13 +531,13 @@ keeps_to_stations e e' event result port good some pin h = go (kind_of e event r
 
 pub stations_are_few : StationsAreFew
 stations_are_few [] e e' port good some pins is few =
-    subst (λ (x : Edge). IsWithin (limits_at x port).stations (stations_on x.routes port)) (sym is) few
+    subst (λ (x : Edge). IsWithin (limits_at e port).stations (stations_on x.routes port)) (sym is) few
 stations_are_few (x ∷ run) e e' port good some pins h few =
-    stations_are_few run h.0 e' port (steps_good e x.0 x.1 h.0 good h.1) some
-    (rest (is_pin x.0) pins) h.2
-    (subst (λ (l : Limits). IsWithin l.stations (stations_on h.0.routes port))
-    (sym (steps_limits e h.0 x.0 x.1 port h.1).0)
-    (then (keeps_to_stations e h.0 x.0 x.1 port good some (first (is_pin x.0) pins) h.1)))
+    let same = (steps_limits e h.0 x.0 x.1 port h.1).0 in
+    subst (λ (l : Limits). IsWithin l.stations (stations_on e'.routes port)) same
+    (stations_are_few run h.0 e' port (steps_good e x.0 x.1 h.0 good h.1) some (rest (is_pin x.0) pins) h.2
+    (subst (λ (l : Limits). IsWithin l.stations (stations_on h.0.routes port)) (sym same)
+    (then (keeps_to_stations e h.0 x.0 x.1 port good some (first (is_pin x.0) pins) h.1))))
   where
     first : (b : Bool) → (b || has_pin run) ≡ false → b ≡ false
     first true e = e

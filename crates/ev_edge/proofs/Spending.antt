@@ -362,28 +362,19 @@ spent [] e e' p limit n good some is h minutes below = go minutes below
     go zero below = let same = ap (λ (x : Edge). x.clock) h.0 in absurd (omega (arith, below, same, early))
     go (suc m) below = let none = h.1 in let more = times_more m limit in omega (arith, none, few, more)
 spent (x ∷ run) e e' p limit n good some is h minutes below =
-    go (step_counts e x.0 x.1 h.0 p limit good some is h.1) minutes below
+    go (spent run h.0 e' p limit h.2 (steps_good e x.0 x.1 h.0 good h.1) some
+    (ap (λ (l : Limits). l.new_stations) (steps_limits e h.0 x.0 x.1 p h.1).0 ∙ is) h.3)
+    (step_counts e x.0 x.1 h.0 p limit good some is h.1) minutes below
   where
-    mid : Edge
-    mid = h.0
-
-    later : ℕ
-    later = h.2
-
-    rest : Allows (quota_at h.0.quotas p) h.0.clock e'.clock limit h.2
-    rest = spent run h.0 e' p limit h.2 (steps_good e x.0 x.1 h.0 good h.1) some
-        (ap (λ (l : Limits). l.new_stations) (steps_limits e h.0 x.0 x.1 p h.1).0 ∙ is) h.3
-
-    end : h.0.clock ≤ e'.clock
-    end = runs_later run h.0 e' p h.2 h.3
-
-    go : Counts p x.0 e h.0 → Allows (quota_at e.quotas p) e.clock e'.clock limit n
-    go (inl idles) minutes below =
+    go : Allows (quota_at h.0.quotas p) h.0.clock e'.clock limit h.2 → Counts p x.0 e h.0
+        → Allows (quota_at e.quotas p) e.clock e'.clock limit n
+    go rest (inl idles) minutes below =
+        let end = runs_later run h.0 e' p h.2 h.3 in
         let all = waits (quota_at e.quotas p) e.clock h.0.clock e'.clock limit h.2 (good.keeps.quotas p)
         ((good.keeps.quotas p).within limit is) idles.later end
         (subst (λ q. Allows q h.0.clock e'.clock limit h.2) idles.quota rest) minutes below in
         let sum = h.4 in let none = idles.none in omega (arith, all, sum, none)
-    go (inr spends) minutes below =
+    go rest (inr spends) minutes below =
         let now = subst (λ second. Allows (quota_at h.0.quotas p) second e'.clock limit h.2) spends.clock rest in
         let q = subst (λ q. Allows q e.clock e'.clock limit h.2) spends.quota now in
         let c = counted_in (quota_at e.quotas p) e.clock in let c0 = c.0 in let c1 = c.1 in
