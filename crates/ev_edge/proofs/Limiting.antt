@@ -7,7 +7,6 @@ use Rattle.std.proofs.Common.{subst, ◌∙◌, arith}
 use Rattle.std.specs.Prelude.{is_some, nat_le, slice_set, ◌^◌}
 use Rattle.std.proofs.lemmas.Bool.{false≢true, eq-eqb}
 use Rattle.std.proofs.lemmas.List.{length-append}
-use Rattle.std.proofs.lemmas.Bool.Decides.{nat_tests}
 use Rattle.ether_wire.specs.Addr.{is_group}
 use Rattle.ether_wire.specs.Ports.{place_of_port}
 use Rattle.route_wire.specs.declared.update.Key.{Key}
@@ -21,7 +20,7 @@ use Rattle.mac_arena.specs.declared.table.Learnt.TheVariants.{New, Moved, Refres
 use Rattle.mac_arena.specs.Station.{is_same}
 use Rattle.mac_arena.specs.Learning.{Learning, entry_at, is_full, is_pinned, stations_at, left, answer_of, learnt_of}
 use Rattle.mac_arena.specs.Learning.{after_learn}
-use Rattle.mac_arena.specs.Learning.{after_removal as gone, after_removal_at}
+use Rattle.mac_arena.specs.Learning.{after_removal_at}
 use Rattle.ev_mobility.specs.declared.alert.Alert.{Alert}
 use Rattle.ev_mobility.specs.declared.alert.Alert.TheVariants.{PortFull, PortBusy}
 use Rattle.rstp_run.specs.declared.event.Event as tree
@@ -41,20 +40,19 @@ use Rattle.ev_edge.specs.declared.pinning.PinCase.TheVariants.{Keep, Shift, Deny
 use Rattle.ev_edge.specs.declared.refusal.EdgeRefusal.{EdgeRefusal}
 use Rattle.ev_edge.specs.declared.refusal.Refusal.{Refusal}
 use Rattle.ev_edge.specs.declared.reply.Reply.{Reply}
-use Rattle.ev_edge.specs.Edge.{Edge, IsGoodEdge, table_of, address_of}
+use Rattle.ev_edge.specs.Edge.{Edge, table_of, address_of}
 use Rattle.ev_edge.specs.Limits.{no_limits, is_met, IsWithin, quota_in, quota_at, count_in, counting, with_counted}
 use Rattle.ev_edge.specs.Learning.{needs_register, limits_at, is_there, is_crowded, is_busy, limited_new, limited}
 use Rattle.ev_edge.specs.Learning.{case_of}
-use Rattle.ev_edge.specs.Learning.{case_on, is_counted, quotas_with, refreshed, moved, learnt}
+use Rattle.ev_edge.specs.Learning.{is_counted, quotas_with, refreshed, moved, learnt}
 use Rattle.ev_edge.specs.Bridging.{aged, next_second}
 use Rattle.ev_edge.specs.Pinning.{DoesPin, pin_case, refused_pin, after_unpin, after_thawing}
 use Rattle.ev_edge.specs.Arrival.{frame_arrival, tunnel_arrival}
 use Rattle.ev_edge.specs.Steps.{Steps, LearnsIf, FrameSteps, TunnelSteps, Bridges, BridgesAt, Seconds, Takes, Pins}
 use Rattle.ev_edge.specs.Steps.{Marks}
-use Rattle.ev_edge.specs.AwayLaws.{Entered, EdgeRuns}
 use Rattle.ev_edge.specs.LimitLaws.{LimitsNothing, KeepsLimits, KeepsToStations, StationsAreFew, comes_at, is_pin}
 use Rattle.ev_edge.specs.LimitLaws.{has_pin}
-use Rattle.ev_edge.proofs.Cases.{IsNew, IsHeard, learnt_by, or_refused}
+use Rattle.ev_edge.proofs.Cases.{learnt_by, or_refused}
 use Rattle.ev_edge.proofs.Quotas.{met_above}
 use Rattle.ev_edge.proofs.Places.{there_port}
 use Rattle.ev_edge.proofs.Remaining.{data_port, steps_good}
@@ -236,7 +234,7 @@ came e s port p x a some some' place away is =
         subst (λ q. IsWithin (limits_at e q).stations (stations_on x.routes p)) same
             (within (limits_at e port).stations (is_there (entry_at e.routes.learned s) port)
             (stations_on e.routes port) (stations_on x.routes p) place (away grows.by)
-            (let now = ap (λ t. at_place t (place_of_port p)) is in let one = grows.one in omega (arith, now, one)))
+            (let now = ap (λ t. at_place t (place_of_port p)) is in let one = grows.one in omega (arith, now, one))),
       )
     ]
 
@@ -399,10 +397,14 @@ pin_counts e s port (Ok reply) e' None h = pin_does e s port reply.alert e' (pin
 -- the limits and the time, of a frame
 frame_limits : (a : Result Arrival Refusal) (e : Edge) (port : ℕ) (result : Result Reply Refusal) (e' : Edge) (p : ℕ)
     → FrameSteps a e port result e' → (limits_at e' p ≡ limits_at e p) × (e.clock ≤ e'.clock)
-frame_limits (Err r) e port result e' p h = (ap (λ (x : Edge). limits_at x p) h.1,
-    let same = ap (λ (x : Edge). x.clock) h.1 in omega (arith, same))
-frame_limits (Ok Dropped) e port result e' p h = (ap (λ (x : Edge). limits_at x p) h.1,
-    let same = ap (λ (x : Edge). x.clock) h.1 in omega (arith, same))
+frame_limits (Err r) e port result e' p h = (
+  ap (λ (x : Edge). limits_at x p) h.1,
+  let same = ap (λ (x : Edge). x.clock) h.1 in omega (arith, same),
+)
+frame_limits (Ok Dropped) e port result e' p h = (
+  ap (λ (x : Edge). limits_at x p) h.1,
+  let same = ap (λ (x : Edge). x.clock) h.1 in omega (arith, same),
+)
 frame_limits (Ok (Message b)) e port result e' p h = let r = bridge_rests _ e result e' h in
     (ap (λ qs. (quota_at qs p).limits) r.quotas, r.later)
 frame_limits (Ok (Data vni destination source)) e port (Ok reply) e' p h =

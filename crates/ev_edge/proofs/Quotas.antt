@@ -1,8 +1,8 @@
 -- The invariant of the quotas of ports.
 use Rattle.std.proofs.Common.{◌≡◌, ℕ, zero, suc, ◌+◌, ◌-◌, ◌≤◌, Bool, true, false, cond, not, Option, Some, None, List}
 use Rattle.std.proofs.Common.{[], ◌∷◌, length}
-use Rattle.std.proofs.Common.{refl, sym, ap, subst, ◌∙◌, arith}
-use Rattle.std.specs.Prelude.{nat_le, ◌&&◌, is_some, slice_set}
+use Rattle.std.proofs.Common.{refl, sym, ap, subst, arith}
+use Rattle.std.specs.Prelude.{◌&&◌, is_some, slice_set}
 use Rattle.std.proofs.Math.Seq.{set_out}
 use Rattle.std.proofs.lemmas.Bool.{false≢true}
 use Rattle.std.proofs.lemmas.Bool.Decides.{nat_tests}

@@ -1,7 +1,7 @@
 -- How many registers the frames of a port make: no more in each minute than the port's limit allows.
 use Rattle.std.proofs.Common.{◌≡◌, ◌≢◌, ◌⊎◌, inl, inr, ℕ, zero, suc, ◌+◌, ◌-◌, ◌*◌, ◌<◌, ◌≤◌, Bool, true, false, cond}
 use Rattle.std.proofs.Common.{not}
-use Rattle.std.proofs.Common.{◌&&◌, ◌||◌, eqb, Option, Some, None, Result, Ok, Err, List, [], ◌∷◌, length, refl, sym}
+use Rattle.std.proofs.Common.{◌&&◌, ◌||◌, eqb, Option, Some, None, Result, Ok, Err, List, [], ◌∷◌, refl, sym}
 use Rattle.std.proofs.Common.{ap, subst}
 use Rattle.std.proofs.Common.{◌∙◌, arith}
 use Rattle.std.specs.Prelude.{is_some, IsSome, nat_lt, slice_set}
@@ -14,7 +14,7 @@ use Rattle.ether_wire.specs.Ports.{place_of_port}
 use Rattle.route_wire.specs.declared.update.Key.{Key}
 use Rattle.route_wire.specs.declared.update.Advert.{Advert}
 use Rattle.route_wire.specs.declared.update.Content.{Content}
-use Rattle.route_wire.specs.declared.update.Content.TheVariants.{Withdrawn, Advert as Advertised}
+use Rattle.route_wire.specs.declared.update.Content.TheVariants.{Withdrawn}
 use Rattle.route_wire.specs.declared.update.Value.{Value}
 use Rattle.route_wire.specs.Inner.Totals.{register_total}
 use Rattle.route_join.specs.Owner.{advert_of}
@@ -24,9 +24,7 @@ use Rattle.mac_arena.specs.Station.{is_same}
 use Rattle.mac_arena.specs.Learning.{entry_at}
 use Rattle.mac_arena.specs.ListsName.{ListsName, stands}
 use Rattle.mac_arena.proofs.Entries.{eq_same}
-use Rattle.ev_mobility.specs.declared.alert.Alert.{Alert}
-use Rattle.rstp_run.specs.declared.event.Event as tree
-use Rattle.ev_claims.specs.Speaker.{Speaker, own_register, own, own_advert, originated_in, next_value}
+use Rattle.ev_claims.specs.Speaker.{Speaker, own_register, own, originated_in, next_value}
 use Rattle.ev_claims.specs.Speaker.{after_originating}
 use Rattle.ev_claims.specs.LocalRoutes.{LocalRoutes, KeepsRoutes, key_of, moving, after_removal, after_removals}
 use Rattle.ev_claims.specs.LocalRoutes.{after_advert}
@@ -35,24 +33,22 @@ use Rattle.ev_claims.proofs.Numbers.{key_or_other, own_same, own_other}
 use Rattle.ev_claims.proofs.Leaving.{flush_known}
 use Rattle.ev_edge.specs.declared.arrival.Arrival.{Arrival}
 use Rattle.ev_edge.specs.declared.arrival.Arrival.TheVariants.{Dropped, Message, Data}
-use Rattle.ev_edge.specs.declared.config.EdgeConfig.{EdgeConfig}
 use Rattle.ev_edge.specs.declared.config.PortConfig.{PortConfig}
 use Rattle.ev_edge.specs.declared.event.Event.{Event}
 use Rattle.ev_edge.specs.declared.limits.Limits.{Limits}
 use Rattle.ev_edge.specs.declared.limits.Quota.{Quota}
 use Rattle.ev_edge.specs.declared.refusal.Refusal.{Refusal}
 use Rattle.ev_edge.specs.declared.reply.Reply.{Reply}
-use Rattle.ev_edge.specs.Edge.{Edge, IsGoodEdge, table_of}
+use Rattle.ev_edge.specs.Edge.{Edge, IsGoodEdge}
 use Rattle.ev_edge.specs.Limits.{quotas_of, quota_in, quota_at, IsKept, runs, count_in, start_in, counting}
 use Rattle.ev_edge.specs.Limits.{with_counted}
-use Rattle.ev_edge.specs.Learning.{needs_register, limits_at, is_counted, quotas_with, learnt, moved}
-use Rattle.ev_edge.specs.Opening.{IsOpening}
+use Rattle.ev_edge.specs.Learning.{needs_register, limits_at, is_counted, quotas_with}
 use Rattle.ev_edge.specs.Arrival.{frame_arrival}
-use Rattle.ev_edge.specs.Steps.{Steps, LearnsIf, FrameSteps, Bridges}
+use Rattle.ev_edge.specs.Steps.{Steps, FrameSteps}
 use Rattle.ev_edge.specs.AwayLaws.{Entered}
 use Rattle.ev_edge.specs.LimitLaws.{comes_at, registers, made_at, Makes, RegistersAreFew, RegistersAreFewFromTheOpening}
-use Rattle.ev_edge.proofs.Cases.{IsNew, learnt_by}
-use Rattle.ev_edge.proofs.Limiting.{KindOf, FrameOf, PinOf, RestOf, kind_of, bridge_rests, steps_limits, port_there}
+use Rattle.ev_edge.proofs.Cases.{learnt_by}
+use Rattle.ev_edge.proofs.Limiting.{KindOf, kind_of, bridge_rests, steps_limits, port_there}
 use Rattle.ev_edge.proofs.Remaining.{steps_good}
 
 no_more : (n : ℕ) → n ≤ n

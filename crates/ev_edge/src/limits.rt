@@ -142,7 +142,9 @@ fn count_at(quotas: &mut ArrayVec<Quota, 64>, port: u8, second: u64)
     ensures { quotas.new.items ≡ with_counted quotas.old.items port second }
 {
     let quota = quota_at(quotas, port);
-    let Some(_limit) = quota.limits.new_stations else { return };
+    let Some(_limit) = quota.limits.new_stations else {
+        return
+    };
     let place = place_of_port(port);
     if place < quotas.len() {
         quotas.as_mut_slice()[place] = counting(&quota, second);
