@@ -245,8 +245,10 @@ learnt_few e s port p told e' b some some' h =
     (λ heard. came e s port p (refreshed e s port) (learnt_of e.routes.learned s port) some some' heard.place
     (comes_from (entry_at e.routes.learned s) (is_full e.routes.learned) port) refl)
     (inl (no_more (stations_on e.routes p)))
-    (λ new. came e s port p (learnt e s port 0) New some some' new.place (λ by. ap (λ o. is_there o port) new.none) refl)
-    (λ n new. came e s port p (learnt (moved e s) s port n) New some some' new.place (λ by. ap (λ o. is_there o port) new.none) refl) b h
+    (λ new. came e s port p (learnt e s port 0) New some some' new.place
+    (λ by. ap (λ o. is_there o port) new.none) refl)
+    (λ n new. came e s port p (learnt (moved e s) s port n) New some some' new.place
+    (λ by. ap (λ o. is_there o port) new.none) refl) b h
 
 -- ---- stations that go
 
