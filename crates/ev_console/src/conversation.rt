@@ -11,6 +11,7 @@ use crate::reached::Host;
 use arrayvec::ArrayVec;
 use ether_wire::{Device, Flushing, In};
 use ev_exchange::Known;
+use ev_history::Naming;
 use ev_mailboxes::Running;
 use ev_report::MOST_READS;
 use std::alloc::Global;

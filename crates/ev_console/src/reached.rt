@@ -7,6 +7,7 @@ use crate::operated::Unreached;
 use ev_book::BookRefusal;
 use ev_edge::Reply;
 use ev_exchange::Known;
+use ev_history::Naming;
 use ev_mailboxes::{Command, Control, PortView, Running, Served};
 use ev_view::{EdgeQuestion, with_unlisted};
 use route_wire::Update;

@@ -8,6 +8,7 @@ use crate::reached::Host;
 use ev_book::BookRefusal;
 use ev_edge::Reply;
 use ev_exchange::{Sessions, Turn};
+use ev_history::Naming;
 use ev_mailboxes::{Command as Step, Running};
 use std::sync::Wait;
 
