@@ -20,5 +20,6 @@ invariant_of-self-in-None g c =
     let e = c.enter_into-answer in (
       c.self.invariant.0,
       announce_stands s.seat.place s.seat.log s.book e.new.self c.args.pass.now e.new.pass
-          (answered e.result e.new.reply) (sym c.announced_by.ensures ∙ c.in-None.is) c.self.invariant.1 e.ensures.calls,
+          (answered e.result e.new.reply) (sym c.announced_by.ensures ∙ c.in-None.is) c.self.invariant.1
+          e.ensures.calls,
     )
