@@ -62,7 +62,7 @@ fn obey<L: Placed, J: Naming, O: Outlet<J> + Drop, G: Gate, R: Wait>(
     ensures stays { worker.new.shared_edge ≡ worker.old.shared_edge }
 {
     let event = event_of(command);
-    let (answer, is_pending) = worker.give(&event, None, &Carried::none());
+    let (answer, is_pending) = worker.give(&event, &None, &Carried::none());
     let answer = replied(answer, &mut worker.scratch.reply);
     worker.announce_if(is_pending);
     answer

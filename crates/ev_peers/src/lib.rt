@@ -32,7 +32,7 @@ pub use history::new_history;
 pub use outcome::{Faults, Outcome};
 pub use outlet::{Outlet, Target};
 pub use packets::PacketsIn;
-pub use run::{Setup, Start, run_all};
+pub use run::{Mailroom, Setup, Start, run_all};
 pub use shared_edge::{Ended, SharedEdge};
 pub use worker::Worker;
 pub use workers::{clock_worker, out_worker, peer_worker, port_worker, tunnel_worker};

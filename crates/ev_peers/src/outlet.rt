@@ -158,7 +158,10 @@ impl<J: Naming, K: PromptOut, R: Wait> Outlet<J> for WorkerOutlet<'_, J, K, R> {
         self.senders.peers.have_room()
     }
 
-    fn record(&mut self, update: Told<J>) {
+    fn record(&mut self, update: Told<J>)
+        ensures given { said_of self.new.senders.peers.number (sent_to self.new.posts) None
+            ≡ sends (said_of self.old.senders.peers.number (sent_to self.old.posts) None) update }
+    {
         let senders = self.senders;
         senders.peers.send(senders.rt, &mut self.posts, update);
     }

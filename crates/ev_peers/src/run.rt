@@ -126,8 +126,6 @@ struct Common<'x, J: Naming, G, R> {
     gate: &'x G,
     /// A mailbox for each edge.
     mailboxes: &'x Mailboxes<Told<J>>,
-    /// The right to bring in updates of other processes, if they may come in.
-    outside: Option<&'x Outside<J>>,
     /// The boards that the operator reads.
     boards: &'x Boards,
 }
@@ -258,13 +256,28 @@ impl<J: Naming, I: Drop, O: Drop> Model for Ready<J, I, O> {
         × (s.front ≡ Begins J.outside (configs_of s.setups.items) ∷ []) };
 }
 
+/// The mailboxes of edges that run beside each other.
+#[derive(Drop)]
+pub struct Mailroom<J: Naming> {
+    mailboxes: Mailboxes<Told<J>>,
+    /// The right to bring in updates of other processes, if they may come in.
+    outside: Option<Outside<J>>,
+}
+
+impl<J: Naming> Mailroom<J> {
+    /// Returns the running edges, whose alerts go to these boards.
+    pub fn running<'x>(&'x self, boards: &'x Boards) -> Running<'x, J>
+        ensures mailboxes { result.mailboxes.now ≡ self.entry.now.mailboxes }
+        ensures boards { result.boards.now ≡ boards.now }
+    {
+        Running::new(&self.mailboxes, boards, self.outside.as_ref())
+    }
+}
+
 /// Edges that are about to run beside each other. Its model is the list of their setups.
 #[derive(Drop)]
 pub struct Start<J: Naming, I: Drop, O: Drop> {
     ready: Ready<J, I, O>,
-    mailboxes: Mailboxes<Told<J>>,
-    /// The right to bring in updates of other processes, if they may come in.
-    outside: Option<Outside<J>>,
     /// The allocator of the edges.
     alloc: Global,
 }
@@ -279,8 +292,8 @@ impl<J: Naming, I: Drop, O: Drop> Model for Start<J, I, O> {
 }
 
 impl<J: Naming, I: Drop, O: Drop> Start<J, I, O> {
-    /// Prepares these edges, whose history has just begun. Each edge also allocates its book from
-    /// here, when it begins.
+    /// Prepares these edges, whose history has just begun, and their mailboxes. Each edge also
+    /// allocates its book from here, when it begins.
     ///
     /// # Errors
     ///
@@ -290,10 +303,10 @@ impl<J: Naming, I: Drop, O: Drop> Start<J, I, O> {
         alloc: Global,
         setups: Vec<Setup<I, O>>,
         history: NewHistory,
-    ) -> Result<Self, AllocError>
+    ) -> Result<(Self, Mailroom<J>), AllocError>
         requires named { history.seen.book ≡ J.book }
         requires begins { history.seen.log ≡ Begins J.outside (configs_of setups.items) ∷ [] }
-        ensures { IfOk result (λ start. start ≡ setups.items) }
+        ensures { IfOk result (λ r. r.0 ≡ setups.items) }
     {
         let mailboxes = Mailboxes::new(alloc, setups.len(), workers_of(setups.as_slice()))?;
         let outside = history.outside::<J>();
@@ -309,12 +322,8 @@ impl<J: Naming, I: Drop, O: Drop> Start<J, I, O> {
             ended,
             left,
         };
-        Ok(Start {
-            ready,
-            mailboxes,
-            outside,
-            alloc,
-        })
+        let mailroom = Mailroom { mailboxes, outside };
+        Ok((Start { ready, alloc }, mailroom))
     }
 }
 
@@ -328,7 +337,7 @@ fn run_within<
     O: LinkOut + PromptOut + Drop + Send + 'x,
     G: Gate + Sync + 'x,
     R: Threads + Wait + Sync + 'x,
-    F: FnOnce(Running<'_, J>) -> T + Drop,
+    F: FnOnce() -> T + Drop,
     T,
 >(
     scope: &Scope<'s, &'x ()>,
@@ -336,10 +345,10 @@ fn run_within<
     ready: Ready<J, I, O>,
     until: F,
 ) -> (Vec<Ran>, T)
-    requires { F.IsAlwaysCallable until }
+    requires { F.pre until }
     ensures each { AreRanFrom 1 ready result.0.items }
     ensures all { vec_len result.0 ≡ length ready }
-    ensures until { (running : _) × F.post until running result.1 }
+    ensures until { F.post until result.1 }
     ensures history { IsHistoryOf J.outside (configs_of ready) result.0.items }
 {
     let Ready {
@@ -351,7 +360,7 @@ fn run_within<
         left,
     } = ready;
     let running = start_edges(scope, common, setups, seats, running);
-    let told = until(Running::new(common.mailboxes, common.boards, common.outside));
+    let told = until();
     let (ended, left) = join_edges::<J, O, R>(common.rt, running, ended, left);
     let all = all_seen(front, left.as_slice());
     settle_all(common.rt, &all, left.as_slice());
@@ -366,30 +375,31 @@ fn run_ready<
     O: LinkOut + PromptOut + Drop + Send + 'x,
     G: Gate + Sync + 'x,
     R: Threads + Wait + Sync + 'x,
-    F: FnOnce(Running<'_, J>) -> T + Drop,
+    F: FnOnce() -> T + Drop,
     T,
 >(common: Common<'x, J, G, R>, ready: Ready<J, I, O>, until: F) -> (Vec<Ran>, T)
-    requires { F.IsAlwaysCallable until }
+    requires { F.pre until }
     ensures each { AreRanFrom 1 ready result.0.items }
     ensures all { vec_len result.0 ≡ length ready }
-    ensures until { (running : _) × F.post until running result.1 }
+    ensures until { F.post until result.1 }
     ensures history { IsHistoryOf J.outside (configs_of ready) result.0.items }
 {
     thread::scope(
         thread::scope_env(),
         common.rt,
         move |scope| -> (Vec<Ran>, T)
-            requires { F.IsAlwaysCallable until }
+            requires { F.pre until }
             ensures each { AreRanFrom 1 ready result.0.items }
             ensures all { vec_len result.0 ≡ length ready }
-            ensures until { (running : _) × F.post until running result.1 }
+            ensures until { F.post until result.1 }
             ensures history { IsHistoryOf J.outside (configs_of ready) result.0.items }
         { run_within(scope, &common, ready, until) },
     )
 }
 
 /// Runs edges beside each other, each on a thread with its workers, until `until` has returned and
-/// the links have ended. `until` makes the links end, and can query the edges meanwhile. The
+/// the links have ended. The mailroom is the one that was made with them. `until` makes the links
+/// end, and can query the edges meanwhile (`Mailroom::running`). The
 /// outcomes are in the edges' order, with an error if an edge was refused memory or a thread
 /// before it began. Alerts for the operator go to these boards, which get no more once it
 /// returns. There is one history of all edges, which leads to these outcomes.
@@ -399,27 +409,28 @@ pub fn run_all<
     O: LinkOut + PromptOut + Drop + Send,
     G: Gate + Sync,
     R: Threads + Wait + Sync,
-    F: FnOnce(Running<'_, J>) -> T + Drop,
+    F: FnOnce() -> T + Drop,
     T,
->(rt: &R, start: Start<J, I, O>, boards: &Boards, gate: &G, until: F) -> (Vec<Ran>, T)
-    requires { F.IsAlwaysCallable until }
+>(
+    rt: &R,
+    start: Start<J, I, O>,
+    mailroom: &Mailroom<J>,
+    boards: &Boards,
+    gate: &G,
+    until: F,
+) -> (Vec<Ran>, T)
+    requires { F.pre until }
     ensures each { AreRanFrom 1 start result.0.items }
     ensures all { vec_len result.0 ≡ length start }
-    ensures until { (running : _) × F.post until running result.1 }
+    ensures until { F.post until result.1 }
     ensures history { IsHistoryOf J.outside (configs_of start) result.0.items }
 {
-    let Start {
-        ready,
-        mailboxes,
-        outside,
-        alloc,
-    } = start;
+    let Start { ready, alloc } = start;
     let common = Common {
         rt,
         alloc,
         gate,
-        mailboxes: &mailboxes,
-        outside: outside.as_ref(),
+        mailboxes: &mailroom.mailboxes,
         boards,
     };
     let ran = run_ready(common, ready, until);

@@ -1,6 +1,6 @@
 //! An edge as its workers share it: its book under a lock, and the gate that is called at each call
 //! of the book.
-ghost use Rattle.std.specs.Prelude.{◌≡◌, option_copied};
+ghost use Rattle.std.specs.Prelude.{◌≡◌};
 ghost use Rattle.ev_book.specs.Entering.{answered, CallsBook};
 ghost use Rattle.ev_notices.specs.Alarm.{alert_of};
 ghost use Rattle.ev_edge.specs.declared.event.Event.TheVariants.{Announce};
@@ -54,10 +54,10 @@ impl<L: Placed, J: Naming, G: Gate, R: Wait> SharedEdge<'_, L, J, G, R> {
         &self,
         pass: &mut Pass<L>,
         event: &Event<'_>,
-        told: Option<&Told<J>>,
+        told: &Option<Told<J>>,
         reply: &mut Reply,
     ) -> (Result<(), BookRefusal>, bool)
-        requires { IsCovered event.now (option_copied told) }
+        requires { IsCovered event.now told.now }
         ensures { Leaves pass.old event.now (answered result.0 reply.new) result.1 pass.new }
     {
         self.gate.at(self.edge, Point::Before);
@@ -119,16 +119,16 @@ fn call<L: Placed, J: Naming, R: Wait>(
     book: &mut LoggedBook<L, J>,
     pass: &mut Pass<L>,
     event: &Event<'_>,
-    told: Option<&Told<J>>,
+    told: &Option<Told<J>>,
     reply: &mut Reply,
 ) -> (Result<(), BookRefusal>, bool)
-    requires { IsCovered event.now (option_copied told) }
+    requires { IsCovered event.now told.now }
     ensures calls { CallsBook book.old pass.old event.now (answered result.0 reply.new) book.new
         pass.new }
     ensures pending { result.1 ≡ has_pending book.new }
     ensures leaves { Leaves pass.old event.now (answered result.0 reply.new) result.1 pass.new }
 {
-    let answer = book.enter(rt, pass, event, told, reply);
+    let answer = book.enter(rt, pass, event, told.as_ref(), reply);
     (answer, book.edge().has_pending())
 }
 

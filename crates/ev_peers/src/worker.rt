@@ -1,5 +1,5 @@
 //! A worker of an edge, and how it handles one event.
-ghost use Rattle.std.specs.Prelude.{◌≡◌, ◌≤◌, length, option_copied};
+ghost use Rattle.std.specs.Prelude.{◌≡◌, ◌≤◌, length};
 ghost use Rattle.ev_book.specs.Entering.{answered};
 ghost use Rattle.ev_history.specs.Booking.{IsCovered};
 ghost use Rattle.ev_links.specs.Coming.{behind};
@@ -99,11 +99,11 @@ impl<L: Placed, J: Naming, O: Outlet<J> + Drop, G: Gate, R: Wait> Worker<'_, L, 
     pub(crate) fn give(
         &mut self,
         event: &Event<'_>,
-        told: Option<&Told<J>>,
+        told: &Option<Told<J>>,
         carried: &Carried<'_>,
     ) -> (Result<(), BookRefusal>, bool)
         requires fits { length carried.now.frame.now ≤ 9018 }
-        requires covered { IsCovered event.now (option_copied told) }
+        requires covered { IsCovered event.now told.now }
         ensures leaves { Leaves self.old.pass event.now
             (answered result.0 self.new.scratch.reply) result.1 self.new.pass }
         ensures parcels { O.parcels self.new.outlet ≡ behind (O.parcels self.old.outlet)
@@ -135,9 +135,9 @@ impl<L: Placed, J: Naming, O: Outlet<J> + Drop, G: Gate, R: Wait> Worker<'_, L, 
     /// Enters an event with the frame that it carries, and passes on the answer: frames to the
     /// links, messages for the operator to the board. If an announcement is pending then, sends
     /// the announcements to the other edges. So a frame of a known station enters the book once.
-    pub(crate) fn act(&mut self, event: &Event<'_>, told: Option<&Told<J>>, carried: &Carried<'_>)
+    pub(crate) fn act(&mut self, event: &Event<'_>, told: &Option<Told<J>>, carried: &Carried<'_>)
         requires fits { length carried.now.frame.now ≤ 9018 }
-        requires covered { IsCovered event.now (option_copied told) }
+        requires covered { IsCovered event.now told.now }
         ensures passes { PassesOn self.old.shared_edge.now.bridge
             carried.now.vni carried.now.frame.now self.old.pass event.now
             (O.parcels self.old.outlet) (O.records self.old.outlet) self.new.pass

@@ -102,7 +102,7 @@ fn enter_datagram<L: Placed, J: Naming, O: Outlet<J> + Drop, G: Gate, R: Wait>(
     let Some(event) = event_of(source, from, octets) else {
         return;
     };
-    worker.act(&event, None, &carried(source, octets));
+    worker.act(&event, &None, &carried(source, octets));
 }
 
 /// Brings an access port up, or takes it down.
@@ -119,9 +119,9 @@ fn turn_port<L: Placed, J: Naming, O: Outlet<J> + Drop, G: Gate, R: Wait>(
 {
     let carried = Carried { vni, frame: &[] };
     if is_up {
-        worker.act(&Event::PortUp(port), None, &carried);
+        worker.act(&Event::PortUp(port), &None, &carried);
     } else {
-        worker.act(&Event::PortDown(port), None, &carried);
+        worker.act(&Event::PortDown(port), &None, &carried);
     }
 }
 
@@ -332,7 +332,8 @@ fn enter_message<L: Placed, J: Naming, O: Outlet<J> + Drop, G: Gate, R: Wait>(
 {
     match message {
         Message::Record(told) => {
-            worker.act(&Event::Take(*told.update()), Some(told), &Carried::none())
+            let event = Event::Take(*told.update());
+            worker.act(&event, &Some(told.again()), &Carried::none())
         }
         Message::Room => worker.announce(),
         Message::Ask(request) => answer(worker, request),

@@ -14,7 +14,7 @@ use ether_wire::{Device, In, Out};
 use ev_history::{Naming, NewHistory};
 use ev_links::{UdpOut, Wire};
 use ev_mailboxes::Boards;
-use ev_peers::{OpenGate, Outcome, Start, run_all};
+use ev_peers::{Mailroom, OpenGate, Outcome, Start, run_all};
 use std::alloc::AllocError;
 use std::sync::Wait;
 use std::sync::atomic::{AtomicBool, Ordering};
@@ -29,6 +29,7 @@ pub(crate) type Reached = (Vec<Result<Outcome, AllocError>>, bool);
 fn run_reading<'x, J: Naming + Send + Sync, R: Threads + Wait + Clock + Sync, E: In>(
     host: &Host<'x, R>,
     start: Start<J, Wire<'x, R>, UdpOut<'x>>,
+    mailroom: &Mailroom<J>,
     boards: &Boards,
     sockets: &'x [Sockets],
     stop: &'x AtomicBool,
@@ -45,13 +46,15 @@ fn run_reading<'x, J: Naming + Send + Sync, R: Threads + Wait + Clock + Sync, E:
     let (ended, (is_read, _reader)) = run_all(
         rt,
         start,
+        mailroom,
         boards,
         &OpenGate,
-        |running| -> (bool, &mut E)
+        || -> (bool, &mut E)
             requires { Allows (2 ^ 40) (E.end reader.now) }
             ensures same { result.1.ghost_name ≡ reader.entry.ghost_name }
             ensures read { ReadsOut (E.end reader.entry.now) (E.end result.1.now) result.0 }
         {
+            let running = mailroom.running(boards);
             let is_read = read_out(rt, alloc, running, service, &mut *reader);
             stop.store(true, Ordering::SeqCst);
             end_all_reads(sockets);
@@ -113,7 +116,7 @@ pub(crate) fn run_named<
         stop,
     } = prepared;
     let boards = Boards::new(alloc, setups.len())?;
-    let start = Start::<J, Wire<'x, R>, UdpOut<'x>>::new(alloc, setups, history)?;
+    let (start, mailroom) = Start::<J, Wire<'x, R>, UdpOut<'x>>::new(alloc, setups, history)?;
     // The closures return `reader` and `notes`; their ghost names show that they are these.
     let ((told, _notes), (reached, _reader)) = join(
         rt,
@@ -133,7 +136,7 @@ pub(crate) fn run_named<
             ensures history { IsHistoryOf J.outside (configs_of start.entry) result.0.0.items }
             ensures read { ReadsOut (E.end reader.entry.now) (E.end result.1.now) result.0.1 }
         {
-            let reached = run_reading(host, start, &boards, sockets, stop, &mut *reader);
+            let reached = run_reading(host, start, &mailroom, &boards, sockets, stop, &mut *reader);
             (reached, reader)
         },
     );
