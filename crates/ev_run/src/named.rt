@@ -24,6 +24,15 @@ use std::time::Clock;
 /// The result of a run: that of each edge, and `true` if the input was read up to its end.
 pub(crate) type Reached = (Vec<Result<Outcome, AllocError>>, bool);
 
+/// The means to stop edges.
+#[derive(Drop)]
+pub(crate) struct Ends<'x> {
+    /// The sockets of the edges.
+    pub(crate) sockets: &'x [Sockets],
+    /// The flag that makes the edges stop.
+    pub(crate) stop: &'x AtomicBool,
+}
+
 /// Runs edges until the reader ends, and then stops them. Clients of a control socket may query
 /// them meanwhile.
 fn run_reading<'x, J: Naming + Send + Sync, R: Threads + Wait + Clock + Sync, E: In>(
@@ -31,8 +40,7 @@ fn run_reading<'x, J: Naming + Send + Sync, R: Threads + Wait + Clock + Sync, E:
     start: Start<J, Wire<'x, R>, UdpOut<'x>>,
     mailroom: &Mailroom<J>,
     boards: &Boards,
-    sockets: &'x [Sockets],
-    stop: &'x AtomicBool,
+    ends: Ends<'x>,
     reader: &mut E,
 ) -> Reached
     requires { Allows (2 ^ 40) (E.end reader.old) }
@@ -42,6 +50,7 @@ fn run_reading<'x, J: Naming + Send + Sync, R: Threads + Wait + Clock + Sync, E:
     ensures read { ReadsOut (E.end reader.old) (E.end reader.new) result.1 }
 {
     let (rt, alloc, service) = (host.rt, host.alloc, host.service);
+    let Ends { sockets, stop } = ends;
     // The closure returns the reader; its ghost name shows that it is this reader.
     let (ended, (is_read, _reader)) = run_all(
         rt,
@@ -71,10 +80,8 @@ pub(crate) struct Prepared<'x, R> {
     pub(crate) setups: Vec<Ready<'x, R>>,
     /// Their history.
     pub(crate) history: NewHistory,
-    /// Their sockets.
-    pub(crate) sockets: &'x [Sockets],
-    /// Makes the edges stop.
-    pub(crate) stop: &'x AtomicBool,
+    /// The means to stop them.
+    pub(crate) ends: Ends<'x>,
 }
 
 /// Runs edges under a name of their history until the reader ends, and writes their alerts
@@ -112,8 +119,7 @@ pub(crate) fn run_named<
     let Prepared {
         setups,
         history,
-        sockets,
-        stop,
+        ends,
     } = prepared;
     let boards = Boards::new(alloc, setups.len())?;
     let (start, mailroom) = Start::<J, Wire<'x, R>, UdpOut<'x>>::new(alloc, setups, history)?;
@@ -136,7 +142,7 @@ pub(crate) fn run_named<
             ensures history { IsHistoryOf J.outside (configs_of start.entry) result.0.0.items }
             ensures read { ReadsOut (E.end reader.entry.now) (E.end result.1.now) result.0.1 }
         {
-            let reached = run_reading(host, start, &mailroom, &boards, sockets, stop, &mut *reader);
+            let reached = run_reading(host, start, &mailroom, &boards, ends, &mut *reader);
             (reached, reader)
         },
     );

@@ -15,7 +15,7 @@ use crate::begun::{begun_in, first_incarnation};
 use crate::bound::Sockets;
 use crate::clients::Service;
 use crate::links::links_of;
-use crate::named::{Prepared, run_named};
+use crate::named::{Ends, Prepared, run_named};
 use crate::print::{Watched, put_notes, put_reports};
 use crate::sockets::{StartError, bind_all, put_bind_error};
 use crate::system_drops::udp_table;
@@ -283,8 +283,10 @@ fn run_bound<R: Threads + Wait + Files + Clock + Sync, E: In, W: Out, N: Out + S
     let prepared = Prepared {
         setups,
         history,
-        sockets,
-        stop: &stop,
+        ends: Ends {
+            sockets,
+            stop: &stop,
+        },
     };
     let (told, (ended, is_read)) = run_named::<Brand, R, E, N>(host, prepared, reader, notes)?;
     let table = udp_table(rt, alloc);
