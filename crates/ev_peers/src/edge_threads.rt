@@ -27,6 +27,7 @@ use std::sync::ledger::Blank;
 use std::sync::{Mutex, Wait};
 use std::thread;
 use std::thread::{Scope, Threads};
+use std::time::Clock;
 
 /// Returns the MAC address from which an edge's bridge sends.
 fn bridge_of(config: &EdgeConfig) -> Mac
@@ -76,7 +77,7 @@ fn run_within<
     I: LinkIn + Drop + Send + 'x,
     O: LinkOut + PromptOut + Drop + Send + 'x,
     G: Gate + Sync + 'x,
-    R: Threads + Wait + Sync + 'x,
+    R: Threads + Wait + Clock + Sync + 'x,
 >(
     scope: &Scope<'s, &'x ()>,
     ready_threads: ReadyThreads<'x, L, J, I, O, G, R>,
@@ -174,7 +175,7 @@ fn run_workers<
     I: LinkIn + Drop + Send + 'x,
     O: LinkOut + PromptOut + Drop + Send + 'x,
     G: Gate + Sync + 'x,
-    R: Threads + Wait + Sync + 'x,
+    R: Threads + Wait + Clock + Sync + 'x,
 >(rt: &'x R, ready_threads: ReadyThreads<'x, L, J, I, O, G, R>) -> (Vec<Pass<L>>, Faults)
     ensures { vec_len result.0 ≡ ready_threads.entry + 1 }
 {
@@ -220,7 +221,7 @@ pub fn edge_worker<
     I: LinkIn + Drop + Send,
     O: LinkOut + PromptOut + Drop + Send,
     G: Gate + Sync,
-    R: Threads + Wait + Sync,
+    R: Threads + Wait + Clock + Sync,
 >(
     host: Host<'_, J, G, R>,
     blank: Blank,

@@ -14,6 +14,7 @@ use std::marker::{Brand, Model};
 use std::sync::Wait;
 use std::sync::ledger::Blank;
 use std::thread::Threads;
+use std::time::Clock;
 
 /// An edge that is about to run. Its model is its number and its setup.
 #[derive(Drop)]
@@ -50,7 +51,7 @@ pub(crate) fn run_one<
     I: LinkIn + Drop + Send,
     O: LinkOut + PromptOut + Drop + Send,
     G: Gate + Sync,
-    R: Threads + Wait + Sync,
+    R: Threads + Wait + Clock + Sync,
 >(job: Job<'_, J, I, O, G, R>) -> SeatedRan<J>
     ensures ran { IsRanOf job.entry.number job.entry.setup.config.address
         (length job.entry.setup.outputs) (outcome_in result) }

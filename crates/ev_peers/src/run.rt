@@ -25,6 +25,7 @@ use std::marker::Model;
 use std::sync::Wait;
 use std::thread;
 use std::thread::{Promise, PromisedHandle, Scope, Threads};
+use std::time::Clock;
 
 /// The configuration of an edge, and its links, for at most 64 ports. Its model is the
 /// configuration and the links over which the ports send.
@@ -156,7 +157,7 @@ fn start_edge<
     I: LinkIn + Drop + Send + 'x,
     O: LinkOut + PromptOut + Drop + Send + 'x,
     G: Gate + Sync + 'x,
-    R: Threads + Wait + Sync + 'x,
+    R: Threads + Wait + Clock + Sync + 'x,
 >(
     scope: &Scope<'s, &'x ()>,
     common: &Common<'x, J, G, R>,
@@ -198,7 +199,7 @@ fn start_edges<
     I: LinkIn + Drop + Send + 'x,
     O: LinkOut + PromptOut + Drop + Send + 'x,
     G: Gate + Sync + 'x,
-    R: Threads + Wait + Sync + 'x,
+    R: Threads + Wait + Clock + Sync + 'x,
 >(
     scope: &Scope<'s, &'x ()>,
     common: &Common<'x, J, G, R>,
@@ -336,7 +337,7 @@ fn run_within<
     I: LinkIn + Drop + Send + 'x,
     O: LinkOut + PromptOut + Drop + Send + 'x,
     G: Gate + Sync + 'x,
-    R: Threads + Wait + Sync + 'x,
+    R: Threads + Wait + Clock + Sync + 'x,
     F: FnOnce() -> T + Drop,
     T,
 >(
@@ -374,7 +375,7 @@ fn run_ready<
     I: LinkIn + Drop + Send + 'x,
     O: LinkOut + PromptOut + Drop + Send + 'x,
     G: Gate + Sync + 'x,
-    R: Threads + Wait + Sync + 'x,
+    R: Threads + Wait + Clock + Sync + 'x,
     F: FnOnce() -> T + Drop,
     T,
 >(common: Common<'x, J, G, R>, ready: Ready<J, I, O>, until: F) -> (Vec<Ran>, T)
@@ -408,7 +409,7 @@ pub fn run_all<
     I: LinkIn + Drop + Send,
     O: LinkOut + PromptOut + Drop + Send,
     G: Gate + Sync,
-    R: Threads + Wait + Sync,
+    R: Threads + Wait + Clock + Sync,
     F: FnOnce() -> T + Drop,
     T,
 >(
