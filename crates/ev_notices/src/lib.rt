@@ -4,14 +4,18 @@
 
 mod alarm;
 mod board;
+mod cause;
 mod in_turn;
 mod receptions;
 mod records;
+mod send_watch;
 mod telling;
 
 pub use alarm::{Alarm, alarm_of, alert_of, is_second};
 pub use board::{Board, Notice, Posted};
+pub use cause::{Cause, cause_of};
 pub use in_turn::tell_in_turn;
 pub use receptions::{Input, Reception, Receptions};
 pub use records::{Refusals, Refused};
+pub use send_watch::SendWatch;
 pub use telling::{News, NoticesIn, notice_worker, put_notice};
