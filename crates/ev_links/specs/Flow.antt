@@ -1,5 +1,5 @@
 -- The datagrams of a link in one direction, counted.
-use Rattle.std.specs.Prelude.{ℕ, ◌+◌, ◌-◌, ◌^◌, min, Bool, true, false, Option, Some, None, Result, Ok, Err, Unit, if◌then◌else◌}
+use Rattle.std.specs.Prelude.{ℕ, ◌+◌, ◌-◌, ◌^◌, min, Option, Some, None, Result, Ok, Err, Unit}
 use Rattle.ether_wire.specs.declared.ends.Device.{Device}
 use Rattle.ev_links.specs.declared.flow.Flow.{Flow}
 

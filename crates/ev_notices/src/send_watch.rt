@@ -31,8 +31,8 @@ impl SendWatch {
 
     /// Notes a second that passes, with the numbers of sends that have worked and failed so far.
     /// Returns `Some(false)` if sends fail from now on: one failed in this second, and in the last
-    /// second with sends before it. Returns `Some(true)` if they work again: sends were made in this
-    /// second and none failed, after the operator was told that they fail.
+    /// second with sends before it. Returns `Some(true)` if they work again: sends were made in
+    /// this second and none failed, after the operator was told that they fail.
     pub fn second(&mut self, sent: u64, failed: u64) -> Option<bool>
         ensures change { result ≡ change_of sent failed self.old }
         ensures after { self.new ≡ after_second sent failed self.old }
