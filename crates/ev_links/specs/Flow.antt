@@ -14,13 +14,13 @@ counted size flow = record {
   octets = min (flow.octets + size) (2 ^ 64 - 1);
 }
 
--- after a call that receives: the datagram that it brought, if it brought one
+-- after a call that receives: one more datagram, if the call brought one
 abbrev pub after_received : Result (Option (ℕ × ℕ)) Device → Flow → Flow
 after_received (Ok (Some got)) flow = counted got.1 flow
 after_received (Ok None) flow = flow
 after_received (Err failure) flow = flow
 
--- after a call that sends so many octets: the datagram, unless the call failed
+-- after a call that sends `size` octets: one more datagram, unless the call failed
 abbrev pub after_sent : ℕ → Result (Unit {0}) Device → Flow → Flow
 after_sent size (Ok done) flow = counted size flow
 after_sent size (Err failure) flow = flow

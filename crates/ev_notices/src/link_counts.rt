@@ -1,18 +1,18 @@
-//! What is counted of a link while it is used, where others read it.
+//! The numbers of a link, which other threads read while the link is used.
 
 use crate::cause::Cause;
 use ev_links::FlowCell;
 use std::sync::atomic::{AtomicU64, Ordering};
 
-/// The numbers of one link. Each has one writer, and others read it without a lock. So the numbers
-/// that a reader gets may be of different moments.
+/// The numbers of one link. Each has one writer, and other threads read it without a lock. So a
+/// reader may get numbers of different moments.
 #[derive(Drop)]
 pub struct LinkCounts {
-    /// What came over the link.
+    /// The datagrams that came over the link.
     pub received: FlowCell,
-    /// What the link took at once.
+    /// The datagrams that were sent at once.
     pub at_once: FlowCell,
-    /// What the link's worker sent.
+    /// The datagrams that the link's worker sent.
     pub queued: FlowCell,
     too_long: AtomicU64,
     malformed: AtomicU64,
