@@ -3,7 +3,12 @@ use Rattle.std.specs.Prelude.{ℕ, Bool, true, false, not, ◌&&◌, ◌||◌, n
 use Rattle.ev_notices.specs.declared.send_watch.SendWatch.{SendWatch}
 
 abbrev pub watch : ℕ → ℕ → Bool → Bool → SendWatch
-watch sent failed was_bad is_reported = record { sent = sent; failed = failed; was_bad = was_bad; is_reported = is_reported }
+watch sent failed was_bad is_reported = record {
+  sent = sent;
+  failed = failed;
+  was_bad = was_bad;
+  is_reported = is_reported;
+}
 
 abbrev pub new_watch : SendWatch
 new_watch = watch 0 0 false false
