@@ -1,4 +1,4 @@
-//! Links that count the datagrams that go over them, and show the count while they are used.
+//! Links that count the datagrams that go over them, and show the numbers while they are used.
 ghost use Rattle.std.specs.Prelude.{◌≡◌, ◌+◌, ◌^◌, ◌<◌, ◌≤◌, is_err, length, if◌then◌else◌, IfOk, IfSome};
 ghost use Rattle.ev_links.specs.Flow.{no_flow, counted, after_received, after_sent};
 
@@ -6,18 +6,18 @@ use crate::flow::{Flow, FlowCell};
 use crate::links::{LinkIn, LinkOut, PromptOut};
 use ether_wire::{Addr, Device};
 
-/// A link that wraps another one, counts its datagrams, and shows the count in a cell. No other
-/// link shows its count there.
+/// A link that wraps another one and counts its datagrams. It shows the count and the number of
+/// failed calls in a cell, if there is one. No other link shows its numbers there.
 #[derive(Clone, Drop)]
 pub struct Counted<'x, K> {
     inner: K,
     flow: Flow,
-    cell: &'x FlowCell,
+    cell: Option<&'x FlowCell>,
 }
 
 impl<'x, K> Counted<'x, K> {
     /// Creates a link over which nothing went yet.
-    pub fn new(inner: K, cell: &'x FlowCell) -> Self
+    pub fn new(inner: K, cell: Option<&'x FlowCell>) -> Self
         ensures inner { result.inner ≡ inner }
         ensures flow { result.flow ≡ no_flow }
     {
@@ -34,7 +34,16 @@ impl<'x, K> Counted<'x, K> {
         ensures inner { self.new.inner ≡ self.old.inner }
     {
         self.flow = self.flow.with(size);
-        self.cell.show(self.flow);
+        if let Some(cell) = self.cell {
+            cell.show(self.flow);
+        }
+    }
+
+    /// Shows a number of failed calls.
+    fn show_failures(&self, failures: u64) {
+        if let Some(cell) = self.cell {
+            cell.show_failures(failures);
+        }
     }
 }
 
@@ -63,6 +72,9 @@ impl<K: LinkIn> LinkIn for Counted<'_, K> {
         let got = self.inner.recv(buffer);
         if let Ok(Some((_, size))) = &got {
             self.count(*size);
+        }
+        if got.is_err() {
+            self.show_failures(self.inner.failures());
         }
         got
     }
@@ -93,6 +105,8 @@ impl<K: LinkOut> LinkOut for Counted<'_, K> {
         let sent = self.inner.send(to, octets);
         if sent.is_ok() {
             self.count(octets.len());
+        } else {
+            self.show_failures(self.inner.failures());
         }
         sent
     }

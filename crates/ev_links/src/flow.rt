@@ -36,12 +36,13 @@ impl Flow {
     }
 }
 
-/// A flow that one worker shows while it runs, and that others read. The two numbers that a reader
-/// gets may be of two moments.
+/// A flow and a number of failed calls. One worker shows them while it runs, and other threads read
+/// them. A reader may get numbers of different moments.
 #[derive(Drop)]
 pub struct FlowCell {
     datagrams: AtomicU64,
     octets: AtomicU64,
+    failures: AtomicU64,
 }
 
 impl FlowCell {
@@ -50,13 +51,24 @@ impl FlowCell {
         FlowCell {
             datagrams: AtomicU64::new(0),
             octets: AtomicU64::new(0),
+            failures: AtomicU64::new(0),
         }
     }
 
     /// Shows a flow from now on.
-    pub(crate) fn show(&self, flow: Flow) {
+    pub fn show(&self, flow: Flow) {
         self.datagrams.store(flow.datagrams, Ordering::Relaxed);
         self.octets.store(flow.octets, Ordering::Relaxed);
+    }
+
+    /// Shows a number of failed calls from now on.
+    pub(crate) fn show_failures(&self, failures: u64) {
+        self.failures.store(failures, Ordering::Relaxed);
+    }
+
+    /// Returns the number of failed calls that is shown.
+    pub fn failures(&self) -> u64 {
+        self.failures.load(Ordering::Relaxed)
     }
 
     /// Returns the flow that is shown.

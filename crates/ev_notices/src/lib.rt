@@ -10,6 +10,7 @@ mod link_counts;
 mod receptions;
 mod records;
 mod send_watch;
+mod sendings;
 mod telling;
 
 pub use alarm::{Alarm, alarm_of, alert_of, is_second};
@@ -20,4 +21,5 @@ pub use link_counts::LinkCounts;
 pub use receptions::{Input, Reception, Receptions, Sending};
 pub use records::{Refusals, Refused};
 pub use send_watch::SendWatch;
+pub use sendings::{LINKS, Sendings};
 pub use telling::{News, NoticesIn, notice_worker, put_notice};

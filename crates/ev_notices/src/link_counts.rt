@@ -20,7 +20,6 @@ pub struct LinkCounts {
     other_network: AtomicU64,
     no_memory: AtomicU64,
     no_room: AtomicU64,
-    failed: AtomicU64,
 }
 
 impl LinkCounts {
@@ -36,7 +35,6 @@ impl LinkCounts {
             other_network: AtomicU64::new(0),
             no_memory: AtomicU64::new(0),
             no_room: AtomicU64::new(0),
-            failed: AtomicU64::new(0),
         }
     }
 
@@ -71,14 +69,9 @@ impl LinkCounts {
         self.no_room.load(Ordering::Relaxed)
     }
 
-    /// Shows the number of sends that failed.
-    pub fn show_failed(&self, count: u64) {
-        self.failed.store(count, Ordering::Relaxed);
-    }
-
-    /// Returns the number of sends that failed.
+    /// Returns the number of sends that failed. Only the link's worker finds out that a send fails.
     pub fn failed(&self) -> u64 {
-        self.failed.load(Ordering::Relaxed)
+        self.queued.failures()
     }
 
     /// Returns the number of datagrams that were sent, at once or by the link's worker.

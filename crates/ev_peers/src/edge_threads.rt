@@ -93,7 +93,14 @@ fn run_within<
         sending,
     } = threads;
     let (rt, outlet) = (workplace.shared_edge.rt, &workplace.outlet);
-    let (sending, no_sent) = start_sending(scope, rt, workplace.shared, outputs, sending);
+    let (sending, no_sent) = start_sending(
+        scope,
+        rt,
+        workplace.shared,
+        outlet.peers,
+        outputs,
+        sending,
+    );
     let peer = start_peer::<L, I, O, G, R>(scope, workplace, peer);
     let (entering, begun) = start_entering(scope, workplace, tasks, fresh, entering);
     if no_sent.memory || begun.memory || peer.is_err() {
