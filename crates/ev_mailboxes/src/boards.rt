@@ -6,6 +6,7 @@ use ev_notices::{
     Alarm, Board, LINKS, LinkCounts, News, Reception, Receptions, Refusals, Refused, Sendings,
 };
 use std::alloc::{AllocError, Global};
+use std::sync::atomic::{AtomicUsize, Ordering};
 use std::sync::{Condvar, Mutex, Wait};
 
 /// The state of the bell that wakes the worker that writes the operator's lines.
@@ -26,8 +27,10 @@ struct OfEdge {
     receptions: Mutex<Receptions>,
     /// Changes of its links: sends failed, or work again.
     sendings: Mutex<Sendings>,
-    /// The numbers of its links, the tunnel's first.
+    /// The numbers of its links, the tunnel's first, and of those that it could have.
     links: Vec<LinkCounts>,
+    /// The number of links that it has.
+    used: AtomicUsize,
 }
 
 /// Returns the numbers of as many links as an edge can have.
@@ -84,6 +87,7 @@ impl Boards {
                 receptions: Mutex::new(Receptions::new()),
                 sendings: Mutex::new(Sendings::new()),
                 links: unused_links(alloc)?,
+                used: AtomicUsize::new(0),
             });
         }
         Ok(Boards {
@@ -116,10 +120,26 @@ impl Boards {
         self.ringing.notify_one();
     }
 
+    /// Notes that the edge with this number has so many links.
+    pub(crate) fn use_links(&self, edge: usize, count: usize) {
+        if let Some(of_edge) = self.of(edge) {
+            of_edge.used.store(count.min(LINKS), Ordering::SeqCst);
+        }
+    }
+
     /// Returns the numbers of the links of the edge with this number, the tunnel's first.
-    pub(crate) fn links(&self, edge: usize) -> Option<&[LinkCounts]> {
-        let of_edge = self.of(edge)?;
-        Some(of_edge.links.as_slice())
+    pub(crate) fn links(&self, edge: usize) -> &[LinkCounts] {
+        match self.of(edge) {
+            Some(of_edge) => {
+                let used = of_edge.used.load(Ordering::SeqCst);
+                let (links, _) = of_edge
+                    .links
+                    .as_slice()
+                    .split_at(used.min(of_edge.links.len()));
+                links
+            }
+            None => &[],
+        }
     }
 
     /// Counts a second that passes at the edge with this number, and looks at the sends over its

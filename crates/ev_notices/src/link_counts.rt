@@ -79,4 +79,10 @@ impl LinkCounts {
         let (at_once, queued) = (self.at_once.shown(), self.queued.shown());
         at_once.datagrams.saturating_add(queued.datagrams)
     }
+
+    /// Returns the number of their octets.
+    pub fn sent_octets(&self) -> u64 {
+        let (at_once, queued) = (self.at_once.shown(), self.queued.shown());
+        at_once.octets.saturating_add(queued.octets)
+    }
 }

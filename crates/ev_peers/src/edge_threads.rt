@@ -231,6 +231,7 @@ pub fn edge_worker<
     ensures { IsRanOf host.entry.number config.address (vec_len links.ports) result }
 {
     let (rt, alloc) = (host.rt, host.alloc);
+    host.peers.use_links(links.ports.len() + 1);
     let count = links.ports.len() + 3;
     let bridge = bridge_of(&config);
     let address = config.address;
