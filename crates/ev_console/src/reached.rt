@@ -90,7 +90,7 @@ pub(crate) struct HostedEdge<'x, R> {
     rt: &'x R,
     control: Control<'x>,
     /// The numbers of its links, the tunnel's first.
-    links: &'x [LinkCounts],
+    links: Option<&'x [LinkCounts]>,
     unlisted: Option<&'x Mutex<Known>>,
 }
 
@@ -141,8 +141,11 @@ fn row_of(counts: &LinkCounts) -> LinkRow {
 impl<R: Wait> HostedEdge<'_, R> {
     /// Returns the lines of the edge's links.
     fn links(&self, alloc: Global) -> Result<Vec<u8>, AllocError> {
-        let mut rows = Vec::with_capacity(alloc, self.links.len())?;
-        for counts in self.links {
+        let Some(links) = self.links else {
+            return Ok(Vec::new(alloc));
+        };
+        let mut rows = Vec::with_capacity(alloc, links.len())?;
+        for counts in links {
             rows.push_reserved(row_of(counts));
         }
         links_of(alloc, self.control.number() as u64, rows.as_slice())

@@ -1,5 +1,5 @@
 -- The datagrams of a link in one direction, counted.
-use Rattle.std.specs.Prelude.{ℕ, ◌+◌, ◌-◌, ◌^◌, min, Option, Some, None, Result, Ok, Err, Unit}
+use Rattle.std.specs.Prelude.{ℕ, ◌+◌, ◌-◌, ◌^◌, min, Option, Some, None, Result, Ok, Err}
 use Rattle.ether_wire.specs.declared.ends.Device.{Device}
 use Rattle.ev_links.specs.declared.flow.Flow.{Flow}
 

@@ -128,18 +128,12 @@ impl Boards {
     }
 
     /// Returns the numbers of the links of the edge with this number, the tunnel's first.
-    pub(crate) fn links(&self, edge: usize) -> &[LinkCounts] {
-        match self.of(edge) {
-            Some(of_edge) => {
-                let used = of_edge.used.load(Ordering::SeqCst);
-                let (links, _) = of_edge
-                    .links
-                    .as_slice()
-                    .split_at(used.min(of_edge.links.len()));
-                links
-            }
-            None => &[],
-        }
+    pub(crate) fn links(&self, edge: usize) -> Option<&[LinkCounts]> {
+        let of_edge = self.of(edge)?;
+        let used = of_edge.used.load(Ordering::SeqCst);
+        let links = of_edge.links.as_slice();
+        let (links, _) = links.split_at(used.min(links.len()));
+        Some(links)
     }
 
     /// Counts a second that passes at the edge with this number, and looks at the sends over its

@@ -49,7 +49,7 @@ impl<'x> Running<'x> {
 
     /// Returns the numbers of the links of the edge with this number, from 1: the tunnel's, then
     /// those of the ports. The call needs no answer of the edge.
-    pub fn links(&self, edge: usize) -> &'x [LinkCounts] {
+    pub fn links(&self, edge: usize) -> Option<&'x [LinkCounts]> {
         let boards = self.boards;
         boards.links(edge)
     }

@@ -189,7 +189,7 @@ impl<'x> Peers<'x> {
     /// port the port's number.
     pub fn link(&self, place: usize) -> Option<&'x LinkCounts> {
         let boards = self.boards;
-        boards.links(self.number).get(place)
+        boards.links(self.number)?.get(place)
     }
 
     /// Notes that this edge has so many links, the tunnel's among them.

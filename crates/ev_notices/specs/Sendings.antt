@@ -1,7 +1,6 @@
 -- The changes of the links over which an edge sends that wait for the operator.
 use Rattle.std.specs.Prelude.{ℕ, ◌==◌, Bool, false, ◌&&◌, nat_lt, if◌then◌else◌, is_some, List, [], ◌∷◌, ◌++◌, length}
-use Rattle.std.specs.Prelude.{drop, Option, Some, None, slice_get, slice_set}
-use Rattle.std.specs.List.{replicate}
+use Rattle.std.specs.Prelude.{drop, Option, Some, None, slice_get, slice_set, replicate}
 use Rattle.ev_notices.specs.declared.receptions.Input.{Input}
 use Rattle.ev_notices.specs.declared.receptions.Input.TheVariants.{Port, Tunnel}
 use Rattle.ev_notices.specs.declared.receptions.Sending.{Sending}

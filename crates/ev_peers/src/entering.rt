@@ -49,8 +49,11 @@ fn counted<'x, I: LinkIn, K, R>(
     place: usize,
     link: I,
 ) -> Counted<'x, I> {
-    let counts = senders.peers.link(place);
-    Counted::new(link, counts.map(|counts| &counts.received))
+    let cell = match senders.peers.link(place) {
+        Some(counts) => Some(&counts.received),
+        None => None,
+    };
+    Counted::new(link, cell)
 }
 
 /// Runs the worker of a task until it ends. Returns at once with `Ended::NoMemory` if the task's

@@ -26,7 +26,11 @@ fn send_all<O: LinkOut + PromptOut + Drop, R: Wait + Clock>(
     counts: Option<&LinkCounts>,
     is_refused: &AtomicBool,
 ) -> Sent {
-    let mut link = Counted::new(link, counts.map(|counts| &counts.queued));
+    let cell = match counts {
+        Some(counts) => Some(&counts.queued),
+        None => None,
+    };
+    let mut link = Counted::new(link, cell);
     if is_refused.load(Ordering::SeqCst) {
         return (0, Ended::NoMemory);
     }
