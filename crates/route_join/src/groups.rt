@@ -74,6 +74,7 @@ fn take_in(
         Ok(Entry::Occupied(group)) => group.into_mut().take(alloc, held, guess, update),
         Ok(Entry::Vacant(group)) => {
             let Some(more) = held.checked_add(1) else {
+                // this ends the entry; the map is as before
                 group.into_key();
                 return Err(AllocError);
             };
