@@ -1,0 +1,3 @@
+pub mod Log
+pub mod Rule
+pub mod Standing
