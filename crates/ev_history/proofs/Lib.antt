@@ -2,3 +2,5 @@ pub mod Prefixes
 pub mod Histories
 pub mod Extending
 pub mod Standing
+pub mod Beginning
+pub mod Booking

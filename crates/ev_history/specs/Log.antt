@@ -1,5 +1,6 @@
 -- The history of edges that share a pool of announced updates.
-use Rattle.std.specs.Prelude.{◌≡◌, ◌+◌, ◌==◌, ◌++◌, ℕ, Bool, true, false, if◌then◌else◌, Option, Some, None, List, [], ◌∷◌}
+use Rattle.std.specs.Prelude.{◌≡◌, ◌+◌, ◌==◌, ◌++◌, ℕ, Bool, true, false, if◌then◌else◌, Option, Some, None, List, []}
+use Rattle.std.specs.Prelude.{◌∷◌}
 use Rattle.std.specs.Prelude.{Result, Ok, Err, Contains, slice_get}
 use Rattle.route_wire.specs.Fields.{Fields}
 use Rattle.ev_edge.specs.declared.config.EdgeConfig.{EdgeConfig}
@@ -42,25 +43,33 @@ IsQuiet (events.Back a) answer = Unit {0}
 abbrev pub Goes : Edge → List Event → Edge → Type 0
 Goes a [] b = b ≡ a
 Goes a (event ∷ earlier) b =
-    (mid : Edge) × (answer : Result Reply Refusal) × Goes a earlier mid × IsQuiet event answer × Steps mid event answer b
+    (mid : Edge) × (answer : Result Reply Refusal) × Goes a earlier mid × IsQuiet event answer × Steps mid event
+        answer b
 
 abbrev pub Reaches : Edge → Edge → Type 0
 Reaches a b = (events : List Event) × Goes a events b
 
 -- ---- the edges and the pool after a history
 
--- the configurations, the state of the edge at each place if it is open, and the announced updates, the first one first
+-- whether updates of other processes come in, the configurations, each open edge by its place, and
+-- the announced updates, the first one first
 pub record World : Type 0 where
+  pub outside : Bool
   pub configs : List EdgeConfig
   pub edges : ℕ → Option Edge
   pub pool : List Fields
 
-abbrev pub world_of : List EdgeConfig → (ℕ → Option Edge) → List Fields → World
-world_of configs edges pool = record { configs = configs; edges = edges; pool = pool }
+abbrev pub world_of : Bool → List EdgeConfig → (ℕ → Option Edge) → List Fields → World
+world_of outside configs edges pool = record { outside = outside; configs = configs; edges = edges; pool = pool }
 
 -- no edge is open yet
-abbrev pub begun : List EdgeConfig → World
-begun configs = world_of configs (λ n. None) []
+abbrev pub begun : Bool → List EdgeConfig → World
+begun outside configs = world_of outside configs (λ n. None) []
+
+-- the update was announced here, or it may be of another process
+abbrev pub IsKnown : Bool → List Fields → Fields → Type 0
+IsKnown true pool u = Unit {0}
+IsKnown false pool u = Contains pool u
 
 abbrev pub pool_after : List Fields → Deed → List Fields
 pool_after pool Opens = pool
@@ -71,9 +80,9 @@ abbrev pub edges_after : (ℕ → Option Edge) → ℕ → Edge → ℕ → Opti
 edges_after edges place later n = if place == n then Some later else edges n
 
 abbrev pub world_after : World → Entry → World
-world_after w (Begins configs) = w
+world_after w (Begins outside configs) = w
 world_after w (Does place deed later) =
-    world_of w.configs (edges_after w.edges place later) (pool_after w.pool deed)
+    world_of w.outside w.configs (edges_after w.edges place later) (pool_after w.pool deed)
 
 abbrev pub end_of : World → List Entry → World
 end_of w [] = w
@@ -103,17 +112,18 @@ pub record Announcing (old : Option Edge) (u : Fields) (later : Edge) : Type 0 w
   pub turns : Turns old events.Announce (Ok reply) later
   pub says : reply.announced ≡ Some u
 
--- the edge is given an update that was announced before, which it may refuse
-pub record Taking (pool : List Fields) (old : Option Edge) (u : Fields) (later : Edge) : Type 0 where
-  pub announced : Contains pool u
+-- The edge is given an update that was announced before, which it may refuse. If updates of other processes come in, it
+-- may be one of these.
+pub record Taking (outside : Bool) (pool : List Fields) (old : Option Edge) (u : Fields) (later : Edge) : Type 0 where
+  pub known : IsKnown outside pool u
   pub answer : Result Reply Refusal
   pub turns : Turns old (events.Take u) answer later
 
 abbrev pub Follows : World → Entry → Type 0
-Follows w (Begins configs) = ⊥
+Follows w (Begins outside configs) = ⊥
 Follows w (Does place Opens later) = IsOpening w place later
 Follows w (Does place (Announces u) later) = Announcing (w.edges place) u later
-Follows w (Does place (Takes u) later) = Taking w.pool (w.edges place) u later
+Follows w (Does place (Takes u) later) = Taking w.outside w.pool (w.edges place) u later
 
 -- each entry follows the ones before it
 abbrev pub AreLegal : World → List Entry → Type 0
@@ -122,14 +132,14 @@ AreLegal w (e ∷ es) = Follows w e × AreLegal (world_after w e) es
 
 abbrev pub IsHistory : List Entry → Type 0
 IsHistory [] = ⊥
-IsHistory (Begins configs ∷ es) = AreLegal (begun configs) es
+IsHistory (Begins outside configs ∷ es) = AreLegal (begun outside configs) es
 IsHistory (Does place deed later ∷ es) = ⊥
 
 -- the edges and the pool at the end of a history
 abbrev pub world : List Entry → World
-world [] = begun []
-world (Begins configs ∷ es) = end_of (begun configs) es
-world (Does place deed later ∷ es) = begun []
+world [] = begun false []
+world (Begins outside configs ∷ es) = end_of (begun outside configs) es
+world (Does place deed later ∷ es) = begun false []
 
 -- ---- the number of an edge's entries
 
@@ -138,7 +148,7 @@ is_one true = 1
 is_one false = 0
 
 abbrev pub is_of : ℕ → Entry → ℕ
-is_of n (Begins configs) = 0
+is_of n (Begins outside configs) = 0
 is_of n (Does place deed later) = is_one (place == n)
 
 abbrev pub count : ℕ → List Entry → ℕ

@@ -17,8 +17,9 @@ pub enum Deed {
 
 /// An entry of the history. No value of it is made.
 pub enum Entry {
-    /// The history begins, for edges with these configurations.
-    Begins(LinkedList<EdgeConfig>),
+    /// The history begins, for edges with these configurations. If the flag is `true`, updates of
+    /// other processes come in.
+    Begins(bool, LinkedList<EdgeConfig>),
     /// The edge at this place, counted from 0, did this, and is in this state afterwards.
     Does(u64, Deed, Edge),
 }

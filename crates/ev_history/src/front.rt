@@ -1,4 +1,4 @@
-//! Which log it is, and what was seen of it.
+//! The name of a log, and the beginning of it that a thread has seen.
 ghost use Rattle.std.specs.Prelude.{◌≡◌, ◌⊎◌};
 ghost use mathlib.Core.List.{IsPrefix};
 ghost use Rattle.ev_history.specs.Log.{IsHistory};
@@ -8,15 +8,23 @@ use crate::rule::History;
 use logbook::Seen;
 use std::marker::{Brand, Model, PhantomData};
 
-/// Which log it is. Each call of a program picks it.
+/// The name of a log. Each run picks one.
 pub trait Naming {
+    ghost use Rattle.std.specs.Prelude.{Bool};
     ghost use Rattle.logbook.specs.Pages.{Book};
 
     ghost book: { Book };
+
+    /// Whether updates of other processes come in.
+    ghost outside: { Bool };
 }
 
 impl Naming for Brand {
+    ghost use Rattle.std.specs.Prelude.{false};
+
     ghost book = { record { number = 0; log_name = 0; cells_name = 0 } };
+
+    ghost outside = { false };
 }
 
 /// A beginning of the log that was seen. It has no bytes.
@@ -43,7 +51,7 @@ impl<J: Naming> Model for Front<J> {
 }
 
 impl<J: Naming> Front<J> {
-    /// What was seen.
+    /// Returns this beginning of the log.
     pub(crate) fn of(seen: Seen<Entry, u64, History>) -> Front<J>
         requires book { seen.book ≡ J.book }
         requires legal { IsHistory seen.log }
@@ -55,7 +63,7 @@ impl<J: Naming> Front<J> {
         }
     }
 
-    /// A copy.
+    /// Returns a copy.
     pub fn again(&self) -> Front<J>
         ensures same { result ≡ self.now }
         ensures legal { IsHistory self.now }
@@ -66,7 +74,7 @@ impl<J: Naming> Front<J> {
         }
     }
 
-    /// What both have seen.
+    /// Returns a beginning of the log that contains both.
     pub fn both(&self, other: &Front<J>) -> Front<J>
         ensures this { IsPrefix self.now result }
         ensures that { IsPrefix other.now result }

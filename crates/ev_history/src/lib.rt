@@ -5,12 +5,16 @@
 
 mod entry;
 mod front;
+mod logged_book;
+mod opening;
 mod rule;
 mod seat;
 mod told;
 
 pub use entry::{Deed, Entry};
 pub use front::{Front, Naming};
+pub use logged_book::{LoggedBook, Placed};
+pub use opening::{NewHistory, Outside};
 pub use rule::Adding;
 pub use seat::Seat;
 pub use told::Told;

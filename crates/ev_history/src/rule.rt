@@ -1,8 +1,8 @@
 //! The rule of the history, and the steps of its words.
 
 use crate::entry::{Deed, Entry};
-use ev_edge::{Edge, EdgeConfig};
-use logbook::{Gain, Opening, Plain, Play, Rule};
+use ev_edge::Edge;
+use logbook::{Gain, Plain, Play, Rule};
 
 /// The rule: the log is a history of edges that share a pool of announced updates.
 pub(crate) struct History;
@@ -10,7 +10,7 @@ pub(crate) struct History;
 impl Rule<Entry, u64> for History {
     ghost use Rattle.std.specs.Prelude.{[]};
     ghost use base.Fml.{ftrue};
-    ghost use Rattle.ev_history.specs.Rule.{IsKept};
+    ghost use Rattle.ev_history.specs.Inner.Rule.{IsKept};
 
     ghost holds = { λ cells log. IsKept cells log };
 
@@ -34,40 +34,30 @@ impl Gain<Entry, u64> for Nothing {
     ghost after = { λ names about answer. ftrue };
 }
 
-/// The history begins.
-pub(crate) struct Begin;
-
-impl Opening<Vec<EdgeConfig>, Entry> for Begin {
-    ghost use Rattle.std.specs.Prelude.{[], ◌∷◌};
-    ghost use Rattle.ev_history.specs.declared.entry.Entry.TheVariants.{Begins};
-
-    ghost log = { λ count configs. Begins configs.items ∷ [] };
-}
-
 /// A step that reads the number of an edge's entries.
 pub(crate) struct Look;
 
 impl Play<Entry, u64> for Look {
-    ghost use Rattle.ev_history.specs.Rule.{Looks};
+    ghost use Rattle.ev_history.specs.Inner.Rule.{Looks};
 
     ghost then = { Looks };
 }
 
 impl Plain<u64, Entry, u64> for Look {
-    ghost use Rattle.std.specs.Prelude.{None, []};
+    ghost use Rattle.std.specs.Prelude.{None, [], false};
     ghost use Rattle.ev_history.specs.declared.entry.Entry.TheVariants.{Begins};
 
-    ghost ask = { λ x. Begins [] };
+    ghost ask = { λ x. Begins false [] };
 
     ghost state = { λ x. None };
 }
 
-/// The parts of an entry. The entry itself is not built: proofs alone put it together.
+/// The parts of an entry. The entry itself is not built: only proofs put it together.
 #[derive(Drop)]
 pub struct Adding<'a> {
     /// The edge's place, counted from 0.
     pub place: u64,
-    /// What the edge did.
+    /// The deed of the edge.
     pub deed: Deed,
     /// The edge afterwards.
     pub edge: &'a Edge,
@@ -77,7 +67,7 @@ pub struct Adding<'a> {
 pub(crate) struct Add;
 
 impl Play<Entry, u64> for Add {
-    ghost use Rattle.ev_history.specs.Rule.{Adds};
+    ghost use Rattle.ev_history.specs.Inner.Rule.{Adds};
 
     ghost then = { Adds };
 }

@@ -15,7 +15,7 @@ use logbook::{Offer, Pen, Word};
 use std::marker::Model;
 use std::sync::Wait;
 
-/// The place of an edge, its word, and what was seen of the log when it added its last entry.
+/// The place of an edge, its word, and the beginning of the log that ends with its last entry.
 #[derive(Drop)]
 pub struct Seat<J: Naming> {
     place: u64,
@@ -57,14 +57,14 @@ impl<J: Naming> Seat<J> {
         }
     }
 
-    /// The edge's place.
+    /// Returns the edge's place.
     pub fn place(&self) -> u64
         ensures { result ≡ self.now.place }
     {
         self.place
     }
 
-    /// What was seen.
+    /// Returns the beginning of the log that the seat has seen.
     pub fn front(&self) -> &Front<J>
         ensures log { result.now ≡ self.now.log }
         ensures legal { IsHistory self.now.log }
@@ -73,25 +73,39 @@ impl<J: Naming> Seat<J> {
         &self.front
     }
 
-    /// Whether it can add no more.
+    /// Returns `true` if it can add no more.
     pub fn is_full(&self) -> bool
         ensures { OnFalse result (count self.now.place self.now.log < 2 ^ 62) }
     {
         self.entries >= 1 << 62
     }
 
-    /// Whether this edge has no entry but those that were seen here. It always says so.
+    /// Waits until it can add an entry. An edge has room for 2^62.
+    pub fn make_room<R: Wait>(&self, rt: &R)
+        ensures { count self.now.place self.now.log < 2 ^ 62 }
+    {
+        for _ in rt.forever() {
+            if !self.is_full() {
+                return;
+            }
+        }
+        unreachable!()
+    }
+
+    /// Returns `true` if this edge has only the entries that this seat has seen, as it always has.
     fn is_whole(&self, front: &Front<J>) -> bool
         requires { IsPrefix self.now.log front.now }
-        ensures { OnTrue result (count self.now.place front.now ≡ count self.now.place self.now.log) }
+        ensures { OnTrue result
+            (count self.now.place front.now ≡ count self.now.place self.now.log) }
     {
         let mut later = self.front.both(front);
-        let mut offer: Offer<Entry, u64, History, Nothing> = later.seen.plain::<Nothing, u64, Look>(&0);
+        let mut offer: Offer<Entry, u64, History, Nothing> =
+            later.seen.plain::<Nothing, u64, Look>(&0);
         let found = self.word.load::<Look, Nothing>(&mut later.seen, &mut offer);
         found == self.entries
     }
 
-    /// Waits until this edge has no entry but those that were seen here.
+    /// Waits until this edge has only the entries that this seat has seen.
     pub fn settle<R: Wait>(&self, rt: &R, front: &Front<J>)
         requires { IsPrefix self.now.log front.now }
         ensures { count self.now.place front.now ≡ count self.now.place self.now.log }
@@ -110,7 +124,7 @@ impl<J: Naming> Seat<J> {
     fn exchange(&self, with: &Front<J>, adding: &Adding<'_>) -> Option<Front<J>>
         requires place { adding.now.place ≡ self.now.place }
         requires room { count self.now.place self.now.log < 2 ^ 62 }
-        requires follows { Follows (told (world self.now.log) (world with.now).pool)
+        requires follows { Follows (told (world self.now.log) (world with.now))
             (Does self.now.place adding.now.deed adding.now.edge.now) }
         ensures { IfSome result (λ log. IsPrefix with.now log
             × IsAdded self.now.place (count self.now.place self.now.log) self.now.log
@@ -131,11 +145,11 @@ impl<J: Naming> Seat<J> {
         if found == entries { Some(both) } else { None }
     }
 
-    /// Adds an entry of this edge to the log, and returns what is then seen.
+    /// Adds an entry of this edge to the log, and returns the beginning that ends with it.
     fn added<R: Wait>(&self, rt: &R, with: &Front<J>, adding: &Adding<'_>) -> Front<J>
         requires place { adding.now.place ≡ self.now.place }
         requires room { count self.now.place self.now.log < 2 ^ 62 }
-        requires follows { Follows (told (world self.now.log) (world with.now).pool)
+        requires follows { Follows (told (world self.now.log) (world with.now))
             (Does self.now.place adding.now.deed adding.now.edge.now) }
         ensures with { IsPrefix with.now result }
         ensures added { IsAdded self.now.place (count self.now.place self.now.log) self.now.log
@@ -153,7 +167,7 @@ impl<J: Naming> Seat<J> {
     pub fn add<R: Wait>(&mut self, rt: &R, with: &Front<J>, adding: &Adding<'_>)
         requires place { adding.now.place ≡ self.old.place }
         requires room { count self.old.place self.old.log < 2 ^ 62 }
-        requires follows { Follows (told (world self.old.log) (world with.now).pool)
+        requires follows { Follows (told (world self.old.log) (world with.now))
             (Does self.old.place adding.now.deed adding.now.edge.now) }
         ensures place { self.new.place ≡ self.old.place }
         ensures with { IsPrefix with.now self.new.log }

@@ -1,5 +1,5 @@
 -- A history of running edges is a run of a fabric.
-use Rattle.std.specs.Prelude.{◌≡◌, List, [], ◌∷◌, length}
+use Rattle.std.specs.Prelude.{◌≡◌, false, List, [], ◌∷◌, length}
 use Rattle.route_wire.specs.Fields.{Fields}
 use Rattle.ev_edge.specs.declared.config.EdgeConfig.{EdgeConfig}
 use Rattle.ev_edge.specs.Edge.{Edge}
@@ -21,7 +21,8 @@ pub record IsRunOf (configs : List EdgeConfig) (edges : List Edge) : Type 0 wher
   pub pool : List Fields
   pub runs : Runs (fabric_of opened configs []) steps (fabric_of edges configs pool)
 
+-- of a history to which no updates of other processes come in
 abbrev pub HistoryIsARun : Type 0
 HistoryIsARun =
-    (configs : List EdgeConfig) (entries : List Entry) (edges : List Edge) → IsHistory (Begins configs ∷ entries)
-    → length edges ≡ length configs → AllStand (Begins configs ∷ entries) 0 edges → IsRunOf configs edges
+    (configs : List EdgeConfig) (entries : List Entry) (edges : List Edge) → IsHistory (Begins false configs ∷ entries)
+    → length edges ≡ length configs → AllStand (Begins false configs ∷ entries) 0 edges → IsRunOf configs edges
