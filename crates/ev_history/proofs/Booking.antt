@@ -95,7 +95,7 @@ goes_stands place log event (Err PassSpent) later g not_so = subst (Stands place
 pub goes_follows : (place : ℕ) (log : List Entry) (u : Fields) (result : Result (Unit {0}) BookRefusal)
     (later : Edge) (z : World) → IsKnown z.outside z.pool u
     → GoesOn place log (events.Take u) result later → has_stepped result ≡ true
-        → Follows (told (world log) z) (Does place (Takes u) later)
+    → Follows (told (world log) z) (Does place (Takes u) later)
 goes_follows place log u (Ok done) later z known g so = taking_follows place u log z (Ok g.moves.0) g.before later
     known g.stood g.moves.1
 goes_follows place log u (Err (OfEdge r)) later z known g so = taking_follows place u log z (Err r) g.before later

@@ -34,7 +34,7 @@ later_told place v x log hv hx pv px same =
     let none : count place pv.0 ≡ 0 = omega (arith, same, ap (count place) pv.1, count-append place v pv.0) in
     let on : IsLater place (world v) (world log) =
     subst (λ z. IsLater place (world v) z) (sym (world-append v pv.0 hv) ∙ ap world pv.1)
-        (later_end place (world v) pv.0 none) in
+    (later_end place (world v) pv.0 none) in
     record {
       outside = outside_same x log hx px;
       configs = on.configs;
@@ -48,7 +48,7 @@ later_told place v x log hv hx pv px same =
 -- the words, after one of them is set to its new count and no other count changes
 words_after : (cs : List Cell) (place m : ℕ) (log new : List Entry) → place < length cs
     → ((n : ℕ) → n < length cs → cell cs n ≡ (count n log, true)) → count place new ≡ m
-        → ((n : ℕ) → n ≢ place → count n new ≡ count n log)
+    → ((n : ℕ) → n ≢ place → count n new ≡ count n log)
     → (n : ℕ) → n < length (slice_set cs place (m, true)) → cell (slice_set cs place (m, true)) n ≡ (count n new, true)
 words_after cs place m log new there words own others n lt = by_case (n == place) refl
   where
@@ -56,11 +56,11 @@ words_after cs place m log new there words own others n lt = by_case (n == place
     by_case true is =
         let same : n ≡ place = grind (arith, nat_tests) in
         subst (λ k. cell (slice_set cs place (m, true)) k ≡ (count k new, true)) (sym same)
-            (get_or-set_same cs place (m, true) (0, false) there ∙ ap (λ k. (k, true)) (sym own))
+        (get_or-set_same cs place (m, true) (0, false) there ∙ ap (λ k. (k, true)) (sym own))
     by_case false is =
         let other : n ≢ place = grind (arith, nat_tests) in
         get_or-set_other cs place n (m, true) (0, false) other ∙ words n
-            (omega (arith, length-set cs place (m, true))) ∙ ap (λ k. (k, true)) (sym (others n other))
+        (omega (arith, length-set cs place (m, true))) ∙ ap (λ k. (k, true)) (sym (others n other))
 
 pub one_self : (n : ℕ) → is_one (n == n) ≡ 1
 one_self n = by_case (n == n) refl
@@ -80,14 +80,14 @@ seats_kept : (cs : List Cell) (place : ℕ) (c : Cell) (log more : List Entry) �
     → length (slice_set cs place c) ≡ length (world (log ++ more)).configs
 seats_kept cs place c log more kept =
     length-set cs place c ∙ kept.seats ∙ ap length
-        (sym (ap (λ (z : World). z.configs) (world-append log more kept.legal) ∙ configs_end (world log) more))
+    (sym (ap (λ (z : World). z.configs) (world-append log more kept.legal) ∙ configs_end (world log) more))
 
 -- ---- the step
 
 module _ (v b x : List Entry) (place old : ℕ) (deed : Deed) (later : Edge) (hv : IsHistory v) (hx : IsHistory x)
     (pv : IsPrefix v b) (px : IsPrefix x b)
     (had : count place v ≡ old) (seated : place < length (world v).configs)
-        (follows : Follows (told (world v) (world x)) (Does place deed later)) where
+    (follows : Follows (told (world v) (world x)) (Does place deed later)) where
   abbrev entry : Entry
   entry = Does place deed later
 
@@ -95,12 +95,12 @@ module _ (v b x : List Entry) (place old : ℕ) (deed : Deed) (later : Edge) (hv
       → (cell cs place).0 ≡ count place log
       → (found : Bool) → ((cell cs place).0 == old) ≡ found
       → Goes IsKept shown moved place (b, (no_nib, None)) (λ n. either (n == old) (old + 1) n)
-          (Adds (step place old (old + 1) entry) (b, (no_nib, None))) cs log
+      (Adds (step place old (old + 1) entry) (b, (no_nib, None))) cs log
   goes cs log kept pre there counted true is =
       let same : count place log ≡ count place v = grind (arith, nat_tests, counted, is, had) in
       let on = later_told place v x log hv hx (prefix_trans v b log pv pre) (prefix_trans x b log px pre) same in
       let legal : IsHistory (log ++ entry ∷ []) = history-append log (entry ∷ []) kept.legal
-          (follows_later place (told (world v) (world x)) (world log) deed later on follows, tt) in
+      (follows_later place (told (world v) (world x)) (world log) deed later on follows, tt) in
       let n : either ((cell cs place).0 == old) (old + 1) (cell cs place).0 ≡ old + 1 = rw is refl in (
         keeps,
         entry ∷ [],
@@ -140,7 +140,7 @@ module _ (v b x : List Entry) (place old : ℕ) (deed : Deed) (later : Edge) (hv
   adds_moves cs log kept pre away =
       let on = prefix_trans v b log pv pre in
       let configs : (world log).configs ≡ (world v).configs = ap (λ (z : World). z.configs)
-          (sym (ap world on.1) ∙ world-append v on.0 hv) ∙ configs_end (world v) on.0 in
+      (sym (ap world on.1) ∙ world-append v on.0 hv) ∙ configs_end (world v) on.0 in
       let there : place < length cs = omega (arith, seated, kept.seats, ap length configs) in
       let word = kept.words place there in (
         there,
@@ -166,7 +166,7 @@ module _ (x : List Entry) (place : ℕ) (ask : Entry) (hx : IsHistory x) (seated
   looks_goes : (cs : List Cell) (log : List Entry) → IsKept cs log → place < length cs
       → (cell cs place).0 ≡ count place log
       → Goes IsKept shown moved place (x, (no_nib, None)) (λ n. n) (Looks (step place 0 0 ask) (x, (no_nib, None)))
-          cs log
+      cs log
   looks_goes cs log kept there counted =
       let all : log ++ [] ≡ log = append-nil log in
       let m = (cell cs place).0 in (
@@ -188,7 +188,7 @@ module _ (x : List Entry) (place : ℕ) (ask : Entry) (hx : IsHistory x) (seated
       (Looks (step place 0 0 ask) (x, (no_nib, None)))
   looks_moves cs log kept pre away =
       let configs : (world log).configs ≡ (world x).configs = ap (λ (z : World). z.configs)
-          (sym (ap world pre.1) ∙ world-append x pre.0 hx) ∙ configs_end (world x) pre.0 in
+      (sym (ap world pre.1) ∙ world-append x pre.0 hx) ∙ configs_end (world x) pre.0 in
       let there : place < length cs = omega (arith, seated, kept.seats, ap length configs) in
       let word = kept.words place there in
       (there, ap (λ (c : Cell). c.1) word, looks_goes cs log kept there (ap (λ (c : Cell). c.0) word))
@@ -213,8 +213,16 @@ whole_if place entries found v x log p q had counted = by_case (found == entries
     by_case : (b : Bool) → (found == entries) ≡ b → OnTrue b (count place x ≡ count place v)
     by_case true is =
         let same : found ≡ entries = grind (arith, nat_tests, is) in
-        omega (arith, same, had, counted, ap (count place) p.1, ap (count place) q.1, count-append place v p.0,
-            count-append place x q.0)
+        omega (
+          arith,
+          same,
+          had,
+          counted,
+          ap (count place) p.1,
+          ap (count place) q.1,
+          count-append place v p.0,
+          count-append place x q.0,
+        )
     by_case false is = tt
 
 pub taken_if : {P : Type 0} (Q : Type 0) (found entries : ℕ) → found ≡ entries → MatchBool (found == entries) P Q → P

@@ -46,9 +46,13 @@ pub later_self : (n : ℕ) (w : World) → IsLater n w w
 later_self n w = record { outside = refl; configs = refl; edge = refl; pool = λ u h. h }
 
 pub later_trans : (n : ℕ) (w x y : World) → IsLater n w x → IsLater n x y → IsLater n w y
-later_trans n w x y p q = record
-    { outside = q.outside ∙ p.outside; configs = q.configs ∙ p.configs; edge = q.edge ∙ p.edge; pool = λ u h. q.pool
-    u (p.pool u h) }
+later_trans n w x y p q = record {
+  outside = q.outside ∙ p.outside;
+  configs = q.configs ∙ p.configs;
+  edge = q.edge ∙ p.edge;
+  pool = λ u h. q.pool
+      u (p.pool u h);
+}
 
 pub pool_grows : (pool : List Fields) (deed : Deed) (u : Fields) → Contains pool u → Contains (pool_after pool deed) u
 pool_grows pool Opens u h = h
@@ -77,7 +81,7 @@ pub later_end : (n : ℕ) (w : World) (es : List Entry) → count n es ≡ 0 →
 later_end n w [] h = later_self n w
 later_end n w (e ∷ es) h =
     later_trans n w (world_after w e) (end_of (world_after w e) es) (later_one n w e (omega arith))
-        (later_end n (world_after w e) es (omega arith))
+    (later_end n (world_after w e) es (omega arith))
 
 turns_later : {event : Event} {answer : Result Reply Refusal} {later : Edge} (old new : Option Edge)
     → Turns old event answer later → new ≡ old → Turns new event answer later

@@ -58,8 +58,8 @@ pub added_told : (place before : ℕ) (old new : List Entry) (u : Fields) (later
     → IsAdded place before old (Does place (Announces u) later) new → Contains (world new).pool u
 added_told place before old new u later a =
     subst (λ (w : World). Contains w.pool u)
-        (sym (added_world place before old new (Does place (Announces u) later) a))
-        (Contains-append_right (world a.log).pool (u ∷ []) u (0, omega arith, refl))
+    (sym (added_world place before old new (Does place (Announces u) later) a))
+    (Contains-append_right (world a.log).pool (u ∷ []) u (0, omega arith, refl))
 
 -- and is known
 pub told_known : (place before : ℕ) (old new : List Entry) (u : Fields) (later : Edge)
@@ -77,7 +77,7 @@ pub stands_later : (place : ℕ) (v x : List Entry) (edge : Edge) → IsHistory 
 stands_later place v x edge hv pre same s =
     let none : count place pre.0 ≡ 0 = omega (arith, same, ap (count place) pre.1, count-append place v pre.0) in
     let on : (end_of (world v) pre.0).edges place ≡ (world v).edges place =
-        (later_end place (world v) pre.0 none).edge in
+    (later_end place (world v) pre.0 none).edge in
     record {
       before = s.before;
       is_open = ap (λ (w : World). w.edges place) (sym (ap world pre.1) ∙ world-append v pre.0 hv) ∙ (on ∙ s.is_open);
@@ -117,10 +117,17 @@ added_seat book place entries word front new deed later s a =
     let e = Does place deed later in
     let log_configs : (world a.log).configs ≡ (world front).configs = configs_same front a.log s.legal a.begins in
     let configs : (world new).configs ≡ (world front).configs = ap (λ (w : World). w.configs)
-        (added_world place (count place front) front new e a) ∙ log_configs in
+    (added_world place (count place front) front new e a) ∙ log_configs in
     record {
-      counted = omega (arith, s.counted, a.had, one_self place, ap (count place) a.new_is, count-append place a.log
-          (e ∷ []));
+      counted = omega (
+        arith,
+        s.counted,
+        a.had,
+        one_self place,
+        ap (count place) a.new_is,
+        count-append place a.log
+            (e ∷ []),
+      );
       legal = a.legal;
       word_is = s.word_is;
       seated = subst (λ (cs : List EdgeConfig). place < length cs) (sym configs) s.seated;

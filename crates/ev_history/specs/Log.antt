@@ -44,7 +44,7 @@ abbrev pub Goes : Edge → List Event → Edge → Type 0
 Goes a [] b = b ≡ a
 Goes a (event ∷ earlier) b =
     (mid : Edge) × (answer : Result Reply Refusal) × Goes a earlier mid × IsQuiet event answer × Steps mid event
-        answer b
+    answer b
 
 abbrev pub Reaches : Edge → Edge → Type 0
 Reaches a b = (events : List Event) × Goes a events b

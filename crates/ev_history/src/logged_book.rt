@@ -61,13 +61,7 @@ impl<L: Placed, J: Naming> Model for LoggedBook<L, J> {
 }
 
 /// Adds an entry of an edge to the history, after all that was seen here and in `with`.
-fn add<J: Naming, R: Wait>(
-    rt: &R,
-    seat: &mut Seat<J>,
-    with: &Front<J>,
-    deed: Deed,
-    edge: &Edge,
-)
+fn add<J: Naming, R: Wait>(rt: &R, seat: &mut Seat<J>, with: &Front<J>, deed: Deed, edge: &Edge)
     requires { Follows (told (world seat.old.log) (world with.now))
         (Does seat.old.place deed edge.now) }
     ensures place { seat.new.place ≡ seat.old.place }
@@ -110,12 +104,7 @@ fn note<J: Naming, R: Wait>(
 }
 
 /// Adds an announcement of an edge to the history, and returns it.
-fn tell<J: Naming, R: Wait>(
-    rt: &R,
-    seat: &mut Seat<J>,
-    update: Update,
-    edge: &Edge,
-) -> Told<J>
+fn tell<J: Naming, R: Wait>(rt: &R, seat: &mut Seat<J>, update: Update, edge: &Edge) -> Told<J>
     requires { Follows (told (world seat.old.log) (world seat.old.log))
         (Does seat.old.place (Announces update) edge.now) }
     ensures told { result ≡ update }

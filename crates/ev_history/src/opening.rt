@@ -67,10 +67,7 @@ impl NewHistory {
     ///
     /// `AllocError` if memory is refused.
     #[tactic(auto, using(crate::proofs::Beginning::is_legal, crate::proofs::Beginning::is_none, crate::proofs::Beginning::is_seated))]
-    pub fn seats<J: Naming>(
-        self,
-        alloc: Global,
-    ) -> Result<(Front<J>, Vec<Seat<J>>), AllocError>
+    pub fn seats<J: Naming>(self, alloc: Global) -> Result<(Front<J>, Vec<Seat<J>>), AllocError>
         requires { self.seen.book ≡ J.book }
         ensures front { IfOk result (λ r. r.0 ≡ self.seen.log) }
         ensures places { IfOk result

@@ -9,8 +9,8 @@ ghost use Rattle.ev_history.specs.Rule.{told, IsAdded};
 ghost use Rattle.ev_history.specs.Standing.{Stands};
 
 use crate::entry::Entry;
-use crate::rule::{Add, Adding, History, Look, Nothing};
 use crate::front::{Front, Naming};
+use crate::rule::{Add, Adding, History, Look, Nothing};
 use logbook::{Offer, Pen, Word};
 use std::marker::Model;
 use std::sync::Wait;
@@ -99,8 +99,9 @@ impl<J: Naming> Seat<J> {
             (count self.now.place front.now ≡ count self.now.place self.now.log) }
     {
         let mut later = self.front.both(front);
-        let mut offer: Offer<Entry, u64, History, Nothing> =
-            later.seen.plain::<Nothing, u64, Look>(&0);
+        let mut offer: Offer<Entry, u64, History, Nothing> = later
+            .seen
+            .plain::<Nothing, u64, Look>(&0);
         let found = self.word.load::<Look, Nothing>(&mut later.seen, &mut offer);
         found == self.entries
     }
@@ -132,16 +133,19 @@ impl<J: Naming> Seat<J> {
     {
         let entries = self.entries;
         let mut both = self.front.both(with);
-        let mut offer: Offer<Entry, u64, History, Nothing> =
-            both.seen.plain::<Nothing, Adding<'_>, Add>(adding);
+        let mut offer: Offer<Entry, u64, History, Nothing> = both
+            .seen
+            .plain::<Nothing, Adding<'_>, Add>(adding);
         let mut pen = both.seen.no_pen();
-        let found = self.word.compare_exchange::<Add, Nothing>(
-            entries,
-            entries + 1,
-            &mut both.seen,
-            &mut offer,
-            &mut pen,
-        );
+        let found = self
+            .word
+            .compare_exchange::<Add, Nothing>(
+                entries,
+                entries + 1,
+                &mut both.seen,
+                &mut offer,
+                &mut pen,
+            );
         if found == entries { Some(both) } else { None }
     }
 

@@ -86,15 +86,21 @@ module _ (configs : List EdgeConfig) where
   local_step : (edges : List Edge) (pool : List Fields) (place : ℕ) (event : LocalEvent)
       (answer : Result Reply Refusal) (a b : Edge) → slice_get edges place ≡ Some a
       → Steps a (event_of event) answer b
-          → FabricSteps (fabric edges pool) (Local (suc place) event) (of_edge answer)
-          (fabric (slice_set edges place b) pool)
+      → FabricSteps (fabric edges pool) (Local (suc place) event) (of_edge answer)
+      (fabric (slice_set edges place b) pool)
   local_step edges pool place event answer a b there steps =
       subst (λ (o : Option Edge). MatchOption o
-          (IsRefused NoSuchEdge (fabric edges pool) (of_edge answer) (fabric (slice_set edges place b) pool))
-        (λ x. StepsAt (fabric edges pool) (suc place) x (event_of event) (of_edge answer)
-            (fabric (slice_set edges place b) pool))) (sym there)
-      (record { after = b; answer = answer; steps = steps; result_is = refl; new_is = sym
-          (at_place edges pool place b) })
+      (IsRefused NoSuchEdge (fabric edges pool) (of_edge answer) (fabric (slice_set edges place b) pool))
+      (λ x. StepsAt (fabric edges pool) (suc place) x (event_of event) (of_edge answer)
+      (fabric (slice_set edges place b) pool))) (sym there)
+      (record {
+        after = b;
+        answer = answer;
+        steps = steps;
+        result_is = refl;
+        new_is = sym
+            (at_place edges pool place b);
+      })
 
   announce_step : (edges : List Edge) (pool more : List Fields) (place : ℕ) (reply : Reply) (a b : Edge)
       → slice_get edges place ≡ Some a
@@ -103,30 +109,39 @@ module _ (configs : List EdgeConfig) where
   announce_step edges pool more place reply a b there steps is =
       let index : place ≡ suc place - 1 = omega arith in
       subst (λ (o : Option Edge). MatchOption o
-          (IsRefused NoSuchEdge (fabric edges pool) (Ok reply) (fabric (slice_set edges place b) more))
-        (λ x. AnnouncesAt (fabric edges pool) (suc place) x (Ok reply) (fabric (slice_set edges place b) more)))
-            (sym there)
-      (b, steps, ap (λ (k : ℕ). fabric (slice_set edges k b) more) index ∙ ap
-          (λ (p : List Fields). fabric (slice_set edges (suc place - 1) b) p) is)
+      (IsRefused NoSuchEdge (fabric edges pool) (Ok reply) (fabric (slice_set edges place b) more))
+      (λ x. AnnouncesAt (fabric edges pool) (suc place) x (Ok reply) (fabric (slice_set edges place b) more)))
+      (sym there) (
+        b,
+        steps,
+        ap (λ (k : ℕ). fabric (slice_set edges k b) more) index ∙ ap
+            (λ (p : List Fields). fabric (slice_set edges (suc place - 1) b) p) is,
+      )
 
   deliver_step : (edges : List Edge) (pool : List Fields) (place k : ℕ) (u : Fields) (answer : Result Reply Refusal)
       (a b : Edge) → slice_get edges place ≡ Some a
       → slice_get pool k ≡ Some u → Steps a (events.Take u) answer b
       → FabricSteps (fabric edges pool) (Deliver (suc place) (suc k)) (of_edge answer)
-          (fabric (slice_set edges place b) pool)
+      (fabric (slice_set edges place b) pool)
   deliver_step edges pool place k u answer a b there known steps =
       subst (λ (o : Option Edge). MatchOption o
-          (IsRefused NoSuchEdge (fabric edges pool) (of_edge answer) (fabric (slice_set edges place b) pool))
-        (λ x. MatchOption (nth pool (suc k))
-            (IsRefused NoSuchUpdate (fabric edges pool) (of_edge answer) (fabric (slice_set edges place b) pool))
-          (λ v. StepsAt (fabric edges pool) (suc place) x (events.Take v) (of_edge answer)
-              (fabric (slice_set edges place b) pool)))) (sym there)
+      (IsRefused NoSuchEdge (fabric edges pool) (of_edge answer) (fabric (slice_set edges place b) pool))
+      (λ x. MatchOption (nth pool (suc k))
+      (IsRefused NoSuchUpdate (fabric edges pool) (of_edge answer) (fabric (slice_set edges place b) pool))
+      (λ v. StepsAt (fabric edges pool) (suc place) x (events.Take v) (of_edge answer)
+      (fabric (slice_set edges place b) pool)))) (sym there)
       (subst (λ (o : Option Fields). MatchOption o
-          (IsRefused NoSuchUpdate (fabric edges pool) (of_edge answer) (fabric (slice_set edges place b) pool))
-          (λ v. StepsAt (fabric edges pool) (suc place) a (events.Take v) (of_edge answer)
-              (fabric (slice_set edges place b) pool))) (sym known)
-        (record { after = b; answer = answer; steps = steps; result_is = refl; new_is = sym
-            (at_place edges pool place b) }))
+      (IsRefused NoSuchUpdate (fabric edges pool) (of_edge answer) (fabric (slice_set edges place b) pool))
+      (λ v. StepsAt (fabric edges pool) (suc place) a (events.Take v) (of_edge answer)
+      (fabric (slice_set edges place b) pool))) (sym known)
+      (record {
+        after = b;
+        answer = answer;
+        steps = steps;
+        result_is = refl;
+        new_is = sym
+            (at_place edges pool place b);
+      }))
 
   record OneStep (edges : List Edge) (pool more : List Fields) (place : ℕ) (b : Edge) : Type 0 where
     step : Step
@@ -137,8 +152,12 @@ module _ (configs : List EdgeConfig) where
       (a b : Edge) → slice_get edges place ≡ Some a
       → Steps a (event_of event) answer b → OneStep edges pool pool place b
   locally edges pool place event answer a b there steps =
-      record { step = Local (suc place) event; result = of_edge answer; steps = local_step edges pool place event
-          answer a b there steps }
+      record {
+        step = Local (suc place) event;
+        result = of_edge answer;
+        steps = local_step edges pool place event
+            answer a b there steps;
+      }
 
   quiet_announce : (edges : List Edge) (pool : List Fields) (place : ℕ) (answer : Result Reply Refusal) (a b : Edge)
       → slice_get edges place ≡ Some a
@@ -189,12 +208,14 @@ module _ (configs : List EdgeConfig) where
       let mid = goes.0 in
       let first = goes_runs edges pool place a earlier mid there goes.2 in
       let one = quiet_step (slice_set edges place mid) pool place event goes.1 mid b
-          (get_set_same edges place mid a there) goes.3 goes.4 in
+      (get_set_same edges place mid a there) goes.3 goes.4 in
       let ends : fabric (slice_set edges place b) pool ≡ fabric (slice_set (slice_set edges place mid) place b)
-          pool = ap (λ es. fabric es pool) (sym (set_set edges place mid b)) in
-      (first.0 ++ one.step ∷ [], runs_append (fabric edges pool) (fabric (slice_set edges place mid) pool)
-          (fabric (slice_set edges place b) pool) first.0 (one.step ∷ []) first.1
-        (fabric (slice_set (slice_set edges place mid) place b) pool, one.result, one.steps, ends))
+      pool = ap (λ es. fabric es pool) (sym (set_set edges place mid b)) in (
+        first.0 ++ one.step ∷ [],
+        runs_append (fabric edges pool) (fabric (slice_set edges place mid) pool)
+            (fabric (slice_set edges place b) pool) first.0 (one.step ∷ []) first.1
+            (fabric (slice_set (slice_set edges place mid) place b) pool, one.result, one.steps, ends),
+      )
 
   -- quiet events, and then one step more
   turn_runs : (edges : List Edge) (pool more : List Fields) (place : ℕ) (a mid later : Edge)
@@ -206,10 +227,12 @@ module _ (configs : List EdgeConfig) where
       let middle = slice_set edges place mid in
       let one = is_step middle (get_set_same edges place mid a there) in
       let ends : fabric (slice_set edges place later) more ≡ fabric (slice_set middle place later) more = ap
-          (λ es. fabric es more) (sym (set_set edges place mid later)) in
-      (first.0 ++ one.step ∷ [], runs_append (fabric edges pool) (fabric middle pool)
-          (fabric (slice_set edges place later) more) first.0 (one.step ∷ []) first.1
-        (fabric (slice_set middle place later) more, one.result, one.steps, ends))
+      (λ es. fabric es more) (sym (set_set edges place mid later)) in (
+        first.0 ++ one.step ∷ [],
+        runs_append (fabric edges pool) (fabric middle pool)
+            (fabric (slice_set edges place later) more) first.0 (one.step ∷ []) first.1
+            (fabric (slice_set middle place later) more, one.result, one.steps, ends),
+      )
 
 -- ---- from the end of a log back to its beginning
 
@@ -232,17 +255,17 @@ done_back : (w : World) (place : ℕ) (deed : Deed) (later old : Edge) (pool : L
     → Seated w → w.edges place ≡ Some old
     → (rest : Begun (world_after w (Does place deed later)) pool edges)
     → ((before : List Edge) → slice_get before place ≡ Some old
-        → (steps : List Step) × Runs (fabric_of before w.configs w.pool) steps
-        (fabric_of (slice_set before place later) w.configs (pool_after w.pool deed)))
+    → (steps : List Step) × Runs (fabric_of before w.configs w.pool) steps
+    (fabric_of (slice_set before place later) w.configs (pool_after w.pool deed)))
     → Begun w pool edges
 done_back w place deed later old pool edges seated is rest step =
     let there : slice_get rest.before place ≡ Some later = rest.were place later
-        (edges_here place place w.edges later refl) in
+    (edges_here place place w.edges later refl) in
     let before = slice_set rest.before place old in
     let old_there : slice_get before place ≡ Some old = get_set_same rest.before place old later there in
     let one = step before old_there in
     let again : slice_set before place later ≡ rest.before = set_set rest.before place old later ∙ set_get
-        rest.before place later there in
+    rest.before place later there in
     record {
       before = before;
       len = length-set rest.before place old ∙ rest.len;
@@ -253,26 +276,27 @@ done_back w place deed later old pool edges seated is rest step =
           (fabric_of (slice_set before place later) w.configs (pool_after w.pool deed))
           (fabric_of edges w.configs pool) one.0 rest.steps one.1
           (subst (λ (es : List Edge). Runs (fabric_of es w.configs (pool_after w.pool deed)) rest.steps
-              (fabric_of edges w.configs pool)) (sym again) rest.runs);
+          (fabric_of edges w.configs pool)) (sym again) rest.runs);
     }
   where
     were : (n : ℕ) (a : Edge) → w.edges n ≡ Some a → Same n place
         → slice_get (slice_set rest.before place old) n ≡ Some a
     were n a h (same eq) =
         let there : slice_get rest.before place ≡ Some later = rest.were place later
-            (edges_here place place w.edges later refl) in
+        (edges_here place place w.edges later refl) in
         let olds : Some old ≡ Some a = sym is ∙ (ap w.edges (sym eq) ∙ h) in
         ap (λ k. slice_get (slice_set rest.before place old) k) eq ∙
-            (get_set_same rest.before place old later there ∙ olds)
+        (get_set_same rest.before place old later there ∙ olds)
     were n a h (other ne) =
         get_set_other rest.before place n old ne ∙ rest.were n a (edges_there n place w.edges later ne ∙ h)
+
     not_yet : (n : ℕ) (a : Edge) → w.edges n ≡ None → slice_get (slice_set rest.before place old) n ≡ Some a
         → Same n place
         → (config : EdgeConfig) × (slice_get w.configs n ≡ Some config) × openings.IsOpening config a × IsGoodEdge a
     not_yet n a h at (same eq) = absurd (cc (sym is ∙ (ap w.edges (sym eq) ∙ h)))
     not_yet n a h at (other ne) =
         rest.not_yet n a (edges_there n place w.edges later ne ∙ h)
-            (sym (get_set_other rest.before place n old ne) ∙ at)
+        (sym (get_set_other rest.before place n old ne) ∙ at)
 
 -- an edge was opened: before it, it was as it was opened
 opened_back : (w : World) (place : ℕ) (later : Edge) (pool : List Fields) (edges : List Edge) → IsOpening w place later
@@ -289,13 +313,18 @@ opened_back w place later pool edges opens rest = record {
     were : (n : ℕ) (a : Edge) → w.edges n ≡ Some a → Same n place → slice_get rest.before n ≡ Some a
     were n a h (same eq) = absurd (cc (sym opens.closed ∙ (ap w.edges (sym eq) ∙ h)))
     were n a h (other ne) = rest.were n a (edges_there n place w.edges later ne ∙ h)
+
     not_yet : (n : ℕ) (a : Edge) → w.edges n ≡ None → slice_get rest.before n ≡ Some a → Same n place
         → (config : EdgeConfig) × (slice_get w.configs n ≡ Some config) × openings.IsOpening config a × IsGoodEdge a
     not_yet n a h at (same eq) =
         let there : slice_get rest.before n ≡ Some later = rest.were n later (edges_here n place w.edges later eq) in
-        let is_later : a ≡ later = cc (sym at ∙ there) in
-        (opens.config, ap (slice_get w.configs) eq ∙ opens.is_there, subst (openings.IsOpening opens.config)
-            (sym is_later) opens.opens, subst IsGoodEdge (sym is_later) opens.good)
+        let is_later : a ≡ later = cc (sym at ∙ there) in (
+          opens.config,
+          ap (slice_get w.configs) eq ∙ opens.is_there,
+          subst (openings.IsOpening opens.config)
+              (sym is_later) opens.opens,
+          subst IsGoodEdge (sym is_later) opens.good,
+        )
     not_yet n a h at (other ne) = rest.not_yet n a (edges_there n place w.edges later ne ∙ h) at
 
 place_seated : (w : World) (place : ℕ) (deed : Deed) (later : Edge) → Seated w → Follows w (Does place deed later)
@@ -319,7 +348,7 @@ place_in_pool pool u h = (h.0, slice_get_read pool (length pool) h.0 u refl h.1 
 pub run_back : (es : List Entry) (w : World) → w.outside ≡ false → AreLegal w es → Seated w → (edges : List Edge)
     → length edges ≡ length w.configs
     → ((n : ℕ) (a : Edge) → slice_get edges n ≡ Some a → (end_of w es).edges n ≡ Some a)
-        → Begun w (end_of w es).pool edges
+    → Begun w (end_of w es).pool edges
 run_back [] w closed legal seated edges len are = record {
   before = edges;
   len = len;
@@ -333,31 +362,39 @@ run_back (Begins o cs ∷ es) w closed legal seated edges len are = absurd legal
 run_back (Does place Opens later ∷ es) w closed legal seated edges len are =
     let e = Does place Opens later in
     let rest = run_back es (world_after w e) closed legal.1 (seated_after w place Opens later seated legal.0) edges
-        len are in
+    len are in
     opened_back w place later (end_of (world_after w e) es).pool edges legal.0 rest
 run_back (Does place (Announces u) later ∷ es) w closed legal seated edges len are =
     let e = Does place (Announces u) later in
     let t = legal.0.turns in
     let reply = legal.0.reply in
     let says : w.pool ++ u ∷ [] ≡ with_announced w.pool reply.announced = ap (with_announced w.pool)
-        (sym legal.0.says) in
+    (sym legal.0.says) in
     let rest = run_back es (world_after w e) closed legal.1 (seated_after w place (Announces u) later seated legal.0)
-        edges len are in
+    edges len are in
     done_back w place (Announces u) later t.before (end_of (world_after w e) es).pool edges seated t.is_open rest
     (λ before there. turn_runs w.configs before w.pool (w.pool ++ u ∷ []) place t.before t.mid later there t.reaches
-      (λ es at. record { step = Announce (suc place); result = Ok reply; steps = announce_step w.configs es w.pool
-          (w.pool ++ u ∷ []) place reply t.mid later at t.steps says }))
+    (λ es at. record {
+      step = Announce (suc place);
+      result = Ok reply;
+      steps = announce_step w.configs es w.pool
+          (w.pool ++ u ∷ []) place reply t.mid later at t.steps says;
+    }))
 run_back (Does place (Takes u) later ∷ es) w closed legal seated edges len are =
     let e = Does place (Takes u) later in
     let answer = legal.0.answer in
     let k = place_in_pool w.pool u (subst (λ (o : Bool). IsKnown o w.pool u) closed legal.0.known) in
     let t = legal.0.turns in
     let rest = run_back es (world_after w e) closed legal.1 (seated_after w place (Takes u) later seated legal.0)
-        edges len are in
+    edges len are in
     done_back w place (Takes u) later t.before (end_of (world_after w e) es).pool edges seated t.is_open rest
     (λ before there. turn_runs w.configs before w.pool w.pool place t.before t.mid later there t.reaches
-      (λ es at. record { step = Deliver (suc place) (suc k.0); result = of_edge answer; steps = deliver_step
-          w.configs es w.pool place k.0 u answer t.mid later at k.1 t.steps }))
+    (λ es at. record {
+      step = Deliver (suc place) (suc k.0);
+      result = of_edge answer;
+      steps = deliver_step
+          w.configs es w.pool place k.0 u answer t.mid later at k.1 t.steps;
+    }))
 
 -- ---- the events after the last entries
 
@@ -385,12 +422,14 @@ tails_run configs pool done (b ∷ bs) (a ∷ xs) r =
     let one = goes_runs configs (done ++ b ∷ bs) pool (length done) b r.0.0 a (get_middle done b bs) r.0.1 in
     let rest = tails_run configs pool (done ++ a ∷ []) bs xs r.1 in
     let middle : slice_set (done ++ b ∷ bs) (length done) a ≡ (done ++ a ∷ []) ++ bs = set_middle done b a bs in
-    let last : (done ++ a ∷ []) ++ xs ≡ done ++ a ∷ xs = append_assoc done (a ∷ []) xs in
-    (one.0 ++ rest.0, runs_append (fabric_of (done ++ b ∷ bs) configs pool)
-        (fabric_of ((done ++ a ∷ []) ++ bs) configs pool) (fabric_of (done ++ a ∷ xs) configs pool) one.0 rest.0
-      (subst (λ es. Runs (fabric_of (done ++ b ∷ bs) configs pool) one.0 (fabric_of es configs pool)) middle one.1)
-      (subst (λ es. Runs (fabric_of ((done ++ a ∷ []) ++ bs) configs pool) rest.0 (fabric_of es configs pool)) last
-          rest.1))
+    let last : (done ++ a ∷ []) ++ xs ≡ done ++ a ∷ xs = append_assoc done (a ∷ []) xs in (
+      one.0 ++ rest.0,
+      runs_append (fabric_of (done ++ b ∷ bs) configs pool)
+          (fabric_of ((done ++ a ∷ []) ++ bs) configs pool) (fabric_of (done ++ a ∷ xs) configs pool) one.0 rest.0
+          (subst (λ es. Runs (fabric_of (done ++ b ∷ bs) configs pool) one.0 (fabric_of es configs pool)) middle one.1)
+          (subst (λ es. Runs (fabric_of ((done ++ a ∷ []) ++ bs) configs pool) rest.0 (fabric_of es configs pool)) last
+          rest.1),
+    )
 
 -- ---- the law
 
@@ -433,7 +472,7 @@ pub history_runs : (configs : List EdgeConfig) (es : List Entry) (edges : List E
 history_runs configs es edges legal len all =
     let lasts = lasts_of (Begins false configs ∷ es) 0 edges all in
     let b = run_back es (begun false configs) refl legal (λ n a h. absurd cc) lasts.lasts (lasts.len ∙ len)
-        (λ n a h. subst (λ k. (end_of (begun false configs) es).edges k ≡ Some a) (omega arith) (lasts.are n a h)) in
+    (λ n a h. subst (λ k. (end_of (begun false configs) es).edges k ≡ Some a) (omega arith) (lasts.are n a h)) in
     let pool = (end_of (begun false configs) es).pool in
     let tail = tails_run configs pool [] lasts.lasts edges lasts.reach in
     record {

@@ -9,5 +9,5 @@ new-requires g c =
     let seat = c.args.seat.now in
     let new = c.add.new.self.log in
     subst (λ (l : List Entry). IsKnown (world l).outside (world l).pool c.args.update)
-        (sym (c.again.ensures.same ∙ c.front-3.ensures.log))
-      (told_known seat.place (count seat.place seat.log) seat.log new c.args.update c.args.edge.now c.add.ensures.added)
+    (sym (c.again.ensures.same ∙ c.front-3.ensures.log))
+    (told_known seat.place (count seat.place seat.log) seat.log new c.args.update c.args.edge.now c.add.ensures.added)

@@ -11,12 +11,15 @@ tell-requires g c =
     let e = c.enter_into-answer in
     subst (λ (x : Edge). Announcing ((world s.seat.log).edges s.seat.place) c.in-Some.update x) (sym c.edge.ensures)
     (announce_follows s.seat.place s.seat.log (world s.seat.log) s.book e.new.self c.args.pass.now e.new.pass
-        c.in-Some.update (answered e.result e.new.reply) (sym c.announced_by.ensures ∙ c.in-Some.is)
-        c.self.invariant.1 e.ensures.calls)
+    c.in-Some.update (answered e.result e.new.reply) (sym c.announced_by.ensures ∙ c.in-Some.is)
+    c.self.invariant.1 e.ensures.calls)
 
 pub invariant_of-self-in-None : goal.invariant_of-self-in-None
 invariant_of-self-in-None g c =
     let s = c.self.inside in
-    let e = c.enter_into-answer in
-    (c.self.invariant.0, announce_stands s.seat.place s.seat.log s.book e.new.self c.args.pass.now e.new.pass
-        (answered e.result e.new.reply) (sym c.announced_by.ensures ∙ c.in-None.is) c.self.invariant.1 e.ensures.calls)
+    let e = c.enter_into-answer in (
+      c.self.invariant.0,
+      announce_stands s.seat.place s.seat.log s.book e.new.self c.args.pass.now e.new.pass
+          (answered e.result e.new.reply) (sym c.announced_by.ensures ∙ c.in-None.is) c.self.invariant.1
+          e.ensures.calls,
+    )

@@ -15,7 +15,7 @@ note-requires g c =
     subst (λ o. IsCovered c.args.event.now (option_copied o)) c.in-Some.is c.requires in
     subst (λ (x : Edge). GoesOn s.seat.place s.seat.log (events.Take u) e.result x) (sym c.edge.ensures)
     (goes_on s.seat.place s.seat.log s.book e.new.self c.args.pass.now e.new.pass c.args.event.now u e.result
-        e.new.reply
+    e.new.reply
     taken c.self.invariant.1 e.ensures.calls)
 
 pub invariant_of-self-in-None : goal.invariant_of-self-in-None
@@ -23,8 +23,7 @@ invariant_of-self-in-None g c =
     let s = c.self.inside in
     let e = c.enter_into-answer in
     let own : is_own c.args.event.now ≡ true =
-    subst (λ o. IsCovered c.args.event.now (option_copied o)) c.in-None.is c.requires in
-    (
+    subst (λ o. IsCovered c.args.event.now (option_copied o)) c.in-None.is c.requires in (
       c.self.invariant.0,
       own_stands s.seat.place s.seat.log s.book e.new.self c.args.pass.now e.new.pass c.args.event.now e.result
           e.new.reply own c.self.invariant.1 e.ensures.calls,

@@ -13,7 +13,7 @@ invariant_of-self g c =
     let new = c.added-front.result in
     let added : IsAdded s.place (count s.place s.front) s.front (Does s.place deed edge) new =
     subst (λ (x : SeatState). IsAdded x.place (count x.place x.log) x.log (Does x.place deed edge) new)
-        (sym c.self.view_is) c.added-front.ensures.added in
+    (sym c.self.view_is) c.added-front.ensures.added in
     added_seat g.J.Naming.book s.place s.entries s.word s.front new deed edge c.self.invariant added
 
 pub returns-clause-stands : goal.returns-clause-stands
@@ -24,5 +24,5 @@ returns-clause-stands g c =
     let new = c.added-front.result in
     let added : IsAdded s.place (count s.place s.front) s.front (Does s.place deed edge) new =
     subst (λ (x : SeatState). IsAdded x.place (count x.place x.log) x.log (Does x.place deed edge) new)
-        (sym c.self.view_is) c.added-front.ensures.added in
+    (sym c.self.view_is) c.added-front.ensures.added in
     added_stands s.place (count s.place s.front) s.front new deed edge added

@@ -23,10 +23,10 @@ compare_exchange-found-requires g c =
     let key_is : c.self.inside.word.key ≡ at = ap (λ w. w.key) h ∙ place_is in
     let ask_is : c.plain-offer.result.ask ≡ Does at deed edge = offer.1 ∙ ap (λ n. Does n deed edge) c.requires.place in
     let had : count at v ≡ c.self.inside.entries = sym
-        (c.self.invariant.counted ∙ (ap (λ n. count n c.self.inside.front) place_is ∙ ap (count at) log_is)) in
+    (c.self.invariant.counted ∙ (ap (λ n. count n c.self.inside.front) place_is ∙ ap (count at) log_is)) in
     let seated : at < length (world v).configs =
     subst (λ (n : ℕ). n < length (world v).configs) place_is
-        (subst (λ (l : List Entry). c.self.inside.place < length (world l).configs) log_is c.self.invariant.seated) in
+    (subst (λ (l : List Entry). c.self.inside.place < length (world l).configs) log_is c.self.invariant.seated) in
     let pv : IsPrefix v c.both.inside.seen.log = rw (← log_is, c.both.view_is) both.this in
     let px : IsPrefix c.args.with.now c.both.inside.seen.log = rw c.both.view_is both.that in (
       ap (λ w. w.tracked) h,
@@ -52,15 +52,17 @@ returns-then-found-entries g c =
     let place_is : c.self.inside.place ≡ at = ap (λ (s : SeatState). s.place) c.self.view_is in
     let key_is : c.self.inside.word.key ≡ at = ap (λ w. w.key) c.self.invariant.word_is ∙ place_is in
     let ask_is : c.plain-offer.result.ask ≡ Does at deed edge = c.plain-offer.ensures.1 ∙ ap (λ n. Does n deed edge)
-        c.requires.place in
+    c.requires.place in
     let had : count at v ≡ c.self.inside.entries = sym
-        (c.self.invariant.counted ∙ (ap (λ n. count n c.self.inside.front) place_is ∙ ap (count at) log_is)) in
+    (c.self.invariant.counted ∙ (ap (λ n. count n c.self.inside.front) place_is ∙ ap (count at) log_is)) in
     let pv : IsPrefix v b = rw (← log_is, c.both.view_is) both.this in
     let px : IsPrefix c.args.with.now b = rw c.both.view_is both.that in
     let play : IsAdded c.self.inside.word.key c.self.inside.entries b c.plain-offer.result.ask new =
     taken_if (IsHistory new) c.compare_exchange-found.result c.self.inside.entries c.if-found-entries.true e.7 in
     let added : IsAdded at c.self.inside.entries b (Does at deed edge) new =
     subst (λ (n : ℕ). IsAdded n c.self.inside.entries b (Does at deed edge) new) key_is
-        (subst (λ (x : Entry). IsAdded c.self.inside.word.key c.self.inside.entries b x new) ask_is play) in
-    (prefix_trans c.args.with.now b new px e.6, added_back v b new at c.self.inside.entries (Does at deed edge) pv
-        had added)
+    (subst (λ (x : Entry). IsAdded c.self.inside.word.key c.self.inside.entries b x new) ask_is play) in (
+      prefix_trans c.args.with.now b new px e.6,
+      added_back v b new at c.self.inside.entries (Does at deed edge) pv
+          had added,
+    )

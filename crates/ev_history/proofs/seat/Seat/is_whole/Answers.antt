@@ -17,7 +17,7 @@ load-found-requires g c =
     let both = c.both-later.ensures in
     let x = c.later.inside.seen.log in
     let configs : (world x).configs ≡ (world c.self.inside.front).configs = rw c.later.view_is
-        (configs_same c.self.inside.front c.both-later.result both.legal_this both.this) in
+    (configs_same c.self.inside.front c.both-later.result both.legal_this both.this) in
     let seated : c.self.inside.place < length (world x).configs =
     subst (λ (cs : List EdgeConfig). c.self.inside.place < length cs) (sym configs) c.self.invariant.seated in (
       ap (λ w. w.tracked) h,
@@ -38,9 +38,9 @@ returns g c =
     let place_is : c.self.inside.place ≡ at = ap (λ (s : SeatState). s.place) c.self.view_is in
     let key_is : c.self.inside.word.key ≡ at = ap (λ w. w.key) c.self.invariant.word_is ∙ place_is in
     let had : c.self.inside.entries ≡ count at v = c.self.invariant.counted ∙
-        (ap (λ n. count n c.self.inside.front) place_is ∙ ap (count at) log_is) in
+    (ap (λ n. count n c.self.inside.front) place_is ∙ ap (count at) log_is) in
     let counted : count at new ≡ c.load-found.result = subst (λ (k : ℕ). count k new ≡ c.load-found.result) key_is
-        e.6.1.0 in
+    e.6.1.0 in
     let seen : IsPrefix c.args.front.now c.later.inside.seen.log = rw c.later.view_is both.that in
     whole_if at c.self.inside.entries c.load-found.result v c.args.front.now new c.requires
-        (prefix_trans c.args.front.now c.later.inside.seen.log new seen e.5) had counted
+    (prefix_trans c.args.front.now c.later.inside.seen.log new seen e.5) had counted
