@@ -12,7 +12,7 @@ cd "$(dirname "$0")/.."
 updates=${1-10000000}
 work=$(mktemp -d)
 trap 'rm -rf "$work"' EXIT
-sed "s/^const UPDATES: u64 = .*;/const UPDATES: u64 = $updates;/" bench/book/long.rt.txt > "$work/long.rt"
+sed "s/^const UPDATES: u64 = .*;/const UPDATES: u64 = $updates;/" bench/book/tests/long.rt.txt > "$work/long.rt"
 tools/try --fast --tests ev_book "$work/long.rt" "$work/long"
 
 run() {

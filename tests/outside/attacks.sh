@@ -134,11 +134,17 @@ listening=$!
 sleep 1
 probe flood 127.0.0.1:30001 127.0.0.1:20001 5 > "$work/sent"
 wait "$listening"
-lost=$(awk '$2 ~ /:4E21$/ { print $NF }' /proc/net/udp)
-echo "$(cat "$work/sent") frames, of which the system lost $lost at the port; $(cat "$work/longest") ms between two BPDUs at most"
+echo "$(cat "$work/sent") frames; $(cat "$work/longest") ms between two BPDUs at most"
 tell "a BPDU comes each second, and half a second late at most" [ "$(cat "$work/longest")" -le 1500 ]
-# the queued frames may go over the cable now
-tc qdisc del dev cable root
+# at a tenth of that rate the queued frames would take 20 seconds, and the system lets a send wait for 5 of them
+tc qdisc change dev cable root tbf rate 100kbit burst 1540 limit 1000000
+probe flood 127.0.0.1:30001 127.0.0.1:20001 2 1400 > "$work/sent"
+lost=$(awk '$2 ~ /:4E21$/ { print $NF }' /proc/net/udp)
+began=$(date +%s%N)
 stop > "$work/stopped"
+took=$((($(date +%s%N) - began) / 1000000))
+echo "$(cat "$work/sent") frames of 1,400 octets, of which the system lost $lost at the port; the run ended after $took ms"
+tell "a run with a slow link ends within three seconds" [ "$took" -le 3000 ]
+tell "what waited for it is told" grep -qE '^edge 1 port 2: [0-9]+ frames dropped: no room$' "$work/notes"
 tell "what the system lost at a port is told" grep -qx "edge 1 port 1: $lost datagrams dropped by the system" "$work/notes"
 end

@@ -7,6 +7,7 @@ import shutil
 import subprocess
 import sys
 import tempfile
+import threading
 import types
 import unittest
 from unittest import mock
@@ -22,8 +23,10 @@ import looks
 import project
 import rooms
 import sources
+import tasks
 
 check = types.SimpleNamespace(**runpy.run_path(os.path.join(TOP, "tools", "check"), run_name="check_of_a_change"))
+seconds = types.SimpleNamespace(**runpy.run_path(os.path.join(TOP, "tools", "seconds"), run_name="seconds_of_a_check"))
 
 SOURCE = """//! Numbers: fn in_a_comment() { .. }
 
@@ -72,7 +75,9 @@ note: src/shape.rt:20:1: it is not proved that what the function ensures holds w
 fn low::shape::SquareShape::area: not proved
 ./proofs/pair/Answers.antt:2:1: error: `no-goal-of-this-name`: `no-goal-of-this-name` is not in scope
 fn low::pair: not proved
-only=7 proved=1
+./proofs/table/Table/keep/Answers.antt: error: rattle does not read `Answers.antt` of `low::table::Table::keep`, since the borrow checker does not cover it yet
+fn low::table::Table::keep: no proof: expected `keep_spec` in ./proofs/table/Table/keep/Proof.antt; the borrow checker does not cover this function yet: src/table.rt:9:5: a parameter that is a `&mut` is moved
+only=8 proved=1
 """
 
 
@@ -193,12 +198,19 @@ class Edits(unittest.TestCase):
         self.assertEqual(self.refusal("Table::move"), (None, {}))
         self.assertEqual(self.refusal("Orders::hold"), (None, {}))
 
+    def test_body_that_is_not_covered_shows_no_goal(self):
+        self.assertEqual(self.refusal("Table::keep"), ("low::table::Table::keep", {"its proof": True}))
+
     def test_verdicts(self):
         words = [edits.Verdict(*it).word for it in ((1, SAID), (0, "logic=proved functions=1\n"), (1, "logic=not-proved functions=1\n"))]
         self.assertEqual(words, ["not-proved", "proved", "not-proved"])
         unjudged = (3, "logic=not-proved\n"), (1, "./src/lib.rt:1:1: error: no\nlogic=not-proved\n"), (2, ""), (-9, "")
         for status, said in unjudged:
             self.assertIn("judged nothing", edits.Verdict(status, said).word)
+
+
+UNCOVERED = "no proof: expected `f0_spec` in ./proofs/f0/Proof.antt; the borrow checker does not cover this function yet: src/lib.rt:2:5: moved"
+ABOVE = "no proof: the borrow checker's part in its proof is not made yet: a call of `low::f0`, which has no proof: help: prove it first"
 
 
 class Together(unittest.TestCase):
@@ -220,8 +232,12 @@ class Together(unittest.TestCase):
                     return edits.Verdict(1, "./src/lib.rt:2:5: error[unresolved]: no `wrong` here\n")
                 goal = "note: src/lib.rt:1:1: it is not proved that what the function ensures holds (`returns`)\n"
                 callers = re.findall(r"fn (\w+)\(\) -> u8 \{\n    calls", texts["src/lib.rt"]) if len(only) > 1 else []
-                told = (f"fn low::{it}: not proved; it calls another\n" if it in callers else f"{goal}fn low::{it}: not proved\n" for it in only)
-                return edits.Verdict(1, "".join(told) + "only=1 proved=0\n")
+                uncovered, above = (re.findall(rf"fn (\w+)\(\) -> u8 \{{\n    {it}", texts["src/lib.rt"]) for it in ("moves", "above"))
+                said = {it: f"{goal}fn low::{it}: not proved\n" for it in only}
+                said |= {it: f"fn low::{it}: not proved; it calls another\n" for it in callers}
+                said |= {it: f"fn low::{it}: {UNCOVERED}\n" for it in uncovered}
+                said |= {it: f"fn low::{it}: {ABOVE}\n" for it in above if uncovered}
+                return edits.Verdict(1, "".join(said.values()) + "only=1 proved=0\n")
 
             trial.check = check
             return trial.all(), sizes
@@ -233,6 +249,11 @@ class Together(unittest.TestCase):
     def test_callers_of_each_other_are_tried_by_themselves(self):
         found, sizes = self.tried(["calls(1)", "calls(0)"])
         self.assertEqual((found[-1], sizes), ("pass 2", [2, 1, 1]))
+
+    def test_callers_of_a_body_that_is_not_covered_are_tried_together(self):
+        found, sizes = self.tried(["moves(0)", "above(1)", "above(2)"])
+        self.assertEqual((found[-1], sizes), ("pass 3", [3, 2]))
+        self.assertEqual([it for it in found if it.startswith("weak")], ["weak f0.edit: only names that the edit took away, or no goal at all: low::f0"])
 
     def test_one_does_not_compile(self):
         found, sizes = self.tried([*(str(200 + it) for it in range(7)), "wrong"])
@@ -328,7 +349,12 @@ class Chain(unittest.TestCase):
     def project(self):
         below = {name: it for name, (it, _) in self.CRATES.items()}
         found = {"below": below, "order": list(self.CRATES), "gate": "/nowhere", "lines_of": lambda _, name: self.CRATES[name][1]}
+        found["reach"] = lambda _, name: self.below(name)
         return type("Chained", (), found)()
+
+    def below(self, name):
+        """Returns all crates below one."""
+        return {name for it in self.CRATES[name][0] for name in (it, *self.below(it))}
 
     def test_chain_has_the_most_lines(self):
         self.assertEqual(graph.longest_chain(self.project()), ["names", "table", "edge"])
@@ -340,9 +366,75 @@ class Chain(unittest.TestCase):
                 self.assertEqual(lanes.jobs_for(self.project(), "edge", is_in_chain), jobs)
                 self.assertEqual(lanes.jobs_for(self.project(), "words", is_in_chain), 1)
 
+    def test_crate_far_up_has_one_job(self):
+        state = {"at_work": lambda _: 1, "free_memory": lambda: 20_000, "lanes": lambda: 4}
+        for far, jobs in ((3, 1), (4, 2)):
+            with self.subTest(far=far), mock.patch.multiple(lanes, time=mock.DEFAULT, FAR=far, **state):
+                self.assertEqual(lanes.jobs_for(self.project(), "edge", True), jobs)
+
     def test_other_rules_give_way_to_them(self):
         found = [lanes.niceness_of(rule, is_in_chain) for rule, is_in_chain in (("proof", True), ("proof", False), ("edits", True), ("tests", False))]
         self.assertEqual(found, [0, 5, 10, 10])
+
+
+class Seconds(unittest.TestCase):
+    """The processor seconds that `tools/seconds` prints."""
+
+    def test_those_of_a_process_below_that_has_ended_count(self):
+        works = "import time\nwhile time.process_time() < 0.5:\n    pass\nprint(flush=True)"
+        words = ["bash", "-c", f"{sys.executable} -c '{works}'; read"]
+        with subprocess.Popen(words, stdin=subprocess.PIPE, stdout=subprocess.PIPE) as ran:
+            self.assertLess(seconds.used_by(ran.pid), 0.5)
+            ran.stdout.readline()
+            self.assertGreaterEqual(seconds.used_by(ran.pid), 0.4)
+
+
+class SecondLane(unittest.TestCase):
+    """Tasks of one rule, two side by side while a lane is idle."""
+
+    def setUp(self):
+        folder = tempfile.TemporaryDirectory()
+        self.addCleanup(folder.cleanup)
+        self.folder = folder.name
+
+    def with_lanes(self, count, memory=20_000):
+        return mock.patch.multiple(lanes, lanes=lambda: count, free_memory=lambda: memory)
+
+    def test_idle_lane_is_marked(self):
+        for count, memory, found in ((2, 20_000, (True, 2)), (1, 20_000, (False, 2)), (2, 9_000, (False, 1))):
+            with self.subTest(count=count, memory=memory), self.with_lanes(count, memory), lanes.working(self.folder):
+                with lanes.second(self.folder) as is_idle:
+                    self.assertEqual((is_idle, lanes.at_work(self.folder)), found)
+                self.assertEqual(lanes.at_work(self.folder), 1)
+
+    def most_at_once(self, count):
+        """Runs four tasks, of which the first has two more behind it, with this many lanes. Returns how many began, and how many ran at once."""
+        begun, now, most, both = [], [], [0], threading.Barrier(2)
+
+        def task(*more):
+            begun.append(1)
+            now.append(1)
+            most[0] = max(most[0], len(now))
+            if count > 1:
+                both.wait(60)
+            now.pop()
+            return list(more)
+
+        with self.with_lanes(count), lanes.working(self.folder):
+            tasks.Tasks(self.folder, [lambda: task(task, task), task, task, task]).run()
+        return len(begun), most[0]
+
+    def test_two_at_once_while_a_lane_is_idle(self):
+        self.assertEqual(self.most_at_once(2), (6, 2))
+
+    def test_one_after_the_other_while_none_is(self):
+        self.assertEqual(self.most_at_once(1), (6, 1))
+
+    def test_fault_ends_the_tasks(self):
+        begun = []
+        with self.with_lanes(1), lanes.working(self.folder), self.assertRaises(ZeroDivisionError):
+            tasks.Tasks(self.folder, [lambda: [1 // 0], lambda: begun.append(1)]).run()
+        self.assertEqual(begun, [])
 
 
 # A kit that answers from files: $STUB/CRATE.WORD has the status in its first line, and CRATE.WORD.again is the answer to later calls.
@@ -483,7 +575,7 @@ class Gate(unittest.TestCase):
         self.fails("low proof: it isn't proved from nothing", 6, 4)
 
     def test_file_that_no_check_reads(self):
-        for path in ("docs/lost.rt", "tests/unproved/low/tests.rt", "tests/unproved/low/Lost.antt"):
+        for path in ("docs/lost.rt", "tests/unproved/low/tests.rt", "tests/unproved/low/Lost.antt", "bench/lost.rt"):
             write(f"{self.top}/{path}", "")
             self.fails(f"repository files: no check reads {path}")
             os.unlink(f"{self.top}/{path}")
@@ -501,6 +593,12 @@ class Gate(unittest.TestCase):
         for path in ("crates/low/src/shape.rt", "tests/unproved/low/tests/shapes.rt.txt"):
             write(f"{self.top}/{path}", "//! Shapes. \n")
             self.fails(f"low layout: not in the layout: {path}")
+            os.unlink(f"{self.top}/{path}")
+        for path in ("bench/records/main.rt.txt", "tests/outside/stations.rt.txt"):
+            write(f"{self.top}/{path}", "//! A driver.\n")
+            self.assertEqual(self.gate()[0], 0)
+            write(f"{self.top}/{path}", "//! A driver. \n")
+            self.fails(f"repository files: not in the layout: {path}")
             os.unlink(f"{self.top}/{path}")
 
     def test_tidy_gate_leaves_facts_alone(self):

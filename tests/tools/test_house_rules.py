@@ -30,8 +30,8 @@ MANY_PARAMETERS = {  # `self` isn't counted; ev_tunnel's are the arguments that 
 
 
 def files(ending: str) -> List[str]:
-    """The files of the crates and of tests/unproved/ with an ending, of git and new ones. `.txt` behind an ending doesn't count."""
-    words = ["git", "ls-files", "-z", "--cached", "--others", "--exclude-standard", "crates", "tests/unproved"]
+    """The files of crates/, tests/ and bench/ with an ending, of git and new ones. `.txt` behind an ending doesn't count."""
+    words = ["git", "ls-files", "-z", "--cached", "--others", "--exclude-standard", "crates", "tests", "bench"]
     names = subprocess.run(words, cwd=TOP, capture_output=True, check=True).stdout.decode().split("\0")
     return sorted(name for name in names if name.removesuffix(".txt").endswith(ending) and os.path.exists(os.path.join(TOP, name)))
 
@@ -98,7 +98,7 @@ class Rules(unittest.TestCase):
         self.assertEqual([name for name in files(".rt") if not lines_of(name)[0].startswith("//!")], [])
 
     def test_items_are_told(self):
-        sources = [name for name in files(".rt") if not re.search(r"/tests(/|\.rt(\.txt)?$)", name)]
+        sources = [name for name in files(".rt") if not re.search(r"(^|/)tests(/|\.rt(\.txt)?$)", name)]
         bare = [f"{name}:{number}: {item}" for name in sources for number, item in bare_items(lines_of(name))]
         self.assertEqual(bare, [])
 

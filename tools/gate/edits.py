@@ -18,11 +18,15 @@ function that an edit changes gets one answer more, for a goal that isn't there.
 evidence: an edit counts as refused only for goals of the function's own.
 
 For each refused edit the goals that refused it are printed. If they only miss a name that the edit took away, that is printed too:
-such an edit shows little of a contract.
+such an edit shows little of a contract. So does one whose body the kit's borrow checker doesn't cover: no goal of it is tried, and no
+function that calls it is judged in that check.
+
+Each check works in a room of its own, so two of them run side by side while a lane of the gate is idle.
 
 The first check of edits of bodies also searches the whole crate for contracts that no call can meet: no body has part in that, and it
 saves a check.
 """
+import functools
 import os
 import re
 import sys
@@ -34,9 +38,14 @@ import rooms
 from calls import Calls, text_of
 from project import Project
 from sources import function_at, is_end_of
+from tasks import Tasks
 
 # the line of a check about a name that an edit took away
 LOST = re.compile(r"has no field|is not in scope|has no `|was not admitted")
+# the line of a check about a function whose body the kit can't judge, as it says ahead of all goals
+UNCOVERED = re.compile(r"^fn (\S+): no proof: .*the borrow checker does not cover this function yet", re.M)
+# the line about one that wasn't judged, since it calls another that isn't proved
+CALLER = re.compile(r"^fn (\S+): (?:not proved.*; it calls |no proof: it calls |no proof: the borrow checker's part .*: a call of )", re.M)
 # a text that can't be read or compiled: nothing was judged
 UNREAD = re.compile(r"^(?:\./)?(?:src|specs)/\S+: error\b|\berror\[[\w-]+\]", re.M)
 NO_GOAL = "no-goal-of-this-name"
@@ -88,10 +97,12 @@ def goals_of(said):
                 named = [it for names in re.findall(r"`search` did not prove ([^;]*)", head[2]) for it in re.findall(r"`([^`]+)`", names)]
                 found[head[1]] = dict.fromkeys([*pending, *named], False)
             pending = []
+    for name in UNCOVERED.findall(said):
+        found[name] = {"its proof": True}
     for name, goals in found.items():
         folder = re.escape("/".join(name.split("::")[1:]))
         for goal, why in re.findall(rf"^(?:\./)?proofs/{folder}/\S+: error: (?:`([^`]*)`: )?(.*)$", said, re.M):
-            if goal != NO_GOAL:
+            if goal != NO_GOAL and not why.startswith("rattle does not read"):
                 goals[goal or "its proof"] = bool(LOST.search(why)) and goals.get(goal or "its proof", True)
     return found
 
@@ -191,7 +202,7 @@ class Trial:
         told = [f"{full}: {', '.join(strong[full] or own)}" for full, own in goals.items()]
         self.found.append(f"refused {edit}: {'; '.join([*lemmas, *told])}")
         if not lemmas:
-            self.found += [f"weak {edit}: only names that the edit took away: {it}" for it in goals if not strong[it]]
+            self.found += [f"weak {edit}: only names that the edit took away, or no goal at all: {it}" for it in goals if not strong[it]]
 
     def together(self, waiting):
         """Tries edits of different bodies in one check. Returns the groups that wait for another one, and those to be tried alone."""
@@ -207,14 +218,15 @@ class Trial:
             return [], later
         groups = [later] if later else []
         functions = sorted({it for edit in taken for it in edit.functions})
-        verdict = self.check(self.with_refused_answers(texts, functions), functions, [] if self.is_searched else [looks.SEARCH])
+        flags = [] if self.is_searched else [looks.SEARCH]
+        self.is_searched = True
+        verdict = self.check(self.with_refused_answers(texts, functions), functions, flags)
         if verdict.is_void and len(taken) > 1:
             # one of them may not compile: halves find it in a few checks
-            half = len(taken) // 2
+            self.is_searched, half = self.is_searched and not flags, len(taken) // 2
             return [*groups, *([it.path for it in part] for part in (taken[:half], taken[half:]))], []
-        if not self.is_searched and not looks.faults_of_search(verdict.said):
+        if flags and not looks.faults_of_search(verdict.said):
             self.found.append("searched for contracts that no call can meet: none")
-        self.is_searched = True
         self.singly |= {edit.path for edit in taken if len(taken) == 1}
         again, alone = [], []
         for edit in taken:
@@ -229,8 +241,7 @@ class Trial:
 
     def only_calls(self, edit, verdict):
         """Returns `True` if the check said of one of the edit's functions only that it calls another that isn't proved."""
-        heads = re.findall(r"^fn (\S+): not proved.*; it calls ", verdict.said, re.M)
-        return any(is_end_of(end, it, self.name) for end in edit.functions for it in heads)
+        return any(is_end_of(end, it, self.name) for end in edit.functions for it in CALLER.findall(verdict.said))
 
     def is_refused_in(self, edit, verdict):
         """Returns `True` if a check refused each function that the edit changes, for goals of its own."""
@@ -239,6 +250,16 @@ class Trial:
             return False
         self.refuse(edit, goals)
         return True
+
+    def group(self, waiting):
+        """Tries edits of bodies together, and returns the tasks that follow."""
+        groups, alone = self.together(waiting)
+        return [*(functools.partial(self.group, it) for it in groups), *(functools.partial(self.single, it) for it in alone)]
+
+    def single(self, path):
+        """Tries one edit alone. No task follows."""
+        self.alone(path)
+        return []
 
     def alone(self, path):
         """Tries one edit alone: first checks the functions that it names or changes, and the whole crate if these do not refuse it."""
@@ -278,13 +299,8 @@ class Trial:
                 self.found.append(f"fail {os.path.basename(path)}: BAD EDIT: it can't be applied")
             else:
                 (left if made.functions else alone).append(path)
-        groups = [left] if left else []
-        while groups:
-            more, others = self.together(groups.pop())
-            groups += more
-            alone += others
-        for path in alone:
-            self.alone(path)
+        first = [functools.partial(self.group, left)] if left else []
+        Tasks(self.project.gate, [*first, *(functools.partial(self.single, it) for it in alone)]).run()
         return [*self.found, f"pass {sum(it.startswith('refused ') for it in self.found)}"]
 
 

@@ -1,5 +1,5 @@
 """Counts the rules at work, so that a proof gets a second job of a processor that no rule uses. The proofs of the longest chain get one
-in any case, and all other rules give way to them: the gate waits for that chain in the end."""
+in any case, except for crates far up, and all other rules give way to them: the gate waits for that chain in the end."""
 import contextlib
 import fcntl
 import os
@@ -9,6 +9,9 @@ from calls import free_memory, processors
 
 # crates with fewer lines: a second job would read all crates below once more, some half of their proofs
 SMALL = 800
+# Crates with as many crates below them, or more, have one job. Each job reads all that is below, and most of their functions call each
+# other: two jobs of ev_peers used 1.1 processors, 986 s of a processor and 914 by the clock (2026-11-28). One took 494 (2026-11-26).
+FAR = 20
 # MiB that have to be free for a second job
 ENOUGH = 11_000
 # the niceness of a proof beside the longest chain, and of any other rule
@@ -21,10 +24,10 @@ def lanes():
 
 
 @contextlib.contextmanager
-def working(folder):
-    """Marks that this process works on a rule, by a locked file of this folder, which ends with it."""
+def working(folder, lane=""):
+    """Marks that this process works on a rule, by a locked file of this folder, which ends with it. `lane` names a further lane of it."""
     os.makedirs(f"{folder}/running", exist_ok=True)
-    path = f"{folder}/running/{os.getpid()}"
+    path = f"{folder}/running/{os.getpid()}{lane}"
     with open(path, "w", encoding="utf-8") as it:
         fcntl.flock(it, fcntl.LOCK_EX)
         try:
@@ -35,7 +38,7 @@ def working(folder):
 
 
 def at_work(folder):
-    """Returns how many processes work on rules."""
+    """Returns how many lanes work on rules."""
     count = 0
     for name in os.listdir(f"{folder}/running") if os.path.isdir(f"{folder}/running") else []:
         with contextlib.suppress(OSError), open(f"{folder}/running/{name}", encoding="utf-8") as it:
@@ -46,6 +49,16 @@ def at_work(folder):
     return count
 
 
+@contextlib.contextmanager
+def second(folder):
+    """Gives `True` if a lane is idle and memory is free for a second check of this rule, and marks the lane as this rule's meanwhile."""
+    if free_memory() <= ENOUGH:
+        yield False
+        return
+    with working(folder, ".second"):
+        yield at_work(folder) <= lanes()
+
+
 def niceness_of(rule, is_in_chain):
     """Returns the niceness of a rule: 0 for a proof of the longest chain. Proofs come before rules that no proof waits for."""
     if rule != "proof":
@@ -54,8 +67,9 @@ def niceness_of(rule, is_in_chain):
 
 
 def jobs_for(project, name, is_in_chain):
-    """Returns how many jobs the crate's proof gets: two if it is not small, memory is free, and the gate waits for it or a lane is idle."""
-    if project.lines_of(name) < SMALL or lanes() < 2:
+    """Returns how many jobs the crate's proof gets: two if it is neither small nor far up, memory is free, and the gate waits for it or a
+    lane is idle."""
+    if project.lines_of(name) < SMALL or len(project.reach(name)) >= FAR or lanes() < 2:
         return 1
     # what can start beside it has started by then
     time.sleep(1)

@@ -2,8 +2,10 @@
 import filecmp
 import os
 import re
+import shutil
 import stat
 import subprocess
+import tempfile
 
 import rooms
 import tried
@@ -29,6 +31,9 @@ NEVER = (
 HANDLES = ("Threads", "Wait", "Net", "Processes")
 # an own name for an operator or a plain word of the library
 OWN_OPERATOR = re.compile(r"(?:◌\S*◌|\bOn\w+) as [^\s,;}]+")
+# the files of Rattle that no check reads and that scripts build in copies. `.txt` ends their names, since a plain `rt ci` stops at a
+# Rattle file outside of crates/
+RUN_ONLY = re.compile(r"(?:bench|tests/outside)/.*\.(?:rt|antt)\.txt")
 
 
 def layout(project, name, calls):
@@ -39,10 +44,29 @@ def layout(project, name, calls):
             origins[f"{folder}/{os.path.relpath(path, project.folder(name))}"] = path
         status, out, err = calls.rt(folder, "fmt")
         changed = differing(origins, files_of(folder))
+    return out_of_layout(project, changed, status, text_of(out, err)) + ["pass 0"]
+
+
+def layout_of_others(project, paths, calls):
+    """Runs `rt fmt` on copies of these files in one folder of sources. Each has to stay as it is. Returns the facts that fail."""
+    with tempfile.TemporaryDirectory(prefix="others.layout.", dir=project.gate) as room:
+        folder, origins = f"{room}/crates/others", {}
+        for number, path in enumerate(paths):
+            ending = os.path.splitext(path.removesuffix(".txt"))[1]
+            copy = f"{folder}/{'src' if ending == '.rt' else 'proofs'}/others{number}{ending}"
+            os.makedirs(os.path.dirname(copy), exist_ok=True)
+            shutil.copyfile(f"{project.top}/{path}", copy)
+            origins[copy] = f"{project.top}/{path}"
+        with open(f"{room}/crates.txt", "w", encoding="utf-8") as it:
+            it.write("others:\n")
+        status, out, err = calls.rt(folder, "fmt") if origins else (0, b"", b"")
+        return out_of_layout(project, differing(origins, files_of(folder)), status, text_of(out, err))
+
+
+def out_of_layout(project, changed, status, said):
+    """Returns as facts which files `rt fmt` has changed, and how it ended if it failed."""
     found = [f"fail not in the layout: {os.path.relpath(it, project.top)}" for it in changed]
-    if status:
-        found.append(f"fail rt fmt ended with status {status}: {text_of(out, err)[-300:]}")
-    return found + ["pass 0"]
+    return found + [f"fail rt fmt ended with status {status}: {said[-300:]}"] * (status != 0)
 
 
 def files_of(folder):
@@ -91,13 +115,14 @@ def texts(project, name, _calls):
     return found + ["pass 0"]
 
 
-def files(project):
-    """Looks at the files of git: none is a link, and each of Rattle stands where a check reads it. Returns the facts."""
+def files(project, calls):
+    """Looks at the files of git: none is a link, and each of Rattle is in a place where a check reads it. The layout of the run-only files
+    in bench/ and tests/outside/ is that of `rt fmt`. Returns the facts."""
     words = ["git", "ls-files", "-z", "--cached", "--others", "--exclude-standard"]
     ran = subprocess.run(words, cwd=project.top, stdin=subprocess.DEVNULL, stdout=subprocess.PIPE, check=False)
     if ran.returncode:
         return ["fail git doesn't list the files"]
-    found = []
+    found, others = [], []
     for path in filter(None, ran.stdout.decode(errors="replace").split("\0")):
         whole = f"{project.top}/{path}"
         if not os.path.lexists(whole):
@@ -106,6 +131,8 @@ def files(project):
             found.append(f"fail {path} is a link")
         part = re.fullmatch(r"crates/(\w+)/(src|specs|proofs)/.*\.(rt|antt)", path)
         is_read = part and part[1] in project.lines and (part[2] == "src") == (part[3] == "rt")
-        if path.endswith((".rt", ".antt")) and not is_read:
+        if RUN_ONLY.fullmatch(path):
+            others.append(path)
+        elif path.endswith((".rt", ".antt")) and not is_read:
             found.append(f"fail no check reads {path}")
-    return found + ["pass 0"]
+    return found + layout_of_others(project, others, calls) + ["pass 0"]

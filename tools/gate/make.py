@@ -174,7 +174,7 @@ def run(project, crates, rules):
     os.makedirs(project.gate, exist_ok=True)
     rooms.sweep(project)
     own_kit.make(project.gate)
-    facts.write(project.gate, "repository", "files", looks.files(project))
+    facts.write(project.gate, "repository", "files", looks.files(project, Calls(project.gate)))
     jobs, program = lanes.lanes(), ninja()
     if program:
         with open(f"{project.gate}/build.ninja", "w", encoding="utf-8") as it:

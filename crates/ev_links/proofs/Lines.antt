@@ -4,7 +4,7 @@ use Rattle.std.proofs.Common.{◌++◌, length, drop, suc, refl, sym, ap, ◌∙
 use Rattle.std.proofs.lemmas.List.{length-append, length-take-le, length-drop, take_all, take-append-le, drop-append-le}
 use Rattle.ev_links.specs.Links.{packet}
 use Rattle.ev_links.specs.declared.line.Head.{Head}
-use Rattle.ev_links.specs.Line.{octets_of, waiting_of, after_frame, cut, sizes, NoneTooLong, IsLine}
+use Rattle.ev_links.specs.Line.{octets_of, waiting_of, after_frame, after_drop, cut, sizes, NoneTooLong, IsLine}
 
 -- there are as many frames as heads
 pub cut_length : (heads : List Head) (xs : List ℕ) → length (cut heads xs) ≡ length heads
@@ -90,3 +90,14 @@ dropped_view bpdus heads octets dropped dropped' ended to more frames waiting al
     let count : length (cut heads octets) ≡ frames = cut_length heads octets ∙ sym many in
     let octets_are : octets_of (cut heads octets) ≡ waiting = cut_octets heads octets all ∙ all ∙ sym long in
     rw (count, octets_are, room, e) refl
+
+-- the line after all that waits is dropped
+pub drop_view : (bpdus : List (List ℕ)) (heads : List Head) (octets : List ℕ) (dropped few dropped' : ℕ) (ended : Bool)
+    (b f : ℕ) → b ≡ length bpdus → f ≡ length heads → few ≡ min (dropped + b) (2 ^ 64 - 1)
+    → dropped' ≡ min (few + f) (2 ^ 64 - 1)
+    → waiting_of [] [] dropped' ended ≡ after_drop (waiting_of bpdus (cut heads octets) dropped ended)
+drop_view bpdus heads octets dropped few dropped' ended b f bs fs one two =
+    let count = cut_length heads octets in
+    let many : dropped' ≡ min (dropped + (length bpdus + length (cut heads octets))) (2 ^ 64 - 1) =
+    omega (arith, count, bs, fs, one, two) in
+    ap (λ (n : ℕ). waiting_of [] [] n ended) many

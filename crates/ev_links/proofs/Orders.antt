@@ -7,8 +7,8 @@ use Rattle.std.proofs.lemmas.List.{append-nil}
 use Rattle.ev_links.specs.Links.{Packet}
 use Rattle.ev_links.specs.Line.{Waiting, waiting_of, has_room, after_frame, after_bpdu, frames_in_front, frames_left}
 use Rattle.ev_links.specs.DirectLine.{Direct, is_free, after_try}
-use Rattle.ev_links.specs.Laws.{Step, passes, puts, takes, ends, after_step, after_steps, IsStep, AreSteps, leaving}
-use Rattle.ev_links.specs.Laws.{kept, drops, all_leaving, all_kept, all_drops}
+use Rattle.ev_links.specs.Laws.{Step, passes, puts, takes, ends, drops_rest, after_step, after_steps, IsStep, AreSteps}
+use Rattle.ev_links.specs.Laws.{leaving, kept, drops, all_leaving, all_kept, all_drops}
 
 none_left : (frames : List Packet) → (length frames == 0) ≡ true → frames ≡ []
 none_left [] is = refl
@@ -63,6 +63,7 @@ one_step (puts bpdu) d is =
     append-nil d.line.frames ∙ sym (bpdu_frames bpdu d.line (nat_lt (length d.line.bpdus) 16) refl)
 one_step takes d is = parted d.line.bpdus d.line.frames
 one_step ends d is = append-nil d.line.frames
+one_step drops_rest d is = refl
 
 pub frames_keep_their_order : (steps : List Step) (d : Direct) → AreSteps steps d
     → d.line.frames ++ all_kept steps d ≡ all_leaving steps d ++ (after_steps steps d).line.frames
@@ -101,6 +102,7 @@ one_drop (passes false p) d is few =
 one_drop (puts bpdu) d is few = bpdu_counted bpdu d.line (nat_lt (length d.line.bpdus) 16) refl few
 one_drop takes d is few = one_counted d.line.dropped few
 one_drop ends d is few = one_counted d.line.dropped few
+one_drop drops_rest d is few = refl
 
 both : (a b c n m : ℕ) → b ≡ min (a + n) (2 ^ 64 - 1) → c ≡ min (b + m) (2 ^ 64 - 1)
     → c ≡ min (a + (n + m)) (2 ^ 64 - 1)

@@ -2,7 +2,7 @@
 use Rattle.std.specs.Prelude.{◌≡◌, ℕ, ◌&&◌, Bool, false, true, not, List, [], ◌∷◌, Option, is_some, if◌then◌else◌}
 use Rattle.ev_links.specs.Coming.{behind}
 use Rattle.ev_links.specs.Links.{Packet, Try, a_try}
-use Rattle.ev_links.specs.Line.{Waiting, is_empty, after_frame, after_bpdu, first_of, after_take, after_end}
+use Rattle.ev_links.specs.Line.{Waiting, is_empty, after_frame, after_bpdu, first_of, after_take, after_end, after_drop}
 use Rattle.ev_links.specs.declared.direct_line.DirectLine.{DirectLine}
 
 -- the line; whether the link's worker sends the datagram that it took last; and the datagrams that the link was to send
@@ -51,3 +51,7 @@ after_turn d = direct (after_take d.line) (is_some (first_of d.line)) d.tried
 -- the line has ended
 abbrev pub after_its_end : Direct → Direct
 after_its_end d = direct (after_end d.line) d.is_sending d.tried
+
+-- all that waits was dropped
+abbrev pub after_its_drop : Direct → Direct
+after_its_drop d = direct (after_drop d.line) d.is_sending d.tried

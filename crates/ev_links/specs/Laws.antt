@@ -3,21 +3,24 @@ use Rattle.std.specs.Prelude.{◌≡◌, ℕ, ◌+◌, ◌-◌, ◌^◌, ◌≤�
 use Rattle.std.specs.Prelude.{List, [], ◌∷◌, ◌++◌, length}
 use Rattle.ev_links.specs.Links.{Packet}
 use Rattle.ev_links.specs.Line.{has_room, frames_in_front}
-use Rattle.ev_links.specs.DirectLine.{Direct, is_free, after_pass, with_bpdu_put, after_turn, after_its_end}
+use Rattle.ev_links.specs.DirectLine.{Direct, is_free, after_pass, with_bpdu_put, after_turn}
+use Rattle.ev_links.specs.DirectLine.{after_its_end, after_its_drop}
 
 -- a call of a link with its line: a frame is passed on, and sent at once or not; a BPDU is put on the line; the link's
--- worker takes the first datagram; the line ends
+-- worker takes the first datagram; the line ends; all that waits is dropped
 pub data Step : Type 0 where
   passes : Bool → Packet → Step
   puts : List ℕ → Step
   takes : Step
   ends : Step
+  drops_rest : Step
 
 abbrev pub after_step : Step → Direct → Direct
 after_step (passes is_sent p) d = after_pass is_sent p d
 after_step (puts bpdu) d = with_bpdu_put bpdu d
 after_step takes d = after_turn d
 after_step ends d = after_its_end d
+after_step drops_rest d = after_its_drop d
 
 -- only a free link sends a frame at once
 abbrev pub IsStep : Step → Direct → Type 0
@@ -26,14 +29,17 @@ IsStep (passes false p) d = Unit {0}
 IsStep (puts bpdu) d = Unit {0}
 IsStep takes d = Unit {0}
 IsStep ends d = Unit {0}
+IsStep drops_rest d = Unit {0}
 
--- the frames that leave: one that is sent at once, or one that the link's worker takes, which then sends it
+-- the frames that leave: one that is sent at once; one that the link's worker takes, which then sends it; or all that
+-- wait, if they are dropped
 abbrev pub leaving : Step → Direct → List Packet
 leaving (passes true p) d = p ∷ []
 leaving (passes false p) d = []
 leaving (puts bpdu) d = []
 leaving takes d = frames_in_front d.line.bpdus d.line.frames
 leaving ends d = []
+leaving drops_rest d = d.line.frames
 
 -- the frame that is passed on, unless it is dropped
 abbrev pub kept : Step → Direct → List Packet
@@ -42,14 +48,17 @@ kept (passes false p) d = if has_room d.line.frames (length p.octets) then p ∷
 kept (puts bpdu) d = []
 kept takes d = []
 kept ends d = []
+kept drops_rest d = []
 
--- the number of frames and BPDUs that are dropped: a frame for which there is no room, or the oldest of 16 BPDUs
+-- the number of frames and BPDUs that are dropped: a frame for which there is no room; the oldest of 16 BPDUs; or all
+-- that wait
 abbrev pub drops : Step → Direct → ℕ
 drops (passes true p) d = 0
 drops (passes false p) d = if has_room d.line.frames (length p.octets) then 0 else 1
 drops (puts bpdu) d = if nat_lt (length d.line.bpdus) 16 then 0 else 1
 drops takes d = 0
 drops ends d = 0
+drops drops_rest d = length d.line.bpdus + length d.line.frames
 
 -- ---- several calls, the first one first
 

@@ -92,6 +92,10 @@ handed (Some got) buffer = Some (packet got.0 (take got.1 buffer))
 abbrev pub after_end : Waiting → Waiting
 after_end w = waiting_of w.bpdus w.frames w.dropped true
 
+-- all that waits was dropped
+abbrev pub after_drop : Waiting → Waiting
+after_drop w = waiting_of [] [] (min (w.dropped + (length w.bpdus + length w.frames)) (2 ^ 64 - 1)) w.has_ended
+
 -- ---- how a line stores its frames
 
 -- these octets, cut into frames of the heads' sizes

@@ -129,6 +129,14 @@ impl Backlog {
         self.end - self.start
     }
 
+    /// Removes all octets.
+    pub(crate) fn clear(&mut self)
+        ensures { self.new ≡ [] }
+    {
+        self.start = 0;
+        self.end = 0;
+    }
+
     /// Appends octets. The backlog has room for them.
     pub(crate) fn append(&mut self, more: &[u8])
         requires { length self.old + length more.now ≤ 262144 }

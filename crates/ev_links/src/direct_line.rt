@@ -3,7 +3,7 @@
 ghost use Rattle.std.specs.Prelude.{◌≡◌, ◌≤◌, false, length, IfOk, IfSome};
 ghost use Rattle.ev_links.specs.Links.{packet};
 ghost use Rattle.ev_links.specs.Line.{nothing_waits, first_of, handed};
-ghost use Rattle.ev_links.specs.DirectLine.{direct, direct_of, Passes, with_bpdu_put, after_turn, after_its_end};
+ghost use Rattle.ev_links.specs.DirectLine.{direct, direct_of, Passes, with_bpdu_put, after_turn, after_its_end, after_its_drop};
 
 use crate::line::Line;
 use crate::links::PromptOut;
@@ -80,6 +80,13 @@ impl<K: PromptOut> DirectLine<K> {
         ensures { direct_of K.tried self.new ≡ after_its_end (direct_of K.tried self.old) }
     {
         self.line.end();
+    }
+
+    /// Drops all that waits, and counts each BPDU and frame.
+    pub fn drop_rest(&mut self)
+        ensures { direct_of K.tried self.new ≡ after_its_drop (direct_of K.tried self.old) }
+    {
+        self.line.drop_rest();
     }
 
     /// Returns `true` if the line has ended.

@@ -2,7 +2,8 @@
 ghost use Rattle.ev_links.specs.Laws.{FramesKeepTheirOrder, EachDropIsCounted};
 
 /// The frames that are passed on to a link leave in that order, each once: no frame leaves before
-/// one that waits. Each leaves, waits on the line, or was dropped for lack of room.
+/// one that waits. Each leaves, waits on the line, or was dropped for lack of room. Those that wait
+/// leave unsent if they are dropped together.
 pub fn frames_keep_their_order()
     ensures { FramesKeepTheirOrder }
 {}

@@ -1,7 +1,7 @@
 //! The queue of a link: BPDUs, and frames after them, as far as there is room.
 ghost use Rattle.std.specs.Prelude.{◌≡◌, ◌+◌, ◌≤◌, ◌&&◌, nat_lt, nat_le, length, take, IfOk, IfSome};
 ghost use Rattle.ev_links.specs.Links.{packet};
-ghost use Rattle.ev_links.specs.Line.{nothing_waits, is_empty, after_frame, after_bpdu, first_of, after_take, handed, after_end};
+ghost use Rattle.ev_links.specs.Line.{nothing_waits, is_empty, after_frame, after_bpdu, first_of, after_take, handed, after_end, after_drop};
 
 use crate::backlog::{Backlog, OCTETS, put_front};
 use ether_wire::Addr;
@@ -148,6 +148,18 @@ impl Line {
         ensures { self.new ≡ after_end self.old }
     {
         self.has_ended = true;
+    }
+
+    /// Drops all that waits, and counts each BPDU and frame.
+    pub fn drop_rest(&mut self)
+        ensures { self.new ≡ after_drop self.old }
+    {
+        let bpdus = self.bpdus.len() as u64;
+        let frames = self.heads.len() as u64;
+        self.dropped = self.dropped.saturating_add(bpdus).saturating_add(frames);
+        self.bpdus.clear();
+        self.heads.clear();
+        self.backlog.clear();
     }
 
     /// Returns `true` if the line has ended.

@@ -25,6 +25,7 @@ use std::sync::ledger::{Blank, Ledger};
 use std::sync::{Mutex, Wait};
 use std::thread;
 use std::thread::{Scope, Threads};
+use std::time::Clock;
 
 /// Returns the MAC address from which an edge's bridge sends.
 fn bridge_of(config: &EdgeConfig) -> Mac
@@ -72,7 +73,7 @@ fn run_within<
     I: LinkIn + Drop + Send + 'x,
     O: LinkOut + PromptOut + Drop + Send + 'x,
     G: Gate + Sync + 'x,
-    R: Threads + Wait + Sync + 'x,
+    R: Threads + Wait + Clock + Sync + 'x,
 >(
     scope: &Scope<'s, &'x ()>,
     ready_threads: ReadyThreads<'x, L, I, O, G, R>,
@@ -169,7 +170,7 @@ fn run_workers<
     I: LinkIn + Drop + Send + 'x,
     O: LinkOut + PromptOut + Drop + Send + 'x,
     G: Gate + Sync + 'x,
-    R: Threads + Wait + Sync + 'x,
+    R: Threads + Wait + Clock + Sync + 'x,
 >(rt: &'x R, ready_threads: ReadyThreads<'x, L, I, O, G, R>) -> (Vec<Pass<L>>, Faults)
     ensures { vec_len result.0 ≡ ready_threads.entry + 1 }
 {
@@ -208,7 +209,7 @@ pub fn edge_worker<
     I: LinkIn + Drop + Send,
     O: LinkOut + PromptOut + Drop + Send,
     G: Gate + Sync,
-    R: Threads + Wait + Sync,
+    R: Threads + Wait + Clock + Sync,
 >(
     host: Host<'_, G, R>,
     blank: Blank,

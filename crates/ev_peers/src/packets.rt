@@ -8,6 +8,7 @@ use crate::shared_line::SharedLine;
 use ether_wire::Addr;
 use ev_links::PromptOut;
 use std::sync::Wait;
+use std::time::Clock;
 
 /// A source of datagrams that are to be sent over a link.
 pub trait PacketsIn {
@@ -31,7 +32,7 @@ pub(crate) struct LineBox<'x, K, R> {
     pub(crate) line: &'x SharedLine<K>,
 }
 
-impl<K: PromptOut, R: Wait> PacketsIn for LineBox<'_, K, R> {
+impl<K: PromptOut, R: Wait + Clock> PacketsIn for LineBox<'_, K, R> {
     ghost use Rattle.std.specs.Prelude.{None};
 
     ghost came = { λ b. None };

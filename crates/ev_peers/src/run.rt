@@ -19,6 +19,7 @@ use std::sync::Wait;
 use std::sync::ledger::Blank;
 use std::thread;
 use std::thread::{Promise, PromisedHandle, Scope, Threads};
+use std::time::Clock;
 
 /// The configuration of an edge, and its links, for at most 64 ports. Its model is the
 /// configuration and the links over which the ports send.
@@ -140,7 +141,7 @@ fn run_one<
     I: LinkIn + Drop + Send,
     O: LinkOut + PromptOut + Drop + Send,
     G: Gate + Sync,
-    R: Threads + Wait + Sync,
+    R: Threads + Wait + Clock + Sync,
 >(host: Host<'_, G, R>, setup: Setup<I, O>) -> Ran
     ensures { IsRanOf host.entry.number setup.config.address (length setup.outputs) result }
 {
@@ -162,7 +163,7 @@ fn start_edge<
     I: LinkIn + Drop + Send + 'x,
     O: LinkOut + PromptOut + Drop + Send + 'x,
     G: Gate + Sync + 'x,
-    R: Threads + Wait + Sync + 'x,
+    R: Threads + Wait + Clock + Sync + 'x,
 >(scope: &Scope<'s, &'x ()>, common: &Common<'x, G, R>, number: usize, setup: Setup<I, O>) -> Handle
     ensures { IsHandle number setup result }
 {
@@ -192,7 +193,7 @@ fn start_edges<
     I: LinkIn + Drop + Send + 'x,
     O: LinkOut + PromptOut + Drop + Send + 'x,
     G: Gate + Sync + 'x,
-    R: Threads + Wait + Sync + 'x,
+    R: Threads + Wait + Clock + Sync + 'x,
 >(
     scope: &Scope<'s, &'x ()>,
     common: &Common<'x, G, R>,
@@ -310,7 +311,7 @@ fn run_within<
     I: LinkIn + Drop + Send + 'x,
     O: LinkOut + PromptOut + Drop + Send + 'x,
     G: Gate + Sync + 'x,
-    R: Threads + Wait + Sync + 'x,
+    R: Threads + Wait + Clock + Sync + 'x,
     F: FnOnce(Running<'_>) -> T + Drop,
     T,
 >(
@@ -340,7 +341,7 @@ fn run_ready<
     I: LinkIn + Drop + Send + 'x,
     O: LinkOut + PromptOut + Drop + Send + 'x,
     G: Gate + Sync + 'x,
-    R: Threads + Wait + Sync + 'x,
+    R: Threads + Wait + Clock + Sync + 'x,
     F: FnOnce(Running<'_>) -> T + Drop,
     T,
 >(common: Common<'x, G, R>, ready: Ready<I, O>, until: F) -> (Vec<Ran>, T)
@@ -370,7 +371,7 @@ pub fn run_all<
     I: LinkIn + Drop + Send,
     O: LinkOut + PromptOut + Drop + Send,
     G: Gate + Sync,
-    R: Threads + Wait + Sync,
+    R: Threads + Wait + Clock + Sync,
     F: FnOnce(Running<'_>) -> T + Drop,
     T,
 >(rt: &R, start: Start<I, O>, boards: &Boards, gate: &G, until: F) -> (Vec<Ran>, T)

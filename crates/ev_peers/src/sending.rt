@@ -13,10 +13,11 @@ use ev_links::{LinkOut, PromptOut};
 use std::sync::Wait;
 use std::sync::atomic::{AtomicBool, Ordering};
 use std::thread::{JoinHandle, Scope, Threads};
+use std::time::Clock;
 
 /// Runs the worker that sends over a link. Returns at once with `Ended::NoMemory` if the worker's
 /// thread was refused.
-fn send_all<O: LinkOut + PromptOut + Drop, R: Wait>(
+fn send_all<O: LinkOut + PromptOut + Drop, R: Wait + Clock>(
     rt: &R,
     link: O,
     line: &SharedLine<O>,
@@ -35,7 +36,7 @@ pub(crate) fn start_sending<
     's,
     'x: 's,
     O: LinkOut + PromptOut + Drop + Send + 'x,
-    R: Wait + Sync + 'x,
+    R: Wait + Clock + Sync + 'x,
 >(
     scope: &Scope<'s, &'x ()>,
     rt: &'x R,
@@ -65,7 +66,7 @@ pub(crate) fn start_sending<
 }
 
 /// Ends the lines, so that the threads that send over links stop.
-pub(crate) fn stop_sending<K: PromptOut, R: Wait>(outlet: &Senders<'_, K, R>) {
+pub(crate) fn stop_sending<K: PromptOut, R: Wait + Clock>(outlet: &Senders<'_, K, R>) {
     for line in outlet.lines {
         line.end(outlet.rt);
     }

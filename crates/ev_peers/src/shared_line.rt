@@ -1,18 +1,74 @@
 //! A link with its line, which the workers of an edge share: the workers that enter events pass
 //! frames on to it, and the link's worker sends those that wait.
-ghost use Rattle.std.specs.Prelude.{◌≤◌, length, IfSome};
+ghost use Rattle.std.specs.Prelude.{◌≡◌, ◌-◌, ◌/◌, ◌≤◌, nat_le, false, length, if◌then◌else◌, None, IfSome};
+ghost use Rattle.std.specs.Time.{instant_nanos};
+ghost use Rattle.ev_links.specs.Line.{first_of, handed};
+ghost use Rattle.ev_links.specs.DirectLine.{direct_of, after_turn, after_its_drop};
 
 use ether_wire::Addr;
 use ev_links::{DirectLine, PromptOut};
 use std::alloc::{AllocError, Global};
 use std::sync::{Condvar, Mutex, Wait};
+use std::time::{Clock, Instant};
+
+/// How many seconds after its end a line keeps what waits. A line ends with the last worker of its
+/// edge that enters events, which is up to a second after the end of the input.
+const PATIENCE: u64 = 1;
+
+/// A link with its line, and the time at which the line ended.
+#[derive(Drop)]
+struct TimedLine<K> {
+    line: DirectLine<K>,
+    ended: Option<Instant>,
+}
+
+/// Returns `true` if a second has passed from one time to the other.
+fn is_past(ended: Instant, now: Instant) -> bool
+    ensures { result
+        ≡ nat_le 1 ((instant_nanos now - instant_nanos ended) / 1_000_000_000) }
+{
+    now.duration_since(ended).as_secs() >= PATIENCE
+}
+
+/// Returns `true` if a line that ended at this time keeps nothing any more. Returns `false` if the
+/// line hasn't ended, or the clock can't be read.
+fn is_over<R: Clock>(rt: &R, ended: Option<Instant>) -> bool
+    ensures { ended ≡ None → result ≡ false }
+{
+    match ended {
+        Some(ended) => match Instant::now(rt) {
+            Ok(now) => is_past(ended, now),
+            Err(_) => false,
+        },
+        None => false,
+    }
+}
+
+impl<K: PromptOut> TimedLine<K> {
+    /// Drops and counts all that waits if `is_over`. Then takes the first BPDU or frame, as
+    /// `DirectLine::take` does.
+    fn take(&mut self, is_over: bool, buffer: &mut [u8]) -> Option<(Addr, usize)>
+        requires { 9026 ≤ length buffer.old }
+        ensures first { handed result buffer.new
+            ≡ (if is_over then None else first_of self.old.line.line) }
+        ensures rest { direct_of K.tried self.new.line ≡ after_turn
+            (if is_over then after_its_drop (direct_of K.tried self.old.line)
+            else direct_of K.tried self.old.line) }
+        ensures fits { IfSome result (λ r. r.1 ≤ length buffer.new) }
+    {
+        if is_over {
+            self.line.drop_rest();
+        }
+        self.line.take(buffer)
+    }
+}
 
 /// A link with its line, under a lock. Its calls have the effects of the calls of `DirectLine` that
 /// they are named for. No clause can state this, since clauses can't name the value that a lock
 /// holds at that moment. No call waits for the link with the lock held.
 #[derive(Drop)]
 pub(crate) struct SharedLine<K> {
-    line: Mutex<DirectLine<K>>,
+    timed: Mutex<TimedLine<K>>,
     /// Notified after the lock is released, when something was put on the line or the line has
     /// ended.
     bell: Condvar,
@@ -25,8 +81,9 @@ impl<K: PromptOut> SharedLine<K> {
     ///
     /// `AllocError` if memory is refused.
     pub(crate) fn new(alloc: Global, link: K) -> Result<Self, AllocError> {
+        let line = DirectLine::new(alloc, link)?;
         Ok(SharedLine {
-            line: Mutex::new(DirectLine::new(alloc, link)?),
+            timed: Mutex::new(TimedLine { line, ended: None }),
             bell: Condvar::new(),
         })
     }
@@ -35,8 +92,8 @@ impl<K: PromptOut> SharedLine<K> {
     /// and counts it.
     pub(crate) fn pass<R: Wait>(&self, rt: &R, to: Addr, octets: &[u8]) {
         let is_sent = {
-            let mut line = self.line.lock(rt);
-            line.pass(to, octets)
+            let mut timed = self.timed.lock(rt);
+            timed.line.pass(to, octets)
         };
         if !is_sent {
             self.bell.notify_one();
@@ -46,41 +103,45 @@ impl<K: PromptOut> SharedLine<K> {
     /// Appends a BPDU's frame to the other BPDUs.
     pub(crate) fn put_bpdu<R: Wait>(&self, rt: &R, frame: &[u8; 60]) {
         {
-            let mut line = self.line.lock(rt);
-            line.put_bpdu(frame);
+            let mut timed = self.timed.lock(rt);
+            timed.line.put_bpdu(frame);
         }
         self.bell.notify_one();
     }
 
-    /// Ends the line: nothing more comes.
-    pub(crate) fn end<R: Wait>(&self, rt: &R) {
+    /// Ends the line: nothing more comes, and what waits is sent within a second.
+    pub(crate) fn end<R: Wait + Clock>(&self, rt: &R) {
+        let now = Instant::now(rt);
         {
-            let mut line = self.line.lock(rt);
-            line.end();
+            let mut timed = self.timed.lock(rt);
+            timed.line.end();
+            timed.ended = now.ok();
         }
         self.bell.notify_one();
     }
 
     /// Waits for the first BPDU or frame, and copies it to the front of the buffer. Returns its
     /// destination address and its number of octets, or `None` once nothing waits and the line has
-    /// ended. The link's worker calls this once it has sent what it got before.
-    pub(crate) fn next<R: Wait>(&self, rt: &R, buffer: &mut [u8]) -> Option<(Addr, usize)>
+    /// ended. A second after the end it drops and counts what waits. The link's worker calls this
+    /// once it has sent what it got before.
+    pub(crate) fn next<R: Wait + Clock>(&self, rt: &R, buffer: &mut [u8]) -> Option<(Addr, usize)>
         requires { 9026 ≤ length buffer.old }
         ensures { IfSome result (λ r. r.1 ≤ length buffer.new) }
     {
-        let mut line = self.line.lock(rt);
+        let mut timed = self.timed.lock(rt);
         for _ in rt.forever() {
-            let first = line.take(buffer);
-            if first.is_some() || line.has_ended() {
+            let is_over = is_over(rt, timed.ended);
+            let first = timed.take(is_over, buffer);
+            if first.is_some() || timed.line.has_ended() {
                 return first;
             }
-            line = self.bell.wait(rt, line);
+            timed = self.bell.wait(rt, timed);
         }
         unreachable!()
     }
 
     /// Returns the number of frames and BPDUs that were dropped.
     pub(crate) fn dropped<R: Wait>(&self, rt: &R) -> u64 {
-        self.line.lock(rt).dropped()
+        self.timed.lock(rt).line.dropped()
     }
 }

@@ -1,4 +1,5 @@
 pub mod Binding
 pub mod Running
 pub mod Serving
+pub mod Shortening
 pub mod Threads

@@ -4,4 +4,5 @@ pub mod RunEdges
 pub mod Serving
 pub mod Settling
 pub mod Sockets
+pub mod SystemDrops
 pub mod ThreadCheck

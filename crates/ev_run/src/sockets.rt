@@ -17,6 +17,7 @@ use std::io;
 use std::io::ErrorKind;
 use std::net::{Net, UdpSocket};
 use std::os::fd::AsRawFd;
+use std::time::Duration;
 
 /// The UDP port of tunnels (RFC 7348).
 pub(crate) const TUNNELS: u16 = 4789;
@@ -24,6 +25,10 @@ pub(crate) const TUNNELS: u16 = 4789;
 /// The size of each socket's receive buffer, in octets: room for some 450 frames of 1,400 octets.
 /// A larger one absorbs longer bursts, but at a port that is flooded all its frames wait that long.
 const RECEIVE_BUFFER: u32 = 512 << 10;
+
+/// How many milliseconds a send waits for a link that takes nothing. Then it has failed, so that a
+/// link that stands still doesn't hold up the end of a run.
+const SEND_LIMIT: u64 = 500;
 
 /// The reason why an address can't be bound.
 #[derive(Clone, Copy, Debug, PartialEq, Eq)]
@@ -126,13 +131,20 @@ fn enlarge_buffer(socket: &UdpSocket) {
     let _ = unsafe { setsockopt(socket.as_raw_fd(), SOL_SOCKET, SO_RCVBUF, &value, 4) };
 }
 
-/// Returns a socket that is bound to this endpoint, with a large receive buffer.
+/// Limits how long a send over the socket waits. If the system refuses that, a send waits as long
+/// as the link needs.
+fn limit_sends(socket: &UdpSocket) {
+    let _ = socket.set_write_timeout(Some(Duration::from_millis(SEND_LIMIT)));
+}
+
+/// Returns a socket that is bound to this endpoint, with a large receive buffer and limited sends.
 fn bind<R: Net>(rt: &R, at: Endpoint) -> Result<UdpSocket, StartError>
     ensures { IfErr result (λ why. Hinders (at ∷ []) false why) }
 {
     match UdpSocket::bind(rt, socket_address(at.address, at.port)) {
         Ok(socket) => {
             enlarge_buffer(&socket);
+            limit_sends(&socket);
             Ok(socket)
         }
         Err(error) => Err(StartError::Unbindable(at, bind_error_of(&error))),

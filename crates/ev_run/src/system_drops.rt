@@ -5,14 +5,16 @@
 //! |---|---|---|
 //! | 2 | where the socket is bound | `0100007F:4E21` for 127.0.0.1:20001 |
 //! | 13 | datagrams dropped there | decimal |
-ghost use Rattle.std.specs.Prelude.{◌≡◌, ◌<◌, true, length, option_map};
+ghost use Rattle.std.specs.Prelude.{◌≡◌, ◌<◌, true, length, map, option_map, IfOk};
 ghost use Rattle.std.specs.Fmt.{digit_glyph};
-ghost use Rattle.std.specs.List.{slice_get};
-ghost use Rattle.ev_run.specs.SystemDrops.{upper_pair, local_text, words_of, names, count_of, row_drops, dropped_at};
+ghost use Rattle.std.specs.List.{filter, slice_get};
+ghost use Rattle.ev_config.specs.declared.endpoint.Endpoint.{Endpoint};
+ghost use Rattle.ev_run.specs.SystemDrops.{upper_pair, local_text, rows_of, words_of, names, count_of, row_drops, dropped_at};
+ghost use Rattle.ev_run.specs.Inner.SystemDrops.{reports_drops, text_of_rows};
 
 use ether_wire::read_decimal;
 use ev_config::Endpoint;
-use std::alloc::Global;
+use std::alloc::{AllocError, Global};
 use std::fs::{File, Files};
 use std::io;
 use std::io::Read;
@@ -104,6 +106,45 @@ pub(crate) fn dropped_at(text: &[u8], at: Endpoint) -> u64
         .fold(0, |most: u64, row| most.max(row_drops(&local, row)))
 }
 
+/// Returns `true` if a row reports dropped datagrams.
+fn reports_drops(row: &[u8]) -> bool
+    ensures { result ≡ reports_drops row.now }
+{
+    count_of(word_at(row, 12)) != 0
+}
+
+/// Returns the rows of a text that report dropped datagrams.
+fn rows_with_drops(alloc: Global, text: &[u8]) -> Result<Vec<&[u8]>, AllocError>
+    ensures { IfOk result
+        (λ rows. map (λ row. row.now) rows.items ≡ filter reports_drops (rows_of text.now)) }
+{
+    text.split(|octet| *octet == b'\n')
+        .filter(|row| reports_drops(row))
+        .collect(alloc)
+}
+
+/// Returns the text of these rows, each with a line feed.
+fn text_of_rows(alloc: Global, rows: &[&[u8]]) -> Result<Vec<u8>, AllocError>
+    ensures { IfOk result (λ text. text.items ≡ text_of_rows (map (λ row. row.now) rows.now)) }
+{
+    let mut text = Vec::new(alloc);
+    for row in rows {
+        text.extend_from_slice(row)?;
+        text.push(b'\n')?;
+    }
+    Ok(text)
+}
+
+/// Returns a text that reports the same drops, without the rows of sockets that dropped nothing.
+/// Most sockets drop nothing, and `dropped_at` reads the text once for each socket of a run.
+fn shortened(alloc: Global, text: &[u8]) -> Result<Vec<u8>, AllocError>
+    ensures { IfOk result
+        (λ short. (at : Endpoint) → dropped_at short.items at ≡ dropped_at text.now at) }
+{
+    let rows = rows_with_drops(alloc, text)?;
+    text_of_rows(alloc, rows.as_slice())
+}
+
 /// Reads the system's table of UDP sockets, up to `MOST` octets.
 fn read_table<R: Files>(rt: &R, alloc: Global) -> io::Result<Vec<u8>> {
     let mut file = File::open(rt, "/proc/net/udp")?.take(MOST);
@@ -112,12 +153,15 @@ fn read_table<R: Files>(rt: &R, alloc: Global) -> io::Result<Vec<u8>> {
     Ok(table)
 }
 
-/// Returns the system's table of UDP sockets as it is now. The result is empty if the table can't
-/// be read, if memory for it is refused, or if it is too long: its last row may be cut then, and
-/// its last number with it.
+/// Returns the system's table of UDP sockets as it is now, without the rows of sockets that dropped
+/// nothing. The result is empty if the table can't be read, if memory for it is refused, or if it
+/// is too long: its last row may be cut then, and its last number with it.
 pub(crate) fn udp_table<R: Files>(rt: &R, alloc: Global) -> Vec<u8> {
     match read_table(rt, alloc) {
-        Ok(table) if (table.len() as u64) < MOST => table,
+        Ok(table) if (table.len() as u64) < MOST => match shortened(alloc, table.as_slice()) {
+            Ok(short) => short,
+            Err(_) => Vec::new(alloc),
+        },
         _ => Vec::new(alloc),
     }
 }

@@ -203,7 +203,7 @@ module _ (lists : SettledByLists) (happens : RunsHappen) where
               Ok (taking (second_with second_heard []) guest_here),
               second_takes (first_with first_said 2 []) (second_with second_heard []) agreed_pool 2 guest_here
                   (routes_with (speaker_with there second_agreed 1 []) nobody_learnt) refl refl refl
-                  (keeps there here second_heard 1 [] nobody_learnt (said_guest 0) refl refl),
+                  (keeps 0 there here second_heard 1 [] nobody_learnt (said_guest 0) refl refl),
               (
                 agreed,
                 Ok (taking (first_with first_said 2 []) flood_there),

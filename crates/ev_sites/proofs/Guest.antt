@@ -66,41 +66,42 @@ loses address said =
     is_some (advert_of (looked_up said (guest_register address)))
     && not (is_at (owner_among 5001 guest.mac (in_order said)) address)
 
-beaten : (address : ℕ) (said : List Said) (counter : ℕ) (pending : List Register)
-    → is_beaten (speaker_with address said counter pending) 5001 guest.mac ≡ loses address said
-beaten address said counter pending =
+beaten : (life address : ℕ) (said : List Said) (counter : ℕ) (pending : List Register)
+    → is_beaten (speaker_in life address said counter pending) 5001 guest.mac ≡ loses address said
+beaten life address said counter pending =
     ap (λ o. is_some (advert_of o) && not (is_at (owner (table_with said) 5001 guest.mac) address))
     (found said (guest_register address))
     ∙ ap (λ o. is_some (advert_of (looked_up said (guest_register address))) && not (is_at o address))
     (owned said 5001 guest.mac)
 
 -- the edge's local routes once it has taken the update, whether it loses the guest or not
-heard : (address other : ℕ) (said : List Said) (counter : ℕ) (pending : List Register) (learned : Learning) (v : Value)
+heard : (life address other : ℕ) (said : List Said) (counter : ℕ) (pending : List Register) (learned : Learning)
+    (v : Value)
     → is_news (looked_up said (guest_register other)) v ≡ true → (b : Bool)
     → loses address ((guest_register other, v) ∷ said) ≡ b
-    → after_take (routes_with (speaker_with address said counter pending) learned)
+    → after_take (routes_with (speaker_in life address said counter pending) learned)
     (record { register = guest_register other; value = v })
     ≡ cond b (after_removal
-    (routes_with (speaker_with address ((guest_register other, v) ∷ said) counter pending) learned) guest)
-    (routes_with (speaker_with address ((guest_register other, v) ∷ said) counter pending) learned)
-heard address other said counter pending learned v news b is =
+    (routes_with (speaker_in life address ((guest_register other, v) ∷ said) counter pending) learned) guest)
+    (routes_with (speaker_in life address ((guest_register other, v) ∷ said) counter pending) learned)
+heard life address other said counter pending learned v news b is =
     ap (λ (t : Table). after_losing_at
-    (routes_with (record { address = address; incarnation = 0; table = t; counter = counter; pending = pending })
+    (routes_with (record { address = address; incarnation = life; table = t; counter = counter; pending = pending })
     learned) guest) (taken said (guest_register other) v news)
     ∙ ap (λ c. cond c (after_removal
-    (routes_with (speaker_with address ((guest_register other, v) ∷ said) counter pending) learned) guest)
-    (routes_with (speaker_with address ((guest_register other, v) ∷ said) counter pending) learned))
-    (beaten address ((guest_register other, v) ∷ said) counter pending ∙ is)
+    (routes_with (speaker_in life address ((guest_register other, v) ∷ said) counter pending) learned) guest)
+    (routes_with (speaker_in life address ((guest_register other, v) ∷ said) counter pending) learned))
+    (beaten life address ((guest_register other, v) ∷ said) counter pending ∙ is)
 
-pub keeps : (address other : ℕ) (said : List Said) (counter : ℕ) (pending : List Register) (learned : Learning)
+pub keeps : (life address other : ℕ) (said : List Said) (counter : ℕ) (pending : List Register) (learned : Learning)
     (v : Value)
     → is_news (looked_up said (guest_register other)) v ≡ true
     → loses address ((guest_register other, v) ∷ said) ≡ false
-    → after_take (routes_with (speaker_with address said counter pending) learned)
+    → after_take (routes_with (speaker_in life address said counter pending) learned)
     (record { register = guest_register other; value = v })
-    ≡ routes_with (speaker_with address ((guest_register other, v) ∷ said) counter pending) learned
-keeps address other said counter pending learned v news kept =
-    heard address other said counter pending learned v news false kept
+    ≡ routes_with (speaker_in life address ((guest_register other, v) ∷ said) counter pending) learned
+keeps life address other said counter pending learned v news kept =
+    heard life address other said counter pending learned v news false kept
 
 -- it withdraws the station that it loses
 pub withdraws : (address other : ℕ) (said : List Said) (counter : ℕ) (pending : List Register) (learned : Learning)
@@ -113,7 +114,7 @@ pub withdraws : (address other : ℕ) (said : List Said) (counter : ℕ) (pendin
     ∷ (guest_register other, v) ∷ said) (counter + 1) (marked pending (guest_register address)))
     (gone learned guest)
 withdraws address other said counter pending learned v news lost =
-    heard address other said counter pending learned v news true lost
+    heard 0 address other said counter pending learned v news true lost
 
 -- a flood list is taken unchanged
 pub hears : (life address other : ℕ) (said : List Said) (counter : ℕ) (pending : List Register) (learned : Learning)

@@ -102,7 +102,7 @@ hears_it : FabricSteps withdrawn (Deliver 2 5) (Ok (taking (second_with second_s
 hears_it =
     second_takes (first_with []) (second_with second_said []) moved_pool 5 guest_gone
     (routes_with (speaker_with there second_moved 2 []) guest_learnt) refl refl refl
-    (keeps there here second_said 2 [] guest_learnt said_gone refl refl)
+    (keeps 0 there here second_said 2 [] guest_learnt said_gone refl refl)
 
 pub rests : Rests come move_steps moved
 rests = (

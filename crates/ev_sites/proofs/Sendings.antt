@@ -1,7 +1,6 @@
 -- The deliveries of a session between edges whose tables are given as lists of updates.
 use Rattle.std.proofs.Common.{◌≡◌, ◌==◌, ◌&&◌, ◌||◌, ◌⊎◌, inl, inr, ℕ, zero, suc, ◌<◌, Bool, true, false, not, cond}
-use Rattle.std.proofs.Common.{Option}
-use Rattle.std.proofs.Common.{Some, None, List, [], ◌∷◌, ◌++◌, refl, sym, ap, subst, ◌∙◌, arith}
+use Rattle.std.proofs.Common.{Option, Some, None, List, [], ◌∷◌, ◌++◌, refl, sym, ap, subst, ◌∙◌, arith}
 use Rattle.std.proofs.lemmas.Bool.{and_parts, eq-eqb, eqb-true}
 use Rattle.std.proofs.lemmas.Bool.Decides.{nat_tests}
 use Rattle.std.specs.Prelude.{Contains, map, nat_lt, slice_get}
@@ -22,7 +21,7 @@ use Rattle.ev_fabric.specs.Sound.{update_of, IsSound}
 use Rattle.ev_fabric.specs.Station.{NoneRestarts}
 use Rattle.ev_fabric.proofs.Fabrics.{step_sound, runs_sound}
 use Rattle.ev_fabric.proofs.Goings.{one_there, runs_lead}
-use Rattle.ev_sites.specs.Sessions.{Took, Holds, Parts, TookIn, IsDelivered}
+use Rattle.ev_sites.specs.Sessions.{Took, Holds, Parts, TookIn, IsDelivered, IsSent}
 use Rattle.ev_sites.proofs.Tables.{Said, table_with, looked_up, found}
 use Rattle.ev_sites.proofs.Telling.{update}
 
@@ -36,26 +35,33 @@ When false P = Unit {0}
 passed : (P : Type 0) (b : Bool) → b ≡ true → When b P → P
 passed P b is h = subst (λ c. When c P) is h
 
+-- each update that is its register's value
 abbrev pub Each : (Fields → Type 0) → List Said → Type 0
 Each P [] = Unit {0}
-Each P (e ∷ es) = P (update e.0 e.1) × Each P es
+Each P (e ∷ es) = P (update e.0 e.1) × Each (λ u. When (not (eq_by_cmp register_cmp u.register e.0)) (P u)) es
 
 each_held : (P : Fields → Type 0) (es : List Said) → Each P es → (r : Register) (v : Value) → looked_up es r ≡ Some v
     → P (update r v)
 each_held P [] h r v is = cc
-each_held P (e ∷ es) h r v is = go (eq_by_cmp register_cmp r e.0) refl is (λ at. each_held P es h.1 r v at)
+each_held P (e ∷ es) h r v is = go (eq_by_cmp register_cmp r e.0) refl is
+    (λ at. each_held (λ u. When (not (eq_by_cmp register_cmp u.register e.0)) (P u)) es h.1 r v at)
   where
     go : (b : Bool) → eq_by_cmp register_cmp r e.0 ≡ b → cond b (Some e.1) (looked_up es r) ≡ Some v
-        → (looked_up es r ≡ Some v → P (update r v)) → P (update r v)
+        → (looked_up es r ≡ Some v → When (not (eq_by_cmp register_cmp r e.0)) (P (update r v))) → P (update r v)
     go true same at rest =
         let value : e.1 ≡ v = cc in
         let register : e.0 ≡ r = sym (same_register r e.0 same) in subst P (λ n. update (register n) (value n)) h.0
-    go false other at rest = rest at
+    go false other at rest = passed (P (update r v)) (not (eq_by_cmp register_cmp r e.0)) (ap not other) (rest at)
 
 abbrev pub updates_of : List Said → List Fields
 updates_of es = map (λ e. update e.0 e.1) es
 
-each_among : (P : Fields → Type 0) (es : List Said) → Each P es → (u : Fields) → Contains (updates_of es) u → P u
+-- each of them
+abbrev pub Every : (Fields → Type 0) → List Said → Type 0
+Every P [] = Unit {0}
+Every P (e ∷ es) = P (update e.0 e.1) × Every P es
+
+each_among : (P : Fields → Type 0) (es : List Said) → Every P es → (u : Fields) → Contains (updates_of es) u → P u
 each_among P [] h u (n, less, is) = absurd (omega (arith, less))
 each_among P (e ∷ es) h u (zero, less, is) = subst P is h.0
 each_among P (e ∷ es) h u (suc n, less, is) = each_among P es h.1 u (n, omega (arith, less), is)
@@ -148,6 +154,12 @@ pub two_places : (P : ℕ → Type 0) (x y : ℕ) → P x → P y → (i : ℕ) 
 two_places P x y h k i (zero, less, is) = subst P is h
 two_places P x y h k i (suc n, less, is) = one_place P y k i (n, omega (arith, less), is)
 
+pub three_places : (P : ℕ → Type 0) → P 0 → P 1 → P 2 → (i : ℕ) → i < 3 → P i
+three_places P x y z zero less = x
+three_places P x y z (suc zero) less = y
+three_places P x y z (suc (suc zero)) less = z
+three_places P x y z (suc (suc (suc i))) less = absurd (omega (arith, less))
+
 -- ---- from the edge at place i, of address x and in incarnation n, to the edge at place j
 
 pub record Sending (i j x n : ℕ) (old : Fabric) (steps : List Step) (new : Fabric) (s : Parts old steps new) :
@@ -168,7 +180,7 @@ pub record Sending (i j x n : ℕ) (old : Fabric) (steps : List Step) (new : Fab
   pub name : (address_of after ≡ x) × (incarnation_of after ≡ n)
   -- the deliveries
   pub own : Each (λ u. When (u.register.originator == x) (TookIn old steps new s j u)) said
-  pub since : Each (λ u. When (u.register.originator == x) (TookIn old steps new s j u)) more
+  pub since : Every (λ u. When (u.register.originator == x) (TookIn old steps new s j u)) more
   pub quiet : after.routes.speaker.pending ≡ []
   pub back : Each (λ u. When (u.register.originator == x) (Took i u s.second s.held new s.ends)) heard
   -- only the update at place late may be of an earlier life, if there is one
@@ -222,7 +234,7 @@ module _ (i j x n : ℕ) (old : Fabric) (steps : List Step) (new : Fabric) (s : 
       nothing among = let none = (subst (λ l. Contains l r) h.quiet among).1 in omega (arith, none)
 
   -- an update of an earlier life that the edge at i has at the end
-  pub alike : Each (λ u. When (is_past x n u) (Holds s.held j u)) h.last → (v : Value)
+  alike : Each (λ u. When (is_past x n u) (Holds s.held j u)) h.last → (v : Value)
       → v.incarnation < incarnation_of a → value_at (table_of a) r ≡ Some v
       → Holds s.held j (update_of r v) ⊎ TookIn old steps new s j (update_of r v)
   alike each v less is = inl (passed (Holds s.held j (update_of r v)) (is_past x n (update_of r v))
@@ -230,3 +242,11 @@ module _ (i j x n : ℕ) (old : Fabric) (steps : List Step) (new : Fabric) (s : 
       (each_held (λ u. When (is_past x n u) (Holds s.held j u)) h.last each r v
       (sym (found h.last r) ∙ ap (λ t. value_at t r) (sym h.tables.1)
       ∙ ap (λ (b : Edge). value_at (table_of b) r) same ∙ is)))
+
+pub is_sent : (i j x n : ℕ) (old : Fabric) (steps : List Step) (new : Fabric) (s : Parts old steps new) → IsSound old
+    → (h : Sending i j x n old steps new s) → Each (λ u. When (is_past x n u) (Holds s.held j u)) h.last → (a : Edge)
+    (r : Register) → IsEdge new i a → r.originator ≡ address_of a → IsSent i j a r old steps new s
+is_sent i j x n old steps new s sound h each a r at mine = record {
+  delivered = delivered i j x n old steps new s sound h a r at mine;
+  alike = λ v less is took. alike i j x n old steps new s sound h a r at mine each v less is;
+}

@@ -1,4 +1,4 @@
--- An edge restarts, and takes a withdrawal of its earlier life before an older advert. Another edge keeps that advert.
+-- An edge restarts. A withdrawal of its earlier life comes to it before an older advert, which another edge then keeps.
 use Rattle.std.proofs.Common.{◌≡◌, inl, inr, ℕ, List, [], ◌∷◌, ◌++◌, drop, take, refl, sym, ap, ◌∙◌, arith, lit<}
 use Rattle.std.specs.Prelude.{Some}
 use Rattle.std.specs.FinMap.{empty, get-empty}
@@ -27,7 +27,7 @@ use Rattle.ev_sites.proofs.Trio.{lodger_register, said_fixed, said_free, hears_o
 use Rattle.ev_sites.proofs.Traffic.{flood_one, flood_two, flood_three, guest_here, lodger_first, lodger_gone, said_of}
 use Rattle.ev_sites.proofs.Traffic.{a1, b1, first_0, second_0, third_1, agreed, has_run}
 use Rattle.ev_sites.proofs.Anew.{flood_anew, opened_anew, config_anew, reopens, returns, no_news, kept}
-use Rattle.ev_sites.proofs.Sendings.{Sending, delivered, alike}
+use Rattle.ev_sites.proofs.Sendings.{Sending, delivered, is_sent}
 use Rattle.ev_sites.proofs.Returned.{flood_far, c0, second_with, third_with, told, says_gone, goes_further}
 
 -- ---- the fabrics
@@ -57,9 +57,8 @@ abbrev g2 : Fabric
 g2 = trio_with first_told (second_with b2) third_1 (pool 6)
 
 abbrev among : Edge → Edge → ℕ → Fabric
-among b c n =
-    trio_of (config_of root_settings here ∷ config_of root_settings there ∷ config_anew far ∷ []) first_told b c
-    (pool n)
+among b c n = trio_of (config_of root_settings here ∷ config_of root_settings there ∷ config_anew far ∷ [])
+    first_told b c (pool n)
 
 abbrev old : Fabric
 old = among (second_with b2) (opened_anew far) 6
@@ -80,11 +79,11 @@ held = among (second_with b3) (third_with c2) 7
 
 g1_goes : Going told (Deliver 1 6) g1
 g1_goes = takes told 1 6 first_0 lodger_gone first_told.routes refl refl refl refl
-    (hears_of here far a1 2 [] guest_learnt lodger_gone.value refl refl)
+    (hears_of 0 here far a1 2 [] guest_learnt lodger_gone.value refl refl)
 
 g2_goes : Going g1 (Deliver 2 5) g2
 g2_goes = takes g1 2 5 second_0 lodger_first (second_with b2).routes refl refl refl refl
-    (hears_of there far b1 1 [] nobody_learnt lodger_first.value refl refl)
+    (hears_of 0 there far b1 1 [] nobody_learnt lodger_first.value refl refl)
 
 third_opens : Going g2 (Restart 3 1) old
 third_opens = reopens g2 3 third_1 far (2, lit< tt, refl) refl (lit< tt) refl
@@ -211,11 +210,8 @@ to_third = record {
 sent_third : IsSound old → (r : Register) → r.originator ≡ address_of (second_with b3)
     → IsSent 1 2 (second_with b3) r old steps held parts
 unfolding to_third
-sent_third sound r mine = record {
-  delivered = delivered 1 2 there 0 old steps held parts sound to_third (second_with b3) r refl mine;
-  alike = λ v less is took. alike 1 2 there 0 old steps held parts sound to_third (second_with b3) r refl mine
-      (tt, (tt, (tt, (tt, tt)))) v less is;
-}
+sent_third sound r mine = is_sent 1 2 there 0 old steps held parts sound to_third (tt, (tt, (tt, (tt, tt))))
+    (second_with b3) r refl mine
 
 module _ (lists : SettledByLists) (happens : RunsHappen) where
   old_run : HasRun old

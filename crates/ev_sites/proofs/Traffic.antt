@@ -379,11 +379,11 @@ p4_p5 = announces p4 3 third_up third_told flood_three (found c0 flood_three.reg
 
 p5_p6 : Going p5 (Deliver 2 2) p6
 p5_p6 = takes p5 2 2 second_told guest_here second_0.routes refl refl refl refl
-    (keeps there here b0 1 [] nobody_learnt guest_here.value refl refl)
+    (keeps 0 there here b0 1 [] nobody_learnt guest_here.value refl refl)
 
 p6_p7 : Going p6 (Deliver 3 2) p7
 p6_p7 = takes p6 3 2 third_told guest_here third_heard.routes refl refl refl refl
-    (keeps far here c0 1 [] nobody_learnt guest_here.value refl refl)
+    (keeps 0 far here c0 1 [] nobody_learnt guest_here.value refl refl)
 
 p7_p8 : Going p7 (Local 3 (Pin lodger 1)) p8
 p7_p8 = does p7 3 third_heard third_pinned (Pin lodger 1) (alone None) refl
@@ -398,14 +398,14 @@ p9_agreed = does p9 3 third_said third_0 (Unpin lodger) nothing refl
 
 s0_s1 : Going s0 (Deliver 1 5) s1
 s0_s1 = takes s0 1 5 first_0 lodger_first first_1.routes refl refl refl refl
-    (hears_of here far a1 2 [] guest_learnt lodger_first.value refl refl)
+    (hears_of 0 here far a1 2 [] guest_learnt lodger_first.value refl refl)
 
 s1_s2 : Going s1 (Announce 2) s2
 s1_s2 = announces s1 2 second_1 second_2 guest_there (found b2 guest_there.register) refl refl refl
 
 s2_s3 : Going s2 (Deliver 2 5) s3
 s2_s3 = takes s2 2 5 second_2 lodger_first second_3.routes refl refl refl refl
-    (hears_of there far b2 2 [] guest_learnt lodger_first.value refl refl)
+    (hears_of 0 there far b2 2 [] guest_learnt lodger_first.value refl refl)
 
 s3_s4 : Going s3 (Deliver 1 6) s4
 s3_s4 = takes s3 1 6 first_1 guest_there first_2.routes refl refl refl refl
@@ -420,15 +420,15 @@ s5_s6 = does s5 3 third_1 third_2 (Pin lodger 1) (alone None) refl
 
 s6_s7 : Going s6 (Deliver 1 7) s7
 s6_s7 = takes s6 1 7 first_2 lodger_gone first_3.routes refl refl refl refl
-    (hears_of here far a3 3 (guest_register here ∷ []) guest_lost lodger_gone.value refl refl)
+    (hears_of 0 here far a3 3 (guest_register here ∷ []) guest_lost lodger_gone.value refl refl)
 
 s7_s8 : Going s7 (Deliver 3 6) s8
 s7_s8 = takes s7 3 6 third_2 guest_there third_3.routes refl refl refl refl
-    (keeps far there c4 4 (lodger_register far ∷ []) lodged_again guest_there.value refl refl)
+    (keeps 0 far there c4 4 (lodger_register far ∷ []) lodged_again guest_there.value refl refl)
 
 s8_s9 : Going s8 (Deliver 2 7) s9
 s8_s9 = takes s8 2 7 second_3 lodger_gone second_4.routes refl refl refl refl
-    (hears_of there far b3 2 [] guest_learnt lodger_gone.value refl refl)
+    (hears_of 0 there far b3 2 [] guest_learnt lodger_gone.value refl refl)
 
 s9_s10 : Going s9 (Announce 1) s10
 s9_s10 = announces s9 1 first_3 first_4 guest_gone (found a4 guest_gone.register) refl refl refl
@@ -442,19 +442,19 @@ s11_s12 = does s11 3 third_4 third_5 (Unpin lodger) nothing refl
 
 s12_s13 : Going s12 (Deliver 1 9) s13
 s12_s13 = takes s12 1 9 first_4 lodger_again first_5.routes refl refl refl refl
-    (hears_of here far a4 3 [] guest_lost lodger_again.value refl refl)
+    (hears_of 0 here far a4 3 [] guest_lost lodger_again.value refl refl)
 
 s13_s14 : Going s13 (Deliver 2 8) s14
 s13_s14 = takes s13 2 8 second_4 guest_gone second_5.routes refl refl refl refl
-    (keeps there here b4 2 [] guest_learnt guest_gone.value refl refl)
+    (keeps 0 there here b4 2 [] guest_learnt guest_gone.value refl refl)
 
 s14_s15 : Going s14 (Deliver 2 9) s15
 s14_s15 = takes s14 2 9 second_5 lodger_again second_6.routes refl refl refl refl
-    (hears_of there far b5 2 [] guest_learnt lodger_again.value refl refl)
+    (hears_of 0 there far b5 2 [] guest_learnt lodger_again.value refl refl)
 
 s15_s16 : Going s15 (Deliver 3 8) s16
 s15_s16 = takes s15 3 8 third_5 guest_gone third_6.routes refl refl refl refl
-    (keeps far here c6 5 (lodger_register far ∷ []) left_again guest_gone.value refl refl)
+    (keeps 0 far here c6 5 (lodger_register far ∷ []) left_again guest_gone.value refl refl)
 
 -- ---- a pin at the third edge changes no register of the guest
 same_said : (said : List Said) (v : Value) (ip : Option Ip)

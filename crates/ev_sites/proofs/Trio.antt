@@ -47,7 +47,7 @@ use Rattle.ev_fabric.specs.Steps.{IsRefused, StepsAt, AnnouncesAt, FabricSteps, 
 use Rattle.ev_fabric.proofs.Example.{listeners, all_differ, config_of, fits, edge_of, opens, good, nobody_learnt}
 use Rattle.ev_sites.proofs.Tables.{Said, table_with, looked_up, found, taken, unchanged, in_order, next_among}
 use Rattle.ev_sites.proofs.Tables.{next_number}
-use Rattle.ev_sites.proofs.Guest.{here, there, speaker_in, speaker_with, routes_with}
+use Rattle.ev_sites.proofs.Guest.{here, there, speaker_in, routes_with}
 use Rattle.ev_sites.proofs.Risen.{Windows, root_settings, edge_with}
 use Rattle.ev_sites.proofs.Telling.{update, announcing, taking}
 
@@ -209,42 +209,42 @@ abbrev pub said_free : ℕ → Value
 said_free counter = record { incarnation = 0; counter = counter; content = Withdrawn }
 
 -- an edge that doesn't advertise it doesn't lose it
-unlost : (address : ℕ) (said : List Said) (counter : ℕ) (pending : List Register) (learned : Learning)
-    → looked_up said (lodger_register address) ≡ None
-    → after_losing_at (routes_with (speaker_with address said counter pending) learned) lodger
-    ≡ routes_with (speaker_with address said counter pending) learned
-unlost address said counter pending learned none =
-    ap (λ o. cond (is_some (advert_of o) && not (is_at (owner (table_with said) 5001 lodger.mac) address))
-    (after_removal (routes_with (speaker_with address said counter pending) learned) lodger)
-    (routes_with (speaker_with address said counter pending) learned))
-    (found said (lodger_register address) ∙ none)
+unlost : (life address : ℕ) (said : List Said) (counter : ℕ) (pending : List Register) (learned : Learning)
+    → is_some (advert_of (looked_up said (lodger_register address))) ≡ false
+    → after_losing_at (routes_with (speaker_in life address said counter pending) learned) lodger
+    ≡ routes_with (speaker_in life address said counter pending) learned
+unlost life address said counter pending learned none =
+    ap (λ b. cond (b && not (is_at (owner (table_with said) 5001 lodger.mac) address))
+    (after_removal (routes_with (speaker_in life address said counter pending) learned) lodger)
+    (routes_with (speaker_in life address said counter pending) learned))
+    (ap (λ o. is_some (advert_of o)) (found said (lodger_register address)) ∙ none)
 
 -- it takes an update about it unchanged
-pub hears_of : (address other : ℕ) (said : List Said) (counter : ℕ) (pending : List Register) (learned : Learning)
+pub hears_of : (life address other : ℕ) (said : List Said) (counter : ℕ) (pending : List Register) (learned : Learning)
     (v : Value)
     → is_news (looked_up said (lodger_register other)) v ≡ true
-    → looked_up ((lodger_register other, v) ∷ said) (lodger_register address) ≡ None
-    → after_take (routes_with (speaker_with address said counter pending) learned)
+    → is_some (advert_of (looked_up ((lodger_register other, v) ∷ said) (lodger_register address))) ≡ false
+    → after_take (routes_with (speaker_in life address said counter pending) learned)
     (record { register = lodger_register other; value = v })
-    ≡ routes_with (speaker_with address ((lodger_register other, v) ∷ said) counter pending) learned
-hears_of address other said counter pending learned v news none =
+    ≡ routes_with (speaker_in life address ((lodger_register other, v) ∷ said) counter pending) learned
+hears_of life address other said counter pending learned v news none =
     ap (λ (t : Table). after_losing_at
-    (routes_with (record { address = address; incarnation = 0; table = t; counter = counter; pending = pending })
+    (routes_with (record { address = address; incarnation = life; table = t; counter = counter; pending = pending })
     learned) lodger) (taken said (lodger_register other) v news)
-    ∙ unlost address ((lodger_register other, v) ∷ said) counter pending learned none
+    ∙ unlost life address ((lodger_register other, v) ∷ said) counter pending learned none
 
 -- and one that is no news
-pub hears_again : (address other : ℕ) (said : List Said) (counter : ℕ) (pending : List Register) (learned : Learning)
-    (v : Value)
-    → is_news (looked_up said (lodger_register other)) v ≡ false → looked_up said (lodger_register address) ≡ None
-    → after_take (routes_with (speaker_with address said counter pending) learned)
+pub hears_again : (life address other : ℕ) (said : List Said) (counter : ℕ) (pending : List Register)
+    (learned : Learning) (v : Value) → is_news (looked_up said (lodger_register other)) v ≡ false
+    → is_some (advert_of (looked_up said (lodger_register address))) ≡ false
+    → after_take (routes_with (speaker_in life address said counter pending) learned)
     (record { register = lodger_register other; value = v })
-    ≡ routes_with (speaker_with address said counter pending) learned
-hears_again address other said counter pending learned v old none =
+    ≡ routes_with (speaker_in life address said counter pending) learned
+hears_again life address other said counter pending learned v old none =
     ap (λ (t : Table). after_losing_at
-    (routes_with (record { address = address; incarnation = 0; table = t; counter = counter; pending = pending })
+    (routes_with (record { address = address; incarnation = life; table = t; counter = counter; pending = pending })
     learned) lodger) (unchanged said (lodger_register other) v old)
-    ∙ unlost address said counter pending learned none
+    ∙ unlost life address said counter pending learned none
 
 -- nothing is learnt of it, and there is room
 pub record IsFree (l : Learning) : Type 0 where

@@ -37,7 +37,7 @@ use Rattle.ev_fabric.specs.Rounds.{IsOrderly, Rounds}
 use Rattle.ev_fabric.specs.Meanwhile.{IsFlooded}
 use Rattle.ev_sites.specs.Sites.{Site, Point, ByEdge, ByTunnel}
 use Rattle.ev_sites.specs.Fabrics.{AreSitesOf, SitesRest}
-use Rattle.ev_sites.specs.Sessions.{Took, Holds, Parts, IsDelivered, IsSent, Session, Knows}
+use Rattle.ev_sites.specs.Sessions.{Process, Took, Holds, Parts, IsDelivered, IsSent, Session, Met, Knows}
 
 -- the fabric came by some run from its opening
 pub record HasRun (f : Fabric) : Type 0 where
@@ -212,8 +212,12 @@ pub record MoveInTraffic : Type 0 where
 
 -- ---- a session after a restart
 
+-- each of three edges is a process
+abbrev pub each_alone : List Process
+each_alone = (0 ∷ []) ∷ (1 ∷ []) ∷ (2 ∷ []) ∷ []
+
 -- A process has the edges at places 0 and 2 of a fabric, and another one has the edge at place 1. The edge at place 0
--- begins anew, any steps follow, and then a session of the two processes. At its beginning the edge at place 1 has an
+-- restarts, any steps follow, and then a session of the two processes. At its beginning the edge at place 1 has an
 -- advert of the earlier life, of a station that the edge at place 0 hasn't learnt since. At its end it has none.
 pub record SessionOfAFabric : Type 0 where
   pub before : Fabric
@@ -253,8 +257,8 @@ pub record SessionOfAFabric : Type 0 where
   pub of_life : withdrawal.incarnation ≡ life
   pub held_by_first : Holds new 0 (update_of (register_of (address_of first) (key_of station)) withdrawal)
   pub held_by_second : Holds new 1 (update_of (register_of (address_of first) (key_of station)) withdrawal)
-  -- An event from outside comes between two deliveries of the session. By it the first edge learns another station. Its
-  -- advert is announced in the session, and both edges have it at the end.
+  -- An event from outside comes between two deliveries of the session. In the session the first edge learns another
+  -- station. Its advert is announced in the session, and both edges have it at the end.
   pub sooner : List Step
   pub later : List Step
   pub event : LocalEvent
@@ -272,7 +276,7 @@ pub record SessionOfAFabric : Type 0 where
   pub learnt : IsSome (entry_at first.routes.learned other)
   pub first_has : Holds new 0 (update_of (register_of (address_of first) (key_of other)) present)
   pub second_has : Holds new 1 (update_of (register_of (address_of first) (key_of other)) present)
-  -- The third edge began anew, too, and has a withdrawal of its earlier life at the beginning. After the tables were
+  -- The third edge restarted, too, and has a withdrawal of its earlier life at the beginning. After the tables were
   -- sent back the second edge takes it, and the third edge takes it back, and keeps it.
   pub kept : Fields
   pub of_third : kept.register.originator ≡ address_of third
@@ -281,9 +285,13 @@ pub record SessionOfAFabric : Type 0 where
   pub second_takes : Took 1 kept session.there.parts.second session.there.parts.held new session.there.parts.ends
   pub third_takes : Took 2 kept session.there.parts.second session.there.parts.held new session.there.parts.ends
   pub third_has : Holds new 2 kept
+  -- Also each two of the edges have met, if each is a process of its own.
+  pub met : (m n : ℕ) (p q : Process) → m ≢ n → slice_get each_alone m ≡ Some p → slice_get each_alone n ≡ Some q
+      → Met p q new
   -- by `sessions_agree`
   pub first_agrees : Knows second first × Knows first second
   pub third_agrees : Knows second third × Knows third second
+  pub all_agree : (i j : ℕ) (a b : Edge) → i ≢ j → i < 3 → j < 3 → IsEdge new i a → IsEdge new j b → Knows b a
   -- by `begun_anew`
   pub anew : (r : Register) (v : Value) → r.originator ≡ address_of first → value_at (table_of second) r ≡ Some v
       → IsSome (advert_in v.content) → life ≤ v.incarnation
@@ -291,9 +299,9 @@ pub record SessionOfAFabric : Type 0 where
 -- ---- a session in all but one premise
 
 -- The registers of the edges at places 1 and 2 are delivered as in a session of these two, and those of the edge at
--- place 1 are sent. Only `alike` is left out, for the registers of the edge at place 2, which began anew. A withdrawal
--- of its earlier life, which the edge at place 0 has, comes first. Then the advert that the edge at place 1 has in its
--- place comes back, is no news, and stays there.
+-- place 1 are sent. Only `alike` is left out, for the registers of the edge at place 2, which restarted. A withdrawal
+-- of its earlier life, which the edge at place 0 has, comes first. Then the older advert that the edge at place 1 has
+-- comes back, and is no news. So the edge at place 1 keeps it.
 pub record AdvertStays : Type 0 where
   pub old : Fabric
   pub has_run : HasRun old

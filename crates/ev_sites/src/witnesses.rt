@@ -65,10 +65,11 @@ pub fn fabric_moves_in_traffic()
 }
 
 /// A witness of `sessions_agree` and `begun_anew`: two processes of edges, one with two and one
-/// with one. After a run from their opening the edges of the first process begin anew. The other
+/// with one. After a run from their opening the edges of the first process restart. The other
 /// process has an advert of an earlier life, of a station that its edge hasn't learnt since. A
 /// session follows, in which an edge learns another station. At its end the advert is gone, and
-/// both processes have the other station's advert.
+/// both processes have the other station's advert. These steps are also a session of each two of
+/// the three edges, if each edge is a process of its own.
 pub fn a_session_can_be()
     ensures { SessionOfAFabric }
 {
@@ -81,7 +82,7 @@ pub fn a_session_can_be()
 }
 
 /// A counterexample to `sessions_agree` without its last premise (`alike`). Of two edges whose
-/// registers are delivered as in a session, one began anew. It takes a withdrawal of its earlier
+/// registers are delivered as in a session, one restarted. It takes a withdrawal of its earlier
 /// life first. Then an older advert comes back to it, and is no news. So it announces nothing, and
 /// the other edge keeps that advert.
 pub fn an_advert_can_stay()

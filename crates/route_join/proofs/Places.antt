@@ -1,7 +1,8 @@
 -- Updates in the order of their registers: the meaning of a register's place, and the effect of an edit there.
-use Rattle.std.proofs.Common.{◌≡◌, ℕ, zero, suc, ◌+◌, ◌<◌, ◌≤◌, true, cond, List, [], ◌∷◌, length}
+use Rattle.std.proofs.Common.{◌≡◌, ℕ, zero, suc, ◌+◌, ◌<◌, ◌≤◌, true, cond, List, [], ◌∷◌, ◌++◌, length}
 use Rattle.std.proofs.Common.{get_or, set, Some, None, Result, Ok, Err, refl, sym, ap, subst, ◌∙◌, arith}
 use Rattle.std.specs.List.{insert}
+use Rattle.std.proofs.Math.Seq.{take-length, drop-length}
 use Rattle.std.specs.declared.cmp.Ordering.TheVariants.{Less, Equal, Greater}
 use Rattle.std.specs.Ordering.{is_lt, is_eq}
 use Rattle.std.specs.FinMap.Entries.{by_order, put, find, is_sorted, below_all}
@@ -137,3 +138,7 @@ pub about_at : (s : Subject) (us : List Fields) (i : ℕ) (d : Fields) → AreAb
 about_at s [] i d k l = absurd (omega (arith, l))
 about_at s (u ∷ us) zero d k l = k.0
 about_at s (u ∷ us) (suc i) d k l = about_at s us i d k.1 (omega (arith, l))
+
+-- an insertion at the end
+pub at_end : (us : List Fields) (u : Fields) (n : ℕ) → n ≡ length us → us ++ u ∷ [] ≡ insert us n u
+at_end us u n e = sym (λ i. take-length us i ++ u ∷ drop-length us i) ∙ ap (λ k. insert us k u) (sym e)

@@ -1,15 +1,13 @@
 //! A table's groups in an index: an update goes into the group of its subject, and groups are
 //! reported one after the other in the order of their subjects.
-ghost use Rattle.std.specs.Prelude.{◌≡◌, ◌<◌, ◌∷◌, [], OnOk, OnErr, None};
+ghost use Rattle.std.specs.Prelude.{◌≡◌, [], OnErr};
 ghost use Rattle.std.specs.Option.{option_copied};
 ghost use Rattle.std.specs.Iterator.{YieldsFirstBy, item_count};
-ghost use Rattle.std.specs.BTreeMap.{insert_entry};
 ghost use Rattle.ether_wire.specs.Ends.{IsOpen, Puts};
-ghost use Rattle.route_join.specs.Subject.{subject_cmp};
 ghost use Rattle.route_join.specs.Table.{entries_of};
 ghost use Rattle.route_join.specs.Group.{AreAbout, IsSome, AreGroups, updates_in};
 ghost use Rattle.route_join.specs.Inner.Group.{Takes};
-ghost use Rattle.route_join.specs.Inner.Groups.{group_at};
+ghost use Rattle.route_join.specs.Inner.Groups.{group_at, groups_along, AreIndexed};
 ghost use Rattle.route_join.specs.Inner.Report.{report_lines};
 ghost use Rattle.route_join.specs.Inner.Lines.{group_lines};
 
@@ -22,6 +20,7 @@ use crate::table::Taken;
 use ether_wire::{Device, Out};
 use route_wire::Update;
 use std::alloc::{AllocError, Global};
+use std::collections::hash_map::Entry;
 use std::collections::{BTreeSet, HashMap, btree_set};
 use std::marker::Model;
 
@@ -48,6 +47,46 @@ impl Model for Groups {
     ghost view = { λ g. groups_along g.order.keys g.index.entries };
 
     ghost invariant = { λ g. AreIndexed g.order.keys g.index.entries };
+}
+
+/// Takes an update into the group of its subject, which is sought once. The room for a new group is
+/// reserved before anything changes.
+fn take_in(
+    alloc: Global,
+    index: &mut HashMap<Subject, Group, Salted>,
+    order: &mut BTreeSet<Subject>,
+    held: &mut usize,
+    guess: usize,
+    update: &Update,
+) -> Result<Taken, AllocError>
+    requires indexed { AreIndexed order.old.keys index.old.entries }
+    requires groups { AreGroups (groups_along order.old.keys index.old.entries) }
+    ensures indexed { AreIndexed order.new.keys index.new.entries }
+    ensures takes { Takes (entries_of (updates_in (groups_along order.old.keys index.old.entries)))
+        update.now held.old result
+        (entries_of (updates_in (groups_along order.new.keys index.new.entries))) held.new }
+    ensures groups { AreGroups (groups_along order.new.keys index.new.entries) }
+    ensures err { OnErr result (groups_along order.new.keys index.new.entries
+        ≡ groups_along order.old.keys index.old.entries) }
+{
+    let subject = subject_of(&update.register().key);
+    match index.entry(subject) {
+        Ok(Entry::Occupied(group)) => group.into_mut().take(alloc, held, guess, update),
+        Ok(Entry::Vacant(group)) => {
+            let Some(more) = held.checked_add(1) else {
+                group.into_key();
+                return Err(AllocError);
+            };
+            if order.insert(subject).is_err() {
+                group.into_key();
+                return Err(AllocError);
+            }
+            group.insert(Group::new(update));
+            *held = more;
+            Ok(Taken::Newer)
+        }
+        Err(_) => Err(AllocError),
+    }
 }
 
 impl Groups {
@@ -80,25 +119,6 @@ impl Groups {
         }
     }
 
-    /// Makes the group of a new subject. It reserves the memory for each growth before anything
-    /// changes.
-    fn enter(&mut self, subject: &Subject, update: &Update) -> Result<(), AllocError>
-        requires { group_at subject.now self.old ≡ None }
-        ensures ok { OnOk result (self.new
-            ≡ insert_entry subject_cmp self.old subject.now (update.now ∷ [])) }
-        ensures err { OnErr result (self.new ≡ self.old) }
-    {
-        self.index.reserve(1)?;
-        if self.order.insert(*subject).is_err() {
-            return Err(AllocError);
-        }
-        // the map has room for the group
-        match self.index.insert(*subject, Group::new(update)) {
-            Ok(_) => Ok(()),
-            Err(_) => Err(AllocError),
-        }
-    }
-
     /// Takes an update into the group of its subject, and makes the group if there is none yet. A
     /// new register is one more held register. If memory is refused, nothing changes. In a list the
     /// update at the place `guess` is compared first.
@@ -115,18 +135,7 @@ impl Groups {
         ensures err { OnErr result (self.new ≡ self.old) }
     {
         let alloc = self.alloc;
-        let subject = subject_of(&update.register().key);
-        match self.index.get_mut(&subject) {
-            Some(group) => group.take(alloc, held, guess, update),
-            None => {
-                let Some(more) = held.checked_add(1) else {
-                    return Err(AllocError);
-                };
-                self.enter(&subject, update)?;
-                *held = more;
-                Ok(Taken::Newer)
-            }
-        }
+        take_in(alloc, &mut self.index, &mut self.order, held, guess, update)
     }
 }
 

@@ -102,6 +102,7 @@ fn stays_winner(updates: &[Update], at: usize, winner: Option<usize>, update: &U
 
 /// Returns the winner's place after the update at a place was replaced. It searches for the winner
 /// again only if the winner's update was replaced and the new one is worse.
+#[inline(always)]
 fn winner_after(updates: &[Update], at: usize, winner: Option<usize>, stays: bool) -> Option<usize>
     requires ordered { IsOrdered updates.now }
     requires other { winner ≢ Some at
@@ -131,7 +132,9 @@ fn moved(at: usize, winner: Option<usize>) -> Option<usize>
 }
 
 /// Inserts an update at a place. A full group grows by a sixteenth: groups are small and many, and
-/// doubling each would leave a third of a large table's memory unused.
+/// doubling each would leave a third of a large table's memory unused. At the end, where more than
+/// half of the updates come, `insert` would copy the update three times more.
+#[tactic(auto, using(crate::proofs::Places::at_end))]
 fn insert_at(updates: &mut Vec<Update>, at: usize, update: &Update) -> Result<(), AllocError>
     requires { at ≤ vec_len updates.old }
     ensures { updates.new.items
@@ -140,6 +143,10 @@ fn insert_at(updates: &mut Vec<Update>, at: usize, update: &Update) -> Result<()
     let len = updates.len();
     if len == updates.capacity() {
         updates.reserve_exact(len / 16 + 1)?;
+    }
+    if at == len {
+        updates.push_reserved(*update);
+        return Ok(());
     }
     match updates.insert(at, *update) {
         Ok(()) => Ok(()),
@@ -218,6 +225,7 @@ impl SmallGroup {
     }
 
     /// Writes a newer update at the place of its register.
+    #[inline(always)]
     fn replace(&mut self, at: usize, update: &Update)
         requires { place_of self.old update.now.register ≡ Ok at }
         ensures { entries_of self.new ≡ put register_cmp update.now.register update.now.value
@@ -246,6 +254,7 @@ impl SmallGroup {
     /// Takes an update: its register then has the newer of the update and its value so far. A known
     /// register takes no memory, and a new one is one more held register. The update at the place
     /// `guess` is compared first.
+    #[inline(always)]
     pub(crate) fn take(
         &mut self,
         held: &mut usize,

@@ -1,5 +1,5 @@
 //! The subjects of routes: a network's flood list, or a MAC address in it.
-ghost use Rattle.std.specs.Prelude.{◌≡◌, ◌<◌, ◌^◌, None, Some, refl};
+ghost use Rattle.std.specs.Prelude.{◌≡◌, None, Some, refl};
 ghost use Rattle.route_join.specs.Subject.{subject_of};
 ghost use Rattle.route_join.specs.Inner.Subject.{subject_number, mac_place};
 
@@ -11,7 +11,7 @@ use std::marker::Model;
 
 /// The subject of a route: a network's flood list, or an address in a network, with any IP address.
 /// The order is that of a report: by VNI, the flood list before the addresses, then by MAC.
-// Both parts are numbers, so that two subjects are compared as one number each.
+// Both parts are numbers. Two subjects of one network are compared only by their places.
 #[derive(Clone, Copy, PartialEq, Eq)]
 pub(crate) struct Subject {
     vni: Vni,
@@ -74,13 +74,19 @@ impl Subject {
         }
     }
 
-    /// Returns the whole subject as one number.
-    #[tactic(auto, using(crate::specs::Inner::Ranks::place_back, crate::proofs::Numbers::small_place))]
-    fn number(&self) -> u128
-        ensures value { result ≡ subject_number self.now }
-        ensures small { mac_place self.now.mac < 2 ^ 64 }
+    /// Returns the place of the subject in its network: 0 for the flood list.
+    #[tactic(auto, using(crate::specs::Inner::Ranks::place_back))]
+    fn place(&self) -> u64
+        ensures { result ≡ mac_place self.now.mac }
     {
-        u128::from(self.vni.number()) * 0x1_0000_0000_0000_0000 + u128::from(self.place)
+        self.place
+    }
+
+    /// Returns the whole subject as one number.
+    fn number(&self) -> u128
+        ensures { result ≡ subject_number self.now }
+    {
+        u128::from(self.vni.number()) * 0x1_0000_0000_0000_0000 + u128::from(self.place())
     }
 }
 
@@ -110,10 +116,14 @@ impl Ord for Subject {
 
     ghost matches_eq = { tied_subjects };
 
-    // A search in the ordered set mostly passes lower subjects, so this case is checked first.
-    #[tactic(auto, using(crate::proofs::Numbers::by_number, crate::proofs::Numbers::behind_lower))]
+    // A search in the ordered set mostly passes lower subjects of one network, so this case is
+    // checked first, by their places.
+    #[tactic(auto, using(crate::proofs::Numbers::other_network, crate::proofs::Numbers::same_network, crate::proofs::Numbers::behind_lower))]
     fn cmp(&self, other: &Subject) -> Ordering {
-        let (one, two) = (self.number(), other.number());
+        let (one, two) = (self.place(), other.place());
+        if self.vni.number() != other.vni.number() {
+            return self.vni.number().cmp(&other.vni.number());
+        }
         if two < one {
             return Ordering::Greater;
         }

@@ -1,35 +1,48 @@
--- A bound of the firings at an event of a settled bridge: each rule at most once at each port in each of the first five
--- passes, and then no more than a number that each firing lowers.
-use Rattle.std.proofs.Common.{◌≡◌, ℕ, zero, suc, ◌+◌, ◌*◌, ◌≤◌, ◌⊎◌, inl, inr, Bool, true, false, List, [], ◌∷◌}
-use Rattle.std.proofs.Common.{◌||◌, Some, length, map, slice_get, refl, sym, ap, subst, ◌∙◌, arith}
+-- A bound of the firings at an event of a settled bridge: the costs of the first five passes, and then a number that
+-- each firing lowers.
+use Rattle.std.proofs.Common.{◌≡◌, ℕ, zero, suc, ◌+◌, ◌*◌, ◌≤◌, ◌<◌, ◌⊎◌, inl, inr, Bool, true, false, List, []}
+use Rattle.std.proofs.Common.{◌∷◌}
+use Rattle.std.proofs.Common.{◌||◌, Some, length, map, slice_get, refl, sym, subst, ◌∙◌, arith}
 use Rattle.std.proofs.lemmas.List.{length-map}
 use Rattle.rstp_state.specs.declared.port.PortState.{PortState}
 use Rattle.rstp_state.specs.Direct.{without_slot}
+use Rattle.rstp_machines.specs.Information as info
 use Rattle.rstp_run.specs.declared.rule.Rule.{Rule}
 use Rattle.rstp_run.specs.declared.rule.Rule.TheVariants as rules
 use Rattle.rstp_run.specs.Events.{direct}
 use Rattle.rstp_run.specs.Firings.{EventsAreShort, most_firings}
 use Rattle.rstp_run.specs.Lasting.{is_select}
 use Rattle.rstp_run.specs.Laws.{AreOrderly, IsOrderly}
-use Rattle.rstp_run.specs.Rules.{Tree, guard}
-use Rattle.rstp_run.specs.Sweep.{Going, fired, main_order, pass, sending_order, swept, tries, tries_all, tries_below}
+use Rattle.rstp_run.specs.Rules.{Tree, guard, timing_in}
+use Rattle.rstp_run.specs.Sweep.{Going, fired, main_order, pass, sending_order, swept, tries, tries_all}
+use Rattle.rstp_run.proofs.Caps.{IsFresh, early-pass, fresh-goes, fresh-spreads, late-pass, left_due}
+use Rattle.rstp_run.proofs.Shares.{Held, held-as}
+use Rattle.rstp_run.proofs.Caps.{taken-goes, taken-spreads}
+use Rattle.rstp_run.proofs.Costs.{sum}
+use Rattle.rstp_run.proofs.Dues.{late-few}
 use Rattle.rstp_run.proofs.Each.{EachIs}
 use Rattle.rstp_run.proofs.Falls.{IsAfterDiscard}
 use Rattle.rstp_run.proofs.Informed.{no}
-use Rattle.rstp_run.proofs.Kept.{IsKept, kept_walks}
-use Rattle.rstp_run.proofs.Levels.{IsCalm, IsYoung}
-use Rattle.rstp_run.proofs.Ordered.{pass-full, tries_all-full}
+use Rattle.rstp_run.proofs.Inputs.{owed, update-costs}
+use Rattle.rstp_run.proofs.Kept.{IsKept, OneRoot, kept_walks, roles_of}
+use Rattle.rstp_run.proofs.Levels.{IsCalm, IsChosen, IsFirst, IsTaken, IsYoung}
+use Rattle.rstp_run.proofs.Ordered.{pass-full, tries-off, tries_all-full}
+use Rattle.rstp_run.proofs.Own.{Nothing, Reroots, Spread, Syncs, Tells, spread_by}
+use Rattle.rstp_run.proofs.Spans.{at_work, fits-nothing, fits-work, nothing, work-turned}
+use Rattle.rstp_run.proofs.Poses.{work}
+use Rattle.rstp_run.proofs.Starts.{starts}
 use Rattle.rstp_run.proofs.Orderly.{at_place, orderly-after, orderly-direct}
 use Rattle.rstp_run.proofs.Places.{AtAll, Stage, main_rest, pass-by, select-rests, stage-as, stage-rests, stage-with}
 use Rattle.rstp_run.proofs.Reached.{reached}
 use Rattle.rstp_run.proofs.Ready.{IsReady, Readies, comes-ready, ready_walks}
-use Rattle.rstp_run.proofs.Selects.{Passed, first-pass, passed-first, second-pass, sweep-reaches, third-select}
-use Rattle.rstp_run.proofs.Selects.{whole-pass}
+use Rattle.rstp_run.proofs.Selects.{Passed, first-pass, passed-first, second-pass, second-select, sweep-reaches}
+use Rattle.rstp_run.proofs.Selects.{third-select, whole-pass}
 use Rattle.rstp_run.proofs.Settling.{length-direct, main-holds, sends-hold}
 use Rattle.rstp_run.proofs.Sound as sound
 use Rattle.rstp_run.proofs.Sound.{Keeps}
 use Rattle.rstp_run.proofs.Steps.{length-ports_after}
 use Rattle.rstp_run.proofs.Steady.{IsBase, IsSteady}
+use Rattle.rstp_run.proofs.Sound.{right}
 use Rattle.rstp_run.proofs.Takes.{IsRested, IsTakenUp, visit-takes}
 use Rattle.rstp_run.proofs.Flags.{Bits, after_roles, core1, core2, due, first_visit, second_visit, shut}
 use Rattle.rstp_run.proofs.Fixed.{IsFixed}
@@ -39,31 +52,6 @@ use Rattle.rstp_run.proofs.Late.{IsLate, late-after}
 use Rattle.rstp_run.proofs.Tells.{late-bound, late-falls, remains}
 use Rattle.rstp_run.proofs.Walk.{direct_holds, rule_holds}
 use Rattle.rstp_run.proofs.Whole.{all-keeps, pass-keeps, tries-cases}
-
--- ---- a rule fires at most once at each port in each pass
-
-tries_adds : (limit : ℕ) (rule : Rule) (p : ℕ) (g : Going)
-    → length (tries rule p limit g).firings ≤ length g.firings + 1
-tries_adds limit rule p g =
-    tries-cases (λ x. length x.firings ≤ length g.firings + 1) rule p limit g (λ below on. omega arith) (omega arith)
-
-all_adds : (limit : ℕ) (list : List Rule) (p : ℕ) (g : Going)
-    → length (tries_all list p limit g).firings ≤ length g.firings + length list
-all_adds limit [] p g = omega arith
-all_adds limit (rule ∷ rest) p g =
-    let one = tries_adds limit rule p g in
-    let more = all_adds limit rest p (tries rule p limit g) in
-    omega (arith, one, more)
-
-below_adds : (limit k : ℕ) (g : Going)
-    → length (tries_below main_order k limit g).firings ≤ length g.firings + k * 54
-below_adds limit zero g = omega arith
-below_adds limit (suc k) g =
-    let before = below_adds limit k g in
-    let one : length (tries_all main_order k limit (tries_below main_order k limit g)).firings
-    ≤ length (tries_below main_order k limit g).firings + 54 =
-    all_adds limit main_order k (tries_below main_order k limit g) in
-    omega (arith, before, one)
 
 -- ---- facts of the whole sweep
 
@@ -101,7 +89,7 @@ module _ (n limit : ℕ) where
 
   abbrev Spends : Going → Type 0
   Spends g =
-      IsWell g × AtAll (λ q. IsLate) g.tree.ports × (length g.firings + remains n g.tree ≤ 421 * n)
+      IsWell g × AtAll (λ q. IsLate) g.tree.ports × (length g.firings + remains n g.tree ≤ 63 * n + 55)
 
   spends : (rule : Rule) (p : ℕ) (g : Going) → IsAfterDiscard rule g.tree p → guard rule g.tree p ≡ true → Spends g
       → Spends (fired rule p g)
@@ -128,28 +116,114 @@ module _ (n limit : ℕ) where
           (well_fires rule p g on h.0, late-after rule g.tree p is on h.1, omega (arith, less, few))
 
   abbrev IsLast : Going → Type 0
-  IsLast g = ((limit ≤ length g.firings) × (length g.firings ≤ 270 * n)) ⊎ Spends g
+  IsLast g = ((limit ≤ length g.firings) × (length g.firings ≤ 63 * n + 55)) ⊎ Spends g
 
   -- ---- the facts after this many passes
 
-  abbrev Counted : ℕ → Going → Type 0
-  Counted k g = IsWell g × (length g.firings ≤ k * 54 * n)
+  -- the cost of a port after the third pass, at most
+  abbrev after_third : PortState → ℕ
+  after_third x = owed x + (8 + work x.learn x.forward x.learning x.forwarding)
+
+  abbrev Counted : (PortState → ℕ) → ℕ → ℕ → Going → Type 0
+  Counted V a b g = IsWell g × Held V n limit (a * n + b) g
 
   abbrev Spent : ℕ → Going → Type 0
-  Spent zero g = Passed n limit 0 g × Counted 0 g
-  Spent (suc zero) g = Passed n limit 1 g × Counted 1 g
-  Spent (suc (suc zero)) g = Passed n limit 2 g × Counted 2 g
-  Spent (suc (suc (suc zero))) g = Stage 2 n (λ q x. IsSteady x × IsRested x) limit g × Counted 3 g
-  Spent (suc (suc (suc (suc zero)))) g = Stage 2 n (λ q x. IsFixed x × Ends core1 x) limit g × Counted 4 g
+  Spent zero g = Passed n limit 0 g × Counted owed 11 36 g
+  Spent (suc zero) g = Passed n limit 1 g × Counted owed 20 41 g
+  Spent (suc (suc zero)) g = Passed n limit 2 g × Counted owed 31 46 g
+  Spent (suc (suc (suc zero))) g = Stage 2 n (λ q x. IsSteady x × IsRested x) limit g × Counted after_third 52 51 g
+  Spent (suc (suc (suc (suc zero)))) g =
+      Stage 2 n (λ q x. IsFixed x × Ends core1 x) limit g × Counted (left_due (timing_in g.tree)) 54 52 g
   Spent (suc (suc (suc (suc (suc k))))) g = IsLast g
 
-  adds : (k : ℕ) (g : Going) → Counted k g → Counted (suc k) (pass main_order limit g)
-  adds k g h =
-      let more : length (pass main_order limit g).firings ≤ length g.firings + length g.tree.ports * 54 =
-      below_adds limit (length g.tree.ports) g in
-      let times : length g.tree.ports * 54 ≡ n * 54 = ap (λ j. j * 54) h.0.3 in
-      let few = h.1 in
-      (well_pass g h.0, omega (arith, more, few, times))
+  facts_of : (P : ℕ → PortState → Type 0) (R : PortState → Type 0) → ((q : ℕ) (x : PortState) → P q x → R x)
+      → (g : Going) → (limit ≤ length g.firings) ⊎ AtAll P g.tree.ports
+      → (limit ≤ length g.firings) ⊎ AtAll (λ q. R) g.tree.ports
+  facts_of P R by g (inl full) = inl full
+  facts_of P R by g (inr all) = inr (λ q x at. by q x (all q x at))
+
+  held_to : (V : PortState → ℕ) (b c : ℕ) (g : Going) → b ≤ c → Held V n limit b g → Held V n limit c g
+  held_to V b c g e h = held-as V V n limit b c g (λ x. omega arith) e h
+
+  -- one root port, after Select
+  roots : (g : Going) → IsWell g → OneRoot (roles_of (tries rules.Select 0 limit g).tree.ports)
+  roots g h =
+      (tries-cases IsWell rules.Select 0 limit g (λ below on. well_fires rules.Select 0 g on h) h).0.roots
+
+  -- the first pass: nothing is to be taken over
+  count_first : (g : Going) → Spent 0 g → Counted owed 20 41 (pass main_order limit g)
+  count_first g h = (
+    well_pass g h.1.0,
+    held-as (λ x. owed x + 0) owed n limit (11 * n + 36 + 1 + (n * (0 + 4 + 5) + 4)) (20 * n + 41)
+        (pass main_order limit g) (λ x. omega arith) (omega arith)
+        (early-pass IsFresh fresh-spreads fresh-goes 0
+        (λ x r on. no (sym r ∙ right _ x.update_info on)) nothing 0 4 fits-nothing (λ x. 0) (λ x. refl) (λ k x. refl)
+        (λ rule timing x. refl) n limit 0 (11 * n + 36) g h.1.0.3
+        (facts_of (λ q. IsFirst) IsFresh (λ q x k. k.3) (tries rules.Select 0 limit g)
+        (stage-rests 0 n limit (λ q. IsFirst) 0 g (λ q y f. f.1) h.0).2) (roots g h.1.0) h.1.1),
+  )
+
+  -- Update at a port at which no message is pending
+  updating : (x : PortState) → IsTaken x → info.update_guard x ≡ true
+      → owed (info.update_effect x) < owed x + 2
+  updating x r on = let a = update-costs x r.2 on in omega (arith, a)
+
+  count_second : (g : Going) → Spent 1 g → Counted owed 31 46 (pass main_order limit g)
+  count_second g h = (
+    well_pass g h.1.0,
+    held-as (λ x. owed x + 0) owed n limit (20 * n + 41 + 1 + (n * (2 + 4 + 5) + 4)) (31 * n + 46)
+        (pass main_order limit g) (λ x. omega arith) (omega arith)
+        (early-pass IsTaken taken-spreads taken-goes 2 updating nothing 0 4 fits-nothing (λ x. 0) (λ x. refl)
+        (λ k x. refl)
+        (λ rule timing x. refl) n limit 0 (20 * n + 41) g h.1.0.3
+        (facts_of (λ q. IsChosen) IsTaken (λ q x k. k.0) (tries rules.Select 0 limit g) (second-select n limit g h.0).2)
+        (roots g h.1.0) h.1.1),
+  )
+
+  calm : (k : Spread) (x : PortState)
+      → 8 + work (spread_by k x).learn (spread_by k x).forward (spread_by k x).learning (spread_by k x).forwarding
+      ≡ 8 + work x.learn x.forward x.learning x.forwarding
+  calm Nothing x = refl
+  calm Syncs x = refl
+  calm Reroots x = refl
+  calm Tells x = refl
+
+  count_third : (g : Going) → Spent 2 g → Counted after_third 52 51 (pass main_order limit g)
+  count_third g h = (
+    well_pass g h.1.0,
+    held_to after_third (31 * n + 46 + 1 + (n * (2 + 14 + 5) + 4)) (52 * n + 51) (pass main_order limit g) (omega arith)
+        (early-pass IsTaken taken-spreads taken-goes 2 updating at_work 8 14 fits-work
+        (λ x. 8 + work x.learn x.forward x.learning x.forwarding) (λ x. refl) calm work-turned n limit 0
+        (31 * n + 46) g h.1.0.3
+        (facts_of (λ q. IsCalm) IsTaken (λ q x k. k.0.0) (tries rules.Select 0 limit g) (third-select n limit g h.0).2)
+        (roots g h.1.0) h.1.1),
+  )
+
+  -- a pass in which each port has its role
+  counts : (P : ℕ → PortState → Type 0) → ((q : ℕ) (x : PortState) → P q x → IsFixed x) → (a b : ℕ) (g : Going)
+      → Stage 2 n P limit g → Counted (left_due (timing_in g.tree)) a b g
+      → Counted (left_due (timing_in (pass main_order limit g).tree)) (a + 2) (b + 1) (pass main_order limit g)
+  counts P fixed a b g stage h = (
+    well_pass g h.0,
+    held_to (left_due (timing_in (pass main_order limit g).tree)) (a * n + b + 1 + 2 * n) ((a + 2) * n + (b + 1))
+        (pass main_order limit g) (omega arith) (go stage.2),
+  )
+    where
+      reselects : (q : ℕ) (x : PortState) → P q x → x.reselect ≡ false
+      reselects q x k = (fixed q x k).0.0.1
+
+      go : (limit ≤ length g.firings) ⊎ AtAll P g.tree.ports
+          → Held (left_due (timing_in (pass main_order limit g).tree)) n limit (a * n + b + 1 + 2 * n)
+          (pass main_order limit g)
+      go (inl full) =
+          let few = h.1.0 in
+          subst (λ (z : Going). Held (left_due (timing_in z.tree)) n limit (a * n + b + 1 + 2 * n) z)
+          (sym (pass-full main_order limit g full)) (omega (arith, few), inl full)
+      go (inr all) =
+          let off : tries rules.Select 0 limit g ≡ g =
+          tries-off rules.Select 0 limit g (select-rests g.tree 0 (λ q x at. reselects q x (all q x at))) in
+          late-pass n limit (a * n + b) g h.0.3 off
+          (facts_of P IsFixed fixed (tries rules.Select 0 limit g) (stage-rests 2 n limit P 0 g reselects stage).2) h.1
 
   -- Select is reached in the third pass, and then information rests, and each port takes its role
   third : (g : Going) → Spent 2 g → Stage 2 n (λ q x. IsSteady x × IsRested x) limit (pass main_order limit g)
@@ -199,47 +273,63 @@ module _ (n limit : ℕ) where
       (λ q x within z. (z.0.0, (z.0.1.0, lit x z.1 z.0.1.1, z.0.1.2)))
       (stage-with 2 n limit (λ q x. IsFixed x × Ends core1 x) (λ q. IsOrderly) g (orderly g h.1.0) h.0))
 
-  last_of : (g : Going) → Counted 5 g → Stage 2 n (λ q x. IsFixed x × Ends core2 x) limit g → IsLast g
-  last_of g h stage = go stage.2
+  last_of : (g : Going) → Counted (left_due (timing_in g.tree)) 56 53 g
+      → Stage 2 n (λ q x. IsFixed x × Ends core2 x) limit g → IsLast g
+  last_of g h stage = go stage.2 h.1.1
     where
-      go : (limit ≤ length g.firings) ⊎ AtAll (λ q x. IsFixed x × Ends core2 x) g.tree.ports → IsLast g
-      go (inl full) = let few = h.1 in inl (full, omega (arith, few))
-      go (inr all) =
+      go : (limit ≤ length g.firings) ⊎ AtAll (λ q x. IsFixed x × Ends core2 x) g.tree.ports
+          → (limit ≤ length g.firings)
+          ⊎ ((f : ℕ → ℕ) × AtAll (λ q x. left_due (timing_in g.tree) x ≤ f q) g.tree.ports
+          × (length g.firings + sum n f ≤ 56 * n + 53)) → IsLast g
+      go (inl full) held = let few = h.1.0 in inl (full, omega (arith, few))
+      go (inr all) (inl full) = let few = h.1.0 in inl (full, omega (arith, few))
+      go (inr all) (inr s) =
           let late : AtAll (λ q. IsLate) g.tree.ports =
           λ q x at. (let k = all q x at in (k.0, k.1.2, k.1.3)) in
-          let bound = late-bound n g.tree h.0.3 late h.0.0.roots in
-          let few = h.1 in
+          let bound = late-bound n g.tree s.0 h.0.3 h.0.0.roots s.1 in
+          let few = s.2 in
           inr (h.0, late, omega (arith, bound, few))
 
+  -- the third pass ends with the cost of each port in later passes
+  begins_late : (g : Going) → Counted after_third 52 51 g → Counted (left_due (timing_in g.tree)) 52 51 g
+  begins_late g h = (
+    h.0,
+    held-as after_third (left_due (timing_in g.tree)) n limit (52 * n + 51) (52 * n + 51) g
+        (λ x. (let a = late-few (timing_in g.tree) x in omega (arith, a))) (omega arith) h.1,
+  )
+
   next : (k : ℕ) (g : Going) → Spent k g → Spent (suc k) (pass main_order limit g)
-  next zero g h = (first-pass n limit g h.0, adds 0 g h.1)
-  next (suc zero) g h = (second-pass n limit g h.0, adds 1 g h.1)
-  next (suc (suc zero)) g h = (third g h, adds 2 g h.1)
-  next (suc (suc (suc zero))) g h = (fourth g h, adds 3 g h.1)
-  next (suc (suc (suc (suc zero)))) g h = last_of (pass main_order limit g) (adds 4 g h.1) (fifth g h)
+  next zero g h = (first-pass n limit g h.0, count_first g h)
+  next (suc zero) g h = (second-pass n limit g h.0, count_second g h)
+  next (suc (suc zero)) g h = (third g h, count_third g h)
+  next (suc (suc (suc zero))) g h =
+      (fourth g h, counts (λ q x. IsSteady x × IsRested x) (λ q x k. (k.0, k.1.0)) 52 51 g h.0 (begins_late g h.1))
+  next (suc (suc (suc (suc zero)))) g h =
+      last_of (pass main_order limit g) (counts (λ q x. IsFixed x × Ends core1 x) (λ q x k. k.0) 54 52 g h.0 h.1)
+      (fifth g h)
   next (suc (suc (suc (suc (suc k))))) g (inl h) = subst IsLast (sym (pass-full main_order limit g h.0)) (inl h)
   next (suc (suc (suc (suc (suc k))))) g (inr h) =
       inr (pass-keeps Spends limit main_order (λ p x k. main-holds Spends spends p limit x k) g h)
 
   full : (k : ℕ) (g : Going) → limit ≤ length g.firings → Spent k g → Spent 5 g
-  full zero g all h = let few = h.1.1 in inl (all, omega (arith, few))
-  full (suc zero) g all h = let few = h.1.1 in inl (all, omega (arith, few))
-  full (suc (suc zero)) g all h = let few = h.1.1 in inl (all, omega (arith, few))
-  full (suc (suc (suc zero))) g all h = let few = h.1.1 in inl (all, omega (arith, few))
-  full (suc (suc (suc (suc zero)))) g all h = let few = h.1.1 in inl (all, omega (arith, few))
+  full zero g all h = let few = h.1.1.0 in inl (all, omega (arith, few))
+  full (suc zero) g all h = let few = h.1.1.0 in inl (all, omega (arith, few))
+  full (suc (suc zero)) g all h = let few = h.1.1.0 in inl (all, omega (arith, few))
+  full (suc (suc (suc zero))) g all h = let few = h.1.1.0 in inl (all, omega (arith, few))
+  full (suc (suc (suc (suc zero)))) g all h = let few = h.1.1.0 in inl (all, omega (arith, few))
   full (suc (suc (suc (suc (suc k))))) g all h = h
 
   sends : (p : ℕ) (g : Going) → Spent 5 g → Spent 5 (tries_all sending_order p limit g)
   sends p g (inl h) = subst IsLast (sym (tries_all-full sending_order p limit g h.0)) (inl h)
   sends p g (inr h) = inr (sends-hold Spends spends p limit g h)
 
-  count : (g : Going) → Spent 0 g ⊎ Spent 5 g → length g.firings ≤ 421 * n
-  count g (inl h) = let few = h.1.1 in omega (arith, few)
+  count : (g : Going) → Spent 0 g ⊎ Spent 5 g → length g.firings ≤ 63 * n + 55
+  count g (inl h) = let few = h.1.1.0 in omega (arith, few)
   count g (inr (inl h)) = let few = h.1 in omega (arith, few)
   count g (inr (inr h)) = let few = h.2 in omega (arith, few)
 
   pub few-firings : (s : Tree) → Spent 0 (record { tree = s; firings = [] })
-      → length (swept limit s).firings ≤ 421 * n
+      → length (swept limit s).firings ≤ 63 * n + 55
   few-firings s h = count (swept limit s) (sweep-reaches limit 5 Spent next full (λ k g z. z) sends s h)
 
 -- ---- events of a settled bridge
@@ -256,5 +346,10 @@ events_are_short event limit s t settled mask can rests some h =
     let F : Going → Type 0 = λ g. length g.firings ≤ most_firings (length s.ports) in
     let each = direct_holds EachReady (λ s. Readies) ready_walks.moves event s ready in
     subst F h.order
-    (few-firings (length s.ports) limit (direct event s)
-    (first, ((kept, each, orderly-direct event s all.orderly, same, some), omega arith)))
+    (few-firings (length s.ports) limit (direct event s) (
+      first,
+      (
+        (kept, each, orderly-direct event s all.orderly, same, some),
+        starts event s (length s.ports) limit all ready rests,
+      ),
+    ))

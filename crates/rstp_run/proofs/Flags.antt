@@ -10,15 +10,15 @@ use Rattle.rstp_run.proofs.Sound.{left, right}
 -- ---- all values of some flags
 
 -- a test of n flags
-abbrev Test : ℕ → Type 0
+abbrev pub Test : ℕ → Type 0
 Test zero = Bool
 Test (suc n) = Bool → Test n
 
-abbrev every : (n : ℕ) → Test n → Bool
+abbrev pub every : (n : ℕ) → Test n → Bool
 every zero f = f
 every (suc n) f = every n (f true) && every n (f false)
 
-abbrev Holds : (n : ℕ) → Test n → Type 0
+abbrev pub Holds : (n : ℕ) → Test n → Type 0
 Holds zero f = f ≡ true
 Holds (suc n) f = (b : Bool) → Holds n (f b)
 
@@ -26,7 +26,7 @@ split : (P : Bool → Type 0) → P true → P false → (b : Bool) → P b
 split P h k true = h
 split P h k false = k
 
-holds : (n : ℕ) (f : Test n) → every n f ≡ true → Holds n f
+pub holds : (n : ℕ) (f : Test n) → every n f ≡ true → Holds n f
 holds zero f h = h
 holds (suc n) f h =
     split (λ b. Holds n (f b)) (holds n (f true) (left _ _ h)) (holds n (f false) (right (every n (f true)) _ h))
@@ -181,7 +181,7 @@ stays_all = refl
 
 -- ---- one by one
 
-imply : (p q : Bool) → not p || q ≡ true → p ≡ true → q ≡ true
+pub imply : (p q : Bool) → not p || q ≡ true → p ≡ true → q ≡ true
 imply true q h k = h
 imply false q h k = no k
 

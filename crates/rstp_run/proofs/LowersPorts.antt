@@ -39,7 +39,7 @@ migrating-heard migration.Sensing waits true false = omega arith
 migrating-heard migration.Sensing waits false true = omega arith
 migrating-heard migration.Sensing waits false false = omega arith
 
-migrating-unheard : (state : Migration) (waits heard : Bool)
+pub migrating-unheard : (state : Migration) (waits heard : Bool)
     → migrating state waits false ≤ migrating state waits heard
 migrating-unheard migration.Checking true heard = omega arith
 migrating-unheard migration.Checking false heard = omega arith
@@ -47,7 +47,7 @@ migrating-unheard migration.Selecting waits heard = omega arith
 migrating-unheard migration.Sensing waits true = omega arith
 migrating-unheard migration.Sensing waits false = omega arith
 
-discards : (w : ℕ) (heard at_start enabled : Bool) → 1 ≤ w → ((heard || not at_start) && not enabled) ≡ true
+pub discards : (w : ℕ) (heard at_start enabled : Bool) → 1 ≤ w → ((heard || not at_start) && not enabled) ≡ true
     → 1 ≤ if_so w heard + if_so 1 (not at_start && not enabled)
 discards w true true true some h = cc
 discards w true false true some h = cc
@@ -87,32 +87,33 @@ receive_lowers n timing port h =
 
 -- ---- migration
 
-checking_waits : (state : Migration) (waits heard : Bool) → is_checking state ≡ true → waits ≡ false
+pub checking_waits : (state : Migration) (waits heard : Bool) → is_checking state ≡ true → waits ≡ false
     → migrating state waits heard ≡ 4
 checking_waits migration.Checking true heard h k = cc
 checking_waits migration.Checking false heard h k = refl
 checking_waits migration.Selecting waits heard h k = cc
 checking_waits migration.Sensing waits heard h k = cc
 
-from_selecting : (state : Migration) (waits heard : Bool) → is_selecting state ≡ true → migrating state waits heard ≡ 4
+pub from_selecting : (state : Migration) (waits heard : Bool) → is_selecting state ≡ true
+    → migrating state waits heard ≡ 4
 from_selecting migration.Checking waits heard h = cc
 from_selecting migration.Selecting waits heard h = refl
 from_selecting migration.Sensing waits heard h = cc
 
-from_sensing : (state : Migration) (waits heard : Bool) → is_sensing state ≡ true → 2 ≤ migrating state waits heard
+pub from_sensing : (state : Migration) (waits heard : Bool) → is_sensing state ≡ true → 2 ≤ migrating state waits heard
 from_sensing migration.Checking waits heard h = cc
 from_sensing migration.Selecting waits heard h = cc
 from_sensing migration.Sensing waits true h = omega arith
 from_sensing migration.Sensing waits false h = omega arith
 
-from_stp : (state : Migration) (waits heard : Bool) → is_sensing state ≡ true → heard ≡ true
+pub from_stp : (state : Migration) (waits heard : Bool) → is_sensing state ≡ true → heard ≡ true
     → migrating state waits heard ≡ 6
 from_stp migration.Checking waits heard h k = cc
 from_stp migration.Selecting waits heard h k = cc
 from_stp migration.Sensing waits true h k = refl
 from_stp migration.Sensing waits false h k = cc
 
-zero_waits : (n : ℕ) → (n == 0) ≡ true → (n == 3) ≡ false
+pub zero_waits : (n : ℕ) → (n == 0) ≡ true → (n == 3) ≡ false
 zero_waits n h = let zero_is : n ≡ 0 = eqb-true n 0 h in rw zero_is refl
 
 pub enter_stays : (port : PortState)
@@ -170,7 +171,7 @@ to_stp_lowers n timing port h =
 -- ---- detection
 
 -- Discard isn't enabled, so a port that is down finds no bridge
-edge_turns : (w : ℕ) (oper enabled admin finds : Bool)
+pub edge_turns : (w : ℕ) (oper enabled admin finds : Bool)
     → (not oper && ((not enabled && admin) || finds)) ≡ true → (not enabled ≡ true → finds ≡ false)
     → (if_so w (may_turn_edge (enabled || admin) oper) ≡ w) × (if_so w (may_turn_edge (enabled || admin) true) ≡ 0)
 edge_turns w true enabled admin finds h rests = cc
@@ -179,7 +180,7 @@ edge_turns w false false true finds h rests = (refl, refl)
 edge_turns w false false false true h rests = absurd (let no : true ≡ false = rests refl in cc)
 edge_turns w false false false false h rests = cc
 
-not_edge_turns : (w : ℕ) (oper enabled admin : Bool) → (oper && not enabled && not admin) ≡ true
+pub not_edge_turns : (w : ℕ) (oper enabled admin : Bool) → (oper && not enabled && not admin) ≡ true
     → (if_so w (may_turn_edge (enabled || admin) oper) ≡ w) × (if_so w (may_turn_edge (enabled || admin) false) ≡ 0)
 not_edge_turns w true true admin h = cc
 not_edge_turns w true false true h = cc
@@ -198,7 +199,8 @@ down_off x true h k = go x k
     go false k = refl
 down_off x false h k = cc
 
-finds_none : (port : PortState) → discard_guard port ≡ false → not port.enabled ≡ true → finds_no_bridge port ≡ false
+pub finds_none : (port : PortState) → discard_guard port ≡ false → not port.enabled ≡ true
+    → finds_no_bridge port ≡ false
 finds_none port off down =
     let x = down_off (port.received_bpdu || not (port.edge_delay_while == 3)) (not port.enabled) down off in
     let three : port.edge_delay_while ≡ 3 = eqb-true port.edge_delay_while 3 (not-false _ (or_parts _ _ x).1) in
@@ -251,7 +253,7 @@ pub sends_stay : (timing : Timing) (port : PortState)
     × Stays (sends.send_tcn_effect timing) port × Stays (sends.send_rst_effect timing) port
 sends_stay timing port = (omega arith, omega arith, omega arith, omega arith)
 
-not_zero : (n : ℕ) → 1 ≤ n → (n == 0) ≡ false
+pub not_zero : (n : ℕ) → 1 ≤ n → (n == 0) ≡ false
 not_zero n h = ne_eqb n 0 (λ e. omega (arith, h, e))
 
 pub periodic_lowers : (n : ℕ) (timing : Timing) (port : PortState) → 1 ≤ timing.hello

@@ -235,13 +235,15 @@ stage-rests c n limit P p g none h = go h.2
         (sym (tries-off rules.Select p limit g (select-rests g.tree p (λ q x at. none q x (all q x at))))) h
 
 -- Select isn't enabled at later ports
+pub select-later : (p limit : ℕ) (g : Going) → tries rules.Select (suc p) limit g ≡ g
+select-later p limit g =
+    let apart : (suc p == 0) ≡ false = ne_eqb (suc p) 0 (λ e. (let no : ⊥ = omega (arith, e) in no)) in
+    tries-off rules.Select (suc p) limit g
+    (select_off g.tree (suc p) (false_and (suc p == 0) (list_any wants_selection g.tree.ports) apart))
+
 pub stage-later : (c n limit : ℕ) (P : ℕ → PortState → Type 0) (p : ℕ) (g : Going) → Stage c n P limit g
     → Stage c n P limit (tries rules.Select (suc p) limit g)
-stage-later c n limit P p g h =
-    let apart : (suc p == 0) ≡ false = ne_eqb (suc p) 0 (λ e. (let no : ⊥ = omega (arith, e) in no)) in
-    subst (Stage c n P limit)
-    (sym (tries-off rules.Select (suc p) limit g (select_off g.tree (suc p)
-    (false_and (suc p == 0) (list_any wants_selection g.tree.ports) apart)))) h
+stage-later c n limit P p g h = subst (Stage c n P limit) (sym (select-later p limit g)) h
 
 -- ---- rules that keep a port's tree information, its pending messages, and whether it is enabled
 

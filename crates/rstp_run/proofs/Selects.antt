@@ -45,13 +45,19 @@ first-pass n limit g h =
     (pass-by main_rest 0 0 n limit IsFirst IsFirst IsTaken (λ p x k. visit-first n limit p x k) (omega arith) g
     (stage-rests 0 n limit (λ q. IsFirst) 0 g (λ q y f. f.1) h) h)
 
+-- Select is reached in the second pass
+pub second-select : (n limit : ℕ) (g : Going) → Stage 0 n (λ q. IsTaken) limit g
+    → Stage 1 n (λ q. IsChosen) limit (tries rules.Select 0 limit g)
+second-select n limit g h =
+    stage-select 0 n limit (λ q. IsTaken) (λ q. IsChosen) g
+    (λ s root q y through t. ((t.0, t.1, t.2, refl, t.4), refl)) (λ q y none t. (t, none)) h
+
 pub second-pass : (n limit : ℕ) (g : Going) → Stage 0 n (λ q. IsTaken) limit g
     → Stage 1 n (λ q. IsYoung) limit (pass main_order limit g)
 second-pass n limit g h =
     whole-pass 1 n limit (λ q. IsYoung) g
     (pass-by main_rest 0 1 n limit IsTaken IsChosen IsYoung (λ p x k. visit-second n limit p x k) (omega arith) g
-    (stage-select 0 n limit (λ q. IsTaken) (λ q. IsChosen) g
-    (λ s root q y through t. ((t.0, t.1, t.2, refl, t.4), refl)) (λ q y none t. (t, none)) h) h)
+    (second-select n limit g h) h)
 
 -- Select is reached in the third pass
 pub third-select : (n limit : ℕ) (g : Going) → Stage 1 n (λ q. IsYoung) limit g

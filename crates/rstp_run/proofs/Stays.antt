@@ -1,5 +1,6 @@
 -- A bridge stays settled from its start on, if each event may have enough firings.
-use Rattle.std.proofs.Common.{◌≡◌, ℕ, ◌+◌, ◌≤◌, Bool, true, false, List, [], ◌∷◌, length, map, refl, sym, ap, subst}
+use Rattle.std.proofs.Common.{◌≡◌, ℕ, ◌+◌, ◌*◌, ◌≤◌, Bool, true, false, List, [], ◌∷◌, length, map, refl, sym, ap}
+use Rattle.std.proofs.Common.{subst}
 use Rattle.std.proofs.Common.{◌∙◌, arith}
 use Rattle.std.proofs.lemmas.List.{length-map}
 use Rattle.rstp_state.specs.declared.start.PortSettings.{PortSettings}
@@ -7,8 +8,9 @@ use Rattle.rstp_state.specs.declared.start.Settings.{Settings}
 use Rattle.rstp_state.specs.Direct.{without_slot}
 use Rattle.rstp_state.specs.Start.{ports_from}
 use Rattle.rstp_run.specs.declared.event.Event.{Event}
-use Rattle.rstp_run.specs.Events.{Happens, direct, start}
-use Rattle.rstp_run.specs.Firings.{ComesWithin, StaysSettled, most_firings}
+use Rattle.rstp_run.specs.Events.{Happens, direct, firings_at, start}
+use Rattle.rstp_run.specs.Firings.{ComesByEvents, ComesWithin, EventEndsSettled, EveryEventSettles, StaysSettled}
+use Rattle.rstp_run.specs.Firings.{most_firings}
 use Rattle.rstp_run.specs.RootPort.{Comes}
 use Rattle.rstp_run.specs.Rules.{Tree}
 use Rattle.rstp_run.specs.Runs.{Firing, IsSettled, Run}
@@ -34,13 +36,18 @@ length_start n settings [] = refl
 length_start n settings (x ∷ xs) = let rest = length_start (n + 1) settings xs in omega (arith, rest)
 
 -- an event that has fewer firings than its limit ends settled
-ends : (event : Event) (limit : ℕ) (s t : Tree) (settled : Bool) (mask : ℕ) (most : ℕ)
-    (h : Happens event limit s t settled mask) → length h.firings ≤ most → most + 1 ≤ limit → IsSettled t
-ends event limit s t settled mask most h few enough = h.settles.0 (go settled h.unsettled)
+told : (event : Event) (limit : ℕ) (s t : Tree) (settled : Bool) (mask : ℕ) (most : ℕ)
+    (h : Happens event limit s t settled mask) → length h.firings ≤ most → most + 1 ≤ limit → settled ≡ true
+told event limit s t settled mask most h few enough = go settled h.unsettled
   where
     go : (b : Bool) → (b ≡ false → length h.firings ≡ limit) → b ≡ true
     go true full = refl
     go false full = let all = full refl in absurd (omega (arith, all, few, enough))
+
+ends : (event : Event) (limit : ℕ) (s t : Tree) (settled : Bool) (mask : ℕ) (most : ℕ)
+    (h : Happens event limit s t settled mask) → length h.firings ≤ most → most + 1 ≤ limit → IsSettled t
+ends event limit s t settled mask most h few enough =
+    h.settles.0 (told event limit s t settled mask most h few enough)
 
 -- the state that is reached is settled, and has its settings and its number of ports
 kept : (settings : Settings) (ports : List PortSettings) (events : List Event) (s : Tree) → 1 ≤ settings.hello
@@ -65,3 +72,35 @@ kept settings ports (event ∷ earlier) s some (mid, limit, settled, mask, befor
 
 pub stays_settled : StaysSettled
 stays_settled settings ports events s some comes = (kept settings ports events s some comes).0
+
+-- ---- with the limit of `Bridge::event`
+
+-- that limit is above the most firings
+below : (n : ℕ) → most_firings n + 1 ≤ 64 * (n + 1)
+below n = omega arith
+
+pub event_ends_settled : EventEndsSettled
+event_ends_settled event limit s t settled mask can rests some enough h =
+    let few = events_are_short event limit s t settled mask can rests some h in
+    let less = below (length s.ports) in
+    told event limit s t settled mask (most_firings (length s.ports)) h few (omega (arith, less, enough))
+
+-- events with that limit have enough firings
+within : (settings : Settings) (ports : List PortSettings) (events : List Event) (s : Tree) → 1 ≤ settings.hello
+    → ComesByEvents events (start settings ports) s
+    → ComesWithin (most_firings (length ports) + 1) events (start settings ports) s
+within settings ports [] s some comes = comes
+within settings ports (event ∷ earlier) s some (mid, settled, mask, before, happens) =
+    let was = within settings ports earlier mid some before in
+    let many = (kept settings ports earlier mid some was).2 in
+    let less = below (length ports) in
+    (mid, firings_at mid, settled, mask, was, omega (arith, many, less), happens)
+
+pub every_event_settles : EveryEventSettles
+every_event_settles settings ports events s t event settled mask some comes h =
+    let enough = within settings ports events s some comes in
+    let was = kept settings ports events s some enough in
+    let history = comes_at_all (most_firings (length ports) + 1) events (start settings ports) s enough in
+    let can : IsReached s = (settings, ports, (events, history)) in
+    let hello : 1 ≤ s.settings.hello = subst (λ (v : Settings). 1 ≤ v.hello) (sym was.1) some in
+    event_ends_settled event (firings_at s) s t settled mask can was.0 hello (omega arith) h

@@ -1,7 +1,13 @@
 //! Laws of every bridge that is reachable from its start by events.
 
 ghost use Rattle.rstp_run.specs.Events.{OneOutcome, RunsHappen};
-ghost use Rattle.rstp_run.specs.Firings.{EventsAreShort, SelectsTwice, StaysSettled};
+ghost use Rattle.rstp_run.specs.Firings.{
+  EventEndsSettled,
+  EventsAreShort,
+  EveryEventSettles,
+  SelectsTwice,
+  StaysSettled,
+};
 ghost use Rattle.rstp_run.specs.Lasting.{LastingIsReached, LosingKeepsTree, RolesLast, SelectionIsCurrent};
 ghost use Rattle.rstp_run.specs.Laws.{EdgeRests};
 ghost use Rattle.rstp_run.specs.RootPort.{OneRootPort};
@@ -85,6 +91,18 @@ pub fn events_are_short()
 /// `most_firings` firings, and the Hello time isn't 0.
 pub fn stays_settled()
     ensures { StaysSettled }
+{}
+
+/// An event of a settled bridge that is reachable from its start by events ends settled, if its
+/// limit of firings is at least that of `Bridge::event`, and the Hello time isn't 0.
+pub fn event_ends_settled()
+    ensures { EventEndsSettled }
+{}
+
+/// Every event ends settled, at each bridge that came from its start by events with the limit of
+/// `Bridge::event`, if the Hello time isn't 0.
+pub fn every_event_settles()
+    ensures { EveryEventSettles }
 {}
 
 /// At a port that is down, Edge and NotEdge don't enable each other after Discard has fired there.

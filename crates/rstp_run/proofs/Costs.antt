@@ -1,0 +1,306 @@
+-- The firings of a pass, by the cost of the rules that are left at a port, and by what each port may still cost after
+-- its visit.
+use Rattle.std.proofs.Common.{◌≡◌, ℕ, zero, suc, ◌+◌, ◌*◌, ◌≤◌, ◌<◌, ◌==◌, ◌⊎◌, inl, inr, Bool, true, false, List, []}
+use Rattle.std.proofs.Common.{◌∷◌, Option, Some, ◌&&◌, length, slice_get}
+use Rattle.std.proofs.Common.{refl, sym, ap, subst, ◌∙◌, arith, if◌then◌else◌}
+use Rattle.std.proofs.lemmas.Bool.{and_parts, cases_lt, eqb-false, ne_eqb}
+use Rattle.std.specs.Option.{option_map_or}
+use Rattle.rstp_state.specs.declared.port.PortState.{PortState}
+use Rattle.rstp_state.specs.declared.port.Timing.{Timing}
+use Rattle.rstp_run.specs.declared.rule.Rule.{Rule}
+use Rattle.rstp_run.specs.declared.rule.Rule.TheVariants as rules
+use Rattle.rstp_run.specs.Lasting.{is_select}
+use Rattle.rstp_run.specs.Rules.{Tree, after, asks, guard, ports_after, timing_in}
+use Rattle.rstp_run.specs.Sweep.{Going, pass, tries, tries_all, tries_below}
+use Rattle.rstp_run.proofs.Informed.{no}
+use Rattle.rstp_run.proofs.Ordered.{tries-full, tries-off, tries-on}
+use Rattle.rstp_run.proofs.Own.{Spread, after-at, own, spread_by, spread_of}
+use Rattle.rstp_run.proofs.Places.{AtAll, select-later}
+use Rattle.rstp_run.proofs.Steps.{length-ports_after}
+use Rattle.rstp_run.proofs.Totals.{tested_at}
+
+-- ---- sums over places
+
+abbrev pub sum : ℕ → (ℕ → ℕ) → ℕ
+sum zero f = 0
+sum (suc n) f = f n + sum n f
+
+-- the same, but v at place p
+abbrev pub put : ℕ → ℕ → (ℕ → ℕ) → ℕ → ℕ
+put p v f q = if q == p then v else f q
+
+pub put-there : (p v : ℕ) (f : ℕ → ℕ) (q : ℕ) → q ≡ p → put p v f q ≡ v
+put-there p v f q e = go (q == p) refl
+  where
+    go : (b : Bool) → (q == p) ≡ b → (if b then v else f q) ≡ v
+    go true is = refl
+    go false is = absurd (eqb-false q p is e)
+
+pub put-apart : (p v : ℕ) (f : ℕ → ℕ) (q : ℕ) → (q ≡ p → ⊥) → put p v f q ≡ f q
+put-apart p v f q apart = rw (ne_eqb q p apart) refl
+
+pub sum-below : (p v : ℕ) (f : ℕ → ℕ) (n : ℕ) → n ≤ p → sum n (put p v f) ≡ sum n f
+sum-below p v f zero h = refl
+sum-below p v f (suc n) h =
+    let first = put-apart p v f n (λ e. (let no : ⊥ = omega (arith, h, e) in no)) in
+    let rest = sum-below p v f n (omega (arith, h)) in
+    omega (arith, first, rest)
+
+pub sum-put : (p v : ℕ) (f : ℕ → ℕ) (n : ℕ) → p < n → sum n (put p v f) + f p ≡ sum n f + v
+sum-put p v f zero h = absurd (omega (arith, h))
+sum-put p v f (suc n) h = go (cases_lt p n) (λ less. sum-put p v f n less)
+  where
+    go : (p < n) ⊎ (n ≤ p) → (p < n → sum n (put p v f) + f p ≡ sum n f + v)
+        → sum (suc n) (put p v f) + f p ≡ sum (suc n) f + v
+    go (inl less) rest =
+        let first = put-apart p v f n (λ e. (let no : ⊥ = omega (arith, less, e) in no)) in
+        let others = rest less in
+        omega (arith, first, others)
+    go (inr from) rest =
+        let same : n ≡ p = omega (arith, h, from) in
+        let first = put-there p v f n same in
+        let others = sum-below p v f n from in
+        let here : f n ≡ f p = ap f same in
+        omega (arith, first, others, here)
+
+one_port : (o : Option PortState) (x y : PortState) → o ≡ Some x → o ≡ Some y → x ≡ y
+one_port o x y h k = cc
+
+pub sum_more : (w : ℕ) (f : ℕ → ℕ) (n : ℕ) → sum n (λ q. f q + w) ≡ sum n f + n * w
+sum_more w f zero = omega arith
+sum_more w f (suc n) = let rest = sum_more w f n in omega (arith, rest)
+
+-- ---- a port whose rules are tried
+
+abbrev pub all_are : (Rule → Bool) → List Rule → Bool
+all_are only [] = true
+all_are only (rule ∷ rest) = only rule && all_are only rest
+
+-- rules of a sort to which Select doesn't belong
+pub unselected : (only : Rule → Bool) → only rules.Select ≡ false → (rule : Rule) → only rule ≡ true
+    → is_select rule ≡ false
+unselected only none rules.Select sort = no (sym none ∙ sort)
+unselected only none (rules.Receive rule) sort = refl
+unselected only none (rules.Migration rule) sort = refl
+unselected only none (rules.Detection rule) sort = refl
+unselected only none (rules.Information rule) sort = refl
+unselected only none (rules.Role rule) sort = refl
+unselected only none (rules.State rule) sort = refl
+unselected only none (rules.Topology rule) sort = refl
+unselected only none (rules.Transmit rule) sort = refl
+
+-- only Select changes the values of the bridge that the rules of a port read
+same_timing : (rule : Rule) (s : Tree) (p : ℕ) → is_select rule ≡ false → timing_in (after rule s p) ≡ timing_in s
+same_timing rules.Select s p other = no (sym other)
+same_timing (rules.Receive rule) s p other = refl
+same_timing (rules.Migration rule) s p other = refl
+same_timing (rules.Detection rule) s p other = refl
+same_timing (rules.Information rule) s p other = refl
+same_timing (rules.Role rule) s p other = refl
+same_timing (rules.State rule) s p other = refl
+same_timing (rules.Topology rule) s p other = refl
+same_timing (rules.Transmit rule) s p other = refl
+
+-- R is known of every port. A port may still cost U before its visit, and V after it. Select isn't enabled meanwhile.
+module _ (R : PortState → Type 0) (U V : PortState → ℕ) (timing : Timing) (n limit b : ℕ) where
+  -- at most b firings, with those that the ports may still cost
+  abbrev Bounded : (ℕ → (ℕ → ℕ) → PortState → Type 0) → Going → Type 0
+  Bounded P g =
+      (length g.firings ≤ b) × (length g.tree.ports ≡ n)
+      × ((limit ≤ length g.firings)
+      ⊎ ((f : ℕ → ℕ) × AtAll (λ q x. R x × P q f x) g.tree.ports × (length g.firings + sum n f ≤ b)
+      × (timing_in g.tree ≡ timing)))
+
+  -- before the visit of the port at place p
+  abbrev pub Shares : ℕ → ℕ → (ℕ → ℕ) → PortState → Type 0
+  Shares p q f x = (q < p → V x ≤ f q) × (p ≤ q → U x ≤ f q)
+
+  abbrev pub Within : ℕ → Going → Type 0
+  Within p g = Bounded (Shares p) g
+
+  -- while its rules are tried
+  abbrev Due : (PortState → ℕ) → ℕ → ℕ → (ℕ → ℕ) → PortState → Type 0
+  Due c p q f x = (q < p → V x ≤ f q) × (q ≡ p → c x ≤ f q) × (p < q → U x ≤ f q)
+
+  abbrev pub Paid : (PortState → ℕ) → ℕ → Going → Type 0
+  Paid c p g = Bounded (Due c p) g
+
+  bounded_as : (P Q : ℕ → (ℕ → ℕ) → PortState → Type 0) (g : Going)
+      → ((q : ℕ) (f : ℕ → ℕ) (x : PortState) → R x → P q f x → Q q f x) → Bounded P g → Bounded Q g
+  bounded_as P Q g by h = (h.0, h.1, go h.2)
+    where
+      go : (limit ≤ length g.firings)
+          ⊎ ((f : ℕ → ℕ) × AtAll (λ q x. R x × P q f x) g.tree.ports × (length g.firings + sum n f ≤ b)
+          × (timing_in g.tree ≡ timing))
+          → (limit ≤ length g.firings)
+          ⊎ ((f : ℕ → ℕ) × AtAll (λ q x. R x × Q q f x) g.tree.ports × (length g.firings + sum n f ≤ b)
+          × (timing_in g.tree ≡ timing))
+      go (inl full) = inl full
+      go (inr s) = inr (s.0, λ q x at. (let d = s.1 q x at in (d.0, by q s.0 x d.0 d.1)), s.2, s.3)
+
+  pub paid-as : (c d : PortState → ℕ) (p : ℕ) (g : Going)
+      → ((x : PortState) → R x → d x ≤ c x) → Paid c p g → Paid d p g
+  paid-as c d p g less =
+      bounded_as (Due c p) (Due d p) g
+      (λ q f x r k. (k.0, λ e. (let a = less x r in let due = k.1 e in omega (arith, a, due)), k.2))
+
+  -- changes of other ports that fit raise no cost
+  module _ (fit : Spread → Bool)
+      (spreads : (k : Spread) (x : PortState) → fit k ≡ true → R x
+      → R (spread_by k x) × (U (spread_by k x) ≤ U x) × (V (spread_by k x) ≤ V x)) (p : ℕ) (within : p < n) where
+    -- the cost before the rule, and after it
+    pub one : (rule : Rule) → is_select rule ≡ false → (c d : PortState → ℕ)
+        → ((s : Tree) (x : PortState) → timing_in s ≡ timing → asks rule s p x ≡ true → R x
+        → (fit (spread_of rule) ≡ true) × R (own rule (timing_in s) x) × (d (own rule (timing_in s) x) < c x))
+        → ((s : Tree) (x : PortState) → asks rule s p x ≡ false → R x → d x ≤ c x)
+        → (g : Going) → Paid c p g → Paid d p (tries rule p limit g)
+    one rule other c d fires rests g h = go (cases_lt (length g.firings) limit) (guard rule g.tree p) refl h.2
+      where
+        here : (x : PortState) → guard rule g.tree p ≡ false → slice_get g.tree.ports p ≡ Some x
+            → asks rule g.tree p x ≡ false
+        here x is at = sym (ap (λ o. option_map_or (asks rule g.tree p) o false) at) ∙ is
+
+        off : (f : ℕ → ℕ) → guard rule g.tree p ≡ false → AtAll (λ q x. R x × Due c p q f x) g.tree.ports
+            → AtAll (λ q x. R x × Due d p q f x) g.tree.ports
+        off f is all q x at =
+            let k = all q x at in
+            let S : ℕ → Type 0 = λ j. slice_get g.tree.ports j ≡ Some x in (
+              k.0,
+              (
+                k.1.0,
+                λ e. (let less = rests g.tree x (here x is (subst S e at)) k.0 in
+                    let due = k.1.1 e in
+                    omega (arith, less, due)),
+                k.1.2,
+              ),
+            )
+
+        on : (f : ℕ → ℕ) (port : PortState) → slice_get g.tree.ports p ≡ Some port
+            → asks rule g.tree p port ≡ true → guard rule g.tree p ≡ true → timing_in g.tree ≡ timing
+            → AtAll (λ q x. R x × Due c p q f x) g.tree.ports
+            → AtAll (λ q x. R x × Due d p q (put p (d (own rule (timing_in g.tree) port)) f) x)
+            (ports_after rule g.tree p)
+        on f port at asked is same all =
+            let v : ℕ = d (own rule (timing_in g.tree) port) in
+            let fits = (fires g.tree port same asked (all p port at).0).0 in
+            after-at rule g.tree p
+            (λ q x. (slice_get g.tree.ports q ≡ Some x) × R x × Due c p q f x)
+            (λ q x. R x × Due d p q (put p v f) x) other is
+            (λ q x apart k. (let s = spreads (spread_of rule) x fits k.1 in
+            let e = put-apart p v f q apart in (
+              s.0,
+              (
+                λ less. (let a = s.2 in let due = k.2.0 less in omega (arith, a, due, e)),
+                λ equal. absurd (apart equal),
+                λ more. (let a = s.1 in let due = k.2.2 more in omega (arith, a, due, e)),
+              ),
+            )))
+            (λ x j k. (
+              (fires g.tree x same j k.1).1,
+              (
+                λ less. absurd (omega (arith, less)),
+                λ e. (let alike : x ≡ port = one_port (slice_get g.tree.ports p) x port k.0 at in
+                    let there = put-there p v f p refl in
+                    let Q : PortState → Type 0 = λ y. d (own rule (timing_in g.tree) y) ≤ put p v f p in
+                    subst Q (sym alike) (omega (arith, there))),
+                λ more. absurd (omega (arith, more)),
+              ),
+            )) (λ q x got. (let k = all q x got in (got, k.0, k.1)))
+
+        fire : (f : ℕ → ℕ) → AtAll (λ q x. R x × Due c p q f x) g.tree.ports
+            → length g.firings + sum n f ≤ b → timing_in g.tree ≡ timing → length g.firings < limit
+            → guard rule g.tree p ≡ true → Paid d p (tries rule p limit g)
+        fire f all few same below is =
+            let port = tested_at (asks rule g.tree p) g.tree.ports p is in
+            let k = all p port.0 port.1 in
+            let v : ℕ = d (own rule (timing_in g.tree) port.0) in
+            let less = (fires g.tree port.0 same port.2 k.0).2 in
+            let due = k.1.1 refl in
+            let whole = sum-put p v f n within in
+            subst (Paid d p) (sym (tries-on rule p limit g below is)) (
+              omega (arith, few, less, due, whole),
+              length-ports_after rule g.tree p ∙ h.1,
+              inr (
+                put p v f,
+                on f port.0 port.1 port.2 is same all,
+                omega (arith, few, less, due, whole),
+                same_timing rule g.tree p other ∙ same,
+              ),
+            )
+
+        go : (length g.firings < limit) ⊎ (limit ≤ length g.firings) → (k : Bool) → guard rule g.tree p ≡ k
+            → (limit ≤ length g.firings)
+            ⊎ ((f : ℕ → ℕ) × AtAll (λ q x. R x × Due c p q f x) g.tree.ports
+            × (length g.firings + sum n f ≤ b) × (timing_in g.tree ≡ timing)) → Paid d p (tries rule p limit g)
+        go (inr full) k is facts =
+            subst (Paid d p) (sym (tries-full rule p limit g full)) (h.0, h.1, inl full)
+        go (inl below) k is (inl full) = absurd (omega (arith, below, full))
+        go (inl below) true is (inr s) = fire s.0 s.1 s.2 s.3 below is
+        go (inl below) false is (inr s) =
+            subst (Paid d p) (sym (tries-off rule p limit g is)) (h.0, h.1, inr (s.0, off s.0 is s.1, s.2, s.3))
+
+    -- The rules of a list are of one sort.
+    module _ (cost : List Rule → PortState → ℕ) (only : Rule → Bool)
+        (other : (rule : Rule) → only rule ≡ true → is_select rule ≡ false)
+        (fires : (rule : Rule) (rest : List Rule) (s : Tree) (x : PortState) → only rule ≡ true
+        → timing_in s ≡ timing → asks rule s p x ≡ true → R x
+        → (fit (spread_of rule) ≡ true) × R (own rule (timing_in s) x)
+        × (cost rest (own rule (timing_in s) x) < cost (rule ∷ rest) x))
+        (rests : (rule : Rule) (rest : List Rule) (s : Tree) (x : PortState) → only rule ≡ true
+        → asks rule s p x ≡ false → R x → cost rest x ≤ cost (rule ∷ rest) x) where
+      pub many : (list : List Rule) → all_are only list ≡ true → (g : Going) → Paid (cost list) p g
+          → Paid (cost []) p (tries_all list p limit g)
+      many [] sort g h = h
+      many (rule ∷ rest) sort g h =
+          let parts = and_parts (only rule) (all_are only rest) sort in
+          many rest parts.1 (tries rule p limit g)
+          (one rule (other rule parts.0) (cost (rule ∷ rest)) (cost rest)
+          (λ s x same on r. fires rule rest s x parts.0 same on r)
+          (λ s x off r. rests rule rest s x parts.0 off r) g h)
+
+  -- the visit of a port
+  pub visit : (first last : PortState → ℕ) (list : List Rule) (p : ℕ) (g : Going)
+      → (Paid first p g → Paid last p (tries_all list p limit g))
+      → ((x : PortState) → R x → first x ≤ U x) → ((x : PortState) → R x → V x ≤ last x)
+      → Within p g → Within (suc p) (tries_all list p limit g)
+  visit first last list p g walk begins ends h =
+      bounded_as (Due last p) (Shares (suc p)) (tries_all list p limit g)
+      (λ q f x r k. (
+        λ less. early q f x r k less (cases_lt q p),
+        λ from. k.2 (omega (arith, from)),
+      ))
+      (walk (bounded_as (Shares p) (Due first p) g
+      (λ q f x r k. (
+        k.0,
+        λ e. (let a = begins x r in let due = k.1 (omega (arith, e)) in omega (arith, a, due)),
+        λ less. k.1 (omega (arith, less)),
+      )) h))
+    where
+      early : (q : ℕ) (f : ℕ → ℕ) (x : PortState) → R x → Due last p q f x → q < suc p → (q < p) ⊎ (p ≤ q)
+          → V x ≤ f q
+      early q f x r k below (inl less) = k.0 less
+      early q f x r k below (inr from) =
+          let a = ends x r in
+          let due = k.1 (let same : q ≡ p = omega (arith, below, from) in same) in
+          omega (arith, a, due)
+
+  -- a pass over all ports, if there is one
+  pub pass-within : (list : List Rule)
+      → ((p : ℕ) (g : Going) → p < n → Within p g → Within (suc p) (tries_all list p limit g)) → (g : Going)
+      → length g.tree.ports ≡ n → 1 ≤ n → Within 0 (tries rules.Select 0 limit g)
+      → Within n (pass (rules.Select ∷ list) limit g)
+  pass-within list visits g count some start = go n refl
+    where
+      below : (m : ℕ) → suc m ≤ n → Within (suc m) (tries_below (rules.Select ∷ list) (suc m) limit g)
+      below zero within = visits 0 (tries rules.Select 0 limit g) within start
+      below (suc m) within =
+          let x : Going = tries_below (rules.Select ∷ list) (suc m) limit g in
+          visits (suc m) (tries rules.Select (suc m) limit x) within
+          (subst (Within (suc m)) (sym (select-later m limit x)) (below m (omega (arith, within))))
+
+      go : (m : ℕ) → n ≡ m → Within n (pass (rules.Select ∷ list) limit g)
+      go zero is = absurd (omega (arith, some, is))
+      go (suc m) is =
+          let Q : ℕ → Type 0 = λ k. Within k (tries_below (rules.Select ∷ list) k limit g) in
+          let P : ℕ → Type 0 = λ k. Within n (tries_below (rules.Select ∷ list) k limit g) in
+          subst P (sym count) (subst Q (sym is) (below m (omega (arith, is))))
