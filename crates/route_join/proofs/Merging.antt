@@ -144,7 +144,8 @@ joins_first t s os gs done us rest k now new g view whole merged stop =
       joined = stop.taken ∙ ap (λ x. with_updates x (take k us)) merged ∙ sym (updates_append t done (take k us))
           ∙ ap (with_updates t) (sym first)
           ∙ sym (entries_updates t (take (length done + k) (updates_in gs)))
-          ∙ ap (with_entries t) (sym (take-map (λ (u : Fields). (u.register, u.value)) (length done + k) (updates_in gs))
+          ∙ ap (with_entries t)
+          (sym (take-map (λ (u : Fields). (u.register, u.value)) (length done + k) (updates_in gs))
           ∙ ap (take (length done + k)) (sym all));
       fresh = λ d. ap (λ (x : Register × Value). value_at new x.0)
           (get_or_from_slice_get (entries s.registers) (length done + k) refused d next) ∙ stop.absent;

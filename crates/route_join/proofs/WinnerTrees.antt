@@ -337,7 +337,8 @@ module _ (bs cs : List WinnerNode) (x at : ℕ) (k : IsSettledBut bs x at) (own 
     settled_before p = ⊎_elim (λ here. subst (IsSettledAt bs) (sym here) same)
         (⊎_elim (λ before. k.before p before
         (told_nowhere (suc (2 * at)) (2 * p + 1) (omega (arith, before)) (omega arith))
-        (told_nowhere (suc (2 * at)) (2 * p + 2) (omega (arith, before)) (omega arith))) (k.behind p)) (cases_order p at)
+        (told_nowhere (suc (2 * at)) (2 * p + 2) (omega (arith, before)) (omega arith))) (k.behind p))
+        (cases_order p at)
 
     all_same : (p : ℕ) → best_below cs p ≡ best_below bs p
     all_same p = ⊎_elim (λ here. subst (λ q. best_below cs q ≡ best_below bs q) (sym here) (found
