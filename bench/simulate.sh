@@ -21,7 +21,7 @@ EDGES, STATIONS = 8, 4000
 with open(f"{work}/edges.toml", "w") as out:
     for e in range(1, EDGES + 1):
         out.write(f'[[edge]]\naddress = "10.0.0.{e}"\nbridge = "02:aa:00:00:00:{e:02x}"\nvnis = [5001]\ncapacity = 8192\n')
-        out.write("[[edge.port]]\nvni = 5001\nadmin_edge = true\n")
+        out.write("[[edge.port]]\nvni = 5001\nadmin_edge = true\nstations = 65536\nnew_stations = 4294967295\n")
 for part in (lines // 4, lines // 2, lines):
     chance = random.Random(1)
     announced = 1

@@ -25,6 +25,8 @@ capacity = 32768
 [[edge.port]]
 vni = 5001
 admin_edge = true
+stations = 65536
+new_stations = 4294967295
 local = "127.0.0.$number:20001"
 remote = "127.0.0.$number:30001"
 TOML

@@ -573,8 +573,10 @@ class Deaf(Joined):
     """One that records are told to and that doesn't read them, at edges that learn more stations than its socket has room for."""
 
     def text(self) -> str:
-        """The configuration, with room for as many stations as an edge may have."""
-        return super().text().replace("bridge = ", "capacity = 65536\nbridge = ")
+        """The configuration, with room for as many stations as an edge may have, and ports that may bring all of them."""
+        port = "[[edge.port]]\n"
+        text = super().text().replace(port, port + "stations = 65536\nnew_stations = 4294967295\n")
+        return text.replace("bridge = ", "capacity = 65536\nbridge = ")
 
     def test_peer_that_does_not_read(self) -> None:
         """Stations speak until no more of them can be told it: it is cut off, while frames go on and another one hears all the time."""

@@ -6,7 +6,7 @@ use crate::{Book, Pass};
 use arrayvec::ArrayVec;
 use bpdu_wire::BridgeId;
 use ether_wire::{Addr, Mac, Out, Page, Vni};
-use ev_edge::{EdgeConfig, Event, PortConfig};
+use ev_edge::{EdgeConfig, Event, Limits, PortConfig};
 use route_join::Taken;
 use route_wire::{Advert, Content, Key, Register, Update, Value};
 use rstp_state::start::{PortSettings, Settings};
@@ -55,6 +55,7 @@ fn port() -> PortConfig
             auto_edge: true,
             point_to_point: true,
         },
+        limits: Limits::none(),
     }
 }
 

@@ -11,11 +11,12 @@ use Rattle.route_wire.specs.declared.update.Advert.{Advert}
 use Rattle.route_wire.specs.declared.update.Content.{Content}
 use Rattle.route_wire.specs.declared.update.Content.TheVariants.{Withdrawn, Advert as Advertised}
 use Rattle.route_wire.specs.Fields.{Fields}
+use Rattle.ether_wire.specs.Ports.{place_of_port}
 use Rattle.mac_arena.specs.declared.station.Station.{Station}
 use Rattle.mac_arena.specs.declared.station.Entry.{Entry}
 use Rattle.mac_arena.specs.declared.table.Learnt.TheVariants.{New}
 use Rattle.mac_arena.specs.Learning.{Learning, entry_at, is_pinned, after_learn, learnt_of, after_pin as pinned_on}
-use Rattle.mac_arena.specs.Learning.{after_removal as gone}
+use Rattle.mac_arena.specs.Learning.{after_removal as gone, stations_at}
 use Rattle.mac_arena.specs.ListsName.{ListsName}
 use Rattle.ev_claims.specs.Speaker.{Speaker, KeepsNumbers, own_advert, is_at, is_beaten, after_originating}
 use Rattle.ev_claims.specs.Speaker.{after_importing}
@@ -45,6 +46,10 @@ entries e = len e.learned.entries
 -- how many stations the learning map has room for
 abbrev pub capacity : LocalRoutes → ℕ
 capacity e = length e.learned.places
+
+-- how many stations are at a port, learnt or pinned
+abbrev pub stations_on : LocalRoutes → ℕ → ℕ
+stations_on e port = length (stations_at e.learned.ports (place_of_port port))
 
 -- the VNI that a port belongs to, counted from 1
 abbrev pub vni_at : List ℕ → ℕ → Option ℕ

@@ -7,7 +7,7 @@ ghost use Rattle.route_join.specs.Taken.{taken_of};
 ghost use Rattle.mac_arena.specs.Learning.{entry_at, is_full, is_pinned, IsLatest};
 ghost use Rattle.ether_wire.specs.Ports.{has_port};
 ghost use Rattle.ev_claims.specs.Speaker.{announced, is_originated, is_ahead, is_spent, is_returning, IsOwnAt, IsNoOwnAt};
-ghost use Rattle.ev_claims.specs.LocalRoutes.{AreGood, entries, vni_at, is_member, key_of, station_of, after_advert, after_refresh, after_pin, after_shift, after_update, after_removal, after_take, after_losing_at, after_own, after_announcement, lost_at, loses_pinned};
+ghost use Rattle.ev_claims.specs.LocalRoutes.{AreGood, entries, stations_on, vni_at, is_member, key_of, station_of, after_advert, after_refresh, after_pin, after_shift, after_update, after_removal, after_take, after_losing_at, after_own, after_announcement, lost_at, loses_pinned};
 ghost use Rattle.ev_claims.specs.Opening.{IsOpening};
 
 mod leaving;
@@ -204,6 +204,14 @@ impl LocalRoutes {
             }
         }
         set
+    }
+
+    /// Returns the number of stations at a port, learnt or pinned.
+    pub fn stations_on(&self, port: u8) -> usize
+        requires { IsSome (vni_at self.now.ports port) }
+        ensures { result ≡ stations_on self.now port }
+    {
+        self.learned.count_at(port)
     }
 
     /// Learns a new station on a port of its VNI at a second that isn't below an earlier one, and

@@ -1,10 +1,10 @@
 -- The ports of an edge: the values of their tables.
-use Rattle.std.specs.Prelude.{true, false, codes}
+use Rattle.std.specs.Prelude.{true, false, Some, codes}
 use Rattle.std.specs.Option.{unwrap_or}
 use Rattle.toml.specs.Data.{Members}
 use Rattle.ev_edge.specs.declared.config.PortConfig.{PortConfig}
 use Rattle.ev_config.specs.declared.endpoint.PortEndpoints.{PortEndpoints}
-use Rattle.ev_config.specs.Schema.{cost, port_priority}
+use Rattle.ev_config.specs.Schema.{cost, port_priority, stations, new_stations}
 use Rattle.ev_config.specs.Keys.{spelt, vni_in, endpoint_in, number_at, flag_at}
 
 abbrev pub port_of : Members → PortConfig
@@ -16,6 +16,10 @@ port_of t = record {
     admin_edge = flag_at (codes "admin_edge") false t;
     auto_edge = flag_at (codes "auto_edge") true t;
     point_to_point = flag_at (codes "point_to_point") true t;
+  };
+  limits = record {
+    stations = Some (number_at (codes "stations") stations t);
+    new_stations = Some (number_at (codes "new_stations") new_stations t);
   };
 }
 

@@ -69,6 +69,14 @@ cost = range 1 200000000 20000
 abbrev pub port_priority : Range
 port_priority = steps 16 240 128
 
+-- at a port
+abbrev pub stations : Range
+stations = range 1 65536 512
+
+-- in 60 seconds
+abbrev pub new_stations : Range
+new_stations = range 1 (2 ^ 32 - 1) 256
+
 -- ---- tables
 
 abbrev pub file_rows : List Row
@@ -108,6 +116,8 @@ port_rows =
     ∷ (codes "admin_edge", kind.Flag false)
     ∷ (codes "auto_edge", kind.Flag true)
     ∷ (codes "point_to_point", kind.Flag true)
+    ∷ (codes "stations", kind.Number stations)
+    ∷ (codes "new_stations", kind.Number new_stations)
     ∷ (codes "local", kind.Endpoint)
     ∷ (codes "remote", kind.Endpoint) ∷ []
 

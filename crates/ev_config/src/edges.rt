@@ -9,7 +9,7 @@ ghost use Rattle.ev_config.specs.Config.{edges_of, view_of};
 use crate::endpoint::{Endpoint, PortEndpoints};
 use crate::schema::{
     AGEING, BUCKETS, CAPACITY, COST, FORWARD_DELAY, HELLO, HOLD, INCARNATION, MAX_AGE,
-    PORT_PRIORITY, PRIORITY, SALT,
+    NEW_STATIONS, PORT_PRIORITY, PRIORITY, SALT, STATIONS,
 };
 use crate::values::{
     address_at, bridge_at, endpoint_at, flag, number, number_or, tables_at, vni_at, vnis_at,
@@ -18,7 +18,7 @@ use crate::whole::Config;
 use arrayvec::ArrayVec;
 use bpdu_wire::BridgeId;
 use ether_wire::{Addr, Mac, Vni};
-use ev_edge::{EdgeConfig, PortConfig};
+use ev_edge::{EdgeConfig, Limits, PortConfig};
 use rstp_state::start::{PortSettings, Settings};
 use std::alloc::{AllocError, Global};
 use toml::Table;
@@ -36,6 +36,10 @@ fn port_of(table: &Table) -> PortConfig
             admin_edge: flag(table, "admin_edge", false),
             auto_edge: flag(table, "auto_edge", true),
             point_to_point: flag(table, "point_to_point", true),
+        },
+        limits: Limits {
+            stations: Some(number(table, "stations", STATIONS)),
+            new_stations: Some(number(table, "new_stations", NEW_STATIONS)),
         },
     }
 }

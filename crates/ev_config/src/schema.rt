@@ -104,13 +104,15 @@ pub(crate) const EDGE: [Row; 14] = [
 ];
 
 /// The keys of a port.
-pub(crate) const PORT: [Row; 8] = [
+pub(crate) const PORT: [Row; 10] = [
     Row("vni", Kind::Vni, "allowed is one of the edge's vnis"),
     Row("cost", Kind::Number(COST), ""),
     Row("priority", Kind::Number(PORT_PRIORITY), ""),
     Row("admin_edge", Kind::Flag(false), FLAG),
     Row("auto_edge", Kind::Flag(true), FLAG),
     Row("point_to_point", Kind::Flag(true), FLAG),
+    Row("stations", Kind::Number(STATIONS), ""),
+    Row("new_stations", Kind::Number(NEW_STATIONS), ""),
     Row("local", Kind::Endpoint, PLACE),
     Row("remote", Kind::Endpoint, PLACE),
 ];
@@ -152,6 +154,10 @@ pub(crate) const VNI: Range = Range(0, 0xff_ffff, 0, 0);
 pub(crate) const COST: Range = Range(1, 200_000_000, 0, 20_000);
 /// The priority of a port.
 pub(crate) const PORT_PRIORITY: Range = Range(0, 240, 16, 128);
+/// The maximum number of stations at a port.
+pub(crate) const STATIONS: Range = Range(1, 65_536, 0, 512);
+/// The maximum number of new stations that a port brings in 60 seconds.
+pub(crate) const NEW_STATIONS: Range = Range(1, 0xffff_ffff, 0, 256);
 
 const FLAG: &'static str = "allowed are true and false";
 

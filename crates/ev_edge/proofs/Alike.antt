@@ -39,7 +39,7 @@ use Rattle.ev_edge.specs.declared.reply.Reply.{Reply}
 use Rattle.ev_edge.specs.Edge.{Edge, table_of, address_of}
 use Rattle.ev_edge.specs.Arrival.{frame_arrival, tunnel_arrival, datagram_arrival, is_other}
 use Rattle.ev_edge.specs.Away.{with_away, with_back}
-use Rattle.ev_edge.specs.Learning.{case_of, case_at, numbered_case, OrNoMemory, Does}
+use Rattle.ev_edge.specs.Learning.{case_of, case_at, numbered_case, limited, case_on, OrNoMemory, Does}
 use Rattle.ev_edge.specs.Pinning.{pin_case, pin_case_at, refused_pin, DoesPin, after_unpin}
 use Rattle.ev_edge.specs.Sending.{IsDecision, port_of}
 use Rattle.ev_edge.specs.Steps.{Steps, LearnsIf, SendsIf, FrameSteps, TunnelSteps, Bridges, BridgesAt, Seconds, Takes}
@@ -109,6 +109,18 @@ case_alike e s = go (entry_at e.routes.learned s)
     go None = ap (cond (is_frozen (get e.windows s)) Leave)
         (numbered_alike e (get e.windows s) (seq_for (table_of e) (address_of e) s.vni s.mac))
 
+limited_alike : (e : Edge) (s : Station) (port : ℕ) (c : Case)
+    → limited (with_all_up e) s port c ≡ limited e s port c
+limited_alike e s port Leave = refl
+limited_alike e s port Refresh = refl
+limited_alike e s port (Refuse alert) = refl
+limited_alike e s port Freeze = refl
+limited_alike e s port Learn = refl
+limited_alike e s port (Move n) = refl
+
+case_on_alike : (e : Edge) (s : Station) (port : ℕ) → case_on (with_all_up e) s port ≡ case_on e s port
+case_on_alike e s port = ap (limited (with_all_up e) s port) (case_alike e s) ∙ limited_alike e s port (case_of e s)
+
 memory_alike : (needs : Bool) (e after e' : Edge) (alert told : Option Alert) → OrNoMemory needs e alert after told e'
     → OrNoMemory needs (with_all_up e) alert (with_all_up after) told (with_all_up e')
 memory_alike needs e after e' alert told (inl done) = inl (done.0, ap with_all_up done.1)
@@ -126,8 +138,8 @@ does_alike (Move n) e s port told e' h = memory_alike _ e _ e' None told h
 learns_alike : (b : Bool) (e : Edge) (s : Station) (port : ℕ) (told : Option Alert) (e' : Edge)
     → LearnsIf b e s port told e' → LearnsIf b (with_all_up e) s port told (with_all_up e')
 learns_alike true e s port told e' h =
-    subst (λ c. Does c (with_all_up e) s port told (with_all_up e')) (sym (case_alike e s))
-    (does_alike (case_of e s) e s port told e' h)
+    subst (λ c. Does c (with_all_up e) s port told (with_all_up e')) (sym (case_on_alike e s port))
+    (does_alike (case_on e s port) e s port told e' h)
 learns_alike false e s port told e' h = (h.0, ap with_all_up h.1)
 
 -- ---- frames

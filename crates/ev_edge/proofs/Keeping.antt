@@ -26,6 +26,9 @@ use Rattle.rstp_run.specs.Rules.{Tree}
 use Rattle.ev_claims.specs.Leaving.{after_ageing, after_flush, due_in, flushed_in}
 use Rattle.ev_edge.specs.Edge.{ArePassing}
 use Rattle.ev_edge.specs.Bridging.{next_second, aged}
+use Rattle.ev_edge.specs.declared.limits.Quota.{Quota}
+use Rattle.ev_edge.specs.Limits.{AreKept}
+use Rattle.ev_edge.proofs.Quotas.{later_kept}
 use Rattle.ev_edge.proofs.Owning.{Holds, changed_individual, some_bucket, removals_hold}
 
 pub holds_of : (e : Edge) (passing : ℕ) → IsEdge e passing → Holds e.routes e.clock
@@ -106,6 +109,7 @@ kept e passing c d h is holds ports same = subst (λ x. IsEdge (record e { route
     ports = h.keeps.ports ∙ sym (ap length ports);
     early = h.keeps.early;
     away = listed_still e c h.keeps.away same;
+    quotas = h.keeps.quotas;
   };
   exact = h.exact;
 })
@@ -164,6 +168,25 @@ other_windows e passing windows h = record {
     ports = h.keeps.ports;
     early = h.keeps.early;
     away = h.keeps.away;
+    quotas = h.keeps.quotas;
+  };
+  exact = h.exact;
+}
+
+-- other quotas
+pub other_quotas : (e : Edge) (passing : ℕ) (quotas : List Quota) → IsEdge e passing → AreKept quotas e.clock
+    → IsEdge (record e { quotas = quotas }) passing
+other_quotas e passing quotas h kept = record {
+  keeps = record {
+    owns = h.keeps.owns;
+    latest = h.keeps.latest;
+    individual = h.keeps.individual;
+    served = h.keeps.served;
+    buckets = h.keeps.buckets;
+    ports = h.keeps.ports;
+    early = h.keeps.early;
+    away = h.keeps.away;
+    quotas = kept;
   };
   exact = h.exact;
 }
@@ -181,16 +204,17 @@ other_away e passing away h listed = record {
     ports = h.keeps.ports;
     early = h.keeps.early;
     away = listed;
+    quotas = h.keeps.quotas;
   };
   exact = h.exact;
 }
 
 -- ---- the bridge goes on
 pub bridged : (e : Edge) (was passing clock : ℕ) (tree : Tree) (c d : LocalRoutes) → IsEdge e was
-    → length tree.ports ≡ length e.tree.ports → ArePassing tree passing → clock ≤ 2 ^ 63 → d ≡ c → Holds c clock
-    → c.ports ≡ e.routes.ports → ListsAs c e.routes
+    → length tree.ports ≡ length e.tree.ports → ArePassing tree passing → e.clock ≤ clock → clock ≤ 2 ^ 63 → d ≡ c
+    → Holds c clock → c.ports ≡ e.routes.ports → ListsAs c e.routes
     → IsEdge (record e { tree = tree; clock = clock; routes = d }) passing
-bridged e was passing clock tree c d h size exact early is holds ports same =
+bridged e was passing clock tree c d h size exact later early is holds ports same =
     subst (λ x. IsEdge (record e { tree = tree; clock = clock; routes = x }) passing) (sym is) (record {
       keeps = record {
         owns = holds.owns;
@@ -201,6 +225,7 @@ bridged e was passing clock tree c d h size exact early is holds ports same =
         ports = size ∙ h.keeps.ports ∙ sym (ap length ports);
         early = early;
         away = listed_still e c h.keeps.away same;
+        quotas = later_kept e.quotas e.clock clock later h.keeps.quotas;
       };
       exact = exact;
     })

@@ -2,6 +2,7 @@ pub mod Marking
 pub mod Giving
 pub mod Alike
 pub mod Cases
+pub mod Quotas
 pub mod Owning
 pub mod Passing
 pub mod Keeping
@@ -19,3 +20,5 @@ pub mod Removing
 pub mod Staying
 pub mod Remaining
 pub mod Single
+pub mod Limiting
+pub mod Spending

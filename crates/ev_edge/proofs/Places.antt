@@ -18,6 +18,9 @@ pub there_port : (ports : List ℕ) (p : ℕ) → is_some (vni_at ports p) ≡ t
 there_port ports zero h = cc
 there_port ports (suc l) h = let less = get_within ports l h in (omega arith, omega (arith, less))
 
+pub some_port : (ports : List ℕ) (p v : ℕ) → vni_at ports p ≡ Some v → 0 < p
+some_port ports p v is = (there_port ports p (ap is_some is)).0
+
 -- ports of an edge are ports of sets, too
 pub set_port : (ports : List ℕ) (p v : ℕ) → length ports ≤ 64 → vni_at ports p ≡ Some v → ports_of_sets.IsPort p
 set_port ports p v few is = let there = there_port ports p (ap is_some is) in

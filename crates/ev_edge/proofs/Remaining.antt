@@ -55,7 +55,9 @@ use Rattle.ev_edge.specs.Pinning.{is_static, unpinned_case, pin_case_at, pin_cas
 use Rattle.ev_edge.specs.Steps.{Steps, LearnsIf, FrameSteps, TunnelSteps, Bridges, BridgesAt, Seconds, Takes}
 use Rattle.ev_edge.specs.Steps.{Pins, Marks}
 use Rattle.ev_edge.proofs.Marking.{away_listed, back_listed}
+use Rattle.ev_edge.specs.Learning.{quotas_with}
 use Rattle.ev_edge.proofs.Cases.{IsNew, learnt_by, or_refused}
+use Rattle.ev_edge.proofs.Quotas.{later_kept, quotas_kept}
 use Rattle.ev_edge.proofs.Keeping.{removals_ports, taken_ports, second_early, aged_ports}
 use Rattle.ev_edge.proofs.Keeping.{ListsAs, removals_list, taken_list, own_list, aged_list, listed_still}
 use Rattle.ev_edge.proofs.Winning.{pin_fits, pinned_alone}
@@ -71,18 +73,19 @@ routes_good : (e e' : Edge) (c : LocalRoutes) → IsGoodEdge e → Keeps c e.clo
     → ListsAs c e.routes → e' ≡ record e { routes = c } → IsGoodEdge e'
 routes_good e e' c h k ports same is = subst IsGoodEdge (sym is)
     (good_by (record e { routes = c }) k (h.keeps.ports ∙ sym (ap length ports)) h.keeps.early
-    (listed_still e c h.keeps.away same))
+    (listed_still e c h.keeps.away same) h.keeps.quotas)
 
 windows_good : (e : Edge) (windows : FinMap station_cmp Window) → IsGoodEdge e
     → IsGoodEdge (record e { windows = windows })
 windows_good e windows h = good_by (record e { windows = windows }) (keeps_of e h) h.keeps.ports h.keeps.early
-    h.keeps.away
+    h.keeps.away h.keeps.quotas
 
 -- other edges are away
 marks_good : (e : Edge) (away : List ℕ) (result : Result Reply Refusal) (e' : Edge) → IsGoodEdge e
     → AreListed away (table_of e) → (b : Bool) → Marks b e away result e' → IsGoodEdge e'
 marks_good e away result e' h listed true d = subst IsGoodEdge (sym d.1)
-    (good_by (record e { away = away }) (keeps_of e h) h.keeps.ports h.keeps.early listed)
+    (good_by (record e { away = away }) (keeps_of e h) h.keeps.ports h.keeps.early listed
+    h.keeps.quotas)
 marks_good e away result e' h listed false d = same_good e e' d.1 h
 
 number_left : (c : LocalRoutes) → is_spent c ≡ false → c.speaker.counter < 2 ^ 63
@@ -91,11 +94,15 @@ number_left c few = grind (arith, nat_tests)
 -- ---- learning
 
 advert_good : (e : Edge) (s : Station) (port n : ℕ) (windows : FinMap station_cmp Window) → IsGoodEdge e
-    → vni_at e.routes.ports port ≡ Some s.vni → is_group s.mac ≡ false → IsNew e s n
-    → IsGoodEdge (record e { routes = after_advert e.routes s port e.clock n; windows = windows })
+    → vni_at e.routes.ports port ≡ Some s.vni → is_group s.mac ≡ false → IsNew e s port n
+    → IsGoodEdge (record e {
+      routes = after_advert e.routes s port e.clock n;
+      windows = windows;
+      quotas = quotas_with e s port;
+    })
 advert_good e s port n windows h behind single new = good_by _
     (advert_keeps e.routes s port e.clock n (keeps_of e h) new.none new.room (number_left e.routes new.few) behind
-    single new.next) h.keeps.ports h.keeps.early h.keeps.away
+    single new.next) h.keeps.ports h.keeps.early h.keeps.away (quotas_kept e s port h.keeps.quotas new.calm)
 
 learns_good : (e : Edge) (s : Station) (port : ℕ) (told : Option Alert) (e' : Edge) → IsGoodEdge e
     → vni_at e.routes.ports port ≡ Some s.vni → (learns group : Bool) → is_group s.mac ≡ group
@@ -135,7 +142,7 @@ bridges_good event e (Ok reply) e' h d =
     (goes_length event e.tree e'.tree d.goes.happens.firings d.goes.happens.run ∙ h.keeps.ports
     ∙ sym (ap length (removals_ports e.routes (flushed_in e.routes.learned d.flush)))) h.keeps.early
     (listed_still e (after_flush e.routes d.flush) h.keeps.away
-    (removals_list e.routes (flushed_in e.routes.learned d.flush))))
+    (removals_list e.routes (flushed_in e.routes.learned d.flush))) h.keeps.quotas)
 bridges_good event e (Err r) e' h d = absurd d
 
 bridges_at_good : (vni : Option ℕ) (event : tree.Event) (e : Edge) (result : Result Reply Refusal) (e' : Edge)
@@ -157,12 +164,13 @@ seconds_good e (Ok reply) e' h d =
     ∙ removals_ports e.routes (flushed_in e.routes.learned d.flush)))) times.1
     (listed_still e (aged (after_flush e.routes d.flush) e.ageing (next_second e.clock)) h.keeps.away
     (aged_list (after_flush e.routes d.flush) e.ageing (next_second e.clock)
-    ∙ removals_list e.routes (flushed_in e.routes.learned d.flush))))
+    ∙ removals_list e.routes (flushed_in e.routes.learned d.flush)))
+    (later_kept e.quotas e.clock (next_second e.clock) times.0 h.keeps.quotas))
 
 -- ---- frames
 
 -- a frame of a network came at a port of it
-data_port : (e : Edge) (port : ℕ) (octets : List ℕ) (vni destination source : ℕ)
+pub data_port : (e : Edge) (port : ℕ) (octets : List ℕ) (vni destination source : ℕ)
     → frame_arrival e port octets ≡ Ok (Data vni destination source) → vni_at e.routes.ports port ≡ Some vni
 data_port e port octets vni destination source is = go (vni_at e.routes.ports port) refl is
   where

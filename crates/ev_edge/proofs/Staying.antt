@@ -41,6 +41,7 @@ use Rattle.ev_claims.proofs.Learnt.{removal_there}
 use Rattle.ev_claims.proofs.Lists.{based}
 use Rattle.ev_claims.proofs.Changed.{ports_climb, flushed_once, due_once}
 use Rattle.ev_claims.proofs.Leaving.{flush_known, age_known}
+use Rattle.ev_edge.specs.Limits.{AreKept}
 use Rattle.ev_edge.specs.Edge.{Edge, IsGoodEdge, AreListed, table_of}
 use Rattle.ev_edge.proofs.Owning.{Holds, removal_holds, taken_holds}
 use Rattle.ev_edge.proofs.Keeping.{refresh_holds, shift_holds, later_holds}
@@ -74,8 +75,8 @@ keeps_of e h = record {
 }
 
 pub good_by : (e : Edge) → Keeps e.routes e.clock → length e.tree.ports ≡ length e.routes.ports → e.clock ≤ 2 ^ 63
-    → AreListed e.away (table_of e) → IsGoodEdge e
-good_by e k ports early away = record {
+    → AreListed e.away (table_of e) → AreKept e.quotas e.clock → IsGoodEdge e
+good_by e k ports early away quotas = record {
   routes = record { routes = k.routes; numbers = k.numbers; lists = k.lists };
   keeps = record {
     owns = k.holds.owns;
@@ -86,6 +87,7 @@ good_by e k ports early away = record {
     ports = ports;
     early = early;
     away = away;
+    quotas = quotas;
   };
 }
 

@@ -14,10 +14,13 @@ use Rattle.rstp_run.specs.Events.{IsPort, Passes}
 use Rattle.ev_mobility.specs.declared.window.Window.{Window}
 use Rattle.ev_mobility.specs.Moves.{Moves}
 use Rattle.ev_claims.specs.Speaker.{own_advert}
+use Rattle.ev_edge.specs.declared.limits.Quota.{Quota}
+use Rattle.ev_edge.specs.Limits.{AreKept}
 use Rattle.ev_claims.specs.LocalRoutes.{LocalRoutes, AreGood, key_of}
 
 -- The local routes, the second, how many seconds an entry lives, the bridge, the windows of the stations that have
--- moved, and the other edges that are away: the edge gives them no frame. Ports are numbered from 1.
+-- moved, the other edges that are away: the edge gives them no frame; and the quota of each port, port 1 first. Ports
+-- are numbered from 1.
 pub record Edge : Type 0 where
   pub routes : LocalRoutes
   pub clock : ℕ
@@ -25,15 +28,17 @@ pub record Edge : Type 0 where
   pub tree : Tree
   pub windows : FinMap station_cmp Window
   pub away : List ℕ
+  pub quotas : List Quota
 
-abbrev pub edge_of : LocalRoutes → ℕ → ℕ → Tree → Moves → List ℕ → Edge
-edge_of routes clock ageing tree moves away = record {
+abbrev pub edge_of : LocalRoutes → ℕ → ℕ → Tree → Moves → List ℕ → List Quota → Edge
+edge_of routes clock ageing tree moves away quotas = record {
   routes = routes;
   clock = clock;
   ageing = ageing;
   tree = tree;
   windows = moves.windows;
   away = away;
+  quotas = quotas;
 }
 
 abbrev pub table_of : Edge → Table
@@ -59,8 +64,8 @@ abbrev pub AreListed : List ℕ → Table → Type 0
 AreListed away t = away ≡ filter (is_away away) t.originators
 
 -- The edge owns what it advertises, no station's last second is later than now, and no group address is learnt; it
--- serves the VNIs of its ports; its learning table has a bucket; its bridge has its ports; and the edges that are away
--- are listed ones, in the order of the list.
+-- serves the VNIs of its ports; its learning table has a bucket; its bridge has its ports; the edges that are away are
+-- listed ones, in the order of the list; and no port has brought more new stations in its window than its limit allows.
 pub record KeepsEdge (e : Edge) : Type 0 where
   pub owns : (s : Station) → OwnsAt e.routes s
   pub latest : IsLatest e.routes.learned e.clock
@@ -70,6 +75,7 @@ pub record KeepsEdge (e : Edge) : Type 0 where
   pub ports : length e.tree.ports ≡ length e.routes.ports
   pub early : e.clock ≤ 2 ^ 63
   pub away : AreListed e.away (table_of e)
+  pub quotas : AreKept e.quotas e.clock
 
 -- the good edge: also its routes and its stations match each other, and the lists name the learning map
 pub record IsGoodEdge (e : Edge) : Type 0 where

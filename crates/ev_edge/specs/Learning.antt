@@ -1,6 +1,7 @@
--- Learning the source of a frame (IEEE 802.1D-2004, 7.8, and RFC 7432, section 15): the first of the ten cases that
+-- Learning the source of a frame (IEEE 802.1D-2004, 7.8, and RFC 7432, section 15): the first of the twelve cases that
 -- applies, with its effect.
-use Rattle.std.specs.Prelude.{◌≡◌, ◌⊎◌, ℕ, ◌^◌, ◌==◌, ◌||◌, not, nat_le, Bool, true, Option, Some, None, is_none}
+use Rattle.std.specs.Prelude.{◌≡◌, ◌⊎◌, ℕ, ◌^◌, ◌==◌, ◌||◌, ◌&&◌, not, nat_le, Bool, true, false, Option, Some, None}
+use Rattle.std.specs.Prelude.{is_some, is_none, List}
 use Rattle.std.specs.Prelude.{if◌then◌else◌}
 use Rattle.std.specs.FinMap.{get, insert}
 use Rattle.mac_arena.specs.declared.station.Station.{Station}
@@ -8,16 +9,19 @@ use Rattle.mac_arena.specs.declared.station.Entry.{Entry}
 use Rattle.mac_arena.specs.Learning.{entry_at, is_full}
 use Rattle.ev_mobility.specs.declared.alert.Alert.{Alert}
 use Rattle.ev_mobility.specs.declared.alert.Alert.TheVariants.{StaticElsewhere, SequenceSpent, Duplicate, CounterSpent}
-use Rattle.ev_mobility.specs.declared.alert.Alert.TheVariants.{TableFull, NoMemory}
+use Rattle.ev_mobility.specs.declared.alert.Alert.TheVariants.{TableFull, PortFull, PortBusy, NoMemory}
 use Rattle.ev_mobility.specs.declared.window.Window.{Window}
 use Rattle.ev_mobility.specs.declared.seq.Seq.{Seq}
 use Rattle.ev_mobility.specs.declared.seq.Seq.TheVariants.{Next, Static, Spent}
 use Rattle.ev_mobility.specs.Seq.{seq_for}
 use Rattle.ev_mobility.specs.Window.{is_fifth, is_frozen, after_move}
 use Rattle.ev_claims.specs.Speaker.{is_originated}
-use Rattle.ev_claims.specs.LocalRoutes.{LocalRoutes, key_of, after_advert, after_refresh}
+use Rattle.ev_claims.specs.LocalRoutes.{LocalRoutes, key_of, stations_on, after_advert, after_refresh}
 use Rattle.ev_edge.specs.declared.learning.Case.{Case}
 use Rattle.ev_edge.specs.declared.learning.Case.TheVariants.{Leave, Refresh, Refuse, Freeze, Learn, Move}
+use Rattle.ev_edge.specs.declared.limits.Limits.{Limits}
+use Rattle.ev_edge.specs.declared.limits.Quota.{Quota}
+use Rattle.ev_edge.specs.Limits.{quota_at, is_met, count_in, with_counted}
 use Rattle.ev_edge.specs.Edge.{Edge, table_of, address_of}
 
 -- ---- the cases
@@ -48,9 +52,50 @@ abbrev pub case_at : Edge → Station → Option Entry → Case
 case_at e s (Some x) = if x.pinned then Leave else Refresh
 case_at e s None = new_case e s (get e.windows s)
 
--- the first case that applies to a station
+-- the first case that applies to a station at a port without limits
 abbrev pub case_of : Edge → Station → Case
 case_of e s = case_at e s (entry_at e.routes.learned s)
+
+-- ---- the limits of the port
+
+-- an own register of the station must be created: the edge made no update of it in this incarnation
+abbrev pub needs_register : Edge → Station → Bool
+needs_register e s = not (is_originated e.routes.speaker (key_of s))
+
+abbrev pub limits_at : Edge → ℕ → Limits
+limits_at e port = (quota_at e.quotas port).limits
+
+abbrev pub is_there : Option Entry → ℕ → Bool
+is_there None port = false
+is_there (Some x) port = x.port == port
+
+-- the station would be one too many at the port: it isn't there yet, and the port has all that it may have
+abbrev pub is_crowded : Edge → Station → ℕ → Bool
+is_crowded e s port =
+    is_met (limits_at e port).stations (stations_on e.routes port) && not (is_there (entry_at e.routes.learned s) port)
+
+-- the station would be one new station too many within 60 seconds: new is one that needs a register
+abbrev pub is_busy : Edge → Station → ℕ → Bool
+is_busy e s port =
+    is_met (limits_at e port).new_stations (count_in (quota_at e.quotas port) e.clock) && needs_register e s
+
+-- a station that would be learnt or that moves here from another edge
+abbrev pub limited_new : Edge → Station → ℕ → Case → Case
+limited_new e s port case =
+    if is_crowded e s port then Refuse (PortFull port) else if is_busy e s port then Refuse (PortBusy port) else case
+
+-- the case by the limits of the port, too; also a station that comes from another port of the edge needs a place
+abbrev pub limited : Edge → Station → ℕ → Case → Case
+limited e s port Leave = Leave
+limited e s port Refresh = if is_crowded e s port then Refuse (PortFull port) else Refresh
+limited e s port (Refuse alert) = Refuse alert
+limited e s port Freeze = limited_new e s port Freeze
+limited e s port Learn = limited_new e s port Learn
+limited e s port (Move n) = limited_new e s port (Move n)
+
+-- the first case that applies to a station on a port
+abbrev pub case_on : Edge → Station → ℕ → Case
+case_on e s port = limited e s port (case_of e s)
 
 -- ---- the effects
 
@@ -61,15 +106,21 @@ refreshed e s port = record e { routes = after_refresh e.routes s port e.clock }
 abbrev pub moved : Edge → Station → Edge
 moved e s = record e { windows = insert e.windows s (after_move (get e.windows s) e.clock) }
 
+-- the station is new, and the port has a limit of new ones
+abbrev pub is_counted : Edge → Station → ℕ → Bool
+is_counted e s port = is_some (limits_at e port).new_stations && needs_register e s
+
+abbrev pub quotas_with : Edge → Station → ℕ → List Quota
+quotas_with e s port = if is_counted e s port then with_counted e.quotas port e.clock else e.quotas
+
 -- learnt, and advertised with this sequence number
 abbrev pub learnt : Edge → Station → ℕ → ℕ → Edge
-learnt e s port n = record e { routes = after_advert e.routes s port e.clock n }
+learnt e s port n = record e {
+  routes = after_advert e.routes s port e.clock n;
+  quotas = quotas_with e s port;
+}
 
 -- ---- memory
-
--- an own register of the station must be created: the edge made no update of it in this incarnation
-abbrev pub needs_register : Edge → Station → Bool
-needs_register e s = not (is_originated e.routes.speaker (key_of s))
 
 -- a window has to be made for its move: none is kept of it
 abbrev pub needs_window : Edge → Station → Bool
@@ -93,4 +144,4 @@ Does (Move n) e s port told e' =
 
 -- learning the station on the port
 abbrev pub Learning : Edge → Station → ℕ → Option Alert → Edge → Type 0
-Learning e s port told e' = Does (case_of e s) e s port told e'
+Learning e s port told e' = Does (case_on e s port) e s port told e'

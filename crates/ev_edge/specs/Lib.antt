@@ -1,6 +1,7 @@
 pub mod Edge
 pub mod Away
 pub mod Config
+pub mod Limits
 pub mod Arrival
 pub mod Learning
 pub mod Pinning
@@ -10,6 +11,7 @@ pub mod Steps
 pub mod Changes
 pub mod Laws
 pub mod AwayLaws
+pub mod LimitLaws
 pub mod Opening
 pub mod Refusal
 pub mod Removed

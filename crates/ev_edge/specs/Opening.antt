@@ -6,6 +6,7 @@ use Rattle.ev_claims.specs.declared.opening.Start.{Start}
 use Rattle.ev_claims.specs.Opening as routes
 use Rattle.ev_edge.specs.declared.config.EdgeConfig.{EdgeConfig}
 use Rattle.ev_edge.specs.Config.{vnis_of, settings_of}
+use Rattle.ev_edge.specs.Limits.{quotas_of}
 use Rattle.ev_edge.specs.Edge.{Edge}
 
 -- the configuration of the local routes
@@ -22,8 +23,8 @@ start_of c = record {
 }
 
 -- Nothing is learnt, and it is second 0. The edge advertises the flood list of each VNI, the lowest first, numbered
--- from
--- 1 and pending in this order. No station has moved, the bridge is as it starts, and no edge is away.
+-- from 1 and pending in this order. No station has moved, the bridge is as it starts, no edge is away, and no new
+-- station was counted.
 pub record IsOpening (c : EdgeConfig) (e : Edge) : Type 0 where
   pub routes : routes.IsOpening (start_of c) e.routes
   pub clock : e.clock ≡ 0
@@ -31,3 +32,4 @@ pub record IsOpening (c : EdgeConfig) (e : Edge) : Type 0 where
   pub tree : e.tree ≡ start c.tree (settings_of c.ports.items)
   pub windows : e.windows ≡ empty
   pub away : e.away ≡ []
+  pub quotas : e.quotas ≡ quotas_of c.ports.items

@@ -2,6 +2,7 @@
 ghost use Rattle.std.specs.Prelude.{◌≡◌, take, length};
 ghost use Rattle.ev_edge.specs.Config.{vnis_of, settings_of};
 
+use crate::limits::Limits;
 use arrayvec::ArrayVec;
 use ether_wire::{Addr, Vni};
 use rstp_state::start::{PortSettings, Settings};
@@ -13,10 +14,12 @@ pub struct PortConfig {
     pub vni: Vni,
     /// How the spanning tree sees it.
     pub settings: PortSettings,
+    /// How many stations may be learnt on it.
+    pub limits: Limits,
 }
 
 impl Default for PortConfig {
-    /// A port of network 0 with the usual settings.
+    /// A port of network 0 with the usual settings and without limits.
     fn default() -> Self {
         PortConfig {
             vni: Vni::default(),
@@ -27,6 +30,7 @@ impl Default for PortConfig {
                 auto_edge: true,
                 point_to_point: true,
             },
+            limits: Limits::none(),
         }
     }
 }

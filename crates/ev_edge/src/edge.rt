@@ -13,6 +13,7 @@ ghost use Rattle.ev_edge.specs.Steps.{Steps, answered};
 
 use crate::config::{EdgeConfig, PortConfig, set_settings, vnis_of};
 use crate::event::Event;
+use crate::limits::{Quota, quotas_of};
 use crate::refusal::Refusal;
 use crate::reply::Reply;
 use arrayvec::ArrayVec;
@@ -26,7 +27,8 @@ use rstp_run::bridge::{Bridge, BridgeConfig};
 use std::alloc::{AllocError, Global};
 use std::marker::Model;
 
-/// An edge: its routes and stations, its bridge, its clock, and the windows of moved stations.
+/// An edge: its routes and stations, its bridge, its clock, the windows of moved stations, and the
+/// quotas of its ports.
 ///
 /// It advertises exactly the stations that it has learnt, as static exactly those that are pinned,
 /// and owns each of them.
@@ -41,6 +43,8 @@ pub struct Edge {
     pub(crate) passing: u64,
     // The other edges that are away.
     pub(crate) away: ArrayVec<Addr, 64>,
+    // The quota of each port.
+    pub(crate) quotas: ArrayVec<Quota, 64>,
 }
 
 impl Model for Edge {
@@ -53,10 +57,11 @@ impl Model for Edge {
     ghost coded = { Prim.hlevel (codes, code) };
 
     ghost view = { λ e. edge_of e.routes e.clock e.ageing e.bridge e.moves
-        e.away.items };
+        e.away.items e.quotas.items };
 
     ghost invariant = { λ e. IsEdge
-        (edge_of e.routes e.clock e.ageing e.bridge e.moves e.away.items) e.passing };
+        (edge_of e.routes e.clock e.ageing e.bridge e.moves e.away.items e.quotas.items)
+        e.passing };
 }
 
 impl Edge {
@@ -76,6 +81,7 @@ impl Edge {
             settings: config.tree,
             ports: &settings[..config.ports.len()],
         });
+        let quotas = quotas_of(&config.ports);
         let start = Start {
             address: config.address,
             incarnation: config.incarnation,
@@ -95,6 +101,7 @@ impl Edge {
             moves: Moves::new(alloc),
             passing: NO_PORTS,
             away: ArrayVec::new(),
+            quotas,
         })
     }
 

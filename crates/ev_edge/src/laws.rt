@@ -11,6 +11,8 @@ ghost use Rattle.ev_edge.specs.Laws.{OwnsItsAdverts, TakesNoMemory, BridgeHasOne
 ghost use Rattle.ev_edge.specs.Removed.{StepsRemove};
 ghost use Rattle.ev_edge.specs.AwayLaws.{GivesNoneAway, FloodsForAway, ComesBack};
 ghost use Rattle.ev_edge.specs.AwayLaws.{DependsNotOnAway, MarksOnlyAway, AsIfNeverAway};
+ghost use Rattle.ev_edge.specs.LimitLaws.{LimitsNothing, KeepsLimits, KeepsToStations, StationsAreFew};
+ghost use Rattle.ev_edge.specs.LimitLaws.{RegistersAreFew, RegistersAreFewFromTheOpening};
 
 use crate::config::EdgeConfig;
 use crate::edge::Edge;
@@ -143,4 +145,38 @@ pub fn marks_only_away()
 /// went away and came back leads to the same edge, with the same answers but for decisions.
 pub fn as_if_never_away()
     ensures { AsIfNeverAway }
+{}
+
+/// At a port without limits the limits of ports change nothing: neither the case of a station nor
+/// what is counted.
+pub fn limits_nothing()
+    ensures { LimitsNothing }
+{}
+
+/// No event changes the limits of a port.
+pub fn keeps_limits()
+    ensures { KeepsLimits }
+{}
+
+/// Except by pins, a port of a good edge gets further stations only by its own frames, and no more
+/// of them than its limit allows.
+pub fn keeps_to_stations()
+    ensures { KeepsToStations }
+{}
+
+/// In a run without pins from a good edge, a port that has no more stations than its limit allows
+/// has no more at the end.
+pub fn stations_are_few()
+    ensures { StationsAreFew }
+{}
+
+/// In less than `m` minutes of a run from a good edge, the frames at a port that may bring `n` new
+/// stations a minute make at most `(m + 1) * n` registers.
+pub fn registers_are_few()
+    ensures { RegistersAreFew }
+{}
+
+/// In the first `m` minutes since the opening they make at most `m * n` registers.
+pub fn registers_are_few_from_the_opening()
+    ensures { RegistersAreFewFromTheOpening }
 {}

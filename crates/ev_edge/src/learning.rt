@@ -1,4 +1,4 @@
-//! Learning the source of a frame: which of the ten cases it is, and what that does.
+//! Learning the source of a frame: which of the twelve cases it is, and what that does.
 ghost use Rattle.std.specs.Prelude.{◌≡◌, ◌<◌, ◌^◌, ◌||◌, true, false, None, Some};
 ghost use Rattle.std.specs.FinMap.{get};
 ghost use Rattle.ether_wire.specs.Addr.{is_group};
@@ -7,7 +7,8 @@ ghost use Rattle.ev_mobility.specs.Seq.{seq_for};
 ghost use Rattle.ev_claims.specs.LocalRoutes.{vni_at};
 ghost use Rattle.ev_edge.specs.Edge.{table_of, address_of};
 ghost use Rattle.ev_mobility.specs.Window.{is_fifth};
-ghost use Rattle.ev_edge.specs.Learning.{case_of, new_case, numbered_case, moved, learnt};
+ghost use Rattle.ev_edge.specs.Learning.{case_on, limited, limited_new, new_case, numbered_case, moved, learnt};
+ghost use Rattle.ev_edge.specs.Learning.{is_there, is_busy};
 ghost use Rattle.ev_edge.specs.Learning.{needs_register, needs_window, OrNoMemory, Learning};
 
 use crate::edge::Edge;
@@ -39,7 +40,7 @@ impl Edge {
         requires port { vni_at self.old.routes.ports port ≡ Some station.now.vni }
         ensures { Learning self.old station.now port result self.new }
     {
-        match self.case_of(station) {
+        match self.case_on(station, port) {
             Case::Leave => None,
             Case::Refresh => {
                 self.routes.refresh(station, port, self.clock);
@@ -52,18 +53,52 @@ impl Edge {
         }
     }
 
-    /// The case of a station.
-    fn case_of(&self, station: &Station) -> Case
-        ensures { result ≡ case_of self.now station.now }
+    /// Returns the case of a station on a port of its VNI.
+    fn case_on(&self, station: &Station, port: u8) -> Case
+        requires { vni_at self.now.routes.ports port ≡ Some station.now.vni }
+        ensures { result ≡ case_on self.now station.now port }
     {
         match self.routes.look(station) {
-            Some(entry) => if entry.pinned {
-                Case::Leave
-            } else {
-                Case::Refresh
-            },
-            None => self.new_case(station),
+            Some(entry) if entry.pinned => Case::Leave,
+            Some(entry) if entry.port == port => Case::Refresh,
+            Some(_) => self.limited(station, port, Case::Refresh),
+            None => self.limited(station, port, self.new_case(station)),
         }
+    }
+
+    /// Returns the case of a station that isn't at the port yet by the limits of the port, too.
+    fn limited(&self, station: &Station, port: u8, case: Case) -> Case
+        requires port { vni_at self.now.routes.ports port ≡ Some station.now.vni }
+        requires elsewhere { is_there (entry_at self.now.routes.learned station.now) port ≡ false }
+        ensures { result ≡ limited self.now station.now port case }
+    {
+        match case {
+            Case::Leave => case,
+            Case::Refuse(_) => case,
+            Case::Refresh => {
+                if self.is_crowded(station, port) {
+                    return Case::Refuse(Alert::PortFull(port));
+                }
+                case
+            }
+            _ => self.limited_new(station, port, case),
+        }
+    }
+
+    /// Returns the case of a station that would be learnt, by the limits of the port, too.
+    #[tactic(auto, using(crate::proofs::Places::some_port))]
+    fn limited_new(&self, station: &Station, port: u8, case: Case) -> Case
+        requires port { vni_at self.now.routes.ports port ≡ Some station.now.vni }
+        requires elsewhere { is_there (entry_at self.now.routes.learned station.now) port ≡ false }
+        ensures { result ≡ limited_new self.now station.now port case }
+    {
+        if self.is_crowded(station, port) {
+            return Case::Refuse(Alert::PortFull(port));
+        }
+        if self.is_busy(station, port) {
+            return Case::Refuse(Alert::PortBusy(port));
+        }
+        case
     }
 
     /// The case of a station that isn't learnt.
@@ -127,6 +162,7 @@ impl Edge {
 
     /// Learns a station that no other edge advertises. Only a register that has to be made can
     /// want memory.
+    #[tactic(auto, using(crate::proofs::Places::some_port))]
     fn learn_first(&mut self, station: &Station, port: u8) -> Option<Alert>
         requires individual { is_group station.now.mac ≡ false }
         requires port { vni_at self.old.routes.ports port ≡ Some station.now.vni }
@@ -135,18 +171,24 @@ impl Edge {
         requires counter { self.old.routes.speaker.counter < 2 ^ 63 }
         requires next { seq_for (table_of self.old)
             (address_of self.old) station.now.vni station.now.mac ≡ Seq.Next 0 }
+        requires few { is_busy self.old station.now port ≡ false }
         ensures { OrNoMemory (needs_register self.old station.now) self.old None
             (learnt self.old station.now port 0) result self.new }
     {
         self.routes.always_good();
+        let is_counted = self.is_counted(station, port);
         if self.routes.advertise(station, port, self.clock, 0).is_err() {
             return Some(Alert::NoMemory);
+        }
+        if is_counted {
+            self.count_new(port);
         }
         None
     }
 
     /// Learns a station that another edge advertises: it moves here. Only a register or a window
     /// that has to be made can want memory.
+    #[tactic(auto, using(crate::proofs::Places::some_port))]
     fn learn_moved(&mut self, station: &Station, port: u8, number: u32) -> Option<Alert>
         requires individual { is_group station.now.mac ≡ false }
         requires port { vni_at self.old.routes.ports port ≡ Some station.now.vni }
@@ -155,12 +197,14 @@ impl Edge {
         requires counter { self.old.routes.speaker.counter < 2 ^ 63 }
         requires next { seq_for (table_of self.old)
             (address_of self.old) station.now.vni station.now.mac ≡ Seq.Next number }
+        requires few { is_busy self.old station.now port ≡ false }
         ensures { OrNoMemory
             (needs_register self.old station.now || needs_window self.old station.now) self.old None
             (learnt (moved self.old station.now) station.now port number) result self.new }
     {
         self.routes.always_good();
         self.moves.always_placed();
+        let is_counted = self.is_counted(station, port);
         if self.moves.room(station).is_err() {
             return Some(Alert::NoMemory);
         }
@@ -169,6 +213,9 @@ impl Edge {
             return Some(Alert::NoMemory);
         }
         self.moves.note(station, clock);
+        if is_counted {
+            self.count_new(port);
+        }
         None
     }
 }

@@ -2,7 +2,7 @@
 ghost use Rattle.std.specs.Prelude.{◌≡◌, ◌<◌, ◌≤◌, ◌∷◌, []};
 ghost use Rattle.ev_edge.specs.Config.{IsConfig, vnis_of};
 
-use crate::{Edge, EdgeConfig, Event, PortConfig, Refusal, Reply};
+use crate::{Edge, EdgeConfig, Event, Limits, PortConfig, Refusal, Reply};
 use arrayvec::ArrayVec;
 use bpdu_wire::BridgeId;
 use ether_wire::{Addr, Mac, Vni};
@@ -81,6 +81,7 @@ fn port_of(vni: Vni, admin_edge: bool) -> PortConfig
             auto_edge: true,
             point_to_point: true,
         },
+        limits: Limits::none(),
     }
 }
 

@@ -36,7 +36,7 @@ use Rattle.ev_edge.specs.declared.refusal.EdgeRefusal.{EdgeRefusal}
 use Rattle.ev_edge.specs.Edge.{Edge, table_of, address_of}
 use Rattle.ev_edge.specs.Arrival.{frame_arrival, tunnel_arrival}
 use Rattle.ev_edge.specs.Bridging.{aged, next_second}
-use Rattle.ev_edge.specs.Learning.{is_spent, refreshed}
+use Rattle.ev_edge.specs.Learning.{is_spent, refreshed, quotas_with}
 use Rattle.ev_edge.specs.Pinning.{DoesPin, pin_case, pin_case_at, unpinned_case, is_static, refused_pin, after_unpin}
 use Rattle.ev_edge.specs.Steps.{Steps, FrameSteps, TunnelSteps, Bridges, BridgesAt, Seconds, LearnsIf, Pins, Marks}
 use Rattle.ev_edge.proofs.Cases.{IsHeard, learnt_by}
@@ -129,7 +129,7 @@ module _ (b : Edge) (s : Station) (c : Edge) (unknown : entry_at b.routes.learne
   data_frame x q port told h = learnt_by (λ d. c ≡ d → LearnsIt b s c) b q port told c same heard
       (λ is. without _ is unknown) (λ new. learns 0 b.windows) (λ n new. learns n _) x h refl
     where
-      heard : IsHeard b q → c ≡ refreshed b q port → LearnsIt b s c
+      heard : IsHeard b q port → c ≡ refreshed b q port → LearnsIt b s c
       heard h is = elim (same_or_other s q) [
         | inl this ↦ absurd (let no : IsSome {T = Entry} None = subst IsSome
             (ap (entry_at b.routes.learned) (sym this) ∙ unknown) h.known in cc)
@@ -138,7 +138,11 @@ module _ (b : Edge) (s : Station) (c : Edge) (unknown : entry_at b.routes.learne
       ]
 
       learns : (n : ℕ) (windows : FinMap station_cmp Window)
-          → c ≡ record b { routes = after_advert b.routes q port b.clock n; windows = windows } → LearnsIt b s c
+          → c ≡ record b {
+            routes = after_advert b.routes q port b.clock n;
+            windows = windows;
+            quotas = quotas_with b q port;
+          } → LearnsIt b s c
       learns n windows is = elim (same_or_other s q) [
         | inl this ↦ record {
           content = moving n;

@@ -28,7 +28,10 @@ use Rattle.ev_edge.specs.declared.config.EdgeConfig.{EdgeConfig}
 use Rattle.ev_edge.specs.Config.{IsConfig, settings_of}
 use Rattle.ev_edge.specs.Edge.{Edge, IsGoodEdge}
 use Rattle.ev_edge.specs.Opening.{IsOpening, start_of}
+use Rattle.ev_edge.specs.declared.limits.Quota.{Quota}
+use Rattle.ev_edge.specs.Limits.{no_limits, quotas_of}
 use Rattle.ev_edge.proofs.Opened as edge
+use Rattle.ev_edge.proofs.Quotas.{opened_kept}
 use Rattle.ev_fabric.specs.Fabric.{Fabric}
 use Rattle.ev_fabric.specs.Opening.{AreConfigs, IsStart, ListsAll}
 use Rattle.ev_fabric.specs.Witnesses.{FabricOpens}
@@ -47,7 +50,12 @@ port_of = record {
     auto_edge = false;
     point_to_point = true;
   };
+  limits = no_limits;
 }
+
+-- the quotas of two such ports
+abbrev pub unlimited : List Quota
+unlimited = quotas_of (port_of ∷ port_of ∷ [])
 
 abbrev pub listeners : List ℕ
 listeners = 0x0a000001 ∷ 0x0a000002 ∷ 0x0a000003 ∷ []
@@ -159,6 +167,7 @@ edge_of tree address = record {
   tree = start tree (settings_of (port_of ∷ port_of ∷ []));
   windows = empty;
   away = [];
+  quotas = unlimited;
 }
 
 abbrev pub fabric_of : Settings → Fabric
@@ -186,6 +195,7 @@ opens tree address = record {
   tree = refl;
   windows = refl;
   away = refl;
+  quotas = refl;
 }
 
 -- ---- they are good
@@ -244,7 +254,8 @@ good tree address listed = record {
   };
   keeps = (edge.opened (start_of (config_of tree address)) (opened_routes_of address) tree
       (settings_of (port_of ∷ port_of ∷ [])) 300 (start tree (settings_of (port_of ∷ port_of ∷ [])))
-      (record { windows = empty; places = [] }) (opens_routes tree address) refl refl served (lit< tt)).keeps;
+      (record { windows = empty; places = [] }) unlimited (opens_routes tree address) refl refl served (lit< tt)
+      (opened_kept (port_of ∷ port_of ∷ []))).keeps;
 }
 
 -- ---- the fabric

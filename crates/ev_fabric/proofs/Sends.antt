@@ -40,7 +40,7 @@ use Rattle.ev_edge.specs.declared.refusal.Refusal.{Refusal}
 use Rattle.rstp_run.specs.Events.{Passes}
 use Rattle.ev_edge.specs.Edge.{Edge, IsGoodEdge, table_of, address_of}
 use Rattle.ev_edge.specs.Arrival.{frame_arrival, tunnel_arrival}
-use Rattle.ev_edge.specs.Learning.{refreshed}
+use Rattle.ev_edge.specs.Learning.{refreshed, quotas_with}
 use Rattle.ev_edge.specs.Sending.{port_of, IsDecision}
 use Rattle.ev_edge.specs.Steps.{LearnsIf, SendsIf, DataSteps, FrameSteps, TunnelSteps, Steps}
 use Rattle.ev_edge.proofs.Cases.{learnt_by}
@@ -78,7 +78,11 @@ entry_leaves e q port s ne = record {
 }
 
 advert_leaves : (e : Edge) (q : Station) (port n : ℕ) (windows : FinMap station_cmp Window) (s : Station) → s ≢ q
-    → LeavesBe e (record e { routes = after_advert e.routes q port e.clock n; windows = windows }) s
+    → LeavesBe e (record e {
+      routes = after_advert e.routes q port e.clock n;
+      windows = windows;
+      quotas = quotas_with e q port;
+    }) s
 advert_leaves e q port n windows s ne = record {
   address = refl;
   tree = refl;

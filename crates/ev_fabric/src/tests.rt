@@ -7,7 +7,7 @@ use crate::{Fabric, FabricRefusal, LocalEvent, Step};
 use arrayvec::ArrayVec;
 use bpdu_wire::BridgeId;
 use ether_wire::{Addr, Mac, Out, Page, Vni};
-use ev_edge::{EdgeConfig, PortConfig, Reply};
+use ev_edge::{EdgeConfig, Limits, PortConfig, Reply};
 use mac_arena::Station;
 use route_join::Taken;
 use rstp_state::start::{PortSettings, Settings};
@@ -50,6 +50,7 @@ fn port_of(vni: Vni) -> PortConfig
             auto_edge: true,
             point_to_point: true,
         },
+        limits: Limits::none(),
     }
 }
 

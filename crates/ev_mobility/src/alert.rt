@@ -1,6 +1,6 @@
 //! Alerts about an address that an edge does not learn, or loses.
 ghost use Rattle.std.specs.Prelude.{◌≡◌};
-ghost use Rattle.ev_mobility.specs.Alert.{number_of};
+ghost use Rattle.ev_mobility.specs.Alert.{number_of, port_of};
 
 use std::fmt::{Display, Error, Formatter, Write};
 
@@ -20,12 +20,17 @@ pub enum Alert {
     CounterSpent,
     /// The learning table is full: the address isn't learnt.
     TableFull,
+    /// This port has as many stations as its configuration allows: the address isn't learnt there.
+    PortFull(u8),
+    /// This port has brought as many new addresses within 60 seconds as its configuration allows:
+    /// the address isn't learnt.
+    PortBusy(u8),
     /// There was no memory for the address: it isn't learnt.
     NoMemory,
 }
 
 impl Alert {
-    /// Returns the alert's number for logs: 1 to 6, or 15.
+    /// Returns the alert's number for logs: 1 to 8, or 15.
     pub fn number(self) -> u8
         ensures { result ≡ number_of self }
     {
@@ -36,7 +41,20 @@ impl Alert {
             Alert::LostStatic => 4,
             Alert::CounterSpent => 5,
             Alert::TableFull => 6,
+            Alert::PortFull(_) => 7,
+            Alert::PortBusy(_) => 8,
             Alert::NoMemory => 15,
+        }
+    }
+
+    /// Returns the port whose limit caused the alert.
+    pub fn port(self) -> Option<u8>
+        ensures { result ≡ port_of self }
+    {
+        match self {
+            Alert::PortFull(port) => Some(port),
+            Alert::PortBusy(port) => Some(port),
+            _ => None,
         }
     }
 }
@@ -44,6 +62,8 @@ impl Alert {
 impl Display for Alert {
     fn fmt<W: Write>(&self, f: &mut Formatter<W>) -> Result<(), Error> {
         let text = match self {
+            Alert::PortFull(port) => return write!(f, "too many stations at port {port}"),
+            Alert::PortBusy(port) => return write!(f, "too many new stations at port {port}"),
             Alert::StaticElsewhere => "static at another edge",
             Alert::SequenceSpent => "sequence numbers are spent",
             Alert::Duplicate => "duplicate: frozen after five moves",

@@ -1,5 +1,5 @@
 -- The alert of an event, for the operator of an edge.
-use Rattle.std.specs.Prelude.{ℕ, Bool, false, true, List, Option, Some, None, option_map, Result, Ok, Err}
+use Rattle.std.specs.Prelude.{ℕ, Bool, false, true, List, Option, Some, None, is_some, option_map, Result, Ok, Err}
 use Rattle.std.specs.Prelude.{if◌then◌else◌}
 use Rattle.ether_wire.specs.Frame.{source_of, frame_of}
 use Rattle.ether_wire.specs.declared.frame.FrameRefusal.{FrameRefusal}
@@ -8,6 +8,7 @@ use Rattle.route_wire.specs.declared.update.Key.TheVariants.{Flood, Mac}
 use Rattle.mac_arena.specs.declared.station.Station.{Station}
 use Rattle.ev_mobility.specs.declared.alert.Alert.{Alert}
 use Rattle.ev_mobility.specs.declared.alert.Alert.TheVariants as alerts
+use Rattle.ev_mobility.specs.Alert.{port_of as limited_port}
 use Rattle.ev_edge.specs.declared.event.Event.{Event}
 use Rattle.ev_edge.specs.declared.event.Event.TheVariants.{Frame, Take, Pin, Unpin, Thaw, Second}
 use Rattle.ev_edge.specs.declared.refusal.EdgeRefusal.TheVariants as edge
@@ -62,8 +63,12 @@ abbrev pub alert_of : Result Reply BookRefusal → Option Alert
 alert_of (Ok reply) = reply.alert
 alert_of (Err refusal) = if is_short refusal then Some alerts.NoMemory else None
 
+-- the station of an alert; one about the limit of a port is about no single station
+abbrev pub station_for : Alert → ℕ → Event → Option Station
+station_for alert vni event = if is_some (limited_port alert) then None else station_of vni event
+
 -- an alert, with its station and port
 abbrev pub alarm_of : ℕ → Event → Result Reply BookRefusal → Option Alarm
 alarm_of vni event answer =
-    option_map (λ alert. record { alert = alert; station = station_of vni event; port = port_of event })
+    option_map (λ alert. record { alert = alert; station = station_for alert vni event; port = port_of event })
     (alert_of answer)

@@ -3,7 +3,7 @@ use Rattle.std.specs.Prelude.{ℕ, ◌+◌, ◌-◌, ◌^◌, min, Bool, false, 
 use Rattle.std.specs.Prelude.{[], ◌∷◌, ◌++◌, length, filter, Option, Some, None}
 use Rattle.std.specs.List.{list_any}
 use Rattle.mac_arena.specs.declared.station.Station.{Station}
-use Rattle.ev_mobility.specs.Alert.{number_of}
+use Rattle.ev_mobility.specs.Alert.{number_of, port_of}
 use Rattle.ev_notices.specs.declared.alarm.Alarm.{Alarm}
 use Rattle.ev_notices.specs.declared.board.Posted.{Posted}
 use Rattle.ev_notices.specs.declared.board.Notice.{Notice}
@@ -37,9 +37,18 @@ same_station (Some s) (Some t) = (s.vni == t.vni) && (s.mac == t.mac)
 same_station None (Some t) = false
 same_station (Some s) None = false
 
--- they have the same kind and station
+-- they are about the limit of the same port, or of no port
+abbrev pub same_limit : Option ℕ → Option ℕ → Bool
+same_limit None None = true
+same_limit (Some p) (Some q) = p == q
+same_limit None (Some q) = false
+same_limit (Some p) None = false
+
+-- they have the same kind and station, and if they are about the limit of a port, the same port
 abbrev pub is_like : Alarm → Posted → Bool
-is_like a p = (number_of a.alert == number_of p.alarm.alert) && same_station a.station p.alarm.station
+is_like a p =
+    (number_of a.alert == number_of p.alarm.alert)
+    && (same_station a.station p.alarm.station && same_limit (port_of a.alert) (port_of p.alarm.alert))
 
 -- it came less than 180 seconds ago
 abbrev pub is_fresh : ℕ → Posted → Bool
@@ -49,7 +58,7 @@ is_fresh now p = nat_lt (now - p.second) 180
 abbrev pub forgetting : BoardState → BoardState
 forgetting b = board_of (filter (is_fresh b.clock) b.told) b.waiting b.clock b.held
 
--- no taken or waiting alert of the board has its kind and station, and there are fewer than 16 of both
+-- no taken or waiting alert of the board is like it, and there are fewer than 16 of both
 abbrev pub is_put : Alarm → BoardState → Bool
 is_put a b = (not (list_any (is_like a) b.told) && not (list_any (is_like a) b.waiting))
     && nat_lt (length b.told + length b.waiting) 16

@@ -9,7 +9,7 @@ use Rattle.ether_wire.specs.Ends.{End, Puts}
 use Rattle.mac_arena.specs.declared.station.Station.{Station}
 use Rattle.ev_mobility.specs.declared.alert.Alert.{Alert}
 use Rattle.ev_mobility.specs.declared.alert.Alert.TheVariants.{StaticElsewhere, SequenceSpent, Duplicate, LostStatic}
-use Rattle.ev_mobility.specs.declared.alert.Alert.TheVariants.{CounterSpent, TableFull, NoMemory}
+use Rattle.ev_mobility.specs.declared.alert.Alert.TheVariants.{CounterSpent, TableFull, PortFull, PortBusy, NoMemory}
 use Rattle.ev_notices.specs.declared.alarm.Alarm.{Alarm}
 use Rattle.ev_notices.specs.declared.board.Notice.{Notice}
 use Rattle.ev_notices.specs.declared.receptions.Input.{Input}
@@ -30,6 +30,8 @@ alert_words Duplicate = codes "duplicate"
 alert_words LostStatic = codes "lost a pinned station"
 alert_words CounterSpent = codes "counter spent"
 alert_words TableFull = codes "learning table full"
+alert_words (PortFull port) = codes "too many stations"
+alert_words (PortBusy port) = codes "too many new stations"
 alert_words NoMemory = codes "no memory"
 
 -- `edge E: `

@@ -2,7 +2,7 @@
 ghost use Rattle.std.specs.Prelude.{◌≡◌};
 ghost use Rattle.ether_wire.specs.Frame.{frame_of};
 ghost use Rattle.ev_book.specs.Entering.{answered};
-ghost use Rattle.ev_notices.specs.Alarm.{station_by, station_in, station_of, port_of, is_short, alert_of, alarm_of, is_second};
+ghost use Rattle.ev_notices.specs.Alarm.{station_by, station_in, station_of, station_for, port_of, is_short, alert_of, alarm_of, is_second};
 
 use ether_wire::{Frame, Vni};
 use ev_book::BookRefusal;
@@ -16,7 +16,8 @@ use route_wire::Key;
 pub struct Alarm {
     /// The alert.
     pub alert: Alert,
-    /// The alert's station. `None` if memory was refused to an event without a station.
+    /// The alert's station. `None` if memory was refused to an event without a station, or if the
+    /// alert is about the limit of a port.
     pub station: Option<Station>,
     /// The access port of the station: that of the frame or of the pin. `None` if the event has
     /// none.
@@ -93,6 +94,16 @@ pub fn alert_of(answer: &Result<(), BookRefusal>, reply: &Reply) -> Option<Alert
     }
 }
 
+/// Returns the station of an alert: none if the alert is about the limit of a port.
+fn station_for(alert: Alert, vni: Vni, event: &Event<'_>) -> Option<Station>
+    ensures { result ≡ station_for alert vni event.now }
+{
+    match alert.port() {
+        Some(_) => None,
+        None => station_of(vni, event),
+    }
+}
+
 /// Returns the alarm of an event and its answer, if there is one. The VNI is that of the frame, if
 /// the event brings one.
 pub fn alarm_of(
@@ -106,7 +117,7 @@ pub fn alarm_of(
     let alert = alert_of(answer, reply)?;
     Some(Alarm {
         alert,
-        station: station_of(vni, event),
+        station: station_for(alert, vni, event),
         port: port_of(event),
     })
 }

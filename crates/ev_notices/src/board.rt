@@ -1,9 +1,9 @@
 //! The alerts of an edge: those that wait for the operator, and the recent ones, which were taken
-//! and came less than 180 seconds ago. Each alert of a station is reported once in 180 seconds, and
-//! the others are counted.
+//! and came less than 180 seconds ago. Each alert of a station, or about the limit of a port, is
+//! reported once in 180 seconds, and the others are counted.
 ghost use Rattle.std.specs.Prelude.{◌≡◌, ◌+◌, ◌≤◌, [], length, filter};
 ghost use Rattle.std.specs.List.{list_any};
-ghost use Rattle.ev_notices.specs.Board.{empty_board, same_station, is_like, is_fresh, forgetting, after_second, is_put, after_alarm, first_in, first_notice, after_take, last_notice, after_last};
+ghost use Rattle.ev_notices.specs.Board.{empty_board, same_station, same_limit, is_like, is_fresh, forgetting, after_second, is_put, after_alarm, first_in, first_notice, after_take, last_notice, after_last};
 
 use crate::alarm::Alarm;
 use arrayvec::ArrayVec;
@@ -98,15 +98,28 @@ fn same_station(one: &Option<Station>, other: &Option<Station>) -> bool
     }
 }
 
-/// Returns `true` if an accepted alert has the same kind and station.
+/// Returns `true` if two alerts are about the limit of the same port, or of no port.
+fn same_limit(one: Option<u8>, other: Option<u8>) -> bool
+    ensures { result ≡ same_limit one other }
+{
+    match (one, other) {
+        (None, None) => true,
+        (Some(one), Some(other)) => one == other,
+        _ => false,
+    }
+}
+
+/// Returns `true` if an accepted alert has the same kind and station, and the same port if it is
+/// about the limit of one.
 fn is_like(alarm: &Alarm, posted: &Posted) -> bool
     ensures { result ≡ is_like alarm.now posted.now }
 {
     alarm.alert.number() == posted.alarm.alert.number()
         && same_station(&alarm.station, &posted.alarm.station)
+        && same_limit(alarm.alert.port(), posted.alarm.alert.port())
 }
 
-/// Returns `true` if one of these alerts has the same kind and station.
+/// Returns `true` if one of these alerts is like it.
 fn is_known(alarm: &Alarm, all: &[Posted]) -> bool
     ensures { result ≡ list_any (is_like alarm.now) all.now }
 {
@@ -170,8 +183,8 @@ impl Board {
         self.clock = self.clock.saturating_add(1);
     }
 
-    /// Returns `true` if the board accepts an alert: no taken or waiting alert of the board has its
-    /// kind and station, and there is room.
+    /// Returns `true` if the board accepts an alert: no taken or waiting alert of the board is like
+    /// it, and there is room.
     fn is_put(&self, alarm: &Alarm) -> bool
         ensures { result ≡ is_put alarm.now self.now }
     {

@@ -49,6 +49,8 @@ fn alert_words(alert: Alert) -> &'static str
         Alert::LostStatic => "lost a pinned station",
         Alert::CounterSpent => "counter spent",
         Alert::TableFull => "learning table full",
+        Alert::PortFull(_) => "too many stations",
+        Alert::PortBusy(_) => "too many new stations",
         Alert::NoMemory => "no memory",
     }
 }

@@ -31,11 +31,12 @@ use Rattle.ev_edge.specs.Edge.{Edge, IsGoodEdge, table_of, address_of}
 use Rattle.ev_edge.specs.Opening.{IsOpening, start_of}
 use Rattle.ev_edge.specs.Steps.{Takes, nothing}
 use Rattle.ev_edge.proofs.Opened as edge
+use Rattle.ev_edge.proofs.Quotas.{opened_kept}
 use Rattle.ev_fabric.specs.declared.refusal.FabricRefusal.TheVariants.{NoSuchEdge}
 use Rattle.ev_fabric.specs.declared.step.Step.TheVariants.{Deliver, Restart}
 use Rattle.ev_fabric.specs.Fabric.{Fabric, nth, incarnation_of}
 use Rattle.ev_fabric.specs.Steps.{IsRefused, RestartsAt, in_incarnation, with_edge, with_opened}
-use Rattle.ev_fabric.proofs.Example.{listeners, config_of, port_of, served, good, nobody_learnt}
+use Rattle.ev_fabric.proofs.Example.{listeners, config_of, port_of, served, good, nobody_learnt, unlimited}
 use Rattle.ev_sites.proofs.Tables.{Said, looked_up, found, taken, unchanged}
 use Rattle.ev_sites.proofs.Guest.{flood_register, speaker_in, routes_with}
 use Rattle.ev_sites.proofs.Risen.{root_settings}
@@ -75,6 +76,7 @@ is_opening address = record {
   tree = refl;
   windows = refl;
   away = refl;
+  quotas = refl;
 }
 
 is_good : (address : ℕ) → Contains listeners address → IsGoodEdge (opened_anew address)
@@ -87,7 +89,8 @@ is_good address listed = record {
   };
   keeps = (edge.opened (start_of (config_anew address)) (opened_anew address).routes root_settings
       (settings_of (port_of ∷ port_of ∷ [])) 300 (start root_settings (settings_of (port_of ∷ port_of ∷ [])))
-      (record { windows = empty; places = [] }) (opens_routes address) refl refl served (lit< tt)).keeps;
+      (record { windows = empty; places = [] }) unlimited (opens_routes address) refl refl served (lit< tt)
+      (opened_kept (port_of ∷ port_of ∷ []))).keeps;
 }
 
 pub reopens : (f : Fabric) (e : ℕ) (a : Edge) (address : ℕ) → Contains listeners address → nth f.edges e ≡ Some a

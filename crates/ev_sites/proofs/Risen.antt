@@ -39,7 +39,7 @@ use Rattle.ev_fabric.specs.declared.step.LocalEvent.TheVariants.{PortUp}
 use Rattle.ev_fabric.specs.Fabric.{Fabric}
 use Rattle.ev_fabric.specs.Steps.{FabricSteps}
 use Rattle.ev_fabric.specs.Runs.{Runs}
-use Rattle.ev_fabric.proofs.Example.{fabric_of, configs_of, nobody_learnt}
+use Rattle.ev_fabric.proofs.Example.{fabric_of, configs_of, nobody_learnt, unlimited}
 use Rattle.ev_sites.proofs.Guest.{flood_register, said_first, speaker_with, routes_with, here, there}
 
 -- ---- addresses of frames
@@ -144,6 +144,7 @@ edge_with routes tree windows = record {
   tree = tree;
   windows = windows;
   away = [];
+  quotas = unlimited;
 }
 
 abbrev pub fabric_with : Edge → Edge → List Fields → Fabric

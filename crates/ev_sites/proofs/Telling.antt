@@ -22,6 +22,7 @@ use Rattle.ev_edge.specs.declared.event.Event.TheVariants as events
 use Rattle.ev_edge.specs.declared.learning.Case.TheVariants.{Refuse}
 use Rattle.ev_edge.specs.declared.reply.Reply.{Reply}
 use Rattle.ev_edge.specs.Edge.{Edge, table_of, address_of}
+use Rattle.ev_edge.proofs.Limiting.{limits_nothing}
 use Rattle.ev_edge.specs.Learning.{Does, Learning as Learns, case_of, case_at, new_case, numbered_case, move_case}
 use Rattle.ev_edge.specs.Steps.{Steps, Takes, lost_alert, nothing}
 use Rattle.ev_fabric.specs.declared.refusal.FabricRefusal.TheVariants.{NoSuchUpdate}
@@ -150,7 +151,8 @@ pub learns : (address : ℕ) (said : List Said) (pending : List Register) (n : �
     → Does (move_case None 0 n) (newcomer address said pending) guest 1 None e'
     → Learns (newcomer address said pending) guest 1 None e'
 learns address said pending n e' next does =
-    subst (λ c. Does c (newcomer address said pending) guest 1 None e') (sym is) does
+    subst (λ c. Does c (newcomer address said pending) guest 1 None e')
+    (sym ((limits_nothing (newcomer address said pending) guest 1 refl).0 ∙ is)) does
   where
     is : case_of (newcomer address said pending) guest ≡ move_case None 0 n
     is =

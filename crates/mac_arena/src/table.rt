@@ -202,6 +202,15 @@ impl MacTable {
         None
     }
 
+    /// Returns the number of stations at a port.
+    pub fn count_at(&self, port: u8) -> usize
+        requires some { 0 < port }
+        requires port { port ≤ length self.now.ports }
+        ensures { result ≡ length (stations_at self.now.ports (place_of_port port)) }
+    {
+        self.orders.port_len(place_of_port(port))
+    }
+
     /// Learns a station on a port, at a second that isn't below an earlier one.
     pub fn learn(&mut self, key: &Station, port: u8, second: u64) -> Learnt
         requires some { 0 < port }

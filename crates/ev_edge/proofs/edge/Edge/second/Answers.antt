@@ -12,7 +12,7 @@ use Rattle.ev_edge.proofs.edge.Edge.second.Goals as goal
 pub invariant_of-self : goal.invariant_of-self
 invariant_of-self c =
     let f = c.self.inside in
-    let e = edge_of f.routes f.clock f.ageing f.bridge f.moves f.away.items in
+    let e = edge_of f.routes f.clock f.ageing f.bridge f.moves f.away.items f.quotas.items in
     let set = c.go_on-flush.result in
     let now = c.next_second-self-inside.result in
     let times = second_early f.clock c.self.invariant.keeps.early in
@@ -21,7 +21,7 @@ invariant_of-self c =
     bridged e f.passing c.passing_ports-self-inside.result now c.go_on-flush.new.bridge
     (aged (after_flush f.routes set) f.ageing now) c.age.new.routes c.self.invariant c.go_on-flush.ensures.ports
     c.passing_ports-self-inside.ensures
-    early (c.age.ensures ∙ ap (λ (x : LocalRoutes). aged x f.ageing now) c.flush.ensures)
+    later early (c.age.ensures ∙ ap (λ (x : LocalRoutes). aged x f.ageing now) c.flush.ensures)
     (aged_holds (after_flush f.routes set) f.ageing now
     (later_holds (after_flush f.routes set) f.clock now later
     (flush_holds f.routes set f.clock (holds_of e f.passing c.self.invariant))))
@@ -33,7 +33,7 @@ returns c =
     let f = c.self.inside in
     subst (λ (x : Edge). SecondSteps x (record c.clear.new.self { bpdus = c.go_on-flush.new.sent })
     (edge_of c.age.new.routes c.next_second-self-inside.result f.ageing c.go_on-flush.new.bridge f.moves
-    f.away.items))
+    f.away.items f.quotas.items))
     c.self.view_is (record {
       flush = c.go_on-flush.result;
       goes = c.go_on-flush.ensures.goes;
@@ -44,6 +44,7 @@ returns c =
         tree = c.go_on-flush.new.bridge;
         windows = f.moves.windows;
         away = f.away.items;
+        quotas = f.quotas.items;
       };
       reply_is = ap (λ (r : Reply). record r { bpdus = c.go_on-flush.new.sent }) c.clear.ensures;
     })
