@@ -3,17 +3,18 @@ use Rattle.std.specs.Prelude.{ℕ, ◌==◌, if◌then◌else◌, List, [], ◌�
 use Rattle.route_wire.specs.Fields.{Fields}
 use Rattle.ev_channel.specs.Ends.{sent_by}
 use Rattle.ev_mailboxes.specs.declared.message.Message.TheVariants.{Record}
-use Rattle.ev_mailboxes.specs.declared.message.Letter.{Letter}
+use Rattle.ev_mailboxes.specs.declared.message.Letter as letters
+use Rattle.ev_mailboxes.specs.Mail.{Letter}
 use Rattle.ev_mailboxes.specs.declared.message.Letter.TheVariants.{Of}
 use Rattle.ev_mailboxes.specs.declared.posts.EdgePost.{EdgePost}
 use Rattle.ev_mailboxes.specs.declared.posts.Posts.{Posts}
 
 -- the number of an edge, and the letters that a post has sent to its mailbox
-abbrev pub letters_to : EdgePost → ℕ × List Letter
+abbrev pub letters_to : {U : Type 0} → EdgePost U → ℕ × List (letters.Letter U)
 letters_to post = (post.to, sent_by post.post)
 
 -- the letters that a worker has sent to each edge
-abbrev pub sent_to : Posts → List (ℕ × List Letter)
+abbrev pub sent_to : {U : Type 0} → Posts U → List (ℕ × List (letters.Letter U))
 sent_to posts = map letters_to posts.all.items
 
 -- a record more for this edge, unless it is the sender's own

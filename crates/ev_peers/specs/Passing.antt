@@ -8,8 +8,9 @@ use Rattle.ev_edge.specs.declared.reply.Reply.{Reply}
 use Rattle.ev_book.specs.declared.refusal.BookRefusal.{BookRefusal}
 use Rattle.ev_book.specs.Book.{BookState, PassState}
 use Rattle.ev_book.specs.Entering.{CallsBook}
+use Rattle.ev_history.specs.Booking.{announced_by}
 use Rattle.ev_notices.specs.declared.alarm.Alarm.{Alarm}
-use Rattle.ev_mailboxes.specs.declared.message.Letter.{Letter}
+use Rattle.ev_mailboxes.specs.Mail.{Letter}
 use Rattle.ev_mailboxes.specs.declared.request.Answer.{Answer}
 use Rattle.ev_mailboxes.specs.Posts.{with_record}
 use Rattle.ev_notices.specs.declared.receptions.Reception.{Reception}
@@ -34,11 +35,6 @@ pub record Leaves (p : PassState) (event : Event) (answer : Result Reply BookRef
   pub pending_is : pending ≡ has_pending entered.after
 
 -- ---- announcements
-
--- the update that an answer announces
-abbrev pub announced_by : Result Reply BookRefusal → Option Fields
-announced_by (Ok reply) = reply.announced
-announced_by (Err refusal) = None
 
 -- a call of the book that requested an announcement, and the announcement that it returned, if any
 pub record Asked (p : PassState) (announced : Option Fields) (p' : PassState) : Type 0 where

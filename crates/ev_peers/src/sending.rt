@@ -9,6 +9,7 @@ use crate::plan::Shared;
 use crate::shared_edge::Ended;
 use crate::shared_line::SharedLine;
 use crate::workers::out_worker;
+use ev_history::Naming;
 use ev_links::{LinkOut, PromptOut};
 use std::sync::Wait;
 use std::sync::atomic::{AtomicBool, Ordering};
@@ -66,7 +67,9 @@ pub(crate) fn start_sending<
 }
 
 /// Ends the lines, so that the threads that send over links stop.
-pub(crate) fn stop_sending<K: PromptOut, R: Wait + Clock>(outlet: &Senders<'_, K, R>) {
+pub(crate) fn stop_sending<J: Naming, K: PromptOut, R: Wait + Clock>(
+    outlet: &Senders<'_, J, K, R>,
+) {
     for line in outlet.lines {
         line.end(outlet.rt);
     }

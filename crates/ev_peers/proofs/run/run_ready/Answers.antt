@@ -10,6 +10,7 @@ scoped-requires g c = record {
       search of_calls,
       search of_calls,
       search of_calls,
+      search of_calls,
     ),
   );
 }

@@ -1,6 +1,6 @@
-use Rattle.std.proofs.Common.{◌≡◌, ◌+◌, rules, length, subst}
+use Rattle.std.proofs.Common.{◌≡◌, ◌+◌, rules, length, sym, ap, ◌∙◌, vec_len}
 use Rattle.ev_peers.proofs.Threads.{one_started, all_started}
-use Rattle.ev_peers.specs.Inner.Handles.{IsHandle}
+use Rattle.ev_peers.proofs.Histories.{seats_before, seat_last}
 use Rattle.ev_peers.proofs.run.start_edges.Goals as goal
 
 pub loop-setup-preserved : goal.loop-setup-preserved
@@ -9,6 +9,10 @@ loop-setup-preserved g c =
     record {
       all = search rules;
       room = search rules;
+      each = search rules;
+      seats = seats_before c.loop-setup.setups.items c.pop.new.self.items c.loop-setup.seats.items
+          c.pop-2.new.self.items c.in-Some.setup c.in-Some-pop.seat c.in-Some.ensures.items c.in-Some-pop.ensures.items
+          c.loop-setup.invariant.seats;
       handles = one_started c.args.setups.items c.pop.new.self.items c.loop-setup.setups.items c.in-Some.setup
           c.loop-setup.running.items _ c.start_edge-handle.result c.in-Some.ensures.items (search rules)
           (search rules) c.loop-setup.invariant.handles;
