@@ -10,7 +10,7 @@ use Rattle.ev_book.specs.Book.{BookState, PassState}
 use Rattle.ev_book.specs.Entering.{CallsBook}
 use Rattle.ev_history.specs.Booking.{announced_by}
 use Rattle.ev_notices.specs.declared.alarm.Alarm.{Alarm}
-use Rattle.ev_mailboxes.specs.Mail.{Letter}
+use Rattle.ev_mailboxes.specs.declared.message.Letter.{Letter}
 use Rattle.ev_mailboxes.specs.declared.request.Answer.{Answer}
 use Rattle.ev_mailboxes.specs.Posts.{with_record}
 use Rattle.ev_notices.specs.declared.receptions.Reception.{Reception}
@@ -56,22 +56,26 @@ pub data Word : Type 0 where
   answers : Answer → Word
   hears : Reception → Word
 
--- The messages of a worker's outlet: the number of its own edge, the letters that the worker has sent to each edge, and
--- the words, if the outlet shows any.
-pub record Said : Type 0 where
+-- The messages of a worker's outlet, whose records have this type: the number of its own edge, the letters that the
+-- worker has sent to each edge, and the words, if the outlet shows any.
+pub record SaidOf (U : Type 0) : Type 0 where
   pub own : ℕ
-  pub sent : List (ℕ × List Letter)
+  pub sent : List (ℕ × List (Letter U))
   pub words : Option (List Word)
 
-abbrev pub said_of : ℕ → List (ℕ × List Letter) → Option (List Word) → Said
+-- the messages of an outlet whose records are plain updates
+abbrev pub Said : Type 0
+Said = SaidOf Fields
+
+abbrev pub said_of : {U : Type 0} → ℕ → List (ℕ × List (Letter U)) → Option (List Word) → SaidOf U
 said_of own sent words = record { own = own; sent = sent; words = words }
 
 -- these words come after the others
-abbrev pub says : Said → List Word → Said
+abbrev pub says : {U : Type 0} → SaidOf U → List Word → SaidOf U
 says s more = said_of s.own s.sent (behind s.words more)
 
 -- a record is sent to each of the other edges, after the letters before; none is sent to the worker's own edge
-abbrev pub sends : Said → Fields → Said
+abbrev pub sends : {U : Type 0} → SaidOf U → U → SaidOf U
 sends s u = said_of s.own (with_record s.own u s.sent) s.words
 
 -- for each update one after the other: there was room, and then the update was sent to each of the other edges; the

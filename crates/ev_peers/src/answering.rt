@@ -15,7 +15,7 @@ use crate::worker::Worker;
 use ether_wire::Vni;
 use ev_book::BookRefusal;
 use ev_edge::{Edge, Event, Reply};
-use ev_history::{LoggedBook, Naming, Placed};
+use ev_history::{LoggedBook, Naming, Placed, Told};
 use ev_mailboxes::{Answer, Command, PortView, Reading, Request, Served};
 use ev_view::EdgeQuestion;
 use route_wire::Update;
@@ -52,7 +52,7 @@ fn event_of(command: &Command) -> Event<'static>
 }
 
 /// Enters a step, and sends its frames and records, as for any event.
-fn obey<L: Placed, J: Naming, O: Outlet<J> + Drop, G: Gate, R: Wait>(
+fn obey<L: Placed, J: Naming, O: Outlet<Told<J>> + Drop, G: Gate, R: Wait>(
     worker: &mut Worker<'_, L, J, O, G, R>,
     command: &Command,
 ) -> Result<Reply, BookRefusal>
@@ -159,7 +159,7 @@ fn look<L: Placed, J: Naming, G: Gate, R: Wait>(
 }
 
 /// Fulfils a request, and returns the answer.
-fn fulfil<L: Placed, J: Naming, O: Outlet<J> + Drop, G: Gate, R: Wait>(
+fn fulfil<L: Placed, J: Naming, O: Outlet<Told<J>> + Drop, G: Gate, R: Wait>(
     worker: &mut Worker<'_, L, J, O, G, R>,
     request: &Request,
 ) -> Answer
@@ -175,7 +175,7 @@ fn fulfil<L: Placed, J: Naming, O: Outlet<J> + Drop, G: Gate, R: Wait>(
 }
 
 /// Fulfils a request, and gives the answer to the operator.
-pub(crate) fn answer<L: Placed, J: Naming, O: Outlet<J> + Drop, G: Gate, R: Wait>(
+pub(crate) fn answer<L: Placed, J: Naming, O: Outlet<Told<J>> + Drop, G: Gate, R: Wait>(
     worker: &mut Worker<'_, L, J, O, G, R>,
     request: &Request,
 )

@@ -33,7 +33,7 @@ pub(crate) struct Workplace<'x, L: Placed, J: Naming, K, G, R> {
 /// Runs the worker of other edges' updates over the edge's mailbox, and closes the mailbox. Returns
 /// at once with `Ended::NoMemory` if another worker has the mailbox.
 fn enter_updates<'x, L: Placed, J: Naming, K: PromptOut, G: Gate, R: Wait>(
-    worker: &mut Worker<'_, L, J, WorkerOutlet<'x, J, K, R>, G, R>,
+    worker: &mut Worker<'x, L, J, WorkerOutlet<'x, J, K, R>, G, R>,
     senders: Senders<'x, J, K, R>,
 ) -> Ended {
     let Some(mut updates) = UpdateBox::open(senders.rt, senders.peers) else {
@@ -46,8 +46,8 @@ fn enter_updates<'x, L: Placed, J: Naming, K: PromptOut, G: Gate, R: Wait>(
 
 /// Runs the worker of a task until it ends. Returns at once with `Ended::NoMemory` if the task's
 /// thread was refused.
-fn enter_task<L: Placed, J: Naming, I: LinkIn + Drop, K: PromptOut, G: Gate, R: Wait>(
-    workplace: &Workplace<'_, L, J, K, G, R>,
+fn enter_task<'x, L: Placed, J: Naming, I: LinkIn + Drop, K: PromptOut, G: Gate, R: Wait>(
+    workplace: &'x Workplace<'x, L, J, K, G, R>,
     pass: Pass<L>,
     task: Task<I>,
     is_refused: &AtomicBool,

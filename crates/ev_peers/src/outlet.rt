@@ -5,7 +5,7 @@ ghost use Rattle.ev_peers.specs.Giving.{Parcel, parcel, first_parcel};
 ghost use Rattle.ev_peers.specs.Inner.Giving.{place_of};
 ghost use Rattle.ev_links.specs.Coming.{behind};
 ghost use Rattle.ev_mailboxes.specs.Posts.{sent_to};
-ghost use Rattle.ev_peers.specs.Passing.{Said, said_of, says, sends, has_room, second_passes, tells, hears, answers};
+ghost use Rattle.ev_peers.specs.Passing.{SaidOf, said_of, says, sends, has_room, second_passes, tells, hears, answers};
 
 use crate::shared_line::SharedLine;
 use ether_wire::Addr;
@@ -26,8 +26,8 @@ pub enum Target {
     Edge(Addr),
 }
 
-/// Takes the frames and records of an edge's workers. `J` names the history of the edges.
-pub trait Outlet<J: Naming> {
+/// Takes the frames and records of an edge's workers. `U` is the type of the records.
+pub trait Outlet<U: Drop> {
     /// The frames that it took, each with its link, in their order; `None` if it shows none.
     ghost parcels: { Self → Option (List Parcel) };
 
@@ -35,7 +35,7 @@ pub trait Outlet<J: Naming> {
     /// other edge, in their order; and each answer about room, each second and alert, each failure
     /// or recovery of a link that receives, and each answer to a request, in their order, if it
     /// shows these.
-    ghost records: { Self → Said };
+    ghost records: { Self → SaidOf U };
 
     /// Takes a frame for a link. The link sends it at once, or it waits on the link's line. If the
     /// line is full, it drops and counts the frame.
@@ -56,7 +56,7 @@ pub trait Outlet<J: Naming> {
         ensures parcels { parcels self.new ≡ parcels self.old };
 
     /// Takes a record for each of the other edges.
-    fn record(&mut self, update: Told<J>)
+    fn record(&mut self, update: U)
         ensures given { records self.new ≡ sends (records self.old) update }
         ensures parcels { parcels self.new ≡ parcels self.old };
 
@@ -133,7 +133,7 @@ impl<'x, J: Naming, K, R: Wait> WorkerOutlet<'x, J, K, R> {
     }
 }
 
-impl<J: Naming, K: PromptOut, R: Wait> Outlet<J> for WorkerOutlet<'_, J, K, R> {
+impl<J: Naming, K: PromptOut, R: Wait> Outlet<Told<J>> for WorkerOutlet<'_, J, K, R> {
     ghost use Rattle.std.specs.Prelude.{None};
 
     ghost parcels = { λ o. None };

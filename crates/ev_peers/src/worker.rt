@@ -58,7 +58,7 @@ impl<'x, L: Placed, J: Naming, O: Drop, G, R> Worker<'x, L, J, O, G, R> {
     }
 }
 
-impl<L: Placed, J: Naming, O: Outlet<J> + Drop, G: Gate, R: Wait> Worker<'_, L, J, O, G, R> {
+impl<L: Placed, J: Naming, O: Outlet<Told<J>> + Drop, G: Gate, R: Wait> Worker<'_, L, J, O, G, R> {
     /// Requests the edge's announcements until there is none or one is refused, and sends each to
     /// the other edges. If one of these has no room it requests no more: announcements that were
     /// not requested stay pending in the edge, which needs no memory for them.
@@ -121,8 +121,8 @@ impl<L: Placed, J: Naming, O: Outlet<J> + Drop, G: Gate, R: Wait> Worker<'_, L, 
             &mut self.scratch.reply,
         );
         let outlet = &mut self.outlet;
-        give_signs::<J, O>(outlet, carried.vni, event, &answer, &self.scratch.reply);
-        give_answer::<J, O>(
+        give_signs::<Told<J>, O>(outlet, carried.vni, event, &answer, &self.scratch.reply);
+        give_answer::<Told<J>, O>(
             outlet,
             &mut self.scratch,
             shared_edge.bridge,
@@ -151,7 +151,7 @@ impl<L: Placed, J: Naming, O: Outlet<J> + Drop, G: Gate, R: Wait> Worker<'_, L, 
 
 /// Passes the frames of an answer to the links of its edge. Does nothing for a refusal.
 #[tactic(auto, using(ev_links::proofs::Behind::behind_none))]
-fn give_answer<J: Naming, O: Outlet<J>>(
+fn give_answer<U: Drop, O: Outlet<U>>(
     outlet: &mut O,
     scratch: &mut Scratch,
     bridge: Mac,
@@ -167,14 +167,14 @@ fn give_answer<J: Naming, O: Outlet<J>>(
 {
     if answer.is_ok() {
         let Scratch { reply, datagram } = scratch;
-        give_out::<J, O>(outlet, datagram, bridge, carried, reply);
+        give_out::<U, O>(outlet, datagram, bridge, carried, reply);
     }
 }
 
 /// Reports a second to the operator's board if the event is one, and then the alarm of the answer
 /// if there is one.
 #[tactic(auto, using(crate::proofs::PassingOn::says_none, crate::proofs::PassingOn::says_twice))]
-fn give_signs<J: Naming, O: Outlet<J>>(
+fn give_signs<U: Drop, O: Outlet<U>>(
     outlet: &mut O,
     vni: Vni,
     event: &Event<'_>,

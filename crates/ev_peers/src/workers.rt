@@ -87,7 +87,7 @@ fn event_of<'a>(source: &Source, from: Addr, octets: &'a [u8]) -> Option<Event<'
 }
 
 /// Enters the event of a link's datagram, if it has one, and passes on the answer.
-fn enter_datagram<L: Placed, J: Naming, O: Outlet<J> + Drop, G: Gate, R: Wait>(
+fn enter_datagram<L: Placed, J: Naming, O: Outlet<Told<J>> + Drop, G: Gate, R: Wait>(
     worker: &mut Worker<'_, L, J, O, G, R>,
     source: &Source,
     from: Addr,
@@ -106,7 +106,7 @@ fn enter_datagram<L: Placed, J: Naming, O: Outlet<J> + Drop, G: Gate, R: Wait>(
 }
 
 /// Brings an access port up, or takes it down.
-fn turn_port<L: Placed, J: Naming, O: Outlet<J> + Drop, G: Gate, R: Wait>(
+fn turn_port<L: Placed, J: Naming, O: Outlet<Told<J>> + Drop, G: Gate, R: Wait>(
     worker: &mut Worker<'_, L, J, O, G, R>,
     port: u8,
     vni: Vni,
@@ -139,7 +139,7 @@ fn input_of(source: &Source) -> Input
 /// Reports to the operator that a link works again or has failed, and brings its access port up or
 /// takes it down. A bridge that receives nothing at a port any more would assume to be the only
 /// bridge there, and create a loop.
-fn change<L: Placed, J: Naming, O: Outlet<J> + Drop, G: Gate, R: Wait>(
+fn change<L: Placed, J: Naming, O: Outlet<Told<J>> + Drop, G: Gate, R: Wait>(
     worker: &mut Worker<'_, L, J, O, G, R>,
     source: &Source,
     works: bool,
@@ -159,7 +159,7 @@ fn change<L: Placed, J: Naming, O: Outlet<J> + Drop, G: Gate, R: Wait>(
 }
 
 /// Calls `change` if the link started or stopped failing with this call.
-fn note_call<L: Placed, J: Naming, O: Outlet<J> + Drop, G: Gate, R: Wait>(
+fn note_call<L: Placed, J: Naming, O: Outlet<Told<J>> + Drop, G: Gate, R: Wait>(
     worker: &mut Worker<'_, L, J, O, G, R>,
     source: &Source,
     works: &mut bool,
@@ -179,7 +179,7 @@ fn note_call<L: Placed, J: Naming, O: Outlet<J> + Drop, G: Gate, R: Wait>(
 
 /// Waits for the next datagram of a link and enters it. Returns `false` exactly at the link's end.
 /// After a failed call it returns `true`, so that the link is called again.
-fn turn<L: Placed, J: Naming, I: LinkIn, O: Outlet<J> + Drop, G: Gate, R: Wait>(
+fn turn<L: Placed, J: Naming, I: LinkIn, O: Outlet<Told<J>> + Drop, G: Gate, R: Wait>(
     worker: &mut Worker<'_, L, J, O, G, R>,
     buffer: &mut [u8],
     link: &mut I,
@@ -213,7 +213,7 @@ fn turn<L: Placed, J: Naming, I: LinkIn, O: Outlet<J> + Drop, G: Gate, R: Wait>(
 /// Enters the datagrams of a link until it ends. Returns `false` if the last call before the end
 /// failed, else `true`. The buffer has one octet more than the longest datagram: a longer datagram
 /// must not be cut to a valid length and taken for whole.
-fn hear_all<L: Placed, J: Naming, I: LinkIn, O: Outlet<J> + Drop, G: Gate, R: Wait>(
+fn hear_all<L: Placed, J: Naming, I: LinkIn, O: Outlet<Told<J>> + Drop, G: Gate, R: Wait>(
     worker: &mut Worker<'_, L, J, O, G, R>,
     link: &mut I,
     source: &Source,
@@ -242,7 +242,7 @@ fn hear_all<L: Placed, J: Naming, I: LinkIn, O: Outlet<J> + Drop, G: Gate, R: Wa
 
 /// Enters the datagrams of a link until it ends. Returns `Device` exactly if a call of the link
 /// failed meanwhile.
-fn link_worker<L: Placed, J: Naming, I: LinkIn, O: Outlet<J> + Drop, G: Gate, R: Wait>(
+fn link_worker<L: Placed, J: Naming, I: LinkIn, O: Outlet<Told<J>> + Drop, G: Gate, R: Wait>(
     worker: &mut Worker<'_, L, J, O, G, R>,
     link: &mut I,
     source: &Source,
@@ -267,7 +267,7 @@ fn link_worker<L: Placed, J: Naming, I: LinkIn, O: Outlet<J> + Drop, G: Gate, R:
 /// If the port's link fails, the port is taken down until the link works again.
 ///
 /// Returns `Device` exactly if a call of the link failed.
-pub fn port_worker<L: Placed, J: Naming, I: LinkIn, O: Outlet<J> + Drop, G: Gate, R: Wait>(
+pub fn port_worker<L: Placed, J: Naming, I: LinkIn, O: Outlet<Told<J>> + Drop, G: Gate, R: Wait>(
     worker: &mut Worker<'_, L, J, O, G, R>,
     link: &mut I,
     port: u8,
@@ -287,7 +287,7 @@ pub fn port_worker<L: Placed, J: Naming, I: LinkIn, O: Outlet<J> + Drop, G: Gate
 /// Enters the datagrams that other edges send. An empty datagram is not entered.
 ///
 /// Returns `Device` exactly if a call of the link failed.
-pub fn tunnel_worker<L: Placed, J: Naming, I: LinkIn, O: Outlet<J> + Drop, G: Gate, R: Wait>(
+pub fn tunnel_worker<L: Placed, J: Naming, I: LinkIn, O: Outlet<Told<J>> + Drop, G: Gate, R: Wait>(
     worker: &mut Worker<'_, L, J, O, G, R>,
     link: &mut I,
 ) -> Ended
@@ -304,7 +304,7 @@ pub fn tunnel_worker<L: Placed, J: Naming, I: LinkIn, O: Outlet<J> + Drop, G: Ga
 /// Enters a second at each tick of a clock.
 ///
 /// Returns `Device` exactly if a call of the clock failed.
-pub fn clock_worker<L: Placed, J: Naming, I: LinkIn, O: Outlet<J> + Drop, G: Gate, R: Wait>(
+pub fn clock_worker<L: Placed, J: Naming, I: LinkIn, O: Outlet<Told<J>> + Drop, G: Gate, R: Wait>(
     worker: &mut Worker<'_, L, J, O, G, R>,
     clock: &mut I,
 ) -> Ended
@@ -320,7 +320,7 @@ pub fn clock_worker<L: Placed, J: Naming, I: LinkIn, O: Outlet<J> + Drop, G: Gat
 
 /// Handles a message: enters an update of another edge, requests announcements if another edge has
 /// room for them again, or answers the operator.
-fn enter_message<L: Placed, J: Naming, O: Outlet<J> + Drop, G: Gate, R: Wait>(
+fn enter_message<L: Placed, J: Naming, O: Outlet<Told<J>> + Drop, G: Gate, R: Wait>(
     worker: &mut Worker<'_, L, J, O, G, R>,
     message: &Message<Told<J>>,
 )
@@ -346,7 +346,7 @@ pub fn peer_worker<
     L: Placed,
     J: Naming,
     I: UpdatesIn<Told<J>>,
-    O: Outlet<J> + Drop,
+    O: Outlet<Told<J>> + Drop,
     G: Gate,
     R: Wait,
 >(worker: &mut Worker<'_, L, J, O, G, R>, updates: &mut I) -> Ended
