@@ -2,8 +2,8 @@
 use Rattle.std.proofs.Common.{◌≡◌, Bool, true, List, [], ◌∷◌, ◌++◌, Option, Some, None, refl, ap, ◌∙◌}
 use Rattle.route_wire.specs.Fields.{Fields}
 use Rattle.ev_book.specs.Book.{PassState}
-use Rattle.ev_peers.specs.Passing.{Entered, Asked, AskedEach, Word, SaidOf, Said, said_of, says, sends, announced, has_room}
-use Rattle.ev_peers.specs.Passing.{Stops, Announces}
+use Rattle.ev_peers.specs.Passing.{Entered, Asked, AskedEach, Word, SaidOf, Said, said_of, says, sends, announced}
+use Rattle.ev_peers.specs.Passing.{has_room, Stops, Announces}
 use Rattle.ev_links.proofs.Behind.{behind_none, behind_twice}
 
 -- words after words, and no words
