@@ -1,6 +1,6 @@
 -- The history of a run, at its beginning and at its end.
 use Rattle.std.proofs.Common.{◌≡◌, ◌≢◌, ℕ, zero, suc, ◌+◌, ◌<◌, ◌==◌, Bool, Option, Some, None, List, [], ◌∷◌, ◌++◌}
-use Rattle.std.proofs.Common.{length, map, refl, ap, sym, ◌∙◌, subst, arith, slice_get, Result, Ok, Err, IfSome}
+use Rattle.std.proofs.Common.{length, length-append, map, refl, ap, sym, ◌∙◌, subst, arith, slice_get, Result, Ok, Err, IfSome}
 use Rattle.std.proofs.lemmas.List.{length-map}
 use mathlib.Core.List.{IsPrefix}
 use Rattle.std.specs.declared.alloc.AllocError.{AllocError}
@@ -27,6 +27,18 @@ use Rattle.ev_peers.specs.Inner.History.{AreSettled}
 
 abbrev Ran : Type 0
 Ran = Result Outcome AllocError
+
+-- ---- the last of a list
+
+get_before : {A : Type 0} (xs : List A) (y : A) (n : ℕ) (x : A) → slice_get xs n ≡ Some x
+    → slice_get (xs ++ y ∷ []) n ≡ Some x
+get_before [] y n x h = absurd cc
+get_before (z ∷ xs) y zero x h = h
+get_before (z ∷ xs) y (suc n) x h = get_before xs y n x h
+
+get_last : {A : Type 0} (xs : List A) (y : A) → slice_get (xs ++ y ∷ []) (length xs) ≡ Some y
+get_last [] y = refl
+get_last (z ∷ xs) y = get_last xs y
 
 -- ---- the beginning
 
@@ -75,18 +87,6 @@ module _ {O : Type 0} where
         );
   }
 
-  -- ---- the last of a list
-
-  get_before : {A : Type 0} (xs : List A) (y : A) (n : ℕ) (x : A) → slice_get xs n ≡ Some x
-      → slice_get (xs ++ y ∷ []) n ≡ Some x
-  get_before [] y n x h = absurd cc
-  get_before (z ∷ xs) y zero x h = h
-  get_before (z ∷ xs) y (suc n) x h = get_before xs y n x h
-
-  get_last : {A : Type 0} (xs : List A) (y : A) → slice_get (xs ++ y ∷ []) (length xs) ≡ Some y
-  get_last [] y = refl
-  get_last (z ∷ xs) y = get_last xs y
-
   pub seats_before : (setups setups' : List (EdgeSetup O)) (seats seats' : List SeatState) (setup : EdgeSetup O)
       (seat : SeatState) → setups ≡ setups' ++ setup ∷ [] → seats ≡ seats' ++ seat ∷ [] → AreSeatsOf setups seats
       → AreSeatsOf setups' seats'
@@ -97,13 +97,16 @@ module _ {O : Type 0} where
   }
 
   pub seat_last : (setups setups' : List (EdgeSetup O)) (seats seats' : List SeatState) (setup : EdgeSetup O)
-      (seat : SeatState) → setups ≡ setups' ++ setup ∷ [] → seats ≡ seats' ++ seat ∷ [] → length seats' ≡ length setups'
+      (seat : SeatState) → setups ≡ setups' ++ setup ∷ [] → seats ≡ seats' ++ seat ∷ [] → length seats ≡ length setups
       → AreSeatsOf setups seats → (seat.place ≡ length setups') × IsSeatOf setup.config seat
-  seat_last setups setups' seats seats' setup seat popped left same are =
+  seat_last setups setups' seats seats' setup seat popped left many are =
+      let n : length setups ≡ length setups' + 1 = ap length popped ∙ length-append setups' (setup ∷ []) in
+      let m : length seats ≡ length seats' + 1 = ap length left ∙ length-append seats' (seat ∷ []) in
+      let fewer : length seats' ≡ length setups' = omega (arith, n, m, many) in
       are.at (length setups') setup seat
       (ap (λ (l : List (EdgeSetup O)). slice_get l (length setups')) popped ∙ get_last setups' setup)
       (ap (λ (l : List SeatState). slice_get l (length setups')) left
-      ∙ (ap (λ (n : ℕ). slice_get (seats' ++ seat ∷ []) n) (sym same) ∙ get_last seats' seat))
+      ∙ (ap (λ (n : ℕ). slice_get (seats' ++ seat ∷ []) n) (sym fewer) ∙ get_last seats' seat))
 
 -- the book that was opened with a seat's configuration is how the seat's edge opens
 pub seat_opens : (config : EdgeConfig) (seat : SeatState) (passes : ℕ) (b : BookState) → IsSeatOf config seat

@@ -11,6 +11,7 @@ scoped-requires g c = record {
       search of_calls,
       search of_calls,
       search of_calls,
+      search of_calls,
     ),
   );
 }

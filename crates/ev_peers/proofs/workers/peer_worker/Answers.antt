@@ -3,8 +3,8 @@ use Rattle.ev_peers.specs.Working.{standing, Takes}
 use Rattle.ev_links.proofs.Coming.{goes_on}
 use Rattle.ev_peers.proofs.workers.peer_worker.Goals as goal
 
-pub loop-preserved : goal.loop-preserved
-loop-preserved g c = record {
+pub loop-preserved-in-Some-next : goal.loop-preserved-in-Some-next
+loop-preserved-in-Some-next g c = record {
   took =
       let before = standing c.loop.worker.pass (g.O.Outlet.parcels c.loop.worker.outlet)
       (g.O.Outlet.records c.loop.worker.outlet) in
