@@ -1,6 +1,7 @@
 -- The history of a run, at its beginning and at its end.
 use Rattle.std.proofs.Common.{◌≡◌, ◌≢◌, ℕ, zero, suc, ◌+◌, ◌<◌, ◌==◌, Bool, Option, Some, None, List, [], ◌∷◌, ◌++◌}
-use Rattle.std.proofs.Common.{length, length-append, map, refl, ap, sym, ◌∙◌, subst, arith, slice_get, Result, Ok, Err, IfSome}
+use Rattle.std.proofs.Common.{length, length-append, map, refl, ap, sym, ◌∙◌, subst, arith, slice_get, Result, Ok}
+use Rattle.std.proofs.Common.{Err, IfSome}
 use Rattle.std.proofs.lemmas.List.{length-map}
 use mathlib.Core.List.{IsPrefix}
 use Rattle.std.specs.declared.alloc.AllocError.{AllocError}

@@ -1,4 +1,5 @@
 use Rattle.std.proofs.Common.{◌≡◌, ◌+◌, ℕ, rules, length, sym, ap, ◌∙◌, vec_len}
+use Rattle.ev_peers.specs.History.{IsSeatOf}
 use Rattle.ev_peers.proofs.Threads.{one_started, all_started}
 use Rattle.ev_peers.proofs.Histories.{seats_before, seat_last}
 use Rattle.ev_peers.proofs.run.start_edges.Goals as goal
@@ -18,7 +19,8 @@ start_edge-handle-requires-clause-seat g c =
     c.pop-in-Some.new.self.items c.in-Some.setup c.in-Some-pop.seat c.in-Some.ensures.items c.in-Some-pop.ensures.items
     (sym c.loop-setup.seats.ok.0 ∙ c.loop-setup.invariant.each ∙ c.loop-setup.setups.ok.0)
     c.loop-setup.invariant.seats in
-    last.1
+    let seat : IsSeatOf c.in-Some.setup.config c.in-Some-pop.seat = last.1 in
+    search rules
 
 pub loop-setup-preserved : goal.loop-setup-preserved
 loop-setup-preserved g c =
