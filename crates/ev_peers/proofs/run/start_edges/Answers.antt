@@ -30,8 +30,8 @@ loop-setup-preserved g c =
       room = search rules;
       each = search rules;
       seats = seats_before c.loop-setup.setups.items c.pop.new.self.items c.loop-setup.seats.items
-          c.pop-in-Some.new.self.items c.in-Some.setup c.in-Some-pop.seat c.in-Some.ensures.items c.in-Some-pop.ensures.items
-          c.loop-setup.invariant.seats;
+          c.pop-in-Some.new.self.items c.in-Some.setup c.in-Some-pop.seat c.in-Some.ensures.items
+          c.in-Some-pop.ensures.items c.loop-setup.invariant.seats;
       handles = one_started c.args.setups.items c.pop.new.self.items c.loop-setup.setups.items c.in-Some.setup
           c.loop-setup.running.items _ c.start_edge-handle.result c.in-Some.ensures.items (search rules)
           (search rules) c.loop-setup.invariant.handles;
