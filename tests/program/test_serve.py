@@ -14,7 +14,7 @@ import sys
 import tempfile
 import time
 import unittest
-from typing import List
+from typing import Dict, List
 
 from test_audit import PROGRAM, needs_program
 from test_records import TOP
@@ -209,6 +209,41 @@ class Asked(Served):
         self.assertNotEqual(console.ask("1 dance"), "")
         self.assertEqual(console.ask("1 report"), FLOODS)
         self.ends_well()
+
+    def links(self, console: Client, number: int) -> Dict[str, Dict[str, int]]:
+        """The numbers of each link of an edge, by its name and their words with the direction in front: `in octets`."""
+        found = {}
+        for line in console.ask(f"{number} links").splitlines():
+            words = line.split(" ")
+            names = [f"in {word}" for word in words[3:19:2]] + [f"out {word}" for word in words[19::2]]
+            found[words[2]] = dict(zip(names, map(int, words[4::2])))
+        return found
+
+    def test_links(self) -> None:
+        """What came over each link, and why datagrams were dropped, while the edges run."""
+        console = self.console()
+        octets = frame(BROADCAST, station(1), b"to all")
+        self.assertTrue(carry(self.one, self.two, octets))
+        before = {number: self.links(console, number) for number in (1, 2)}
+        self.assertEqual(list(before[1]), ["tunnel", "1"])
+        sent = [octets] * 5 + [b"short"] * 3 + [octets.ljust(9019, b"x")]
+        for each in sent:
+            self.one.send(each)
+        for address, vni in ((ELSEWHERE, VNI), (TWO, VNI + 1)):
+            with socket.socket(socket.AF_INET, socket.SOCK_DGRAM) as other:
+                other.bind((address, 0))
+                other.sendto(b"\x08\0\0\0" + vni.to_bytes(3, "big") + b"\0" + octets, (ONE, 4789))
+
+        def more(number: int, link: str, word: str) -> int:
+            return self.links(console, number)[link][word] - before[number][link][word]
+
+        self.assertTrue(is_reached(lambda: more(1, "1", "in in") == 9 and more(1, "tunnel", "in in") == 2 and more(2, "tunnel", "in in") == 5))
+        self.assertEqual(more(1, "1", "in octets"), sum(map(len, sent)))
+        self.assertEqual((more(1, "1", "in malformed"), more(1, "1", "in long")), (3, 1))
+        self.assertEqual((more(1, "tunnel", "in unlisted"), more(1, "tunnel", "in network")), (1, 1))
+        self.assertEqual((more(1, "tunnel", "out out"), more(1, "tunnel", "out octets")), (5, 5 * (8 + len(octets))))
+        self.assertGreaterEqual(more(2, "1", "out out"), 5)
+        self.ends_well(FLOODS + learnt(1, ONE, 2))
 
     def test_evpndctl(self) -> None:
         """The tool, over the socket."""

@@ -8,7 +8,8 @@ use ev_book::BookRefusal;
 use ev_edge::Reply;
 use ev_exchange::Known;
 use ev_mailboxes::{Command, Control, PortView, Running, Served};
-use ev_view::{EdgeQuestion, with_unlisted};
+use ev_notices::{Cause, LinkCounts};
+use ev_view::{EdgeQuestion, LinkRow, links_of, with_unlisted};
 use route_wire::Update;
 use std::alloc::{AllocError, Global};
 use std::sync::{Mutex, Wait};
@@ -88,6 +89,8 @@ pub(crate) struct Host<'x, R> {
 pub(crate) struct HostedEdge<'x, R> {
     rt: &'x R,
     control: Control<'x>,
+    /// The numbers of its links, the tunnel's first.
+    links: Option<&'x [LinkCounts]>,
     unlisted: Option<&'x Mutex<Known>>,
 }
 
@@ -106,23 +109,60 @@ impl<'x, R: Wait> ManyEdges for Host<'x, R> {
 
     fn reach(&self, number: u64) -> Option<HostedEdge<'x, R>> {
         let control = self.running.edge(number as usize)?;
+        let running = self.running;
         Some(HostedEdge {
             rt: self.rt,
             control,
+            links: running.links(number as usize),
             unlisted: self.unlisted,
         })
     }
 }
 
+/// Returns the present numbers of a link.
+fn row_of(counts: &LinkCounts) -> LinkRow {
+    let received = counts.received.shown();
+    LinkRow {
+        received: received.datagrams,
+        received_octets: received.octets,
+        failed_reads: counts.received.failures(),
+        too_long: counts.refused(Cause::TooLong),
+        malformed: counts.refused(Cause::Malformed),
+        unlisted: counts.refused(Cause::Unlisted),
+        other_network: counts.refused(Cause::OtherNetwork),
+        no_memory: counts.refused(Cause::NoMemory),
+        sent: counts.sent(),
+        sent_octets: counts.sent_octets(),
+        no_room: counts.no_room(),
+        failed_sends: counts.failed(),
+    }
+}
+
 impl<R: Wait> HostedEdge<'_, R> {
+    /// Returns the lines of the edge's links.
+    fn links(&self, alloc: Global) -> Result<Vec<u8>, AllocError> {
+        let Some(links) = self.links else {
+            return Ok(Vec::new(alloc));
+        };
+        let mut rows = Vec::with_capacity(alloc, links.len())?;
+        for counts in links {
+            rows.push_reserved(row_of(counts));
+        }
+        links_of(alloc, self.control.number() as u64, rows.as_slice())
+    }
+
     /// Returns the answer of the edge to a question, with the edges that the configuration doesn't
-    /// name after it if the question is about other edges.
+    /// name after it if the question is about other edges. The answer about links has the numbers
+    /// that its threads show.
     fn shown(
         &self,
         alloc: Global,
         question: &EdgeQuestion,
         text: Vec<u8>,
     ) -> Result<Vec<u8>, AllocError> {
+        if let EdgeQuestion::Links = question {
+            return self.links(alloc);
+        }
         let Some(unlisted) = self.unlisted else {
             return Ok(text);
         };

@@ -10,7 +10,7 @@ use crate::request::{Command, PortView, Reading, Request, Served};
 use crate::shared_mailbox::SharedMailbox;
 use ev_book::BookRefusal;
 use ev_edge::Reply;
-use ev_notices::Refused;
+use ev_notices::{LinkCounts, Refused};
 use ev_view::EdgeQuestion;
 use route_wire::Update;
 use std::alloc::{AllocError, Global};
@@ -45,6 +45,13 @@ impl<'x> Running<'x> {
     {
         let mailbox = self.mailboxes.of(number)?;
         Some(Control { mailbox })
+    }
+
+    /// Returns the numbers of the links of the edge with this number, from 1: the tunnel's, then
+    /// those of the ports. The call needs no answer of the edge.
+    pub fn links(&self, edge: usize) -> Option<&'x [LinkCounts]> {
+        let boards = self.boards;
+        boards.links(edge)
     }
 
     /// Takes a place for a connection, which receives the updates that the edges announce from now

@@ -12,7 +12,7 @@ use crate::request::Answer;
 use crate::shared_mailbox::SharedMailbox;
 use crate::waiting::ROOM;
 use ev_channel::{Inbox, mailbox};
-use ev_notices::{Alarm, Reception};
+use ev_notices::{Alarm, LinkCounts, Reception};
 use route_wire::Update;
 use std::alloc::{AllocError, Global};
 use std::sync::{Mutex, Wait};
@@ -153,7 +153,7 @@ pub struct Peers<'x> {
     number: usize,
 }
 
-impl Peers<'_> {
+impl<'x> Peers<'x> {
     /// Returns the edge's own mailbox.
     fn own(&self) -> Option<&SharedMailbox>
         ensures { option_copied result ≡ slice_get self.now.mailboxes.now (self.now.number - 1) }
@@ -183,6 +183,18 @@ impl Peers<'_> {
     {
         posts.send(rt, self.mailboxes, self.number, &update);
         self.outboxes.put(rt, update);
+    }
+
+    /// Returns the numbers of this edge's link at a place: the tunnel's has place 0, and that of a
+    /// port the port's number.
+    pub fn link(&self, place: usize) -> Option<&'x LinkCounts> {
+        let boards = self.boards;
+        boards.links(self.number)?.get(place)
+    }
+
+    /// Notes that this edge has so many links, the tunnel's among them.
+    pub fn use_links(&self, count: usize) {
+        self.boards.use_links(self.number, count);
     }
 
     /// Counts a second that passes on this edge's board.

@@ -1,5 +1,8 @@
 pub mod Alarm
 pub mod Board
+pub mod Cause
+pub mod SendWatch
+pub mod Sendings
 pub mod Receptions
 pub mod Records
 pub mod Telling

@@ -4,14 +4,22 @@
 
 mod alarm;
 mod board;
+mod cause;
 mod in_turn;
+mod link_counts;
 mod receptions;
 mod records;
+mod send_watch;
+mod sendings;
 mod telling;
 
 pub use alarm::{Alarm, alarm_of, alert_of, is_second};
 pub use board::{Board, Notice, Posted};
+pub use cause::{Cause, cause_of};
 pub use in_turn::tell_in_turn;
-pub use receptions::{Input, Reception, Receptions};
+pub use link_counts::LinkCounts;
+pub use receptions::{Input, Reception, Receptions, Sending};
 pub use records::{Refusals, Refused};
+pub use send_watch::SendWatch;
+pub use sendings::{LINKS, Sendings};
 pub use telling::{News, NoticesIn, notice_worker, put_notice};

@@ -1,3 +1,4 @@
+pub mod Counting
 pub mod EdgeThreads
 pub mod Giving
 pub mod Handles

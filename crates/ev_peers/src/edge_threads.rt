@@ -93,7 +93,14 @@ fn run_within<
         sending,
     } = threads;
     let (rt, outlet) = (workplace.shared_edge.rt, &workplace.outlet);
-    let (sending, no_sent) = start_sending(scope, rt, workplace.shared, outputs, sending);
+    let (sending, no_sent) = start_sending(
+        scope,
+        rt,
+        workplace.shared,
+        outlet.peers,
+        outputs,
+        sending,
+    );
     let peer = start_peer::<L, I, O, G, R>(scope, workplace, peer);
     let (entering, begun) = start_entering(scope, workplace, tasks, fresh, entering);
     if no_sent.memory || begun.memory || peer.is_err() {
@@ -224,6 +231,7 @@ pub fn edge_worker<
     ensures { IsRanOf host.entry.number config.address (vec_len links.ports) result }
 {
     let (rt, alloc) = (host.rt, host.alloc);
+    host.peers.use_links(links.ports.len() + 1);
     let count = links.ports.len() + 3;
     let bridge = bridge_of(&config);
     let address = config.address;

@@ -10,7 +10,7 @@ use crate::shared_edge::{Ended, SharedEdge};
 use crate::worker::Worker;
 use crate::workers::{clock_worker, peer_worker, port_worker, tunnel_worker};
 use ev_book::Pass;
-use ev_links::{LinkIn, PromptOut};
+use ev_links::{Counted, LinkIn, PromptOut};
 use ev_mailboxes::UpdateBox;
 use std::sync::Wait;
 use std::sync::atomic::{AtomicBool, Ordering};
@@ -43,10 +43,23 @@ fn enter_updates<'x, L: Ledger, K: PromptOut, G: Gate, R: Wait>(
     ended
 }
 
+/// Returns the link at a place, which shows what comes over it.
+fn counted<'x, I: LinkIn, K, R>(
+    senders: Senders<'x, K, R>,
+    place: usize,
+    link: I,
+) -> Counted<'x, I> {
+    let cell = match senders.peers.link(place) {
+        Some(counts) => Some(&counts.received),
+        None => None,
+    };
+    Counted::new(link, cell)
+}
+
 /// Runs the worker of a task until it ends. Returns at once with `Ended::NoMemory` if the task's
 /// thread was refused.
-fn enter_task<L: Ledger, I: LinkIn + Drop, K: PromptOut, G: Gate, R: Wait>(
-    workplace: &Workplace<'_, L, K, G, R>,
+fn enter_task<'x, L: Ledger, I: LinkIn + Drop, K: PromptOut, G: Gate, R: Wait>(
+    workplace: &Workplace<'x, L, K, G, R>,
     pass: Pass<L>,
     task: Task<I>,
     is_refused: &AtomicBool,
@@ -61,8 +74,14 @@ fn enter_task<L: Ledger, I: LinkIn + Drop, K: PromptOut, G: Gate, R: Wait>(
     let mut worker = Worker::new(&workplace.shared_edge, pass, outlet);
     let ended = match task {
         Task::Peer => enter_updates(&mut worker, senders),
-        Task::Port(port, vni, mut link) => port_worker(&mut worker, &mut link, port, vni),
-        Task::Tunnel(mut link) => tunnel_worker(&mut worker, &mut link),
+        Task::Port(port, vni, link) => {
+            let mut link = counted(senders, port as usize, link);
+            port_worker(&mut worker, &mut link, port, vni)
+        }
+        Task::Tunnel(link) => {
+            let mut link = counted(senders, 0, link);
+            tunnel_worker(&mut worker, &mut link)
+        }
         Task::Clock(mut clock) => clock_worker(&mut worker, &mut clock),
     };
     (worker.pass, ended)

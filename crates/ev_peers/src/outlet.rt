@@ -12,7 +12,7 @@ use ether_wire::Addr;
 use ev_links::PromptOut;
 use ev_mailboxes::{Answer, Peers, Posts};
 use ev_mobility::Alert;
-use ev_notices::{Alarm, Reception};
+use ev_notices::{Alarm, Cause, Reception};
 use route_wire::Update;
 use std::alloc::AllocError;
 use std::sync::Wait;
@@ -73,6 +73,11 @@ pub trait Outlet {
     /// Reports to the operator that receiving over a link failed, or works again.
     fn reception(&mut self, reception: Reception)
         ensures told { records self.new ≡ says (records self.old) (hears reception ∷ []) }
+        ensures parcels { parcels self.new ≡ parcels self.old };
+
+    /// Counts a datagram that the edge dropped: from the link at this place, for this cause.
+    fn dropped(&mut self, place: usize, cause: Cause)
+        ensures records { records self.new ≡ records self.old }
         ensures parcels { parcels self.new ≡ parcels self.old };
 
     /// Gives the operator the answer to a request.
@@ -143,7 +148,8 @@ impl<K: PromptOut, R: Wait> Outlet for WorkerOutlet<'_, K, R> {
     fn frame(&mut self, to: Target, octets: &[u8]) {
         let (place, address) = place_of(to);
         if let Some(line) = line_at(self.senders.lines, place) {
-            line.pass(self.senders.rt, address, octets);
+            let counts = self.senders.peers.link(place);
+            line.pass(self.senders.rt, counts, address, octets);
         }
     }
 
@@ -173,6 +179,12 @@ impl<K: PromptOut, R: Wait> Outlet for WorkerOutlet<'_, K, R> {
 
     fn reception(&mut self, reception: Reception) {
         self.senders.peers.reception(self.senders.rt, reception);
+    }
+
+    fn dropped(&mut self, place: usize, cause: Cause) {
+        if let Some(counts) = self.senders.peers.link(place) {
+            counts.refuse(cause);
+        }
     }
 
     fn answer(&mut self, answer: Answer) {

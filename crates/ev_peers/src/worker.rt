@@ -2,6 +2,7 @@
 ghost use Rattle.std.specs.Prelude.{◌≡◌, ◌≤◌, length};
 ghost use Rattle.ev_book.specs.Entering.{answered};
 ghost use Rattle.ev_links.specs.Coming.{behind};
+ghost use Rattle.ev_peers.specs.Inner.Counting.{link_of};
 ghost use Rattle.ev_peers.specs.Passing.{Leaves, Announces, AnnouncesIf, PassesOn, says, given_by, signs_of};
 
 use crate::gate::Gate;
@@ -11,7 +12,7 @@ use crate::shared_edge::SharedEdge;
 use ether_wire::{Mac, Vni};
 use ev_book::{BookRefusal, Pass};
 use ev_edge::{Event, Reply};
-use ev_notices::{alarm_of, is_second};
+use ev_notices::{alarm_of, cause_of, is_second};
 use std::sync::Wait;
 use std::sync::ledger::Ledger;
 
@@ -139,8 +140,34 @@ impl<L: Ledger, O: Outlet + Drop, G: Gate, R: Wait> Worker<'_, L, O, G, R> {
             (O.parcels self.new.outlet) (O.records self.new.outlet) }
         ensures stays { self.new.shared_edge ≡ self.old.shared_edge }
     {
-        let (_, is_pending) = self.give(event, carried);
+        let (answer, is_pending) = self.give(event, carried);
+        count_drop(&mut self.outlet, event, &answer);
         self.announce_if(is_pending);
+    }
+}
+
+/// Returns the place of the link over which an event's datagram came: the tunnel's has place 0, and
+/// that of a port the port's number.
+fn link_of(event: &Event<'_>) -> Option<usize>
+    ensures { result ≡ link_of event.now }
+{
+    match event {
+        Event::Frame(port, _) => Some(*port as usize),
+        Event::TunnelFrame(_, _) => Some(0),
+        _ => None,
+    }
+}
+
+/// Counts an event's datagram, if the book's answer drops it.
+fn count_drop<O: Outlet>(outlet: &mut O, event: &Event<'_>, answer: &Result<(), BookRefusal>)
+    ensures records { O.records outlet.new ≡ O.records outlet.old }
+    ensures parcels { O.parcels outlet.new ≡ O.parcels outlet.old }
+{
+    let (Some(place), Err(refusal)) = (link_of(event), answer) else {
+        return;
+    };
+    if let Some(cause) = cause_of(refusal) {
+        outlet.dropped(place, cause);
     }
 }
 

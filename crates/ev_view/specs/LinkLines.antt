@@ -1,0 +1,36 @@
+-- The numbers of an edge's links, one line a link.
+use Rattle.std.specs.Prelude.{ℕ, ◌==◌, if◌then◌else◌, List, ◌++◌, codes, decimal}
+use Rattle.ev_view.specs.declared.link_lines.LinkRow.{LinkRow}
+
+-- a number after the word for it
+abbrev pub amount_words : List ℕ → ℕ → List ℕ
+amount_words word amount = word ++ decimal amount
+
+-- ` link tunnel`, or ` link P` for port P
+abbrev pub place_words : ℕ → List ℕ
+place_words place = if place == 0 then codes " link tunnel" else codes " link " ++ decimal place
+
+-- ` in N octets N failed N`: received datagrams and their octets, and failed reads
+abbrev pub in_words : LinkRow → List ℕ
+in_words row =
+    amount_words (codes " in ") row.received ++ amount_words (codes " octets ") row.received_octets
+    ++ amount_words (codes " failed ") row.failed_reads
+
+-- ` long N malformed N unlisted N network N memory N`: dropped datagrams, by cause
+abbrev pub refused_words : LinkRow → List ℕ
+refused_words row =
+    amount_words (codes " long ") row.too_long ++ amount_words (codes " malformed ") row.malformed
+    ++ amount_words (codes " unlisted ") row.unlisted ++ amount_words (codes " network ") row.other_network
+    ++ amount_words (codes " memory ") row.no_memory
+
+-- ` out N octets N dropped N failed N`: sent datagrams and their octets, frames without room, and failed sends
+abbrev pub out_words : LinkRow → List ℕ
+out_words row =
+    amount_words (codes " out ") row.sent ++ amount_words (codes " octets ") row.sent_octets
+    ++ amount_words (codes " dropped ") row.no_room ++ amount_words (codes " failed ") row.failed_sends
+    ++ codes "\n"
+
+-- the line of the link at a place: the tunnel's at 0, and that of a port at the port's number
+abbrev pub link_line : ℕ → ℕ → LinkRow → List ℕ
+link_line number place row =
+    decimal number ++ place_words place ++ in_words row ++ refused_words row ++ out_words row
