@@ -3,7 +3,7 @@ use Rattle.std.specs.Prelude.{ℕ, ◌==◌, Bool, false, ◌&&◌, nat_lt, if�
 use Rattle.std.specs.Prelude.{drop, Option, Some, None, slice_get, slice_set, replicate}
 use Rattle.ev_notices.specs.declared.receptions.Input.{Input}
 use Rattle.ev_notices.specs.declared.receptions.Input.TheVariants.{Port, Tunnel}
-use Rattle.ev_notices.specs.declared.receptions.Sending.{Sending}
+use Rattle.ev_notices.specs.declared.sendings.Sending.{Sending}
 use Rattle.ev_notices.specs.declared.send_watch.SendWatch.{SendWatch}
 use Rattle.ev_notices.specs.SendWatch.{new_watch, change_of, after_second}
 

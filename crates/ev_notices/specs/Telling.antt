@@ -15,7 +15,7 @@ use Rattle.ev_notices.specs.declared.board.Notice.{Notice}
 use Rattle.ev_notices.specs.declared.receptions.Input.{Input}
 use Rattle.ev_notices.specs.declared.receptions.Input.TheVariants.{Port, Tunnel, Clock}
 use Rattle.ev_notices.specs.declared.receptions.Reception.{Reception as Change}
-use Rattle.ev_notices.specs.declared.receptions.Sending.{Sending as SendChange}
+use Rattle.ev_notices.specs.declared.sendings.Sending.{Sending as SendChange}
 use Rattle.ev_notices.specs.declared.records.Refused.{Refused as Refusal}
 use Rattle.ev_notices.specs.declared.records.Refused.TheVariants.{Record, Unlisted, Outlived, OwnOutlived}
 use Rattle.ev_notices.specs.declared.telling.News.{News}

@@ -30,15 +30,6 @@ pub struct Reception {
     pub works: bool,
 }
 
-/// A change of a link over which an edge sends: sends work again, or have failed for a second.
-#[derive(Clone, Copy, Debug, PartialEq, Eq)]
-pub struct Sending {
-    /// The link, named as an input.
-    pub output: Input,
-    /// Whether it works.
-    pub works: bool,
-}
-
 impl Default for Reception {
     /// Returns the content of an unused place.
     fn default() -> Self {

@@ -2,7 +2,7 @@
 ghost use Rattle.std.specs.Prelude.{◌≡◌, ◌<◌};
 ghost use Rattle.ev_notices.specs.Sendings.{no_sendings, can_look, is_changed, after_look, first_sending, after_first, output_of};
 
-use crate::receptions::{Input, Sending};
+use crate::receptions::Input;
 use crate::send_watch::SendWatch;
 use arrayvec::ArrayVec;
 use std::marker::Model;
@@ -12,6 +12,25 @@ pub const LINKS: usize = 65;
 
 /// The greatest number of waiting changes.
 const MOST: usize = 128;
+
+/// A change of a link over which an edge sends: sends work again, or have failed for a second.
+#[derive(Clone, Copy, Debug, PartialEq, Eq)]
+pub struct Sending {
+    /// The link, named as an input.
+    pub output: Input,
+    /// Whether it works.
+    pub works: bool,
+}
+
+impl Default for Sending {
+    /// Returns the content of an unused place.
+    fn default() -> Self {
+        Sending {
+            output: Input::Tunnel,
+            works: true,
+        }
+    }
+}
 
 /// The watches of an edge's links, the tunnel's first, and the changes that wait to be reported.
 /// They take no memory beyond their own.

@@ -7,8 +7,9 @@ ghost use Rattle.ev_notices.specs.Telling.{Told, alert_words, edge_text, count_t
 
 use crate::alarm::Alarm;
 use crate::board::Notice;
-use crate::receptions::{Input, Reception, Sending};
+use crate::receptions::{Input, Reception};
 use crate::records::Refused;
+use crate::sendings::Sending;
 use ether_wire::{Addr, Device, Out, put_addr, put_decimal, put_mac};
 use ev_mobility::Alert;
 use mac_arena::Station;
