@@ -139,7 +139,8 @@ fn row_of(counts: &LinkCounts) -> LinkRow {
 }
 
 impl<R: Wait> HostedEdge<'_, R> {
-    /// Returns the lines of the edge's links.
+    /// Returns the lines of the edge's links, with the numbers that its threads show. Makes no
+    /// request to the edge, so that an edge that is busy delays no answer.
     fn links(&self, alloc: Global) -> Result<Vec<u8>, AllocError> {
         let Some(links) = self.links else {
             return Ok(Vec::new(alloc));
@@ -152,17 +153,13 @@ impl<R: Wait> HostedEdge<'_, R> {
     }
 
     /// Returns the answer of the edge to a question, with the edges that the configuration doesn't
-    /// name after it if the question is about other edges. The answer about links has the numbers
-    /// that its threads show.
+    /// name after it if the question is about other edges.
     fn shown(
         &self,
         alloc: Global,
         question: &EdgeQuestion,
         text: Vec<u8>,
     ) -> Result<Vec<u8>, AllocError> {
-        if let EdgeQuestion::Links = question {
-            return self.links(alloc);
-        }
         let Some(unlisted) = self.unlisted else {
             return Ok(text);
         };
@@ -205,6 +202,9 @@ impl<R: Wait> OneEdge for HostedEdge<'_, R> {
         alloc: Global,
         question: &EdgeQuestion,
     ) -> Result<Result<Vec<u8>, AllocError>, Unreached> {
+        if let EdgeQuestion::Links = question {
+            return Ok(self.links(alloc));
+        }
         match self.control.view(self.rt, alloc, *question) {
             Some(Ok(text)) => Ok(self.shown(alloc, question, text)),
             Some(Err(refused)) => Ok(Err(refused)),

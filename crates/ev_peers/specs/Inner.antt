@@ -1,4 +1,3 @@
-pub mod Counting
 pub mod EdgeThreads
 pub mod Giving
 pub mod Handles

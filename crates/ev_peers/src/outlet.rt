@@ -5,7 +5,7 @@ ghost use Rattle.ev_peers.specs.Giving.{Parcel, parcel, first_parcel};
 ghost use Rattle.ev_peers.specs.Inner.Giving.{place_of};
 ghost use Rattle.ev_links.specs.Coming.{behind};
 ghost use Rattle.ev_mailboxes.specs.Posts.{sent_to};
-ghost use Rattle.ev_peers.specs.Passing.{Said, said_of, says, sends, has_room, second_passes, tells, hears, answers};
+ghost use Rattle.ev_peers.specs.Passing.{Said, said_of, says, sends, has_room, second_passes, tells, hears, drops, answers};
 
 use crate::shared_line::SharedLine;
 use ether_wire::Addr;
@@ -33,8 +33,8 @@ pub trait Outlet {
 
     /// The messages to the other edges and to the operator: the records that were sent to each
     /// other edge, in their order; and each answer about room, each second and alert, each failure
-    /// or recovery of a link that receives, and each answer to a request, in their order, if it
-    /// shows these.
+    /// or recovery of a link that receives, each dropped datagram, and each answer to a request, in
+    /// their order, if it shows these.
     ghost records: { Self → Said };
 
     /// Takes a frame for a link. The link sends it at once, or it waits on the link's line. If the
@@ -77,7 +77,7 @@ pub trait Outlet {
 
     /// Counts a datagram that the edge dropped: from the link at this place, for this cause.
     fn dropped(&mut self, place: usize, cause: Cause)
-        ensures records { records self.new ≡ records self.old }
+        ensures told { records self.new ≡ says (records self.old) (drops place cause ∷ []) }
         ensures parcels { parcels self.new ≡ parcels self.old };
 
     /// Gives the operator the answer to a request.

@@ -4,6 +4,7 @@ ghost use Rattle.std.specs.Prelude.{◌≡◌, ◌-◌, ◌/◌, ◌≤◌, nat_
 ghost use Rattle.std.specs.Time.{instant_nanos};
 ghost use Rattle.ev_links.specs.Line.{first_of, handed};
 ghost use Rattle.ev_links.specs.DirectLine.{direct_of, Passes, after_turn, after_its_drop};
+ghost use Rattle.ev_links.specs.Flow.{counted};
 ghost use Rattle.ev_links.specs.Links.{packet};
 
 use ether_wire::Addr;
@@ -51,8 +52,10 @@ fn is_over<R: Clock>(rt: &R, ended: Option<Instant>) -> bool
 impl<K: PromptOut> TimedLine<K> {
     /// Passes a frame on, as `DirectLine::pass` does, and shows the numbers of the link.
     fn pass(&mut self, counts: Option<&LinkCounts>, to: Addr, octets: &[u8]) -> bool
-        ensures { Passes result (packet to octets.now) (direct_of K.tried self.old.line)
+        ensures passes { Passes result (packet to octets.now) (direct_of K.tried self.old.line)
             (direct_of K.tried self.new.line) }
+        ensures counted { self.new.at_once ≡ (if result
+            then counted (length octets.now) self.old.at_once else self.old.at_once) }
     {
         let is_sent = self.line.pass(to, octets);
         if is_sent {
@@ -75,6 +78,7 @@ impl<K: PromptOut> TimedLine<K> {
             (if is_over then after_its_drop (direct_of K.tried self.old.line)
             else direct_of K.tried self.old.line) }
         ensures fits { IfSome result (λ r. r.1 ≤ length buffer.new) }
+        ensures counted { self.new.at_once ≡ self.old.at_once }
     {
         if is_over {
             self.line.drop_rest();

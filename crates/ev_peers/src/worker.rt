@@ -2,8 +2,8 @@
 ghost use Rattle.std.specs.Prelude.{◌≡◌, ◌≤◌, length};
 ghost use Rattle.ev_book.specs.Entering.{answered};
 ghost use Rattle.ev_links.specs.Coming.{behind};
-ghost use Rattle.ev_peers.specs.Inner.Counting.{link_of};
-ghost use Rattle.ev_peers.specs.Passing.{Leaves, Announces, AnnouncesIf, PassesOn, says, given_by, signs_of};
+ghost use Rattle.ev_notices.specs.Cause.{cause_of};
+ghost use Rattle.ev_peers.specs.Passing.{Leaves, Announces, AnnouncesIf, PassesOn, says, given_by, link_of, drops_of, alarms_of, signs_of};
 
 use crate::gate::Gate;
 use crate::giving::{Carried, give_out};
@@ -140,8 +140,7 @@ impl<L: Ledger, O: Outlet + Drop, G: Gate, R: Wait> Worker<'_, L, O, G, R> {
             (O.parcels self.new.outlet) (O.records self.new.outlet) }
         ensures stays { self.new.shared_edge ≡ self.old.shared_edge }
     {
-        let (answer, is_pending) = self.give(event, carried);
-        count_drop(&mut self.outlet, event, &answer);
+        let (_, is_pending) = self.give(event, carried);
         self.announce_if(is_pending);
     }
 }
@@ -158,12 +157,14 @@ fn link_of(event: &Event<'_>) -> Option<usize>
     }
 }
 
-/// Counts an event's datagram, if the book's answer drops it.
-fn count_drop<O: Outlet>(outlet: &mut O, event: &Event<'_>, answer: &Result<(), BookRefusal>)
-    ensures records { O.records outlet.new ≡ O.records outlet.old }
+/// Counts an event's datagram, if it is dropped for this refusal.
+#[tactic(auto, using(crate::proofs::PassingOn::says_none))]
+fn count_drop<O: Outlet>(outlet: &mut O, event: &Event<'_>, refusal: &BookRefusal)
+    ensures records { O.records outlet.new
+        ≡ says (O.records outlet.old) (drops_of (link_of event.now) (cause_of refusal.now)) }
     ensures parcels { O.parcels outlet.new ≡ O.parcels outlet.old }
 {
-    let (Some(place), Err(refusal)) = (link_of(event), answer) else {
+    let Some(place) = link_of(event) else {
         return;
     };
     if let Some(cause) = cause_of(refusal) {
@@ -193,9 +194,8 @@ fn give_answer<O: Outlet>(
     }
 }
 
-/// Reports a second to the operator's board if the event is one, and then the alarm of the answer
-/// if there is one.
-#[tactic(auto, using(crate::proofs::PassingOn::says_none, crate::proofs::PassingOn::says_twice))]
+/// Counts an event's datagram if the answer drops it, and reports the event's second and alarm.
+#[tactic(auto, using(crate::proofs::PassingOn::says_twice))]
 fn give_signs<O: Outlet>(
     outlet: &mut O,
     vni: Vni,
@@ -205,6 +205,26 @@ fn give_signs<O: Outlet>(
 )
     ensures records { O.records outlet.new ≡ says (O.records outlet.old)
         (signs_of vni event.now (answered answer.now reply.now)) }
+    ensures parcels { O.parcels outlet.new ≡ O.parcels outlet.old }
+{
+    if let Err(refusal) = answer {
+        count_drop(outlet, event, refusal);
+    }
+    give_alarms(outlet, vni, event, answer, reply);
+}
+
+/// Reports a second to the operator's board if the event is one, and then the alarm of the answer
+/// if there is one.
+#[tactic(auto, using(crate::proofs::PassingOn::says_none, crate::proofs::PassingOn::says_twice))]
+fn give_alarms<O: Outlet>(
+    outlet: &mut O,
+    vni: Vni,
+    event: &Event<'_>,
+    answer: &Result<(), BookRefusal>,
+    reply: &Reply,
+)
+    ensures records { O.records outlet.new ≡ says (O.records outlet.old)
+        (alarms_of vni event.now (answered answer.now reply.now)) }
     ensures parcels { O.parcels outlet.new ≡ O.parcels outlet.old }
 {
     if is_second(event) {

@@ -24,7 +24,8 @@ pub enum EdgeQuestion {
     Stations(Option<Vni>),
     /// The other edges that it lists, and whether they are away.
     Peers,
-    /// The numbers of its links. The edge itself knows none: a console adds them to the answer.
+    /// The numbers of its links. The edge itself has none, so its answer is empty: a console reads
+    /// the numbers elsewhere.
     Links,
 }
 
