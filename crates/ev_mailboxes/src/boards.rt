@@ -34,7 +34,9 @@ struct OfEdge {
 }
 
 /// Returns the numbers of as many links as an edge can have.
-fn unused_links(alloc: Global) -> Result<Vec<LinkCounts>, AllocError> {
+fn unused_links(alloc: Global) -> Result<Vec<LinkCounts>, AllocError>
+    ensures { IfOk result (λ links. vec_len links ≡ 65) }
+{
     let mut links = Vec::with_capacity(alloc, LINKS)?;
     for place in 0..LINKS {
         let _ = place;
