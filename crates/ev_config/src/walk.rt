@@ -2,7 +2,7 @@
 ghost use Rattle.std.specs.Prelude.{◌≡◌, ◌+◌, ◌≤◌, map, length, codes, Some, IfOk, IfSome, OnOk};
 ghost use Rattle.toml.specs.View.{table_view, array_view};
 ghost use Rattle.ev_config.specs.Keys.{times_fit, count_of};
-ghost use Rattle.ev_config.specs.Faults.{times_in, is_odd, ports_faults, edge_faults_by, edge_faults, edges_faults, peer_faults, peers_faults, after_all, rows_for, is_run, own_faults, peers_beside, faults_in, names_in};
+ghost use Rattle.ev_config.specs.Faults.{times_in, is_odd, port_faults, ports_faults, edge_faults_by, edge_faults, edges_faults, peer_faults, peers_faults, after_all, rows_for, is_run, own_faults, peers_beside, faults_in, names_in};
 ghost use Rattle.ev_config.specs.Inner.Faults.{faults_view, Adds, row_of, names_view, context_view, items_at};
 
 use crate::faults::{FaultyKey, add_if, add_table};
@@ -44,6 +44,26 @@ fn has_odd_times(table: &Table) -> bool
     }
 }
 
+/// Collects the faults of a port of an edge.
+fn add_port<'a>(
+    faults: &mut Vec<FaultyKey<'a>>,
+    context: &Context<'_>,
+    edge: usize,
+    port: usize,
+    table: &'a Table,
+) -> Result<(), AllocError>
+    ensures { Adds (port_faults (context_view context.now) edge port (Some (table_view table.now)))
+        faults.old.items faults.new.items result }
+{
+    add_table(
+        faults,
+        context,
+        Place::Port(edge, port, table),
+        &PORT,
+        table,
+    )
+}
+
 /// Collects the faults of these ports of an edge.
 #[tactic(auto, using(crate::proofs::Walking::items_more))]
 fn add_ports<'a>(
@@ -59,8 +79,7 @@ fn add_ports<'a>(
     let mut port = 1usize;
     for value in tables {
         if let Some(table) = value.as_table() {
-            let place = Place::Port(edge, port, table);
-            add_table(faults, context, place, &PORT, table)?;
+            add_port(faults, context, edge, port, table)?;
         }
         port += 1;
     }
