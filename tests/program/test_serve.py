@@ -2,6 +2,7 @@
 
 import tests_path  # noqa: F401
 import contextlib
+import ctypes
 import os
 import re
 import resource
@@ -14,7 +15,7 @@ import sys
 import tempfile
 import time
 import unittest
-from typing import Dict, List
+from typing import Dict, List, Tuple
 
 from test_audit import PROGRAM, needs_program
 from test_records import TOP
@@ -152,6 +153,15 @@ class Served(unittest.TestCase):
         """Station 1 speaks at edge 1, and is heard at edge 2's cable."""
         self.assertTrue(carry(self.one, self.two, frame(BROADCAST, station(1), b"who is there")))
 
+    def links(self, console: Client, number: int) -> Dict[str, Dict[str, int]]:
+        """The numbers of each link of an edge, by its name and their words with the direction in front: `in octets`."""
+        found = {}
+        for line in console.ask(f"{number} links").splitlines():
+            words = line.split(" ")
+            names = [f"in {word}" for word in words[3:19:2]] + [f"out {word}" for word in words[19::2]]
+            found[words[2]] = dict(zip(names, map(int, words[4::2])))
+        return found
+
     def ends_well(self, report: str = FLOODS, seconds: float = 8) -> None:
         """Its input ends, and the run with it within this time, with this report of both edges. The clock of an edge looks once a second: a
         busy machine has eight times as long, but less than the ten seconds after which a client is cut off."""
@@ -210,15 +220,6 @@ class Asked(Served):
         self.assertEqual(console.ask("1 report"), FLOODS)
         self.ends_well()
 
-    def links(self, console: Client, number: int) -> Dict[str, Dict[str, int]]:
-        """The numbers of each link of an edge, by its name and their words with the direction in front: `in octets`."""
-        found = {}
-        for line in console.ask(f"{number} links").splitlines():
-            words = line.split(" ")
-            names = [f"in {word}" for word in words[3:19:2]] + [f"out {word}" for word in words[19::2]]
-            found[words[2]] = dict(zip(names, map(int, words[4::2])))
-        return found
-
     def test_links(self) -> None:
         """What came over each link, and why datagrams were dropped, while the edges run."""
         console = self.console()
@@ -241,8 +242,12 @@ class Asked(Served):
         self.assertEqual(more(1, "1", "in octets"), sum(map(len, sent)))
         self.assertEqual((more(1, "1", "in malformed"), more(1, "1", "in long")), (3, 1))
         self.assertEqual((more(1, "tunnel", "in unlisted"), more(1, "tunnel", "in network")), (1, 1))
-        self.assertEqual((more(1, "tunnel", "out out"), more(1, "tunnel", "out octets")), (5, 5 * (8 + len(octets))))
+        datagram = 8 + len(octets)
+        self.assertEqual((more(1, "tunnel", "out out"), more(1, "tunnel", "out octets")), (5, 5 * datagram))
+        self.assertEqual((more(1, "tunnel", "in octets"), more(2, "tunnel", "in octets")), (2 * datagram, 5 * datagram))
         self.assertGreaterEqual(more(2, "1", "out out"), 5)
+        for each in (*self.links(console, 1).values(), *self.links(console, 2).values()):
+            self.assertEqual([each[word] for word in ("in failed", "in memory", "out dropped", "out failed")], [0, 0, 0, 0])
         self.ends_well(FLOODS + learnt(1, ONE, 2))
 
     def test_evpndctl(self) -> None:
@@ -278,6 +283,94 @@ class Asked(Served):
         self.assertEqual((tool.returncode, rest, notes), (0, "", ""))
         withdrawn = f"mac {VNI} {MAC} {ONE} 3 withdrawn\nowner {VNI} {MAC} none\n"
         self.ends_well(FLOODS + withdrawn)
+
+
+class Nowhere(Cable):
+    """A port's cable that takes nothing: the system sends nothing to this address for a socket that hasn't asked for broadcasts."""
+
+    def keys(self) -> str:
+        """The port's keys in the configuration."""
+        return f'local = "{self.address}:{self.port}"\nremote = "255.255.255.255:9"\n'
+
+
+def udp_socket(process: int, place: Tuple[str, int]) -> socket.socket:
+    """Another process's UDP socket that is bound at this place. PermissionError or OSError if the system gives none of them."""
+    call = ctypes.CDLL(None, use_errno=True).syscall
+    pidfd = os.pidfd_open(process)
+    try:
+        for name in os.listdir(f"/proc/{process}/fd"):
+            descriptor = call(438, pidfd, int(name), 0)  # pidfd_getfd
+            if descriptor < 0:
+                raise OSError(ctypes.get_errno(), "pidfd_getfd")
+            if not stat.S_ISSOCK(os.fstat(descriptor).st_mode):
+                os.close(descriptor)
+                continue
+            found = socket.socket(fileno=descriptor)
+            if (found.family, found.type) == (socket.AF_INET, socket.SOCK_DGRAM) and found.getsockname() == place:
+                return found
+            found.close()
+    finally:
+        os.close(pidfd)
+    raise AssertionError(f"no socket at {place}")
+
+
+@needs_program
+class Failing(Served):
+    """Links whose calls fail."""
+
+    def setUp(self) -> None:
+        super().setUp()
+        self.nowhere = Nowhere()
+        self.addCleanup(self.nowhere.here.close)
+        self.begin()
+
+    def text(self) -> str:
+        """Edge 1 has a second port, each of whose sends fails."""
+        keys = "incarnation = 1\n"
+        return f'control = "{self.path}"\n' + edge(ONE, 1, self.one, self.nowhere, keys=keys) + edge(TWO, 2, self.two, keys=keys)
+
+    def fail_a_read(self, place: Tuple[str, int]) -> None:
+        """Makes the next read of the program's socket there fail: the system reports to it that nobody hears a datagram of that socket."""
+        try:
+            it = udp_socket(self.running.program.pid, place)
+        except OSError as why:
+            self.skipTest(f"the system gives no socket of another process: {why}")
+        with it, socket.socket(socket.AF_INET, socket.SOCK_DGRAM) as gone:
+            gone.bind((ONE, 0))
+            deaf = gone.getsockname()
+            gone.close()
+            it.setsockopt(socket.IPPROTO_IP, 11, 1)  # IP_RECVERR
+            it.sendto(b"", deaf)
+            it.setsockopt(socket.IPPROTO_IP, 11, 0)
+
+    def test_failed_sends(self) -> None:
+        """Each is counted at its port, is no datagram that was sent, and is one of those that are lost at the end."""
+        console = self.console()
+        octets = frame(BROADCAST, station(1), b"to all")
+        self.assertTrue(carry(self.one, self.two, octets))
+        before = self.links(console, 1)["2"]["out failed"]
+        for _ in range(7):
+            self.one.send(octets)
+        self.assertTrue(is_reached(lambda: self.links(console, 1)["2"]["out failed"] >= before + 7))
+        self.assertEqual(self.running.note(), "edge 1 port 2: sending failed\n")
+        found = self.links(console, 1)
+        self.assertEqual([found["2"][word] for word in ("out out", "out octets", "out dropped", "in in", "in failed")], [0, 0, 0, 0, 0])
+        self.assertEqual((found["1"]["out failed"], found["tunnel"]["out failed"]), (0, 0))
+        status, _, notes = self.running.end()
+        self.assertEqual((status, re.sub("[0-9]+", "N", notes)), (4, "lost N\n"))
+        # (the edge sends a BPDU each two seconds)
+        self.assertIn(int(notes.split()[1]) - found["2"]["out failed"], range(8))
+
+    def test_failed_reads(self) -> None:
+        """Each is counted at its link, and the link is read again."""
+        console = self.console()
+        for link, name, place in (("1", "port 1", (ONE, self.one.port)), ("tunnel", "tunnel", (ONE, 4789))):
+            self.fail_a_read(place)
+            self.assertEqual(self.running.note(lines=2), f"edge 1 {name}: receiving failed\nedge 1 {name}: receiving again\n")
+            found = self.links(console, 1)
+            self.assertEqual(found[link]["in failed"], 1)
+        self.assertEqual([each["in failed"] for each in found.values()], [1, 1, 0])
+        self.assertEqual(self.running.end()[0], 4)
 
 
 @needs_program

@@ -3,13 +3,14 @@
 ghost use Rattle.std.specs.Prelude.{◌≡◌, ℕ, MatchOption};
 ghost use Rattle.ev_console.specs.Asking.{Asked, entered, table_seen, port_seen, view_seen, served_seen};
 
+use crate::loaded::Loaded;
 use crate::operated::Unreached;
 use ev_book::BookRefusal;
 use ev_edge::Reply;
 use ev_exchange::Known;
 use ev_mailboxes::{Command, Control, PortView, Running, Served};
-use ev_notices::{Cause, LinkCounts};
-use ev_view::{EdgeQuestion, LinkRow, links_of, with_unlisted};
+use ev_notices::LinkCounts;
+use ev_view::{EdgeQuestion, links_of, with_unlisted};
 use route_wire::Update;
 use std::alloc::{AllocError, Global};
 use std::sync::{Mutex, Wait};
@@ -119,25 +120,6 @@ impl<'x, R: Wait> ManyEdges for Host<'x, R> {
     }
 }
 
-/// Returns the present numbers of a link.
-fn row_of(counts: &LinkCounts) -> LinkRow {
-    let received = counts.received.shown();
-    LinkRow {
-        received: received.datagrams,
-        received_octets: received.octets,
-        failed_reads: counts.received.failures(),
-        too_long: counts.refused(Cause::TooLong),
-        malformed: counts.refused(Cause::Malformed),
-        unlisted: counts.refused(Cause::Unlisted),
-        other_network: counts.refused(Cause::OtherNetwork),
-        no_memory: counts.refused(Cause::NoMemory),
-        sent: counts.sent(),
-        sent_octets: counts.sent_octets(),
-        no_room: counts.no_room(),
-        failed_sends: counts.failed(),
-    }
-}
-
 impl<R: Wait> HostedEdge<'_, R> {
     /// Returns the lines of the edge's links, with the numbers that its threads show. Makes no
     /// request to the edge, so that an edge that is busy delays no answer.
@@ -147,7 +129,7 @@ impl<R: Wait> HostedEdge<'_, R> {
         };
         let mut rows = Vec::with_capacity(alloc, links.len())?;
         for counts in links {
-            rows.push_reserved(row_of(counts));
+            rows.push_reserved(Loaded::load(counts).row());
         }
         links_of(alloc, self.control.number() as u64, rows.as_slice())
     }
