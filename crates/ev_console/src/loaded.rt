@@ -1,9 +1,10 @@
-//! The numbers of a link as its threads show them, and the row that a console prints of them.
-ghost use Rattle.std.specs.Prelude.{◌≡◌, ◌+◌, ◌-◌, ◌^◌, min};
+//! The numbers of links as their threads show them, and the rows that a console prints of them.
+ghost use Rattle.std.specs.Prelude.{◌≡◌, ◌+◌, ◌-◌, ◌^◌, min, length, vec_len, IfOk};
 
 use ev_links::Flow;
 use ev_notices::{Cause, LinkCounts};
 use ev_view::LinkRow;
+use std::alloc::{AllocError, Global};
 
 /// The numbers of a link, loaded from the cells in which the edge's threads show them.
 #[derive(Clone, Copy, Debug, PartialEq, Eq)]
@@ -83,4 +84,19 @@ impl Loaded {
             failed_sends: self.failed_sends,
         }
     }
+}
+
+/// Loads the numbers of these links, and returns a row for each link.
+///
+/// # Errors
+///
+/// `AllocError` if memory is refused.
+pub(crate) fn rows_of(alloc: Global, links: &[LinkCounts]) -> Result<Vec<LinkRow>, AllocError>
+    ensures { IfOk result (λ rows. vec_len rows ≡ length links.now) }
+{
+    let mut rows = Vec::with_capacity(alloc, links.len())?;
+    for counts in links {
+        rows.push_reserved(Loaded::load(counts).row());
+    }
+    Ok(rows)
 }

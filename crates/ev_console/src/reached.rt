@@ -3,7 +3,7 @@
 ghost use Rattle.std.specs.Prelude.{◌≡◌, ℕ, MatchOption};
 ghost use Rattle.ev_console.specs.Asking.{Asked, entered, table_seen, port_seen, view_seen, served_seen};
 
-use crate::loaded::Loaded;
+use crate::loaded::rows_of;
 use crate::operated::Unreached;
 use ev_book::BookRefusal;
 use ev_edge::Reply;
@@ -127,10 +127,7 @@ impl<R: Wait> HostedEdge<'_, R> {
         let Some(links) = self.links else {
             return Ok(Vec::new(alloc));
         };
-        let mut rows = Vec::with_capacity(alloc, links.len())?;
-        for counts in links {
-            rows.push_reserved(Loaded::load(counts).row());
-        }
+        let rows = rows_of(alloc, links)?;
         links_of(alloc, self.control.number() as u64, rows.as_slice())
     }
 
