@@ -1,6 +1,7 @@
 #!/usr/bin/env bash
 # Times `evpnd report` beside three plain Rust programs on the same seeded streams: seconds, peak memory, ratios of medians.
-#   bench/report.sh [RECORDS] [MACS] [RUNS]        (default: 1000000 100000 5; 0 MACS: each record is the advert of another one)
+#   bench/report.sh [RECORDS] [MACS] [RUNS]        (default: 1000000 100000 5; 0 MACS: each record is the advert of another one;
+#                                                `one`: all are adverts of one MAC, each with another IPv6 address)
 #   COUNT=1 bench/report.sh ..                     counts instructions by callgrind in the place of seconds, in one run (needs valgrind)
 # Needs rustc and the kit. Octet for octet the outputs have to agree, notes too.
 set -eu
@@ -15,6 +16,10 @@ rustc --edition 2024 -C opt-level=3 -o "$work/plain" bench/report/plain.rs
 [ -x "$evpnd" ] || (cd crates/evpnd && rt run -- report --originators 10.0.0.1 < stdin > /dev/null)
 originators=$(seq -s, -f '10.0.0.%g' 1 16)
 "$work/generate" "$records" "$macs" 1 > "$work/stream"
+
+# *Ordered* keeps the addresses of one MAC in one sorted list: with many of them it would take minutes.
+names="ours ordered flat map"
+[ "$macs" != one ] || names="ours flat map"
 
 # the words of each program
 command_of() {
@@ -47,13 +52,13 @@ count() {
 median() { sort -n | awk '{ n[NR] = $1 } END { print n[int((NR + 1) / 2)] }'; }
 
 for _ in $(seq "$runs"); do
-  for name in ours ordered flat map; do measure "$name" >> "$work/$name.runs"; done
+  for name in $names; do measure "$name" >> "$work/$name.runs"; done
 done
-for name in ordered flat map; do
+for name in ${names#ours }; do
   cmp "$work/ours.out" "$work/$name.out"
   cmp "$work/ours.notes" "$work/$name.notes"
 done
-for name in ours ordered flat map; do
+for name in $names; do
   if [ -n "${COUNT:-}" ]; then
     printf '%s\n' "$(count "$name")" > "$work/$name.figure"
   else
@@ -62,7 +67,7 @@ for name in ours ordered flat map; do
   cut -d' ' -f2 "$work/$name.runs" | median > "$work/$name.memory"
   awk -v name="$name" -v r="$records" -v m="$macs" -v f="$(cat "$work/$name.figure")" -v o="$(cat "$work/ours.figure")" \
     -v k="$(cat "$work/$name.memory")" -v c="${COUNT:-}" 'BEGIN {
-      printf "%-8s %d records of %d MACs: ", name, r, m
+      printf "%-8s %d records, MACs %s: ", name, r, m
       if (c) printf "%d instructions a record", f / r; else printf "%.3f s", f
       printf ", peak %d KiB; ours takes %.2f times that\n", k, o / f }'
 done

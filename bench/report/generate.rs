@@ -2,7 +2,7 @@
 //!
 //! 16 originators 10.0.0.1 to 10.0.0.16, VNIs 5001 to 5008, one record in ten a withdrawal, one in a hundred refused
 //! (a group address in the key), the rest adverts, one in twenty of them static. With 0 for MACS each record is the advert of a MAC
-//! of its own, in no order.
+//! of its own, in no order. With `one` for MACS all records are adverts of one MAC, each with an IPv6 address of its own.
 
 use std::env;
 use std::io::{self, BufWriter, Write};
@@ -25,14 +25,18 @@ impl Random {
 }
 
 fn main() -> io::Result<()> {
-    let words: Vec<u64> = env::args().skip(1).map(|word| word.parse().expect("a number")).collect();
-    let [records, macs, seed] = words[..] else { panic!("usage: generate RECORDS MACS SEED") };
+    let words: Vec<String> = env::args().skip(1).collect();
+    let [records, macs, seed] = &words[..] else { panic!("usage: generate RECORDS MACS SEED") };
+    let read = |word: &String| word.parse::<u64>().expect("a number");
+    let one = macs == "one";
+    let (records, macs, seed) = (read(records), if one { 1 } else { read(macs) }, read(seed));
     let mut random = Random(seed);
     let mut counters = [0u64; 16];
     let mut out = BufWriter::new(io::stdout().lock());
     for number in 0..records {
         let edge = random.below(16) as usize;
         let (station, kind) = match macs {
+            _ if one => (0, 50),
             // times an odd number: no two are equal
             0 => (number.wrapping_mul(0x9e_3779_b97f) % (1 << 40), 50),
             _ => (random.below(macs), random.below(100)),
@@ -41,15 +45,17 @@ fn main() -> io::Result<()> {
         let originator = [10, 0, 0, edge as u8 + 1];
         let vni = (5001 + (station % 8) as u32).to_be_bytes();
         let withdrawn = kind < 10;
-        let community = !withdrawn && random.below(2) == 0;
-        let length: u16 = 54 + if community { 8 } else { 0 };
+        let community = !one && !withdrawn && random.below(2) == 0;
+        let address = 0x2001_0db8 << 96 | u128::from(number.wrapping_mul(0x9e37_79b9_7f4a_7c15));
+        let ip = &address.to_be_bytes()[if one { 0 } else { 16 }..];
+        let length: u16 = 54 + ip.len() as u16 + if community { 8 } else { 0 };
         out.write_all(&[0x45, 0x56, 3, if withdrawn { 2 } else { 1 }])?;
         out.write_all(&length.to_be_bytes())?;
         out.write_all(&originator)?;
         out.write_all(&[0; 4])?;
         out.write_all(&counters[edge].to_be_bytes())?;
         out.write_all(&vni[1..])?;
-        out.write_all(&[2, 33, 0, 1])?;
+        out.write_all(&[2, 33 + ip.len() as u8, 0, 1])?;
         out.write_all(&originator)?;
         out.write_all(&[0, 1])?;
         out.write_all(&[0; 14])?;
@@ -59,7 +65,8 @@ fn main() -> io::Result<()> {
         }
         out.write_all(&[48])?;
         out.write_all(&mac[2..])?;
-        out.write_all(&[0])?;
+        out.write_all(&[8 * ip.len() as u8])?;
+        out.write_all(ip)?;
         out.write_all(&vni[1..])?;
         if community {
             let fixed = u8::from(random.below(20) == 0);

@@ -32,9 +32,13 @@ struct Group {
 }
 
 impl Group {
-    fn take(&mut self, new: Entry) {
-        let few = self.entries.len() <= 32;
-        let found = if few { self.walk(&new.source) } else { self.entries.binary_search_by(|entry| entry.source.cmp(&new.source)) };
+    /// Takes an update, whose register is probably at the place `guess`.
+    fn take(&mut self, new: Entry, guess: usize) {
+        let found = match self.entries.get(guess) {
+            Some(entry) if entry.source == new.source => Ok(guess),
+            _ if self.entries.len() <= 32 => self.walk(&new.source),
+            _ => self.entries.binary_search_by(|entry| entry.source.cmp(&new.source)),
+        };
         match found {
             Ok(at) if new.value <= self.entries[at].value => {}
             Ok(at) => {
@@ -133,10 +137,10 @@ enum Table {
 }
 
 impl Table {
-    fn take(&mut self, subject: Subject, entry: Entry) {
+    fn take(&mut self, subject: Subject, entry: Entry, guess: usize) {
         match self {
             Table::Ordered(networks) => {
-                networks.entry((subject >> 64) as u32).or_default().entry(subject as u64).or_default().take(entry);
+                networks.entry((subject >> 64) as u32).or_default().entry(subject as u64).or_default().take(entry, guess);
             }
             Table::Flat(registers) => {
                 let known = registers.entry(Register::new(subject, &entry.source)).or_insert(entry.value);
@@ -417,7 +421,9 @@ fn main() -> io::Result<ExitCode> {
         other => panic!("no table is called {other}"),
     };
     let mut notes = Vec::new();
-    let status = take_all(&mut Input::new(), 3, &originators, &mut notes, |subject, entry| table.take(subject, entry))?;
+    let status = take_all(&mut Input::new(), 3, &originators, &mut notes, |subject, entry| {
+        table.take(subject, entry, originators.place(entry.source.originator()))
+    })?;
     io::stderr().write_all(&notes)?;
     let mut lines = Lines::new();
     table.report(&mut lines)?;

@@ -305,6 +305,7 @@ impl Input {
 pub struct Listed {
     all: Vec<u32>,
     by_end: [u32; 64],
+    places: [u8; 64],
 }
 
 impl Listed {
@@ -313,7 +314,15 @@ impl Listed {
         let all: Vec<u32> = list.split(',').map(|a| a.parse::<std::net::Ipv4Addr>().expect("an address").into()).collect();
         let mut by_end = [all[0]; 64];
         all.iter().for_each(|address| by_end[*address as usize % 64] = *address);
-        Listed { all, by_end }
+        let mut places = [0; 64];
+        all.iter().zip(0u8..).for_each(|(address, place)| places[*address as usize % 64] = place);
+        Listed { all, by_end, places }
+    }
+
+    /// The place that an originator probably has among those listed.
+    #[inline(always)]
+    pub fn place(&self, address: u32) -> usize {
+        usize::from(self.places[address as usize % 64])
     }
 
     #[inline(always)]

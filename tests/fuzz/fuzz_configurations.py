@@ -25,6 +25,7 @@ RANGES = {  # of the keys with numbers: the least, the greatest, the step
     "incarnation": (0, (1 << 32) - 1, 1),
 }
 PORT_RANGES = {"cost": (1, 200000000, 1), "priority": (0, 240, 16)}
+LIMIT_RANGES = {"stations": (1, 65536, 1), "new_stations": (1, (1 << 32) - 1, 1)}
 SERVED_RANGES = {"idle": (1, 86400, 1), "peer_hold": (0, 86400, 1)}
 FLAGS = ("admin_edge", "auto_edge", "point_to_point")
 PLACES = ("local", "remote")
@@ -99,8 +100,9 @@ def of_port(table: Dict, vnis: Optional[List[int]], place: str, is_run: bool) ->
     found = [] if is_vni else ["vni"]
     found += [it for it, bounds in PORT_RANGES.items() if it in table and not is_number(table[it], bounds)]
     found += [it for it in FLAGS if it in table and not isinstance(table[it], bool)]
+    found += [it for it, bounds in LIMIT_RANGES.items() if it in table and not is_number(table[it], bounds)]
     found += [it for it in PLACES if (is_run or it in table) and not is_place(table.get(it))]
-    known = ["vni", *PORT_RANGES, *FLAGS, *PLACES]
+    known = ["vni", *PORT_RANGES, *FLAGS, *LIMIT_RANGES, *PLACES]
     return [Faulty(place, it) for it in found] + unknown(table, known, place)
 
 
@@ -205,7 +207,7 @@ def line(key: str, value: str, numbers: random.Random) -> str:
 def port_text(numbers: random.Random, vnis: List[int], are_there: float) -> str:
     """Returns a port, which has its places with this probability."""
     text = line("vni", str(numbers.choice(vnis)), numbers) if numbers.random() < 0.97 else "vni = 77\n"
-    for key, bounds in PORT_RANGES.items():
+    for key, bounds in (*PORT_RANGES.items(), *LIMIT_RANGES.items()):
         text += line(key, number_text(bounds, numbers), numbers) if numbers.random() < 0.3 else ""
     for key in FLAGS:
         text += line(key, numbers.choice(("true", "false")), numbers) if numbers.random() < 0.3 else ""

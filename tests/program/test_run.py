@@ -492,6 +492,20 @@ class LimitedPort(TwoCables):
         """Two new stations in 60 seconds."""
         self.flood("new_stations = 2\n", "too many new stations")
 
+    def test_each_port_is_named(self) -> None:
+        """Where both ports are full each has a line of its own."""
+        self.begin(edge(ONE, 1, self.one, self.two).replace("admin_edge = true\n", "admin_edge = true\nstations = 1\n"))
+        self.is_carried(self.one, self.two, frame(BROADCAST, station(1), b"first"))
+        self.is_carried(self.two, self.one, frame(BROADCAST, station(2), b"second"))
+        for source, to, number in ((self.one, self.two, 3), (self.two, self.one, 4)):
+            octets = frame(BROADCAST, station(number), b"made up")
+            source.send(octets)
+            self.assertEqual(to.receive(), octets)
+        self.assertEqual(self.running.note(lines=2), "edge 1: too many stations on port 1\nedge 1: too many stations on port 2\n")
+        status, report, rest = self.running.end()
+        self.assertEqual((status, rest), (0, ""))
+        self.assertEqual(report, f"edge 1\nflood {VNI} {ONE} 1 up\n" + learnt(1, ONE, 2) + learnt(2, ONE, 3))
+
 
 @needs_program
 class Beginning(unittest.TestCase):

@@ -112,9 +112,6 @@ module _ (s : Subject) (w : List Fields) (gs hs : Groups) (h : (q : Subject)
       ] refl
 
 -- ---- the invariant of an index
-pub same_indexed : (ss : List Subject) (gs hs : Groups) → ((q : Subject) → group_in hs q ≡ group_in gs q)
-    → AreIndexed ss gs → AreIndexed ss hs
-same_indexed ss gs hs h k = record { ascend = k.ascend; same = λ q. k.same q ∙ ap is_some (sym (h q)) }
 
 module _ (s : Subject) (w : List Fields) (gs hs : Groups) (h : (q : Subject)
     → group_in hs q ≡ cond (subject_eq s q) (Some w) (group_in gs q)) where

@@ -6,6 +6,7 @@ use Rattle.std.proofs.lemmas.List.Elements.{Contains-push, Contains-push_cases}
 use Rattle.std.specs.declared.cmp.Ordering.{Ordering}
 use Rattle.std.specs.declared.cmp.Ordering.TheVariants.{Less, Equal, Greater}
 use Rattle.std.specs.Ordering.{is_lt, is_gt, ordering_reverse, eq_by_cmp}
+use Rattle.std.proofs.lemmas.Bool.{false_from_ne_true}
 use Rattle.std.proofs.lemmas.Cmp.{upto}
 use Rattle.std.specs.FinMap as map
 use Rattle.std.specs.FinMap.Entries.{find, is_sorted, below_all}
@@ -40,11 +41,8 @@ pub not_newer_trans : (a b c : Value) → is_newer b a ≡ false → is_newer c 
 not_newer_trans a b c p q = lt_back c a ∙ upto value_total c b a (sym (lt_back c b) ∙ q) (sym (lt_back b a) ∙ p)
 
 newer_not_back : (a b : Value) → is_newer a b ≡ true → is_newer b a ≡ false
-newer_not_back a b p = go (is_newer b a) refl
-  where
-    go : (x : Bool) → is_newer b a ≡ x → is_newer b a ≡ false
-    go true e = let h = newer_trans a b a e p in let no_such = not_newer_itself a in cc
-    go false e = e
+newer_not_back a b p = false_from_ne_true (is_newer b a) (λ e.
+    let h = newer_trans a b a e p in let no_such = not_newer_itself a in cc)
 
 pub newer_of-comm : (x y : Option Value) → newer_of x y ≡ newer_of y x
 newer_of-comm None None = refl

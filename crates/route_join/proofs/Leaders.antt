@@ -1,17 +1,18 @@
 -- The winner of a group: how it is found among some updates, and the winner after an edit.
 use Rattle.std.proofs.Common.{◌≡◌, ◌≢◌, inl, inr, ℕ, suc, zero, ◌+◌, ◌<◌, ◌≤◌, ◌^◌, Bool, true, false, cond, Option}
 use Rattle.std.proofs.Common.{Some, None, List, [], ◌∷◌, ◌++◌, length, get_or, set, take, drop, refl, sym, ap, subst}
-use Rattle.std.proofs.Common.{◌∙◌, arith, add-one, length-set}
+use Rattle.std.proofs.Common.{◌∙◌, arith, add-one}
 use Rattle.std.specs.List.{slice_get, insert}
 use Rattle.std.specs.Option.{option_map}
 use Rattle.std.specs.Cmp.{tied_itself}
 use Rattle.std.specs.declared.alloc.AllocError.{AllocError}
 use Rattle.std.specs.declared.cmp.Ordering.TheVariants.{Equal}
 use Rattle.std.specs.FinMap.Entries.{find, put, find-put, is_sorted}
-use Rattle.std.specs.Prelude.{not, is_some, nat_le, IfSome, OnOk, Result, Ok, Err}
+use Rattle.std.specs.Prelude.{is_some, nat_le, IfSome, OnOk, Result, Ok, Err}
 use Rattle.std.specs.Result.{is_err, IsErrAnd}
+use Rattle.std.proofs.lemmas.Bool.{not-true}
 use Rattle.std.proofs.lemmas.Bool.Decides.{nat_tests}
-use Rattle.std.proofs.lemmas.List.{map-append, take-append-drop, get_or-set_same, get_or-set_other}
+use Rattle.std.proofs.lemmas.List.{map-append, take-append-drop}
 use Rattle.std.proofs.lemmas.Option.{slice_get-get_or, slice_get_within, get_or_from_slice_get}
 use Rattle.std.proofs.Math.Seq.{drop-cons, take-suc}
 use Rattle.route_wire.specs.declared.update.Register.{Register}
@@ -35,6 +36,7 @@ use Rattle.route_join.proofs.Edits.{ordered_put}
 use Rattle.route_join.proofs.Owners.{in_list, at_last, at_before, fresh, better_trans, is_better_is, not_better_is}
 use Rattle.route_join.proofs.Owners.{as_good}
 use Rattle.route_join.proofs.Within.{by_place}
+use Rattle.route_join.proofs.WinnerTrees.{set_here, set_there}
 use Rattle.std.proofs.lemmas.Map.Lookups.{exact_unsigned}
 
 -- ---- one update more may win
@@ -191,23 +193,12 @@ module _ (us new : List Fields) (u : Fields) (e : entries_of new
       (other_register q u.register ne)
 
 -- ---- a newer update at a place that isn't the winner's
-stands_set : (us : List Fields) (at : ℕ) (u : Fields) → at < length us → slice_get (set us at u) at ≡ Some u
-stands_set us at u h = slice_get-get_or (set us at u) at u (omega (arith, length-set {A = Fields}))
-    ∙ ap Some (get_or-set_same us at u u h)
-
-other_set : (us : List Fields) (at i : ℕ) (u x : Fields) → i ≢ at → slice_get us i ≡ Some x
-    → slice_get (set us at u) i ≡ Some x
-other_set us at i u x ne h =
-    let w = slice_get_within us i x h in
-    slice_get-get_or (set us at u) i x (omega (arith, length-set {A = Fields}))
-    ∙ ap Some (get_or-set_other us at i u x ne ∙ get_or_from_slice_get us i x x h)
-
 winner_kept : (us : List Fields) (at : ℕ) (u : Fields) (w : Option ℕ) → HasWinner us (told us) w → w ≢ Some at
     → HasWinner (set us at u) (told us) w
 winner_kept us at u None h ne = h
 winner_kept us at u (Some i) l ne = record {
   update = l.update;
-  stands = other_set us at i u l.update (λ e. ne (ap Some e)) l.stands;
+  stands = set_there us at i u (λ e. ne (ap Some e)) ∙ l.stands;
   advert = l.advert;
   advertises = l.advertises;
   own = l.own;
@@ -220,10 +211,10 @@ pub winner_set : (us : List Fields) (at : ℕ) (u : Fields) (w : Option ℕ) →
 winner_set us at u w s p h ne =
     let new = set us at u in
     let e = p.write u refl in
-    next_winner new (told us) (told new) at u (stands_set us at u p.within) (told_same us new u e)
+    next_winner new (told us) (told new) at u (set_here us at u p.within) (told_same us new u e)
     (told_other us new u e) w (winner_kept us at u w h ne)
     (λ i l is same. ne (is ∙ ap Some (one_place new i at l.update u (ordered_put [] us new u s e) l.stands
-    (stands_set us at u p.within) same)))
+    (set_here us at u p.within) same)))
 
 -- ---- a newer update at the winner's place with an advert that is no worse
 pub told_no_worse : (r : Register) (was now : Option Advert) → stays_best was now ≡ true → (a : Advert) → was ≡ Some a
@@ -236,12 +227,8 @@ told_no_worse r (Some w) (Some n) t a e =
       n,
       refl,
       subst (λ x. is_better x r n r ≡ false) same (ap level (tied_itself register_total r)
-          ∙ denied (level Equal) t),
+          ∙ not-true (level Equal) t),
     )
-  where
-    denied : (b : Bool) → not b ≡ true → b ≡ false
-    denied true p = cc
-    denied false p = refl
 
 pub winner_stays : (us : List Fields) (at : ℕ) (u : Fields) → IsPlace us u.register at
     → HasWinner us (told us) (Some at) → stays_best (said_at us at) (advert_in u.value.content) ≡ true
@@ -255,7 +242,7 @@ winner_stays us at u p l t =
     (ap said_in l.stands ∙ l.advertises) in
     record {
       update = u;
-      stands = stands_set us at u p.within;
+      stands = set_here us at u p.within;
       advert = now.0;
       advertises = now.1;
       own = told_same us new u w ∙ now.1;

@@ -2,9 +2,11 @@
 use Rattle.std.proofs.Common.{◌≡◌, ℕ, suc, zero, ◌+◌, ◌≤◌, true, false, cond, ◌&&◌, Some, None, List, [], ◌∷◌, ◌++◌}
 use Rattle.std.proofs.Common.{map, length, take, refl, sym, ap, subst, ◌∙◌, zero-add, suc-add, arith}
 use Rattle.std.proofs.Common.{length-append}
-use Rattle.std.specs.List.{slice_get, list_any}
+use Rattle.std.specs.List.{slice_get, list_any, take-map}
 use Rattle.std.specs.Prelude.{Bool, eqb, OnOk, OnErr, IfErr, Result, Ok, Err}
 use Rattle.std.specs.Result.{is_err}
+use Rattle.std.proofs.Math.Seq.{take-append-add}
+use Rattle.std.proofs.lemmas.List.{take-append-le}
 use Rattle.std.specs.Option.{option_map}
 use Rattle.std.specs.Ordering.{is_lt, eq_by_cmp}
 use Rattle.std.proofs.lemmas.Option.{slice_get-map, slice_get_within, get_or_from_slice_get}
@@ -119,21 +121,6 @@ listed_in t s os gs done us rest k u g view same whole at =
     (g.kept.listed u.register u.value there))
 
 -- the first updates of all, up to a place in a group
-take_middle : (ps xs : List Fields) (k : ℕ) → take (length ps + k) (ps ++ xs) ≡ ps ++ take k xs
-take_middle [] xs k = ap (λ n. take n xs) (zero-add k)
-take_middle (p ∷ ps) xs k = rw suc-add (ap (λ x. p ∷ x) (take_middle ps xs k))
-
-take_first : (us qs : List Fields) (k : ℕ) (u : Fields) → slice_get us k ≡ Some u → take k (us ++ qs) ≡ take k us
-take_first [] qs k u h = cc
-take_first (x ∷ us) qs zero u h = refl
-take_first (x ∷ us) qs (suc k) u h = ap (λ y. x ∷ y) (take_first us qs k u h)
-
-take_entries : (us : List Fields) (k : ℕ) → take k (entries_of us) ≡ entries_of (take k us)
-take_entries [] zero = refl
-take_entries [] (suc k) = refl
-take_entries (x ∷ us) zero = refl
-take_entries (x ∷ us) (suc k) = ap (λ y. (x.register, x.value) ∷ y) (take_entries us k)
-
 pub joins_first : (t s : Table) (os : List ℕ) (gs : Groups) (done us : List Fields) (rest : Groups) (k : ℕ)
     (now new : Table) → IsGrouped os gs → table_from os (updates_in gs) ≡ s
     → done ++ (us ++ updates_in rest) ≡ updates_in gs → now ≡ with_updates t done → StopsAt now us k new
@@ -150,14 +137,15 @@ joins_first t s os gs done us rest k now new g view whole merged stop =
     ap (λ x. slice_get x (length done + k)) all ∙ slice_get-map (λ (u : Fields). (u.register, u.value))
     (updates_in gs) (length done + k) ∙ ap (option_map (λ (u : Fields). (u.register, u.value))) place in
     let first : take (length done + k) (updates_in gs) ≡ done ++ take k us = ap (take (length done + k)) (sym whole)
-    ∙ take_middle done (us ++ updates_in rest) k ∙ ap (λ x. done ++ x)
-    (take_first us (updates_in rest) k stop.refused stop.next) in
+    ∙ take-append-add done (us ++ updates_in rest) k ∙ ap (λ x. done ++ x)
+    (take-append-le k us (updates_in rest) (omega (arith, slice_get_within us k stop.refused stop.next))) in
     record {
       within = slice_get_within (entries s.registers) (length done + k) refused next;
       joined = stop.taken ∙ ap (λ x. with_updates x (take k us)) merged ∙ sym (updates_append t done (take k us))
           ∙ ap (with_updates t) (sym first)
           ∙ sym (entries_updates t (take (length done + k) (updates_in gs)))
-          ∙ ap (with_entries t) (sym (take_entries (updates_in gs) (length done + k))
+          ∙ ap (with_entries t)
+          (sym (take-map (λ (u : Fields). (u.register, u.value)) (length done + k) (updates_in gs))
           ∙ ap (take (length done + k)) (sym all));
       fresh = λ d. ap (λ (x : Register × Value). value_at new x.0)
           (get_or_from_slice_get (entries s.registers) (length done + k) refused d next) ∙ stop.absent;

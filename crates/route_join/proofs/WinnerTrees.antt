@@ -3,10 +3,10 @@ use Rattle.std.proofs.Common.{◌≡◌, ◌≢◌, ◌⊎◌, inl, inr, ℕ, ze
 use Rattle.std.proofs.Common.{cond}
 use Rattle.std.proofs.Common.{Option, Some, None, List, [], ◌∷◌, ◌++◌, length, set, refl, sym, ap, subst, ◌∙◌}
 use Rattle.std.proofs.Common.{arith}
-use Rattle.std.specs.Prelude.{nat_lt, ◌==◌}
 use Rattle.std.specs.List.{slice_get}
 use Rattle.std.specs.Option.{option_map}
-use Rattle.std.proofs.lemmas.Bool.Decides.{nat_tests}
+use Rattle.std.proofs.lemmas.Bool.{cases_order}
+use Rattle.std.proofs.lemmas.Bool.Decides.{eqb_tells}
 use Rattle.std.proofs.Math.Logic.{⊎_elim, ⊎_map}
 use Rattle.std.proofs.Math.Seq.{map-set_same}
 use Rattle.std.proofs.lemmas.List.{map-set}
@@ -46,19 +46,7 @@ either (z ∷ zs) x zero y h = inl h
 either (z ∷ zs) x (suc i) y h = ⊎_map (λ a. a) (λ b. (ap suc b.0, b.1)) (either zs x i y h)
 
 pub nat_same : (i j : ℕ) → (i ≡ j) ⊎ (i ≢ j)
-nat_same i j = go (i == j) refl
-  where
-    go : (b : Bool) → (i == j) ≡ b → (i ≡ j) ⊎ (i ≢ j)
-    go true e = inl (grind (arith, nat_tests))
-    go false e = inr (λ h. grind (arith, nat_tests))
-
--- two numbers are equal, or one is less than the other
-ranked : (i j : ℕ) → (i ≡ j) ⊎ ((i < j) ⊎ (j < i))
-ranked i j = go (nat_lt i j) refl
-  where
-    go : (b : Bool) → nat_lt i j ≡ b → (i ≡ j) ⊎ ((i < j) ⊎ (j < i))
-    go true e = inr (inl (grind (arith, nat_tests)))
-    go false e = ⊎_map (λ h. h) (λ ne. inr (grind (arith, nat_tests))) (nat_same i j)
+nat_same i j = ⊎_map (λ h. h.1) (λ h. h.1) (eqb_tells i j)
 
 pub half : (n : ℕ) → n ≢ 0 → (n ≡ 2 * ((n - 1) / 2) + 1) ⊎ (n ≡ 2 * ((n - 1) / 2) + 2)
 half n h = ⊎_elim inl (λ ne. inr (omega (arith, h, ne))) (nat_same n (2 * ((n - 1) / 2) + 1))
@@ -324,7 +312,7 @@ module _ (bs cs : List WinnerNode) (x at : ℕ) (k : IsSettledBut bs x at) (own 
             (⊎_elim (λ m. there p (λ e. omega (arith, e, m)) (λ e. omega (arith, e, l, high))
             (λ e. omega (arith, e, l, high)) (k.before p m
             (k.beside (2 * p + 1) (omega (arith, l, high)) (omega (arith, m)))
-            (k.beside (2 * p + 2) (omega (arith, l, high)) (omega (arith, m))))) (behind p)) (ranked p at);
+            (k.beside (2 * p + 2) (omega (arith, l, high)) (omega (arith, m))))) (behind p)) (cases_order p at);
         before = λ p l a b. there p (λ e. omega (arith, e, l, low)) (λ e. omega (arith, e, l, low))
             (λ e. omega (arith, e, l, low))
             (k.before p (omega (arith, l, low))
@@ -343,13 +331,14 @@ module _ (bs cs : List WinnerNode) (x at : ℕ) (k : IsSettledBut bs x at) (own 
     told_nowhere (suc n) p l m e = ⊎_elim (λ here. ne (subst (λ q. best_below bs q ≡ Some x) here e))
         (⊎_elim (λ before. ⊎_elim (told_nowhere n (2 * p + 1) (omega (arith, before)) (omega (arith, m)))
         (told_nowhere n (2 * p + 2) (omega (arith, before)) (omega (arith, m))) (k.told p before e))
-        (λ after. k.beside p after l e)) (ranked p at)
+        (λ after. k.beside p after l e)) (cases_order p at)
 
     settled_before : AreSettled bs
     settled_before p = ⊎_elim (λ here. subst (IsSettledAt bs) (sym here) same)
         (⊎_elim (λ before. k.before p before
         (told_nowhere (suc (2 * at)) (2 * p + 1) (omega (arith, before)) (omega arith))
-        (told_nowhere (suc (2 * at)) (2 * p + 2) (omega (arith, before)) (omega arith))) (k.behind p)) (ranked p at)
+        (told_nowhere (suc (2 * at)) (2 * p + 2) (omega (arith, before)) (omega arith))) (k.behind p))
+        (cases_order p at)
 
     all_same : (p : ℕ) → best_below cs p ≡ best_below bs p
     all_same p = ⊎_elim (λ here. subst (λ q. best_below cs q ≡ best_below bs q) (sym here) (found

@@ -98,6 +98,9 @@ reads_one_more newest s [] r n x h w a = (
 )
 reads_one_more newest s (y ∷ ys) r n x h w a = (h.0, h.1, h.2, reads_one_more newest (drop h.0 s) ys r n x h.3 w a)
 
+never : {b : Bool} → b ≡ true → b ≡ false → ⊥
+never e g = cc
+
 -- octets after a fault change nothing
 pub read_skipping : (h : Held) (stream piece : List ℕ) (answers : List (Result Fields ℕ)) → is_fault (shown h) ≡ true
     → HasRead h stream answers → HasRead h (stream ++ take (length piece) piece) answers
@@ -109,9 +112,6 @@ read_skipping h stream piece answers f r = record {
       (reads_more h.newest stream answers (h.rest ++ r.skipped) piece r.reads));
   faulty = λ e. absurd (never f e);
 }
-  where
-    never : {b : Bool} → b ≡ true → b ≡ false → ⊥
-    never e g = cc
 
 -- octets that are taken are held
 pub read_taking : (newest : ℕ) (rest more stream : List ℕ) (answers : List (Result Fields ℕ))
@@ -158,9 +158,6 @@ module _ (newest : ℕ) (held piece : List ℕ) (count : ℕ) (six : 6 ≤ lengt
   pub body_ended : is_rest (whole_up_to newest (held ++ take count piece)) ≡ true → count ≡ length piece
   body_ended h = go (nat_lt count (length piece)) refl
     where
-      never : {b : Bool} → b ≡ true → b ≡ false → ⊥
-      never e g = cc
-
       go : (b : Bool) → nat_lt count (length piece) ≡ b → count ≡ length piece
       go true e =
           let less : count < length piece = grind (arith, nat_tests) in
@@ -253,9 +250,6 @@ module _ (h : Held) (newest : ℕ) (rest piece : List ℕ) (n : ℕ) (view : h �
 
   nothing : Rest ≡ whole_up_to newest rest
   nothing = ap (whole_up_to newest) (sym empty)
-
-  never : {b : Bool} → b ≡ true → b ≡ false → ⊥
-  never e g = cc
 
   pub takes_whole : TakesNext h h piece n told
   takes_whole = record {

@@ -3,6 +3,7 @@ use Rattle.std.proofs.Common.{◌≡◌, ℕ, ◌%◌, ◌<◌, ◌^◌, Bool, t
 use Rattle.std.proofs.Common.{Option, Some, None, Ok, refl, sym, ap, subst, ◌∙◌, eq-eqb, arith, length, length-append}
 use Rattle.std.proofs.Math.Seq.{take-append_seam, drop-append_seam}
 use Rattle.std.proofs.Math.ListN.{get_or-append}
+use Rattle.std.proofs.lemmas.Bool.{not-true, not-false}
 use Rattle.std.proofs.lemmas.Bool.Decides.{nat_tests}
 use Rattle.std.proofs.lemmas.Map.Views.{exact_unsigned_eq}
 use Rattle.byteorder.specs.Endian.{big_number, big_bytes}
@@ -119,129 +120,121 @@ module _ (o incarnation counter vni : ℕ) (ho : o < 2 ^ 32) (hi : incarnation <
     right_mac : is_group (big_number 6 (big_bytes 6 mac ++ [])) ≡ false
     right_mac = ap is_group mac_again ∙ individual
 
+    abbrev of_mac : ℕ → Option Ip → Content → Fields
+    of_mac m ip content = update o incarnation counter (Mac vni m ip) content
+
+    withdraws : (ip : Option Ip) → IsWhole (octets 2 (mac_route o vni mac ip None ++ []))
+        → AllUnmet (refusal_tests (header true) (mac_route o vni mac ip None ++ []))
+        → update_in (header true) (mac_route o vni mac ip None ++ []) ≡ of_mac mac ip Withdrawn
+        → Spells (octets 2 (mac_route o vni mac ip None ++ [])) (of_mac mac ip Withdrawn)
+    withdraws ip = spells 2 (mac_route o vni mac ip None ++ []) (of_mac mac ip Withdrawn)
+
+    abbrev advert_route : Option Ip → Option ℕ → Bool → Bool → ℕ → List ℕ
+    advert_route ip label2 b s n = mac_route o vni mac ip label2 ++ after b s n
+
+    advertises : (ip : Option Ip) (label2 : Option ℕ) (b s : Bool) (n : ℕ)
+        → IsWhole (octets 1 (advert_route ip label2 b s n))
+        → AllUnmet (refusal_tests (header false) (advert_route ip label2 b s n))
+        → update_in (header false) (advert_route ip label2 b s n) ≡ of_mac mac ip (Advertised (told b s n label2))
+        → Spells (octets 1 (advert_route ip label2 b s n)) (of_mac mac ip (Advertised (told b s n label2)))
+    advertises ip label2 b s n =
+        spells 1 (advert_route ip label2 b s n) (of_mac mac ip (Advertised (told b s n label2)))
+
     pub withdrawn : (ip : Option Ip) → IpFits ip → Spells (octets 2 (mac_route o vni mac ip None ++ []))
-        (update o incarnation counter (Mac vni mac ip) Withdrawn)
+        (of_mac mac ip Withdrawn)
     withdrawn None fits =
-        spells 2 (mac_route o vni mac None None ++ []) (update o incarnation counter (Mac vni mac None) Withdrawn) refl
-        (refl, (refl, (right_originator, (refl, (refl, (refl, (right_mac, (some, tt))))))))
-        (λ i. update o incarnation counter (Mac vni (mac_again i) None) Withdrawn)
+        withdraws None refl (refl, (refl, (right_originator, (refl, (refl, (refl, (right_mac, (some, tt))))))))
+        (λ i. of_mac (mac_again i) None Withdrawn)
     withdrawn (Some (V4 a)) fits =
         let address = big_number-reads_back 4 a [] fits in
-        spells 2 (mac_route o vni mac (Some (V4 a)) None ++ [])
-        (update o incarnation counter (Mac vni mac (Some (V4 a))) Withdrawn) refl
-        (refl, (refl, (right_originator, (refl, (refl, (refl, (right_mac, (some, tt))))))))
-        (λ i. update o incarnation counter (Mac vni (mac_again i) (Some (V4 (address i)))) Withdrawn)
+        withdraws (Some (V4 a)) refl (refl, (refl, (right_originator, (refl, (refl, (refl, (right_mac, (some, tt))))))))
+        (λ i. of_mac (mac_again i) (Some (V4 (address i))) Withdrawn)
     withdrawn (Some (V6 a)) fits =
         let address = big_number-reads_back 16 a [] fits in
-        spells 2 (mac_route o vni mac (Some (V6 a)) None ++ [])
-        (update o incarnation counter (Mac vni mac (Some (V6 a))) Withdrawn) refl
-        (refl, (refl, (right_originator, (refl, (refl, (refl, (right_mac, (some, tt))))))))
-        (λ i. update o incarnation counter (Mac vni (mac_again i) (Some (V6 (address i)))) Withdrawn)
+        withdraws (Some (V6 a)) refl (refl, (refl, (right_originator, (refl, (refl, (refl, (right_mac, (some, tt))))))))
+        (λ i. of_mac (mac_again i) (Some (V6 (address i))) Withdrawn)
 
     pub advertised : (ip : Option Ip) → IpFits ip → (label2 : Option ℕ) → Label2Fits label2 → (b s : Bool) (n : ℕ)
         → n < 2 ^ 32
         → Spells (octets 1 (mac_route o vni mac ip label2 ++ after b s n))
-        (update o incarnation counter (Mac vni mac ip) (Advertised (told b s n label2)))
+        (of_mac mac ip (Advertised (told b s n label2)))
     advertised None fits None label_fits true s n hn =
         let number = big_number-reads_back 4 n [] hn in
-        spells 1 (mac_route o vni mac None None ++ after true s n)
-        (update o incarnation counter (Mac vni mac None) (Advertised (told true s n None))) refl
+        advertises None None true s n refl
         (refl, (refl, (right_originator, (refl, (refl, (right_label, (right_mac, (some, tt))))))))
-        (λ i. update o incarnation counter (Mac vni (mac_again i) None)
-        (Advertised (record { is_static = bit_again s i; sequence = number i; label2 = None })))
+        (λ i. of_mac (mac_again i) None (Advertised (told true (bit_again s i) (number i) None)))
     advertised None fits None label_fits false s n hn =
-        spells 1 (mac_route o vni mac None None ++ after false s n)
-        (update o incarnation counter (Mac vni mac None) (Advertised (told false s n None))) refl
+        advertises None None false s n refl
         (refl, (refl, (right_originator, (refl, (refl, (right_label, (right_mac, (some, tt))))))))
-        (λ i. update o incarnation counter (Mac vni (mac_again i) None)
-        (Advertised (record { is_static = false; sequence = 0; label2 = None })))
+        (λ i. of_mac (mac_again i) None (Advertised (told false s n None)))
     advertised None fits (Some l) label_fits true s n hn =
-        let label = big_number-reads_back 3 l [] label_fits in let number = big_number-reads_back 4 n [] hn in
-        spells 1 (mac_route o vni mac None (Some l) ++ after true s n)
-        (update o incarnation counter (Mac vni mac None) (Advertised (told true s n (Some l)))) refl
+        let label = big_number-reads_back 3 l [] label_fits in
+        let number = big_number-reads_back 4 n [] hn in
+        advertises None (Some l) true s n refl
         (refl, (refl, (right_originator, (refl, (refl, (right_label, (right_mac, (some, tt))))))))
-        (λ i. update o incarnation counter (Mac vni (mac_again i) None)
-        (Advertised (record { is_static = bit_again s i; sequence = number i; label2 = (Some (label i)) })))
+        (λ i. of_mac (mac_again i) None (Advertised (told true (bit_again s i) (number i) (Some (label i)))))
     advertised None fits (Some l) label_fits false s n hn =
         let label = big_number-reads_back 3 l [] label_fits in
-        spells 1 (mac_route o vni mac None (Some l) ++ after false s n)
-        (update o incarnation counter (Mac vni mac None) (Advertised (told false s n (Some l)))) refl
+        advertises None (Some l) false s n refl
         (refl, (refl, (right_originator, (refl, (refl, (right_label, (right_mac, (some, tt))))))))
-        (λ i. update o incarnation counter (Mac vni (mac_again i) None)
-        (Advertised (record { is_static = false; sequence = 0; label2 = (Some (label i)) })))
+        (λ i. of_mac (mac_again i) None (Advertised (told false s n (Some (label i)))))
     advertised (Some (V4 a)) fits None label_fits true s n hn =
-        let address = big_number-reads_back 4 a [] fits in let number = big_number-reads_back 4 n [] hn in
-        spells 1 (mac_route o vni mac (Some (V4 a)) None ++ after true s n)
-        (update o incarnation counter (Mac vni mac (Some (V4 a))) (Advertised (told true s n None))) refl
+        let address = big_number-reads_back 4 a [] fits in
+        let number = big_number-reads_back 4 n [] hn in
+        advertises (Some (V4 a)) None true s n refl
         (refl, (refl, (right_originator, (refl, (refl, (right_label, (right_mac, (some, tt))))))))
-        (λ i. update o incarnation counter (Mac vni (mac_again i) (Some (V4 (address i))))
-        (Advertised (record { is_static = bit_again s i; sequence = number i; label2 = None })))
+        (λ i. of_mac (mac_again i) (Some (V4 (address i))) (Advertised (told true (bit_again s i) (number i) None)))
     advertised (Some (V4 a)) fits None label_fits false s n hn =
         let address = big_number-reads_back 4 a [] fits in
-        spells 1 (mac_route o vni mac (Some (V4 a)) None ++ after false s n)
-        (update o incarnation counter (Mac vni mac (Some (V4 a))) (Advertised (told false s n None))) refl
+        advertises (Some (V4 a)) None false s n refl
         (refl, (refl, (right_originator, (refl, (refl, (right_label, (right_mac, (some, tt))))))))
-        (λ i. update o incarnation counter (Mac vni (mac_again i) (Some (V4 (address i))))
-        (Advertised (record { is_static = false; sequence = 0; label2 = None })))
+        (λ i. of_mac (mac_again i) (Some (V4 (address i))) (Advertised (told false s n None)))
     advertised (Some (V4 a)) fits (Some l) label_fits true s n hn =
-        let address = big_number-reads_back 4 a [] fits in let label = big_number-reads_back 3 l [] label_fits in
+        let address = big_number-reads_back 4 a [] fits in
+        let label = big_number-reads_back 3 l [] label_fits in
         let number = big_number-reads_back 4 n [] hn in
-        spells 1 (mac_route o vni mac (Some (V4 a)) (Some l) ++ after true s n)
-        (update o incarnation counter (Mac vni mac (Some (V4 a))) (Advertised (told true s n (Some l)))) refl
+        advertises (Some (V4 a)) (Some l) true s n refl
         (refl, (refl, (right_originator, (refl, (refl, (right_label, (right_mac, (some, tt))))))))
-        (λ i. update o incarnation counter (Mac vni (mac_again i) (Some (V4 (address i))))
-        (Advertised (record { is_static = bit_again s i; sequence = number i; label2 = (Some (label i)) })))
+        (λ i. of_mac (mac_again i) (Some (V4 (address i)))
+        (Advertised (told true (bit_again s i) (number i) (Some (label i)))))
     advertised (Some (V4 a)) fits (Some l) label_fits false s n hn =
-        let address = big_number-reads_back 4 a [] fits in let label = big_number-reads_back 3 l [] label_fits in
-        spells 1 (mac_route o vni mac (Some (V4 a)) (Some l) ++ after false s n)
-        (update o incarnation counter (Mac vni mac (Some (V4 a))) (Advertised (told false s n (Some l)))) refl
+        let address = big_number-reads_back 4 a [] fits in
+        let label = big_number-reads_back 3 l [] label_fits in
+        advertises (Some (V4 a)) (Some l) false s n refl
         (refl, (refl, (right_originator, (refl, (refl, (right_label, (right_mac, (some, tt))))))))
-        (λ i. update o incarnation counter (Mac vni (mac_again i) (Some (V4 (address i))))
-        (Advertised (record { is_static = false; sequence = 0; label2 = (Some (label i)) })))
+        (λ i. of_mac (mac_again i) (Some (V4 (address i))) (Advertised (told false s n (Some (label i)))))
     advertised (Some (V6 a)) fits None label_fits true s n hn =
-        let address = big_number-reads_back 16 a [] fits in let number = big_number-reads_back 4 n [] hn in
-        spells 1 (mac_route o vni mac (Some (V6 a)) None ++ after true s n)
-        (update o incarnation counter (Mac vni mac (Some (V6 a))) (Advertised (told true s n None))) refl
+        let address = big_number-reads_back 16 a [] fits in
+        let number = big_number-reads_back 4 n [] hn in
+        advertises (Some (V6 a)) None true s n refl
         (refl, (refl, (right_originator, (refl, (refl, (right_label, (right_mac, (some, tt))))))))
-        (λ i. update o incarnation counter (Mac vni (mac_again i) (Some (V6 (address i))))
-        (Advertised (record { is_static = bit_again s i; sequence = number i; label2 = None })))
+        (λ i. of_mac (mac_again i) (Some (V6 (address i))) (Advertised (told true (bit_again s i) (number i) None)))
     advertised (Some (V6 a)) fits None label_fits false s n hn =
         let address = big_number-reads_back 16 a [] fits in
-        spells 1 (mac_route o vni mac (Some (V6 a)) None ++ after false s n)
-        (update o incarnation counter (Mac vni mac (Some (V6 a))) (Advertised (told false s n None))) refl
+        advertises (Some (V6 a)) None false s n refl
         (refl, (refl, (right_originator, (refl, (refl, (right_label, (right_mac, (some, tt))))))))
-        (λ i. update o incarnation counter (Mac vni (mac_again i) (Some (V6 (address i))))
-        (Advertised (record { is_static = false; sequence = 0; label2 = None })))
+        (λ i. of_mac (mac_again i) (Some (V6 (address i))) (Advertised (told false s n None)))
     advertised (Some (V6 a)) fits (Some l) label_fits true s n hn =
-        let address = big_number-reads_back 16 a [] fits in let label = big_number-reads_back 3 l [] label_fits in
+        let address = big_number-reads_back 16 a [] fits in
+        let label = big_number-reads_back 3 l [] label_fits in
         let number = big_number-reads_back 4 n [] hn in
-        spells 1 (mac_route o vni mac (Some (V6 a)) (Some l) ++ after true s n)
-        (update o incarnation counter (Mac vni mac (Some (V6 a))) (Advertised (told true s n (Some l)))) refl
+        advertises (Some (V6 a)) (Some l) true s n refl
         (refl, (refl, (right_originator, (refl, (refl, (right_label, (right_mac, (some, tt))))))))
-        (λ i. update o incarnation counter (Mac vni (mac_again i) (Some (V6 (address i))))
-        (Advertised (record { is_static = bit_again s i; sequence = number i; label2 = (Some (label i)) })))
+        (λ i. of_mac (mac_again i) (Some (V6 (address i)))
+        (Advertised (told true (bit_again s i) (number i) (Some (label i)))))
     advertised (Some (V6 a)) fits (Some l) label_fits false s n hn =
-        let address = big_number-reads_back 16 a [] fits in let label = big_number-reads_back 3 l [] label_fits in
-        spells 1 (mac_route o vni mac (Some (V6 a)) (Some l) ++ after false s n)
-        (update o incarnation counter (Mac vni mac (Some (V6 a))) (Advertised (told false s n (Some l)))) refl
+        let address = big_number-reads_back 16 a [] fits in
+        let label = big_number-reads_back 3 l [] label_fits in
+        advertises (Some (V6 a)) (Some l) false s n refl
         (refl, (refl, (right_originator, (refl, (refl, (right_label, (right_mac, (some, tt))))))))
-        (λ i. update o incarnation counter (Mac vni (mac_again i) (Some (V6 (address i))))
-        (Advertised (record { is_static = false; sequence = 0; label2 = (Some (label i)) })))
+        (λ i. of_mac (mac_again i) (Some (V6 (address i))) (Advertised (told false s n (Some (label i)))))
 
 no_zero : (n : ℕ) → 0 < n → n == 0 ≡ false
 no_zero n h = grind (arith, nat_tests)
 
-no_group : (b : Bool) → not b ≡ true → b ≡ false
-no_group true e = cc
-no_group false e = refl
-
 nothing_told : (s : Bool) (n : ℕ) → s || not (n == 0) ≡ false → (s ≡ false) × (n ≡ 0)
 nothing_told true n e = cc
-nothing_told false n e = (refl, exact_unsigned_eq n 0 (zero_told (n == 0) e))
-  where
-    zero_told : (b : Bool) → not b ≡ false → b ≡ true
-    zero_told true e = refl
-    zero_told false e = cc
+nothing_told false n e = (refl, exact_unsigned_eq n 0 (not-false (n == 0) e))
 
 -- the octets that are written for a well formed update spell it
 pub written : (o incarnation counter : ℕ) (key : Key) (content : Content) → o < 2 ^ 32 → incarnation < 2 ^ 32
@@ -257,7 +250,7 @@ written o incarnation counter (Flood vni) (Advertised a) ho hi hc hv fits good =
     (sym good.fits) (flood_up o incarnation counter vni ho hi hc hv (no_zero counter good.counted))
 written o incarnation counter (Mac vni mac ip) Withdrawn ho hi hc hv fits good =
     withdrawn o incarnation counter vni ho hi hc hv (no_zero counter good.counted) mac fits.0
-    (no_group (is_group mac) good.individual) ip fits.1
+    (not-true (is_group mac) good.individual) ip fits.1
 written o incarnation counter (Mac vni mac ip) (Advertised a) ho hi hc hv fits good =
     go (a.is_static || not (a.sequence == 0)) refl
   where
@@ -268,7 +261,7 @@ written o incarnation counter (Mac vni mac ip) (Advertised a) ho hi hc hv fits g
 
     some : (b : Bool) → spelt_by b (told b a.is_static a.sequence a.label2)
     some b = advertised o incarnation counter vni ho hi hc hv (no_zero counter good.counted) mac fits.0
-        (no_group (is_group mac) good.individual) ip fits.1 a.label2 fits.2 b a.is_static a.sequence fits.3
+        (not-true (is_group mac) good.individual) ip fits.1 a.label2 fits.2 b a.is_static a.sequence fits.3
 
     go : (b : Bool) → a.is_static || not (a.sequence == 0) ≡ b
         → Spells (record_octets 1 o incarnation counter vni
