@@ -19,7 +19,8 @@ use std::sync::{Mutex, Wait};
 ///
 /// # Errors
 ///
-/// Each call returns `Unreached::Ended` if the edge has ended.
+/// Each call returns `Unreached::Ended` if the edge has ended. Only `view` returns the numbers of
+/// its links even then.
 pub(crate) trait OneEdge {
     /// The edge's number, from 1.
     ghost number: { Self → ℕ };
