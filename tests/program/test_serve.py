@@ -172,6 +172,27 @@ class Served(unittest.TestCase):
         self.assertFalse(os.path.lexists(self.path))
 
 
+def udp_socket(process: int, place: Tuple[str, int]) -> socket.socket:
+    """Another process's UDP socket that is bound at this place. PermissionError or OSError if the system gives none of them."""
+    call = ctypes.CDLL(None, use_errno=True).syscall
+    pidfd = os.pidfd_open(process)
+    try:
+        for name in os.listdir(f"/proc/{process}/fd"):
+            descriptor = call(438, pidfd, int(name), 0)  # pidfd_getfd
+            if descriptor < 0:
+                raise OSError(ctypes.get_errno(), "pidfd_getfd")
+            if not stat.S_ISSOCK(os.fstat(descriptor).st_mode):
+                os.close(descriptor)
+                continue
+            found = socket.socket(fileno=descriptor)
+            if (found.family, found.type) == (socket.AF_INET, socket.SOCK_DGRAM) and found.getsockname() == place:
+                return found
+            found.close()
+    finally:
+        os.close(pidfd)
+    raise AssertionError(f"no socket at {place}")
+
+
 @needs_program
 class Asked(Served):
     """What is asked of edges that run."""
@@ -250,6 +271,31 @@ class Asked(Served):
             self.assertEqual([each[word] for word in ("in failed", "in memory", "out dropped", "out failed")], [0, 0, 0, 0])
         self.ends_well(FLOODS + learnt(1, ONE, 2))
 
+    def fail_a_read(self, place: Tuple[str, int]) -> None:
+        """Makes the next read of the program's socket there fail: the system reports to it that nobody hears a datagram of that socket."""
+        try:
+            it = udp_socket(self.running.program.pid, place)
+        except OSError as why:
+            self.skipTest(f"the system gives no socket of another process: {why}")
+        with it, socket.socket(socket.AF_INET, socket.SOCK_DGRAM) as gone:
+            gone.bind((ONE, 0))
+            deaf = gone.getsockname()
+            gone.close()
+            it.setsockopt(socket.IPPROTO_IP, 11, 1)  # IP_RECVERR
+            it.sendto(b"", deaf)
+            it.setsockopt(socket.IPPROTO_IP, 11, 0)
+
+    def test_failed_reads(self) -> None:
+        """Each is counted at its link, and the link is read again."""
+        console = self.console()
+        for link, name, place in (("1", "port 1", (ONE, self.one.port)), ("tunnel", "tunnel", (ONE, 4789))):
+            self.fail_a_read(place)
+            self.assertEqual(self.running.note(lines=2), f"edge 1 {name}: receiving failed\nedge 1 {name}: receiving again\n")
+            found = self.links(console, 1)
+            self.assertEqual(found[link]["in failed"], 1)
+        self.assertEqual([each["in failed"] for each in found.values()], [1, 1])
+        self.assertEqual(self.running.end()[0], 4)
+
     def test_evpndctl(self) -> None:
         """The tool, over the socket."""
         no_port = "evpndctl: edge 1 has no port 9 (edge 16)\n"
@@ -293,30 +339,9 @@ class Nowhere(Cable):
         return f'local = "{self.address}:{self.port}"\nremote = "255.255.255.255:9"\n'
 
 
-def udp_socket(process: int, place: Tuple[str, int]) -> socket.socket:
-    """Another process's UDP socket that is bound at this place. PermissionError or OSError if the system gives none of them."""
-    call = ctypes.CDLL(None, use_errno=True).syscall
-    pidfd = os.pidfd_open(process)
-    try:
-        for name in os.listdir(f"/proc/{process}/fd"):
-            descriptor = call(438, pidfd, int(name), 0)  # pidfd_getfd
-            if descriptor < 0:
-                raise OSError(ctypes.get_errno(), "pidfd_getfd")
-            if not stat.S_ISSOCK(os.fstat(descriptor).st_mode):
-                os.close(descriptor)
-                continue
-            found = socket.socket(fileno=descriptor)
-            if (found.family, found.type) == (socket.AF_INET, socket.SOCK_DGRAM) and found.getsockname() == place:
-                return found
-            found.close()
-    finally:
-        os.close(pidfd)
-    raise AssertionError(f"no socket at {place}")
-
-
 @needs_program
 class Failing(Served):
-    """Links whose calls fail."""
+    """A link whose sends fail."""
 
     def setUp(self) -> None:
         super().setUp()
@@ -328,20 +353,6 @@ class Failing(Served):
         """Edge 1 has a second port, each of whose sends fails."""
         keys = "incarnation = 1\n"
         return f'control = "{self.path}"\n' + edge(ONE, 1, self.one, self.nowhere, keys=keys) + edge(TWO, 2, self.two, keys=keys)
-
-    def fail_a_read(self, place: Tuple[str, int]) -> None:
-        """Makes the next read of the program's socket there fail: the system reports to it that nobody hears a datagram of that socket."""
-        try:
-            it = udp_socket(self.running.program.pid, place)
-        except OSError as why:
-            self.skipTest(f"the system gives no socket of another process: {why}")
-        with it, socket.socket(socket.AF_INET, socket.SOCK_DGRAM) as gone:
-            gone.bind((ONE, 0))
-            deaf = gone.getsockname()
-            gone.close()
-            it.setsockopt(socket.IPPROTO_IP, 11, 1)  # IP_RECVERR
-            it.sendto(b"", deaf)
-            it.setsockopt(socket.IPPROTO_IP, 11, 0)
 
     def test_failed_sends(self) -> None:
         """Each is counted at its port, is no datagram that was sent, and is one of those that are lost at the end."""
@@ -360,17 +371,6 @@ class Failing(Served):
         self.assertEqual((status, re.sub("[0-9]+", "N", notes)), (4, "lost N\n"))
         # (the edge sends a BPDU each two seconds)
         self.assertIn(int(notes.split()[1]) - found["2"]["out failed"], range(8))
-
-    def test_failed_reads(self) -> None:
-        """Each is counted at its link, and the link is read again."""
-        console = self.console()
-        for link, name, place in (("1", "port 1", (ONE, self.one.port)), ("tunnel", "tunnel", (ONE, 4789))):
-            self.fail_a_read(place)
-            self.assertEqual(self.running.note(lines=2), f"edge 1 {name}: receiving failed\nedge 1 {name}: receiving again\n")
-            found = self.links(console, 1)
-            self.assertEqual(found[link]["in failed"], 1)
-        self.assertEqual([each["in failed"] for each in found.values()], [1, 1, 0])
-        self.assertEqual(self.running.end()[0], 4)
 
 
 @needs_program
