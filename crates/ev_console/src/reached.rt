@@ -8,6 +8,7 @@ use crate::operated::Unreached;
 use ev_book::BookRefusal;
 use ev_edge::Reply;
 use ev_exchange::Known;
+use ev_history::Naming;
 use ev_mailboxes::{Command, Control, PortView, Running, Served};
 use ev_notices::LinkCounts;
 use ev_view::{EdgeQuestion, links_of, with_unlisted};
@@ -77,29 +78,29 @@ pub(crate) trait ManyEdges {
 
 /// The edges of this process, and the runtime on which a caller waits for their answers.
 #[derive(Drop)]
-pub(crate) struct Host<'x, R> {
+pub(crate) struct Host<'x, J: Naming, R> {
     /// The runtime.
     pub(crate) rt: &'x R,
     /// The edges.
-    pub(crate) running: Running<'x>,
+    pub(crate) running: Running<'x, J>,
     /// The edges elsewhere that the configuration doesn't name, for a caller that shows them.
     pub(crate) unlisted: Option<&'x Mutex<Known>>,
 }
 
 /// An edge of this process. Its answers come from a book under a lock, of which no clause knows.
 #[derive(Drop)]
-pub(crate) struct HostedEdge<'x, R> {
+pub(crate) struct HostedEdge<'x, J: Naming, R> {
     rt: &'x R,
-    control: Control<'x>,
+    control: Control<'x, J>,
     /// The numbers of its links, the tunnel's first.
     links: Option<&'x [LinkCounts]>,
     unlisted: Option<&'x Mutex<Known>>,
 }
 
-impl<'x, R: Wait> ManyEdges for Host<'x, R> {
+impl<'x, J: Naming, R: Wait> ManyEdges for Host<'x, J, R> {
     ghost use Rattle.std.specs.Prelude.{⊤, vec_len};
 
-    type Edge = HostedEdge<'x, R>;
+    type Edge = HostedEdge<'x, J, R>;
 
     ghost count = { λ host. vec_len host.running.mailboxes.now.all };
 
@@ -109,7 +110,7 @@ impl<'x, R: Wait> ManyEdges for Host<'x, R> {
         self.running.edges() as u64
     }
 
-    fn reach(&self, number: u64) -> Option<HostedEdge<'x, R>> {
+    fn reach(&self, number: u64) -> Option<HostedEdge<'x, J, R>> {
         let control = self.running.edge(number as usize)?;
         let running = self.running;
         Some(HostedEdge {
@@ -121,7 +122,7 @@ impl<'x, R: Wait> ManyEdges for Host<'x, R> {
     }
 }
 
-impl<R: Wait> HostedEdge<'_, R> {
+impl<J: Naming, R: Wait> HostedEdge<'_, J, R> {
     /// Returns the lines of the edge's links, with the numbers that its threads show. Makes no
     /// request to the edge, so that an edge that is busy delays no answer.
     fn links(&self, alloc: Global) -> Result<Vec<u8>, AllocError> {
@@ -149,7 +150,7 @@ impl<R: Wait> HostedEdge<'_, R> {
     }
 }
 
-impl<R: Wait> OneEdge for HostedEdge<'_, R> {
+impl<J: Naming, R: Wait> OneEdge for HostedEdge<'_, J, R> {
     ghost use Rattle.std.specs.Prelude.{⊤};
 
     ghost number = { λ edge. edge.control.mailbox.now.number };

@@ -8,6 +8,7 @@ use Rattle.ev_edge.specs.declared.reply.Reply.{Reply}
 use Rattle.ev_book.specs.declared.refusal.BookRefusal.{BookRefusal}
 use Rattle.ev_book.specs.Book.{BookState, PassState}
 use Rattle.ev_book.specs.Entering.{CallsBook}
+use Rattle.ev_history.specs.Booking.{announced_by}
 use Rattle.ev_notices.specs.declared.alarm.Alarm.{Alarm}
 use Rattle.ev_mailboxes.specs.declared.message.Letter.{Letter}
 use Rattle.ev_mailboxes.specs.declared.request.Answer.{Answer}
@@ -37,11 +38,6 @@ pub record Leaves (p : PassState) (event : Event) (answer : Result Reply BookRef
 
 -- ---- announcements
 
--- the update that an answer announces
-abbrev pub announced_by : Result Reply BookRefusal → Option Fields
-announced_by (Ok reply) = reply.announced
-announced_by (Err refusal) = None
-
 -- a call of the book that requested an announcement, and the announcement that it returned, if any
 pub record Asked (p : PassState) (announced : Option Fields) (p' : PassState) : Type 0 where
   pub answer : Result Reply BookRefusal
@@ -64,22 +60,26 @@ pub data Word : Type 0 where
   hears : Reception → Word
   drops : ℕ → Cause → Word
 
--- The messages of a worker's outlet: the number of its own edge, the letters that the worker has sent to each edge, and
--- the words, if the outlet shows any.
-pub record Said : Type 0 where
+-- The messages of a worker's outlet, whose records have this type: the number of its own edge, the letters that the
+-- worker has sent to each edge, and the words, if the outlet shows any.
+pub record SaidOf (U : Type 0) : Type 0 where
   pub own : ℕ
-  pub sent : List (ℕ × List Letter)
+  pub sent : List (ℕ × List (Letter U))
   pub words : Option (List Word)
 
-abbrev pub said_of : ℕ → List (ℕ × List Letter) → Option (List Word) → Said
+-- the messages of an outlet whose records are plain updates
+abbrev pub Said : Type 0
+Said = SaidOf Fields
+
+abbrev pub said_of : {U : Type 0} → ℕ → List (ℕ × List (Letter U)) → Option (List Word) → SaidOf U
 said_of own sent words = record { own = own; sent = sent; words = words }
 
 -- these words come after the others
-abbrev pub says : Said → List Word → Said
+abbrev pub says : {U : Type 0} → SaidOf U → List Word → SaidOf U
 says s more = said_of s.own s.sent (behind s.words more)
 
 -- a record is sent to each of the other edges, after the letters before; none is sent to the worker's own edge
-abbrev pub sends : Said → Fields → Said
+abbrev pub sends : {U : Type 0} → SaidOf U → U → SaidOf U
 sends s u = said_of s.own (with_record s.own u s.sent) s.words
 
 -- for each update one after the other: there was room, and then the update was sent to each of the other edges; the

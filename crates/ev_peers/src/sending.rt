@@ -9,6 +9,7 @@ use crate::plan::Shared;
 use crate::shared_edge::Ended;
 use crate::shared_line::SharedLine;
 use crate::workers::out_worker;
+use ev_history::{Naming, Told};
 use ev_links::{Counted, LinkOut, PromptOut};
 use ev_mailboxes::Peers;
 use ev_notices::LinkCounts;
@@ -42,13 +43,14 @@ fn send_all<O: LinkOut + PromptOut + Drop, R: Wait + Clock>(
 pub(crate) fn start_sending<
     's,
     'x: 's,
+    J: Naming + 'x,
     O: LinkOut + PromptOut + Drop + Send + 'x,
     R: Wait + Clock + Sync + 'x,
 >(
     scope: &Scope<'s, &'x ()>,
     rt: &'x R,
     shared: &'x Shared<O>,
-    peers: Peers<'x>,
+    peers: Peers<'x, Told<J>>,
     outputs: Vec<O>,
     running: Vec<JoinHandle<Sent>>,
 ) -> (Vec<JoinHandle<Sent>>, Faults)
@@ -75,7 +77,9 @@ pub(crate) fn start_sending<
 }
 
 /// Ends the lines, so that the threads that send over links stop.
-pub(crate) fn stop_sending<K: PromptOut, R: Wait + Clock>(outlet: &Senders<'_, K, R>) {
+pub(crate) fn stop_sending<J: Naming, K: PromptOut, R: Wait + Clock>(
+    outlet: &Senders<'_, J, K, R>,
+) {
     for line in outlet.lines {
         line.end(outlet.rt);
     }
