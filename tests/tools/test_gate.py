@@ -1,5 +1,7 @@
 """The gate: its own reading of sources, edits and checks, and whole runs of it over small repositories with a stub in the kit's place."""
 
+import contextlib
+import io
 import os
 import re
 import runpy
@@ -16,6 +18,8 @@ from test_records import TOP
 
 sys.path.insert(0, os.path.join(TOP, "tools", "gate"))
 import calls
+import copies
+import dependence
 import edits
 import graph
 import lanes
@@ -23,6 +27,7 @@ import looks
 import project
 import rooms
 import sources
+import summary
 import tasks
 
 check = types.SimpleNamespace(**runpy.run_path(os.path.join(TOP, "tools", "check"), run_name="check_of_a_change"))
@@ -111,6 +116,9 @@ class Unproved(unittest.TestCase):
 
     def test_namesake_of_another_type_is_no_stand_in(self):
         self.assertEqual(self.lacking({"low::CircleShape::area", "low::twice", "low::pair"}), ["SquareShape::area"])
+
+    def test_arguments_of_a_type_stand_in_its_name(self):
+        self.assertEqual(self.lacking({"low::SquareShape+Told+J::area", "low::twice", "low::pair"}), [])
 
     def test_crate_left_out_is_missed(self):
         self.assertEqual(self.lacking(set()), ["SquareShape::area", "pair", "twice"])
@@ -209,6 +217,18 @@ class Edits(unittest.TestCase):
             self.assertIn("judged nothing", edits.Verdict(status, said).word)
 
 
+class Printed(unittest.TestCase):
+    """By which name a check knows a function that an edit changes."""
+
+    def test_arguments_of_a_type_are_named(self):
+        with tempfile.TemporaryDirectory() as top:
+            write(f"{top}/crates.txt", "low:\n")
+            write(f"{top}/crates/low/src/lib.rt", SOURCE)
+            trial = edits.Trial(project.Project(top), "low", None, "", None, ["low::peers::Peers+Told+J::send", "low::pair"])
+            named = [trial.printed(it) for it in ("Peers::send", "pair", "lost")]
+        self.assertEqual(named, ["low::peers::Peers+Told+J::send", "pair", "lost"])
+
+
 UNCOVERED = "no proof: expected `f0_spec` in ./proofs/f0/Proof.antt; the borrow checker does not cover this function yet: src/lib.rt:2:5: moved"
 ABOVE = "no proof: the borrow checker's part in its proof is not made yet: a call of `low::f0`, which has no proof: help: prove it first"
 
@@ -228,6 +248,8 @@ class Together(unittest.TestCase):
 
             def check(texts, only=(), _flags=()):
                 sizes.append(len(only))
+                if "unknown" in texts["src/lib.rt"] and len(only) > 1:
+                    return edits.Verdict(2, "rattle: error: `low` has no function `f1`: help: write the name that a check prints\n")
                 if "wrong" in texts["src/lib.rt"]:
                     return edits.Verdict(1, "./src/lib.rt:2:5: error[unresolved]: no `wrong` here\n")
                 goal = "note: src/lib.rt:1:1: it is not proved that what the function ensures holds (`returns`)\n"
@@ -255,6 +277,10 @@ class Together(unittest.TestCase):
         self.assertEqual((found[-1], sizes), ("pass 3", [3, 2]))
         self.assertEqual([it for it in found if it.startswith("weak")], ["weak f0.edit: only names that the edit took away, or no goal at all: low::f0"])
 
+    def test_function_that_the_check_does_not_find_is_tried_alone(self):
+        found, sizes = self.tried(["200", "unknown", "202", "203"])
+        self.assertEqual((found[-1], sizes), ("pass 4", [4, 3, 1]))
+
     def test_one_does_not_compile(self):
         found, sizes = self.tried([*(str(200 + it) for it in range(7)), "wrong"])
         self.assertEqual(found[-1], "pass 7")
@@ -262,6 +288,264 @@ class Together(unittest.TestCase):
                          "./src/lib.rt:2:5: error[unresolved]: no `wrong` here"])
         # eight, then halves; the last is the whole check of the edit that is left
         self.assertEqual(sorted(sizes), [0, 1, 1, 2, 2, 4, 4, 8])
+
+
+# a crate with two laws, each of its own definition; the second law's proof needs a lemma
+LAWS = {
+    "src/lib.rt": "//! Laws.\n#![tactic(auto)]\n\nmod laws;\n",
+    "src/laws.rt": "ghost use Rattle.low.specs.Laws.{First, Second};\n\npub fn first()\n    ensures { First }\n{\n}\n\npub fn second()\n    ensures { Second }\n{\n}\n",
+    "specs/Lib.antt": "pub mod Laws\n",
+    "specs/Laws.antt": "use Rattle.std.specs.Prelude.{ℕ, ◌≤◌}\n\n-- one\npub record First : Type 0 where\n  pub at : 1 ≤ three\n\n"
+    "abbrev pub Second : Type 0\nSecond = 1 ≤ two\n\nabbrev pub two : ℕ\ntwo = 2\n\nabbrev pub three : ℕ\nthree = 3\n",
+    "proofs/Lib.antt": "mod Lemmas\n",
+    "proofs/Lemmas.antt": "use Rattle.low.specs.Laws.{Second}\n\nholds : Second\nholds = search rules\n",
+    "proofs/laws/second/Answers.antt": "use Rattle.low.proofs.Lemmas.{holds}\nuse Rattle.low.proofs.laws.second.Goals as goal\n\n"
+    "pub returns : goal.returns\nreturns c = holds\n",
+}
+
+
+class Definitions(unittest.TestCase):
+    """Edits of definitions, of which those that have nothing to do with each other are tried together."""
+
+    def of_laws(self, top):
+        """Writes the crate of the laws, and returns its folder."""
+        for path, text in LAWS.items():
+            write(f"{top}/crates/low/{path}", text)
+        return f"{top}/crates/low"
+
+    def test_what_a_proof_can_depend_on(self):
+        with tempfile.TemporaryDirectory() as top:
+            texts = dependence.Reach("low", dependence.texts_of(self.of_laws(top)))
+            first, second = texts.of("laws::first"), texts.of("second")
+        laws, lemmas = "specs/Laws.antt", "proofs/Lemmas.antt"
+        self.assertLessEqual({(laws, "First"), (laws, "three")}, first)
+        self.assertTrue(first.isdisjoint({(laws, "Second"), (laws, "two"), (lemmas, "holds")}))
+        self.assertLessEqual({(laws, "Second"), (laws, "two"), (lemmas, "holds")}, second)
+        self.assertTrue(second.isdisjoint({(laws, "First"), (laws, "three")}))
+        self.assertIsNone(texts.of("laws::third"))
+
+    def test_what_a_module_declares_belongs_to_it(self):
+        text = "one : First\none = first\n\nmodule _ (x : First) where\n  two : Second\n  two = go x\n    where\n      go : First → Second\n      go _ = second\n"
+        found = dependence.declarations(text)
+        self.assertEqual([sorted(named & {"one", "two", "go"}) for named, _ in found], [["one"], ["go", "two"]])
+        self.assertIn("second", found[1][1])
+
+    def test_text_with_a_line_that_belongs_to_nothing_counts_as_one(self):
+        found = dependence.declarations("pub one : ℕ\none = 1\nstrange two\npub three : ℕ\nthree = 3\n")
+        self.assertEqual(len(found), 1)
+        self.assertLessEqual({"one", "strange", "three"}, found[0][0])
+
+    def test_methods_of_a_trait_belong_to_its_type(self):
+        texts = {
+            "src/lib.rt": "pub struct Own {\n    at: u8,\n}\n\nimpl PartialEq for Own {\n    fn eq(&self, other: &Own) -> bool\n"
+            "        ensures { Told }\n    {\n        true\n    }\n}\n\nimpl Own {\n    pub fn alone(&self) -> u8\n        ensures { Other }\n    {\n        1\n    }\n}\n\n"
+            "pub fn same(a: &Own, b: &Own) -> bool {\n    a == b\n}\n",
+        }
+        found = dependence.Reach("low", texts).of("same")
+        self.assertIn(("", "Told"), found)
+        self.assertNotIn(("", "Other"), found)
+
+    def test_lists_of_names_may_go_over_lines(self):
+        texts = dict(LAWS)
+        texts["src/laws.rt"] = LAWS["src/laws.rt"].replace("{First, Second}", "{\n  First,\n  Second as Later,\n}").replace("{ Second }", "{ Later }")
+        self.assertIn(("specs/Laws.antt", "two"), dependence.Reach("low", texts).of("laws::second"))
+
+    def test_what_an_edit_changes(self):
+        laws = LAWS["specs/Laws.antt"]
+        for old, new, names in (
+            ("two = 2", "two = 1", {"two"}),
+            ("pub at : 1", "pub at : 2", {"First"}),
+            ("-- one", "-- a", None),
+            ("{ℕ, ◌≤◌}", "{ℕ, ◌≤◌, suc}", None),
+        ):
+            with self.subTest(new=new):
+                found = dependence.touched("specs/Laws.antt", laws, laws.replace(old, new))
+                self.assertEqual(found, names and {("specs/Laws.antt", it) for it in names})
+        constant = "pub const MOST: u8 = 3;\n\npub enum Kind {\n    One,\n    Two,\n}\n"
+        self.assertEqual(dependence.touched("src/a.rt", constant, constant.replace("3", "4")), {("", "MOST")})
+        self.assertEqual(dependence.touched("src/a.rt", constant, constant.replace("One", "Other")), {("", it) for it in ("Kind", "One", "Two", "Other")})
+
+    def tried(self, *pairs, said=""):
+        """Tries edits of the laws' definitions, each with the function that it names. Returns the facts and the checks' functions."""
+        with tempfile.TemporaryDirectory() as top:
+            write(f"{top}/crates.txt", "low:\n")
+            folder = self.of_laws(top)
+            for number, (old, new, name) in enumerate(pairs):
+                write(f"{folder}/must-fail/e{number}.edit", f"only: {name}\nfile: specs/Laws.antt\nold: {old}\nnew: {new}\n")
+            trial, checks = edits.Trial(project.Project(top), "low", mock.Mock(notes=[]), "", None), []
+
+            def check(texts, only=(), flags=()):
+                checks.append((sorted(only), *flags))
+                goal = "note: src/laws.rt:1:1: it is not proved that what the function ensures holds (`returns`)\n"
+                lines = said or "".join(f"{goal}fn low::{it}: not proved\n" for it in only)
+                return edits.Verdict(1, f"{lines}only=1 proved=0\n")
+
+            trial.check = check
+            return trial.all(), checks
+
+    def test_those_of_two_laws_are_tried_in_one_check(self):
+        found, checks = self.tried(("two = 2", "two = 0", "laws::second"), ("three = 3", "three = 0", "laws::first"))
+        self.assertEqual((found[-1], checks), ("pass 2", [(["laws::first", "laws::second"],)]))
+        self.assertEqual(found[0], "refused e0.edit: low::laws::second: returns")
+
+    def test_those_of_one_law_are_not(self):
+        found, checks = self.tried(("two = 2", "two = 0", "laws::second"), ("Second = 1 ≤ two", "Second = 3 ≤ two", "laws::second"))
+        self.assertEqual((found[-1], checks), ("pass 2", [(["laws::second"],), (["laws::second"],)]))
+
+    def test_one_that_the_other_law_may_read_is_tried_by_itself(self):
+        both = ("two = 2", "two = 0", "laws::second"), ("three = 3", "three = suc two", "laws::first")
+        found, checks = self.tried(*both)
+        self.assertEqual((found[-1], checks), ("pass 2", [(["laws::second"],), (["laws::first"],)]))
+
+    def test_lemma_counts_for_the_law_that_needs_it(self):
+        said = (
+            "./proofs/Lemmas.antt:4:1: error: `holds`: computed as far as they go, the two types differ\n"
+            "./proofs/laws/second/Answers.antt:5:1: error: `returns`: `holds` was not admitted\nfn low::laws::second: not proved\n"
+            "./proofs/laws/first/Answers.antt:5:1: error: `returns`: `other` was not admitted\nfn low::laws::first: not proved\n"
+        )
+        found, checks = self.tried(("two = 2", "two = 0", "laws::second"), ("three = 3", "three = 0", "laws::first"), said=said)
+        self.assertIn("refused e0.edit: proofs/Lemmas.antt: holds; low::laws::second: returns", found)
+        self.assertEqual(checks[:2], [(["laws::first", "laws::second"],), (["laws::first"],)])
+
+    def test_whole_crate_follows_the_check_of_the_function_alone(self):
+        found, checks = self.tried(("two = 2", "two = 3", "laws::second"), said="fn low::laws::second: not proved\n")
+        self.assertEqual(checks, [(["laws::second"],), ([],)])
+        self.assertEqual(found, ["refused e0.edit: ", "pass 1"])
+
+    def test_search_for_contracts_has_no_definition_changed(self):
+        with tempfile.TemporaryDirectory() as top:
+            write(f"{top}/crates.txt", "low:\n")
+            folder = self.of_laws(top)
+            write(f"{folder}/src/lib.rt", LAWS["src/lib.rt"] + "\npub fn one() -> u8 {\n    11\n}\n")
+            write(f"{folder}/must-fail/a.edit", "only: laws::second\nfile: specs/Laws.antt\nold: two = 2\nnew: two = 0\n")
+            write(f"{folder}/must-fail/b.edit", "file: src/lib.rt\nold:     11\nnew:     12\n")
+            trial, checks = edits.Trial(project.Project(top), "low", mock.Mock(notes=[]), "", None), []
+
+            def check(_texts, only=(), flags=()):
+                checks.append((sorted(only), *flags))
+                goal = "note: src/lib.rt:1:1: it is not proved that what the function ensures holds (`returns`)\n"
+                return edits.Verdict(1, "".join(f"{goal}fn low::{it}: not proved\n" for it in only) + "only=1 proved=0\n")
+
+            trial.check = check
+            trial.all()
+        self.assertEqual(checks, [(["one"], looks.SEARCH), (["laws::second"],)])
+
+
+PAIR = """//! Pairs.
+
+pub struct Pair {
+    one: u8,
+}
+
+impl Pair {
+    /// The first.
+    #[tactic(auto)]
+    pub fn first(&self) -> u8
+        ensures { result ≡ first self.now }
+    {
+        self.one
+    }
+
+    pub fn again(&self, n: u8) -> u8 {
+        if n == 0 { 0 } else { self.again(n - 1) }
+    }
+}
+
+impl Clone for Pair {
+    fn copied(&self) -> u8 {
+        self.one
+    }
+}
+
+pub fn all(xs: &[u8]) -> bool {
+    xs.iter().all(|x| *x > 0)
+}
+"""
+PROVED_OF_PAIR = ["low::pair::Pair::first", "low::pair::Pair::again", "low::pair::PairClone::copied", "low::pair::all", "low::pair::fn::all::all"]
+
+
+class Copies(unittest.TestCase):
+    """Copies of functions, so that two edits of one function are tried in one check."""
+
+    def of_pair(self, top):
+        """Writes the crate of the pair, and returns its folder."""
+        write(f"{top}/crates.txt", "low:\n")
+        folder = f"{top}/crates/low"
+        write(f"{folder}/src/lib.rt", "//! Low.\n\nmod pair;\n")
+        write(f"{folder}/src/pair.rt", PAIR)
+        write(f"{folder}/proofs/pair/Pair/first/Answers.antt", "use Rattle.low.proofs.pair.Pair.first.Goals as goal\n\npub returns : goal.returns\nreturns c = refl\n")
+        return folder
+
+    def copy(self, folder, end):
+        """Returns a copy of a function as it is."""
+        return copies.copy_of(edits.Edit("e.edit", {"src/pair.rt": PAIR}, {end}), "low", folder, PROVED_OF_PAIR, 1)
+
+    def test_method_and_its_proof(self):
+        with tempfile.TemporaryDirectory() as top:
+            made = self.copy(self.of_pair(top), "Pair::first")
+        self.assertEqual((made.end, made.own), ("Pair::first", "Pair::first_copy1"))
+        texts = copies.with_copies({}, [made], {"src/pair.rt": PAIR}, "more\n")
+        answers = "use Rattle.low.proofs.pair.Pair.first_copy1.Goals as goal\n\npub returns : goal.returns\nreturns c = refl\nmore\n"
+        self.assertEqual(texts["proofs/pair/Pair/first_copy1/Answers.antt"], answers)
+        part = PAIR[PAIR.index("    /// The first") : PAIR.index("    pub fn again")]
+        self.assertEqual(texts["src/pair.rt"], PAIR.replace(part, f"{part}{part.replace('fn first', 'fn first_copy1', 1)}"))
+
+    def test_functions_without_a_copy(self):
+        with tempfile.TemporaryDirectory() as top:
+            folder = self.of_pair(top)
+            for end in ("Pair::again", "PairClone::copied", "pair::all", "Pair::other"):
+                with self.subTest(end=end):
+                    self.assertIsNone(self.copy(folder, end))
+            write(f"{folder}/proofs/pair/Pair/first/Proof.antt", "pub first_spec : statement\n")
+            self.assertIsNone(self.copy(folder, "Pair::first"))
+
+    def tried(self, reads=True, compiles=True, goal="note: src/pair.rt:1:1: it is not proved that the result is right (`returns`)\n"):
+        """Tries two edits of one function. Returns the facts, and the functions of each check. `goal` is a line about each copy."""
+        with tempfile.TemporaryDirectory() as top:
+            folder = self.of_pair(top)
+            for number, body in enumerate(("0", "1")):
+                write(f"{folder}/must-fail/e{number}.edit", f"file: src/pair.rt\nold: let one = self.one;\nnew: let one = {body};\n")
+            write(f"{folder}/src/pair.rt", PAIR.replace("    {\n        self.one\n", "    {\n        let one = self.one;\n        one\n", 1))
+            trial, checks = edits.Trial(project.Project(top), "low", mock.Mock(notes=[]), "", None, PROVED_OF_PAIR), []
+
+            def check(texts, only=(), flags=()):
+                checks.append(sorted(only))
+                if not compiles and any("_copy" in it for it in only):
+                    return edits.Verdict(1, "./src/pair.rt:9:5: error[unresolved]: no such name here\n")
+                said = ""
+                for it in only:
+                    path = f"proofs/pair/{it.replace('::', '/')}/Answers.antt"
+                    said += f"./{path}:9:1: error: `{edits.NO_GOAL}`: not in scope\n" if reads and edits.NO_GOAL in texts.get(path, "") else ""
+                    said += (goal if "_copy" in it else "note: src/pair.rt:1:1: it is not proved that it is so (`returns`)\n") + f"fn low::pair::{it}: not proved\n"
+                return edits.Verdict(1, f"{said}only=1 proved=0\n")
+
+            trial.check = check
+            return trial.all(), checks
+
+    def test_two_edits_of_one_function_are_tried_in_one_check(self):
+        found, checks = self.tried()
+        self.assertEqual((found[-1], checks), ("pass 2", [["Pair::first", "Pair::first_copy0"]]))
+        self.assertIn("refused e1.edit: low::pair::Pair::first: returns", found)
+
+    def test_copy_whose_answers_are_not_read_shows_nothing(self):
+        found, checks = self.tried(reads=False)
+        self.assertEqual((found[-1], checks), ("pass 2", [["Pair::first", "Pair::first_copy0"], ["Pair::first"]]))
+
+    def test_copy_may_miss_a_field_beside_another_goal(self):
+        path = "proofs/pair/Pair/first_copy0/Answers.antt"
+        lost = f"./{path}:3:1: error: `other`: record `After-x` has no field `y`\n"
+        goal = "note: src/pair.rt:1:1: it is not proved that the result is right (`returns`)\n"
+        self.assertEqual(len(self.tried(goal=lost + goal)[1]), 1)
+        self.assertEqual(len(self.tried(goal=lost)[1]), 2)
+        self.assertEqual(len(self.tried(goal=lost.replace("record `After-x` has no field `y`", "`y` is not in scope") + goal)[1]), 2)
+
+    def test_copy_that_does_not_compile_is_left_out(self):
+        found, checks = self.tried(compiles=False)
+        self.assertEqual((found[-1], checks), ("pass 2", [["Pair::first", "Pair::first_copy0"], ["Pair::first"], ["Pair::first"]]))
+
+    def test_copy_without_a_goal_shows_nothing(self):
+        found, checks = self.tried(goal="")
+        self.assertEqual((found[-1], checks), ("pass 2", [["Pair::first", "Pair::first_copy0"], ["Pair::first"]]))
 
 
 class Ends(unittest.TestCase):
@@ -277,6 +561,7 @@ class Ends(unittest.TestCase):
     def test_check_that_refused_is_not(self):
         for said in ("fn low::f: not proved\nlogic=not-proved\n", "src/lib.rt:1:1: error[unresolved]: no `g` here\n", "only=2 proved=1\n"):
             self.assertFalse(calls.could_not_tell(1, said))
+        self.assertFalse(calls.could_not_tell(2, "rattle: error: `low` has no function `f`: help: write the name that a check prints\n"))
 
     def test_neither_is_one_that_is_well(self):
         self.assertFalse(calls.could_not_tell(0, "logic=proved functions=1 sum=1\n"))
@@ -387,6 +672,26 @@ class Seconds(unittest.TestCase):
             self.assertLess(seconds.used_by(ran.pid), 0.5)
             ran.stdout.readline()
             self.assertGreaterEqual(seconds.used_by(ran.pid), 0.4)
+
+
+class Slow(unittest.TestCase):
+    """The functions that took long, by the lines that a check prints as it ends with each."""
+
+    def test_each_function_has_the_seconds_since_the_one_before(self):
+        with tempfile.TemporaryDirectory() as top:
+            made = calls.Calls(top)
+            clock = iter([100.0, 104.0, 104.0, 140.0, 140.0, 165.0, 165.0])
+            with mock.patch("calls.time.monotonic", lambda: next(clock)):
+                lines = made.timed([b"checked low::a, 1 of 3\n", b"note: other\n", b"checked low::b, 2 of 3\n", b"checked low::T::c, 3 of 3\n"])
+            self.assertEqual(len(lines), 4)
+            self.assertEqual([it for it in made.facts() if it.startswith("slow")], ["slow 36 low::b", "slow 25 low::T::c"])
+
+    def test_the_slowest_are_told(self):
+        found = {("low", "edits"): ["slow 25 low::a", "pass 1"], ("high", "proof"): ["slow 90 high::b"]}
+        with contextlib.redirect_stdout(io.StringIO()) as said:
+            summary.print_slow(found)
+        told = "gate: slow, by the clock: high proof: 90 s for high::b\ngate: slow, by the clock: low edits: 25 s for low::a\n"
+        self.assertEqual(said.getvalue(), told)
 
 
 class SecondLane(unittest.TestCase):

@@ -4,6 +4,7 @@ files, numbers of parameters.
 What doesn't keep a rule yet is named or counted here. A count may not rise, and one that falls is to be entered.
 """
 
+import collections
 import os
 import re
 import subprocess
@@ -124,6 +125,13 @@ class Rules(unittest.TestCase):
     def test_lengths_of_files(self):
         long = {name: len(lines_of(name)) - 1 for name in files(".rt") if len(lines_of(name)) - 1 > MOST_LINES}
         self.assertEqual(long, {})
+
+    def test_names_of_modules(self):
+        """Tests import tools from several folders, so two modules of one name would be mistaken for each other."""
+        words = ["git", "ls-files", "--cached", "--others", "--exclude-standard", "*.py"]
+        names = subprocess.run(words, cwd=TOP, capture_output=True, encoding="utf-8", check=True).stdout.split()
+        there = collections.Counter(os.path.basename(name) for name in names if os.path.exists(os.path.join(TOP, name)))
+        self.assertEqual([name for name, count in there.items() if count > 1], [])
 
     def test_parameters(self):
         """None more than these; where one has fewer, enter that."""

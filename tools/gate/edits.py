@@ -4,14 +4,17 @@
 usage: tools/gate/edits.py CRATE..      (at the top of the repository, over what `rt check` kept of these crates)
 
 A function is proved from the contracts of those that it calls, never from their bodies. So edits of the bodies of different
-functions don't disturb each other, and one check tries them together. It checks these functions alone (`--only`). An edit counts as
-refused if the check refuses the function that it changes, for a goal of its own. A function that only calls one that isn't proved is
-tried again in other company. A check with `--only` may pass an edit that a whole check refuses, and never the other way round. So each edit
-that isn't refused like this is tried alone: first in a check of the functions that it changes, then in one of the whole crate. These are
-edits outside a body, those whose function has no clear name, those that aren't read or are proved, and callers of each other.
+functions don't disturb each other, and one check tries them together. It checks these functions alone (`--only`). If two edits change the
+same function, the second one is applied to a copy of the function (copies.py). An edit counts as refused if the check refuses the function
+that it changes, for a goal of its own. A function that only calls one that isn't proved is tried again in other company. A check with
+`--only` may pass an edit that a whole check refuses, and never the other way round. So each edit that isn't refused like this is tried
+alone: first in a check of the functions that it changes, then in one of the whole crate. These are edits outside a body, those whose
+function has no clear name, those that aren't read or are proved, and callers of each other.
 
-An edit of a definition may name a function whose contract stands on it, by a line `only: NAME`, which the kit doesn't read. It is
-tried alone, and that function is all that its first check proves.
+An edit of a definition may name a function whose contract depends on the definition, by a line `only: NAME`, which the kit doesn't read.
+The edit counts as refused if the check refuses this function, for a goal of its own or for a lemma that its proof needs. Such an edit is
+tried together with others if no other function of that check can depend on the changed definition, and this function on none that the
+others change. The names in the crate's texts show that (dependence.py). If the edit isn't refused there, a check of this function only follows.
 
 A check prints what is to be written for the goals that are left of a function, and the prover runs once more for that. So each
 function that an edit changes gets one answer more, for a goal that isn't there. Such a function is never proved, but that is no
@@ -32,11 +35,13 @@ import re
 import sys
 
 sys.path.insert(0, os.path.dirname(os.path.realpath(__file__)))
+import copies
 import lanes
 import looks
 import rooms
-from calls import Calls, text_of
+from calls import MISSING, Calls, text_of
 from project import Project
+from dependence import Reach, texts_of, touched
 from sources import function_at, is_end_of
 from tasks import Tasks
 
@@ -60,6 +65,23 @@ class Edit:
 
     def __str__(self):
         return os.path.basename(self.path)
+
+
+class Scope:
+    """The functions whose refusal counts for an edit, by the ends of their names. `changed` has the keys of the declarations that the edit
+    changes, and is empty for an edit of bodies, which no other proof reads. `read` has the keys of all declarations that the proofs of
+    these functions can read; it is None if that isn't known."""
+
+    def __init__(self, judged, changed, read):
+        self.judged, self.changed, self.read = judged, changed, read
+
+    def fits(self, other):
+        """Returns `True` if neither of two edits can have a part in the other's refusal."""
+        return self.judged.isdisjoint(other.judged) and self.spares(other) and other.spares(self)
+
+    def spares(self, other):
+        """Returns `True` if the functions of the other edit can't depend on the declarations that this one changes."""
+        return not self.changed or (other.read is not None and self.changed.isdisjoint(other.read))
 
 
 class Verdict:
@@ -170,10 +192,29 @@ class Trial:
         self.project, self.name, self.calls = project, name, calls
         self.kept, self.libraries, self.proved = kept, libraries, proved
         self.folder, self.found, self.is_searched, self.singly = project.folder(name), [], False, set()
+        # the edits of which a copy of the function was tried in vain
+        self.reach, self.scopes, self.uncopied = Reach(name, texts_of(self.folder)), {}, set()
+
+    def scope(self, path):
+        """Returns the scope of an edit; None if it has to be tried alone."""
+        if path not in self.scopes:
+            edit, name = applied(path, self.folder, {}), asked_of(path)
+            self.scopes[path] = self.scope_of(edit, name) if edit.functions or name else None
+        return self.scopes[path]
+
+    def scope_of(self, edit, name):
+        """Returns the scope of an edit of bodies, or of one that names this function; None if it isn't clear."""
+        if edit.functions:
+            more = " ".join(new for _, _, new in pairs_of(edit.path))
+            reads = [self.reach.of(it, more) for it in edit.functions]
+            return Scope(edit.functions, set(), None if None in reads else set().union(*reads))
+        changed = [touched(file, self.reach.texts.get(file, ""), text) for file, text in edit.texts.items()]
+        reads = [it.of(name) for it in (self.reach, Reach(self.name, {**self.reach.texts, **edit.texts}))]
+        return None if None in (*changed, *reads) else Scope({name}, set().union(*changed), set().union(*reads))
 
     def check(self, texts, only=(), flags=()):
         """Checks a copy of the crate with these texts, over a copy of the kept work: a check keeps what it made of wrong bodies."""
-        words = [*flags, *(word for it in only for word in ("--only", it))]
+        words = [*flags, *(word for it in only for word in ("--only", self.printed(it)))]
         with rooms.room_for(self.project, self.name, "edits", self.kept, self.libraries) as folder:
             for path, text in texts.items():
                 os.makedirs(os.path.dirname(f"{folder}/{path}"), exist_ok=True)
@@ -181,6 +222,11 @@ class Trial:
                     it.write(text)
             status, out, err = self.calls.check(folder, "check", after=words)
         return Verdict(status, text_of(out, err))
+
+    def printed(self, end):
+        """Returns the name by which a check knows a function: of `impl Ty<Arg<T>>` only the one that it prints, with Ty+Arg+T."""
+        full = [it for it in self.proved if "+" in it and is_end_of(end, it, self.name)]
+        return full[0] if len(full) == 1 else end
 
     def with_refused_answers(self, texts, functions):
         """Returns the texts with an answer that is refused for each of these functions whose full name is known."""
@@ -205,46 +251,84 @@ class Trial:
             self.found += [f"weak {edit}: only names that the edit took away, or no goal at all: {it}" for it in goals if not strong[it]]
 
     def together(self, waiting):
-        """Tries edits of different bodies in one check. Returns the groups that wait for another one, and those to be tried alone."""
-        texts, taken, later = {}, [], []
+        """Tries edits that fit in one check. Returns the groups that wait for another one, and those to be tried alone."""
+        # the check that searches for contracts which no call can meet has edits of bodies only
+        is_searching = not self.is_searched and any(not self.scope(it).changed for it in waiting)
+        texts, taken, copied, later = {}, [], {}, []
         for path in waiting:
-            made = applied(path, self.folder, texts)
-            if made and made.functions and not made.functions & {it for edit in taken for it in edit.functions}:
+            made, scope = applied(path, self.folder, texts), self.scope(path)
+            company = [self.scope(it) for it in (*(edit.path for edit in taken), *copied)]
+            if made and not (is_searching and scope.changed) and all(scope.fits(it) for it in company):
                 texts = made.texts
                 taken.append(made)
+                continue
+            copy = self.copy_for(path, len(copied)) if all(it.spares(scope) for it in company) else None
+            if copy:
+                copied[path] = copy
             else:
                 later.append(path)
         if not taken:
             return [], later
         groups = [later] if later else []
-        functions = sorted({it for edit in taken for it in edit.functions})
-        flags = [] if self.is_searched else [looks.SEARCH]
-        self.is_searched = True
-        verdict = self.check(self.with_refused_answers(texts, functions), functions, flags)
-        if verdict.is_void and len(taken) > 1:
+        functions = sorted({it for edit in taken for it in self.scope(edit.path).judged})
+        flags = [looks.SEARCH] if is_searching else []
+        self.is_searched |= is_searching
+        texts = copies.with_copies(self.with_refused_answers(texts, functions), copied.values(), self.reach.texts, REFUSED_ANSWER)
+        verdict = self.check(texts, [*functions, *(it.own for it in copied.values())], flags)
+        paths = [*(it.path for it in taken), *copied]
+        if verdict.is_void and len(paths) > 1:
+            self.is_searched, unknown = self.is_searched and not flags, MISSING.findall(verdict.said)
+            missing = [it.path for it in taken if any(self.printed(end) in unknown for end in self.scope(it.path).judged)]
+            uncopied = {path for path, copy in copied.items() if copy.own in unknown}
+            if missing or copied:
+                # if each function was found, a copy may not compile
+                self.uncopied |= uncopied or (set() if missing else set(copied))
+                return [[it for it in waiting if it not in missing]], missing
             # one of them may not compile: halves find it in a few checks
-            self.is_searched, half = self.is_searched and not flags, len(taken) // 2
-            return [*groups, *([it.path for it in part] for part in (taken[:half], taken[half:]))], []
+            half = len(paths) // 2
+            return [*groups, paths[:half], paths[half:]], []
         if flags and not looks.faults_of_search(verdict.said):
             self.found.append("searched for contracts that no call can meet: none")
-        self.singly |= {edit.path for edit in taken if len(taken) == 1}
+        self.singly |= set(paths) if len(paths) == 1 else set()
         again, alone = [], []
         for edit in taken:
-            if self.is_refused_in(edit, verdict):
+            if self.is_refused_in(edit, verdict, len(paths) > 1):
                 pass
-            elif verdict.word == "not-proved" and len(taken) > 1 and self.only_calls(edit, verdict):
+            elif verdict.word == "not-proved" and len(paths) > 1 and self.only_calls(edit, verdict):
                 again.append(edit.path)
             else:
                 alone.append(edit.path)
-        # if none was refused or left alone, another check in this company would end in the same way
-        return (groups, alone + again) if len(again) == len(taken) else ([it for it in [later + again] if it], alone)
+        rest = [path for path, copy in copied.items() if not self.is_refused_as(copy, path, verdict)]
+        self.uncopied |= set(rest)
+        if len(again) == len(taken):
+            # another check in this company would end in the same way
+            alone, again = alone + again, []
+        left = sorted([*later, *again, *rest], key=lambda it: bool(self.scope(it).changed))
+        return [left] if left else [], alone
+
+    def copy_for(self, path, number):
+        """Returns a copy of the function for this edit of its body, or None if there can be none."""
+        if self.scope(path).changed or path in self.uncopied:
+            return None
+        return copies.copy_of(applied(path, self.folder, {}), self.name, self.folder, self.proved, number)
+
+    def is_refused_as(self, copy, path, verdict):
+        """Returns `True` if a check refused this copy for a goal of its own that isn't only a lost name, and has read its answers."""
+        full, goals = verdict.refusal(copy.own, self.name)
+        if verdict.word != "not-proved" or not full or all(goals.values()) or not copy.is_read_in(verdict.said, NO_GOAL):
+            return False
+        self.refuse(os.path.basename(path), {full.removesuffix(copy.own) + copy.end: goals})
+        return True
 
     def only_calls(self, edit, verdict):
         """Returns `True` if the check said of one of the edit's functions only that it calls another that isn't proved."""
-        return any(is_end_of(end, it, self.name) for end in edit.functions for it in CALLER.findall(verdict.said))
+        return any(is_end_of(end, it, self.name) for end in self.scope(edit.path).judged for it in CALLER.findall(verdict.said))
 
-    def is_refused_in(self, edit, verdict):
-        """Returns `True` if a check refused each function that the edit changes, for goals of its own."""
+    def is_refused_in(self, edit, verdict, has_company=False):
+        """Returns `True` if a check refused each function that the edit changes, for goals of its own, or the one that it names."""
+        scope = self.scope(edit.path)
+        if scope.changed:
+            return self.is_refused_for(edit, *scope.judged, verdict, scope.read if has_company else None)
         goals = dict(verdict.refusal(it, self.name) for it in edit.functions)
         if verdict.word != "not-proved" or None in goals or not all(goals.values()):
             return False
@@ -264,8 +348,11 @@ class Trial:
     def alone(self, path):
         """Tries one edit alone: first checks the functions that it names or changes, and the whole crate if these do not refuse it."""
         edit, name = applied(path, self.folder, {}), asked_of(path)
-        if name and self.is_refused_by(edit, name):
-            return
+        if name:
+            is_tried = path in self.singly and not edit.functions
+            if not is_tried and self.is_refused_for(edit, name, self.check(self.with_refused_answers(edit.texts, [name]), [name])):
+                return
+            self.calls.notes.append(f"{edit}: the check of {name} alone did not refuse it, so the whole crate is checked")
         if edit.functions and path not in self.singly:
             functions = sorted(edit.functions)
             if self.is_refused_in(edit, self.check(self.with_refused_answers(edit.texts, functions), functions)):
@@ -278,28 +365,29 @@ class Trial:
         else:
             self.found.append(f"fail {edit}: BAD EDIT: {verdict.word}: {first_line_of(verdict.said)}")
 
-    def is_refused_by(self, edit, name):
-        """Returns `True` if a check of this function alone refused the edit, for a goal or a lemma that isn't only a lost name."""
-        verdict = self.check(edit.texts, [name])
-        own = {full: goals for full, goals in verdict.goals.items() if is_end_of(name, full, self.name)}
-        lemmas = lemmas_of(verdict.said)
+    def is_refused_for(self, edit, name, verdict, read=None):
+        """Returns `True` if a check refused this function, for a goal of its own that isn't only a lost name or for a lemma that isn't
+        proved. If `read` is given, a lemma counts only if its key is among these."""
+        own = {full: goals for full, goals in verdict.goals.items() if is_end_of(name, full, self.name) and goals}
+        lemmas = [it for it in lemmas_of(verdict.said) if read is None or tuple(it.split(": ")) in read]
         is_strong = lemmas or any(not is_lost for goals in own.values() for is_lost in goals.values())
         if verdict.word != "not-proved" or not own or not is_strong:
-            self.calls.notes.append(f"{edit}: the check of {name} alone did not refuse it, so the whole crate is checked")
             return False
         self.refuse(edit, own, lemmas)
         return True
 
     def all(self):
         """Tries all edits of the crate, and returns the facts."""
-        left, alone = [], []
+        bodies, definitions, alone = [], [], []
         for path in edits_of(self.folder):
-            made = applied(path, self.folder, {})
-            if made is None:
+            if applied(path, self.folder, {}) is None:
                 self.found.append(f"fail {os.path.basename(path)}: BAD EDIT: it can't be applied")
+            elif self.scope(path):
+                (definitions if self.scope(path).changed else bodies).append(path)
             else:
-                (left if made.functions else alone).append(path)
-        first = [functools.partial(self.group, left)] if left else []
+                alone.append(path)
+        together = [*bodies, *definitions]
+        first = [functools.partial(self.group, together)] if together else []
         Tasks(self.project.gate, [*first, *(functools.partial(self.single, it) for it in alone)]).run()
         return [*self.found, f"pass {sum(it.startswith('refused ') for it in self.found)}"]
 

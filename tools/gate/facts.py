@@ -1,8 +1,8 @@
 """What rules found: a file for each rule of each crate, one fact a line.
 
 `pass N` and `fail WHY` are what the gate counts. `proved NAME`, `functions N`, `tests N`, `refused EDIT: WHY` and `weak EDIT: WHY` say
-what passed; `note TEXT` is printed at the end; `seconds PROCESSOR CLOCK MIB` and `left MEMORY DISK` say what it took; `inputs SUM` what
-it read.
+what passed; `note TEXT` is printed at the end; `slow SECONDS FUNCTION` says which functions took long by the clock; `seconds PROCESSOR
+CLOCK MIB` and `left MEMORY DISK` say what the rule took; `inputs SUM` what it read.
 """
 import os
 

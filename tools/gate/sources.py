@@ -86,7 +86,8 @@ def function_at(path, text, old):
 
 
 def is_end_of(end, full, crate):
-    """Returns `True` if this is the function's full name, or the end of it."""
+    """Returns `True` if this is the function's full name, or the end of it. Of `impl Ty<Arg<T>>` a check prints Ty+Arg+T."""
+    full = re.sub(r"(?<=\w)(?:\+\w+)+(?=::)", "", full)
     return full in (end, f"{crate}::{end}") or full.endswith(f"::{end}")
 
 

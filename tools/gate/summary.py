@@ -8,6 +8,7 @@ from project import kit_version
 COLUMNS = {"proof": "proof", "house": "looks", "layout": "looks", "texts": "looks", "tests": "tests", "edits": "edits"}
 TOLD = {"fail": "FAILED ", "note": "", "weak": "an edit that shows little: "}
 KINDS = ("proof", "looks", "tests", "edits")
+MOST_SLOW = 12
 
 
 def print_costs(found):
@@ -25,6 +26,13 @@ def print_costs(found):
     print(f"{'all':<20}" + "".join(f"{it:8.0f}" for it in sums) + f"   {sum(took.values()) / 60:.0f} minutes")
 
 
+def print_slow(found):
+    """Prints the functions whose proofs, or whose refusals in checks of edits, took most seconds by the clock."""
+    slow = [(int(seconds), name, rule, function) for (name, rule), its in found.items() for seconds, function in map(str.split, facts.of_kind(its, "slow"))]
+    for seconds, name, rule, function in sorted(slow, reverse=True)[:MOST_SLOW]:
+        print(f"gate: slow, by the clock: {name} {rule}: {seconds} s for {function}")
+
+
 def print_room(found):
     """Prints which kit this was, how many processors there are, and the least memory and disk that were left."""
     left = [[int(number) for number in line.split()] for its in found.values() for line in facts.of_kind(its, "left")]
@@ -39,6 +47,7 @@ def print_total(project, crates, rules):
     if "texts" in rules:
         found["repository", "files"] = facts.read(project.gate, "repository", "files")
     print_costs(found)
+    print_slow(found)
     print_room(found)
     for (name, rule), its in found.items():
         for line in its:
