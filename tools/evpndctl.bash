@@ -19,7 +19,7 @@ _evpndctl() {
   fi
   local place=$((COMP_CWORD - at)) words=
   case $place in
-    0) words="$({ "${asks[@]}" edges; "${asks[@]}" help; } 2> /dev/null < /dev/null | awk '$1 != "E" {print $1}') watch records" ;;
+    0) words="$({ "${asks[@]}" edges; "${asks[@]}" help; } 2> /dev/null < /dev/null | awk '$1 != "E" {print $1}') watch metrics records" ;;
     1) [[ ${COMP_WORDS[at]} =~ ^[0-9]+$ ]] && words=$("${asks[@]}" help 2> /dev/null < /dev/null | awk '$1 == "E" {print $2}') ;;
   esac
   [ "$at $place" = "1 0" ] && words+=" --control"

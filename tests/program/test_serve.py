@@ -2,6 +2,7 @@
 
 import tests_path  # noqa: F401
 import contextlib
+import ctypes
 import os
 import re
 import resource
@@ -14,7 +15,7 @@ import sys
 import tempfile
 import time
 import unittest
-from typing import List
+from typing import Dict, List, Tuple
 
 from test_audit import PROGRAM, needs_program
 from test_records import TOP
@@ -152,6 +153,16 @@ class Served(unittest.TestCase):
         """Station 1 speaks at edge 1, and is heard at edge 2's cable."""
         self.assertTrue(carry(self.one, self.two, frame(BROADCAST, station(1), b"who is there")))
 
+    def links(self, console: Client, number: int) -> Dict[str, Dict[str, int]]:
+        """The numbers of each link of an edge, by its name and their words with the direction in front: `in octets`."""
+        found = {}
+        for line in console.ask(f"{number} links").splitlines():
+            words = line.split(" ")
+            way = words.index("out")
+            names = [f"in {word}" for word in words[3:way:2]] + [f"out {word}" for word in words[way::2]]
+            found[words[2]] = dict(zip(names, map(int, words[4::2])))
+        return found
+
     def ends_well(self, report: str = FLOODS, seconds: float = 8) -> None:
         """Its input ends, and the run with it within this time, with this report of both edges. The clock of an edge looks once a second: a
         busy machine has eight times as long, but less than the ten seconds after which a client is cut off."""
@@ -160,6 +171,27 @@ class Served(unittest.TestCase):
         self.assertLess(time.monotonic() - begun, seconds)
         self.assertEqual((status, first_life(out), notes), (0, f"edge 1\n{report}edge 2\n{report}", self.notes))
         self.assertFalse(os.path.lexists(self.path))
+
+
+def udp_socket(process: int, place: Tuple[str, int]) -> socket.socket:
+    """Another process's UDP socket that is bound at this place. PermissionError or OSError if the system gives none of them."""
+    call = ctypes.CDLL(None, use_errno=True).syscall
+    pidfd = os.pidfd_open(process)
+    try:
+        for name in os.listdir(f"/proc/{process}/fd"):
+            descriptor = call(438, pidfd, int(name), 0)  # pidfd_getfd
+            if descriptor < 0:
+                raise OSError(ctypes.get_errno(), "pidfd_getfd")
+            if not stat.S_ISSOCK(os.fstat(descriptor).st_mode):
+                os.close(descriptor)
+                continue
+            found = socket.socket(fileno=descriptor)
+            if (found.family, found.type) == (socket.AF_INET, socket.SOCK_DGRAM) and found.getsockname() == place:
+                return found
+            found.close()
+    finally:
+        os.close(pidfd)
+    raise AssertionError(f"no socket at {place}")
 
 
 @needs_program
@@ -210,6 +242,82 @@ class Asked(Served):
         self.assertEqual(console.ask("1 report"), FLOODS)
         self.ends_well()
 
+    def test_links(self) -> None:
+        """What came over each link, and why datagrams were dropped, while the edges run."""
+        console = self.console()
+        octets = frame(BROADCAST, station(1), b"to all")
+        self.assertTrue(carry(self.one, self.two, octets))
+        before = {number: self.links(console, number) for number in (1, 2)}
+        self.assertEqual(list(before[1]), ["tunnel", "1"])
+        sent = [octets] * 5 + [b"short"] * 3 + [octets.ljust(9019, b"x")]
+        for each in sent:
+            self.one.send(each)
+        for address, vni in ((ELSEWHERE, VNI), (TWO, VNI + 1)):
+            with socket.socket(socket.AF_INET, socket.SOCK_DGRAM) as other:
+                other.bind((address, 0))
+                other.sendto(b"\x08\0\0\0" + vni.to_bytes(3, "big") + b"\0" + octets, (ONE, 4789))
+
+        def more(number: int, link: str, word: str) -> int:
+            return self.links(console, number)[link][word] - before[number][link][word]
+
+        self.assertTrue(is_reached(lambda: more(1, "1", "in in") == 9 and more(1, "tunnel", "in in") == 2 and more(2, "tunnel", "in in") == 5))
+        self.assertEqual(more(1, "1", "in octets"), sum(map(len, sent)))
+        self.assertEqual((more(1, "1", "in malformed"), more(1, "1", "in long")), (3, 1))
+        self.assertEqual((more(1, "tunnel", "in unlisted"), more(1, "tunnel", "in network")), (1, 1))
+        datagram = 8 + len(octets)
+        self.assertEqual((more(1, "tunnel", "out out"), more(1, "tunnel", "out octets")), (5, 5 * datagram))
+        self.assertEqual((more(1, "tunnel", "in octets"), more(2, "tunnel", "in octets")), (2 * datagram, 5 * datagram))
+        self.assertGreaterEqual(more(2, "1", "out out"), 5)
+        for each in (*self.links(console, 1).values(), *self.links(console, 2).values()):
+            self.assertEqual([each[word] for word in ("in failed", "in memory", "out dropped", "out failed")], [0, 0, 0, 0])
+        self.ends_well(FLOODS + learnt(1, ONE, 2))
+
+    def test_idle_links(self) -> None:
+        """How many seconds ago the last datagram came and was sent: one more each second, and none after a datagram of this link."""
+        console = self.console()
+
+        def idle(link: str, way: str) -> int:
+            return self.links(console, 2)[link][f"{way} idle"]
+
+        self.hears_station()
+        # (nothing comes over the tunnel and the port of edge 2 any more, and nothing leaves by its tunnel; its port sends BPDUs)
+        ways = (("tunnel", "in"), ("tunnel", "out"), ("1", "in"))
+        self.assertTrue(is_reached(lambda: all(idle(*way) >= 4 for way in ways)))
+        self.assertLess(idle("1", "out"), 4)
+        begun = {way: idle(*way) for way in ways}
+        self.hears_station()
+        self.assertTrue(is_reached(lambda: idle("tunnel", "in") < 2))
+        self.assertGreaterEqual(idle("1", "in"), begun["1", "in"])
+        self.assertGreaterEqual(idle("tunnel", "out"), begun["tunnel", "out"])
+        self.two.send(frame(BROADCAST, station(2), b"who is there"))
+        self.assertTrue(is_reached(lambda: idle("1", "in") < 2 and idle("tunnel", "out") < 2))
+        self.running.end()
+
+    def fail_a_read(self, place: Tuple[str, int]) -> None:
+        """Makes the next read of the program's socket there fail: the system reports to it that nobody hears a datagram of that socket."""
+        try:
+            it = udp_socket(self.running.program.pid, place)
+        except OSError as why:
+            self.skipTest(f"the system gives no socket of another process: {why}")
+        with it, socket.socket(socket.AF_INET, socket.SOCK_DGRAM) as gone:
+            gone.bind((ONE, 0))
+            deaf = gone.getsockname()
+            gone.close()
+            it.setsockopt(socket.IPPROTO_IP, 11, 1)  # IP_RECVERR
+            it.sendto(b"", deaf)
+            it.setsockopt(socket.IPPROTO_IP, 11, 0)
+
+    def test_failed_reads(self) -> None:
+        """Each is counted at its link, and the link is read again."""
+        console = self.console()
+        for link, name, place in (("1", "port 1", (ONE, self.one.port)), ("tunnel", "tunnel", (ONE, 4789))):
+            self.fail_a_read(place)
+            self.assertEqual(self.running.note(lines=2), f"edge 1 {name}: receiving failed\nedge 1 {name}: receiving again\n")
+            found = self.links(console, 1)
+            self.assertEqual(found[link]["in failed"], 1)
+        self.assertEqual([each["in failed"] for each in found.values()], [1, 1])
+        self.assertEqual(self.running.end()[0], 4)
+
     def test_evpndctl(self) -> None:
         """The tool, over the socket."""
         no_port = "evpndctl: edge 1 has no port 9 (edge 16)\n"
@@ -227,6 +335,20 @@ class Asked(Served):
             self.assertEqual((done.returncode, first_life(done.stdout), done.stderr), (status, out, notes))
         self.ends_well()
 
+    def test_metrics(self) -> None:
+        """`evpndctl metrics` prints each number of each link."""
+        self.hears_station()
+        tool = [sys.executable, os.path.join(TOP, "tools", "evpndctl"), "--control", self.path, "metrics"]
+        done = subprocess.run(tool, capture_output=True, encoding="utf-8", timeout=PATIENCE, check=False)
+        self.assertEqual((done.returncode, done.stderr), (0, ""))
+        found = [line.split(" ")[0] for line in done.stdout.splitlines() if not line.startswith("#")]
+        ways = [f"{name}{{LINK,way=\"{way}\"}}" for name in ("datagrams_total", "octets_total", "failures_total", "idle_seconds") for way in ("in", "out")]
+        causes = ("no_room", "too_long", "malformed", "unlisted", "other_network", "no_memory")
+        wanted = ways + [f"drops_total{{LINK,cause=\"{cause}\"}}" for cause in causes]
+        links = [f'edge="{number}",link="{link}"' for number in (1, 2) for link in ("tunnel", "port1")]
+        self.assertEqual(sorted(found), sorted(f"evpnd_link_{line.replace('LINK', link)}" for line in wanted for link in links))
+        self.ends_well(FLOODS + learnt(1, ONE, 2))
+
     def test_watch(self) -> None:
         """`evpndctl watch` shows a station that is pinned and unpinned, until SIGINT; the run goes on."""
         console = self.console()
@@ -243,6 +365,48 @@ class Asked(Served):
         self.assertEqual((tool.returncode, rest, notes), (0, "", ""))
         withdrawn = f"mac {VNI} {MAC} {ONE} 3 withdrawn\nowner {VNI} {MAC} none\n"
         self.ends_well(FLOODS + withdrawn)
+
+
+class Nowhere(Cable):
+    """A port's cable that takes nothing: the system sends nothing to this address for a socket that hasn't asked for broadcasts."""
+
+    def keys(self) -> str:
+        """The port's keys in the configuration."""
+        return f'local = "{self.address}:{self.port}"\nremote = "255.255.255.255:9"\n'
+
+
+@needs_program
+class Failing(Served):
+    """A link whose sends fail."""
+
+    def setUp(self) -> None:
+        super().setUp()
+        self.nowhere = Nowhere()
+        self.addCleanup(self.nowhere.here.close)
+        self.begin()
+
+    def text(self) -> str:
+        """Edge 1 has a second port, each of whose sends fails."""
+        keys = "incarnation = 1\n"
+        return f'control = "{self.path}"\n' + edge(ONE, 1, self.one, self.nowhere, keys=keys) + edge(TWO, 2, self.two, keys=keys)
+
+    def test_failed_sends(self) -> None:
+        """Each is counted at its port, is no datagram that was sent, and is one of those that are lost at the end."""
+        console = self.console()
+        octets = frame(BROADCAST, station(1), b"to all")
+        self.assertTrue(carry(self.one, self.two, octets))
+        before = self.links(console, 1)["2"]["out failed"]
+        for _ in range(7):
+            self.one.send(octets)
+        self.assertTrue(is_reached(lambda: self.links(console, 1)["2"]["out failed"] >= before + 7))
+        self.assertEqual(self.running.note(), "edge 1 port 2: sending failed\n")
+        found = self.links(console, 1)
+        self.assertEqual([found["2"][word] for word in ("out out", "out octets", "out dropped", "in in", "in failed")], [0, 0, 0, 0, 0])
+        self.assertEqual((found["1"]["out failed"], found["tunnel"]["out failed"]), (0, 0))
+        status, _, notes = self.running.end()
+        self.assertEqual((status, re.sub("[0-9]+", "N", notes)), (4, "lost N\n"))
+        # (the edge sends a BPDU each two seconds)
+        self.assertIn(int(notes.split()[1]) - found["2"]["out failed"], range(8))
 
 
 @needs_program

@@ -244,7 +244,7 @@ GOOD = [
 HELP = lines(
     "E up P", "E down P", "E mcheck P", "E second N", "E frame P HEX", "E tunnel ADDR HEX", "E pin VNI MAC P", "E unpin VNI MAC",
     "E thaw VNI MAC", "E announce", "E deliver K", "E restart N", "E away ADDR", "E back ADDR", "E port P",
-    "E report", "E owner VNI MAC", "E counts", "E stations [VNI]", "E peers", "edges", "help",
+    "E report", "E owner VNI MAC", "E counts", "E stations [VNI]", "E peers", "E links", "edges", "help",
 )
 
 # an edge of three ports and three networks, one of which no port is of

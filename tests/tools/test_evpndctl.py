@@ -37,6 +37,14 @@ mac 5002 {STATION} 10.0.0.1 8 withdrawn
 owner 5002 {STATION} none
 """
 
+NUMBERS_OF_LINK = (
+    "in 1 octets 2 failed 3 idle 13 long 4 malformed 5 unlisted 6 network 7 memory 8 out 9 octets 10 dropped 11 failed 12 idle 14"
+)
+OBJECT_OF_LINK = {
+    **{"received": 1, "received_octets": 2, "failed_reads": 3, "idle_in": 13, "too_long": 4, "malformed": 5, "unlisted": 6},
+    **{"other_network": 7, "no_memory": 8, "sent": 9, "sent_octets": 10, "dropped": 11, "failed_sends": 12, "idle_out": 14},
+}
+
 # each command of a console: a line, its answer, and the answer's objects
 OBJECTS = {
     "E up P": ("1 up 1", "1 bpdu 1 0000020279\n", [{"line": "bpdu", "edge": 1, "port": 1, "octets": "0000020279"}]),
@@ -109,6 +117,14 @@ OBJECTS = {
             {"line": "peer", "edge": 1, "address": "10.0.0.9", "state": "away"},
             {"line": "peer", "edge": 1, "address": "10.0.0.23", "state": "unlisted"},
             {"line": "unlisted", "edge": 1, "least": 64},
+        ],
+    ),
+    "E links": (
+        "1 links",
+        f"1 link tunnel {NUMBERS_OF_LINK}\n1 link 2 {NUMBERS_OF_LINK}\n",
+        [
+            {"line": "link", "edge": 1, "link": "tunnel", **OBJECT_OF_LINK},
+            {"line": "link", "edge": 1, "link": "2", **OBJECT_OF_LINK},
         ],
     ),
     "edges": (
@@ -348,7 +364,8 @@ class Evpndctl(unittest.TestCase):
     def watch(self, edges: str, *rounds: Dict[str, str], lines: int) -> List[str]:
         """So many lines of a watch whose looks find these answers, without the time; then SIGINT ends it."""
         answers = {line: [f"{found[line]}\n".encode() for found in rounds] for line in rounds[0]}
-        self.server({"edges": f"{edges}\n".encode(), **answers})
+        links = {f"{number} links": b"\n" for number in (1, 2)}
+        self.server({"edges": f"{edges}\n".encode(), **links, **answers})
         words = [sys.executable, TOOL, "--control", self.path, "watch", "0.05"]
         with subprocess.Popen(words, stdout=subprocess.PIPE, stderr=subprocess.PIPE, encoding="utf-8") as tool:
             told = [tool.stdout.readline() for _ in range(lines)]
@@ -421,9 +438,53 @@ class Evpndctl(unittest.TestCase):
         )
         self.assertEqual(told, [f"known 5001 {STATION} at 10.0.0.1 port 1", f"gone 5001 {STATION} from 10.0.0.1 port 1"])
 
+    def test_watch_of_links(self) -> None:
+        """What was lost before is not told; what is lost from then on is, once."""
+        edge = "1 edge 10.0.0.1 ports 1:5001 networks 5001\n"
+        rest = {"1 stations": "", "1 report": ""}
+        line = f"1 link 2 {NUMBERS_OF_LINK}\n"
+        told = self.watch(
+            edge,
+            {"1 links": line, **rest},
+            {"1 links": line.replace("dropped 11", "dropped 20").replace("unlisted 6", "unlisted 7"), **rest},
+            lines=2,
+        )
+        self.assertEqual(told, ["edge 1 port 2: 9 dropped: no room", "edge 1 port 2: 1 dropped: from an unlisted edge"])
+
+    def test_metrics(self) -> None:
+        """Each number is a line with its labels, printed or in a file."""
+        self.server({"edges": EDGES, "1 links": f"1 link tunnel {NUMBERS_OF_LINK}\n\n".encode(), "2 links": b"\n"})
+        status, out, notes = self.ask("metrics")
+        self.assertEqual((status, notes), (0, ""))
+        self.assertEqual(
+            [line for line in out.splitlines() if not line.startswith("#")],
+            [
+                'evpnd_link_datagrams_total{edge="1",link="tunnel",way="in"} 1',
+                'evpnd_link_datagrams_total{edge="1",link="tunnel",way="out"} 9',
+                'evpnd_link_octets_total{edge="1",link="tunnel",way="in"} 2',
+                'evpnd_link_octets_total{edge="1",link="tunnel",way="out"} 10',
+                'evpnd_link_failures_total{edge="1",link="tunnel",way="in"} 3',
+                'evpnd_link_failures_total{edge="1",link="tunnel",way="out"} 12',
+                'evpnd_link_drops_total{edge="1",link="tunnel",cause="no_room"} 11',
+                'evpnd_link_drops_total{edge="1",link="tunnel",cause="too_long"} 4',
+                'evpnd_link_drops_total{edge="1",link="tunnel",cause="malformed"} 5',
+                'evpnd_link_drops_total{edge="1",link="tunnel",cause="unlisted"} 6',
+                'evpnd_link_drops_total{edge="1",link="tunnel",cause="other_network"} 7',
+                'evpnd_link_drops_total{edge="1",link="tunnel",cause="no_memory"} 8',
+                'evpnd_link_idle_seconds{edge="1",link="tunnel",way="in"} 13',
+                'evpnd_link_idle_seconds{edge="1",link="tunnel",way="out"} 14',
+            ],
+        )
+        file = f"{self.path}.prom"
+        self.assertEqual(self.ask("metrics", file), (0, "", ""))
+        with open(file, encoding="ascii") as it:
+            self.assertEqual(it.read(), out)
+        self.assertEqual([name for name in os.listdir(os.path.dirname(file)) if name.endswith(".new")], [])
+
     def test_end_of_what_is_watched(self) -> None:
         """The edges' end is told, and ends the watch."""
-        self.server({"edges": [EDGES, b"1 edge 10.0.0.1"], "1 stations": b"\n", "2 stations": b"\n", "1 report": b"\n", "2 report": b"\n"})
+        nothing = {f"{number} {word}": b"\n" for number in (1, 2) for word in ("stations", "report", "links")}
+        self.server({"edges": [EDGES, b"1 edge 10.0.0.1"], **nothing})
         status, out, notes = self.ask("watch", "0.05")
         self.assertEqual((status, out), (2, ""))
         self.assertIn(f"{self.path}: it ended the connection", notes)
@@ -458,7 +519,7 @@ class Evpndctl(unittest.TestCase):
     def test_completion(self) -> None:
         """The first word is an edge, or one of those that name none; the second what an edge does."""
         self.server({"edges": EDGES, "help": HELP})
-        self.assertEqual(self.complete(""), ["--control", "1", "2", "edges", "help", "records", "watch"])
+        self.assertEqual(self.complete(""), ["--control", "1", "2", "edges", "help", "metrics", "records", "watch"])
         self.assertEqual(self.complete("1", ""), ["pin", "port", "report"])
         self.assertEqual(self.complete("1", "p"), ["pin", "port"])
         self.assertEqual(self.complete("--control", self.path, "1", "r"), ["report"])
@@ -469,7 +530,7 @@ class Evpndctl(unittest.TestCase):
         self.assertEqual(self.complete("watch", ""), [])
 
     def test_completion_where_nobody_answers(self) -> None:
-        self.assertEqual(self.complete(""), ["--control", "records", "watch"])
+        self.assertEqual(self.complete(""), ["--control", "metrics", "records", "watch"])
         self.assertEqual(self.complete("1", ""), [])
 
 

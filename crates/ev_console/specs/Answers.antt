@@ -135,7 +135,7 @@ help_text =
     ++ codes "E unpin VNI MAC\n" ++ codes "E thaw VNI MAC\n" ++ codes "E away ADDR\n" ++ codes "E back ADDR\n"
     ++ codes "E port P\n" ++ codes "E report\n"
     ++ codes "E owner VNI MAC\n" ++ codes "E counts\n" ++ codes "E stations [VNI]\n" ++ codes "E peers\n"
-    ++ codes "edges\n" ++ codes "help\n"
+    ++ codes "E links\n" ++ codes "edges\n" ++ codes "help\n"
 
 abbrev pub ShowsView : ℕ → EdgeQuestion → List Asked → List ℕ → Type 0
 ShowsView e q = λ asked text.

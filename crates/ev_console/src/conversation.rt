@@ -11,6 +11,7 @@ use crate::reached::Host;
 use arrayvec::ArrayVec;
 use ether_wire::{Device, Flushing, In};
 use ev_exchange::Known;
+use ev_history::Naming;
 use ev_mailboxes::Running;
 use ev_report::MOST_READS;
 use std::alloc::Global;
@@ -143,10 +144,10 @@ pub fn converse_with<O: Operated, I: In, W: Flushing>(
 ///
 /// `Device` if a read or a write failed, or 2^40 reads didn't reach the end; then no further line
 /// is processed.
-pub fn converse<R: Wait, I: In, W: Flushing>(
+pub fn converse<J: Naming, R: Wait, I: In, W: Flushing>(
     rt: &R,
     alloc: Global,
-    running: &Running<'_>,
+    running: &Running<'_, J>,
     unlisted: &Mutex<Known>,
     reader: &mut I,
     out: &mut W,

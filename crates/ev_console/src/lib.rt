@@ -5,6 +5,7 @@
 mod answering;
 mod conversation;
 mod edges;
+mod loaded;
 mod operated;
 mod printing;
 mod reached;

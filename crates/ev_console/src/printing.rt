@@ -159,6 +159,7 @@ E owner VNI MAC\n\
 E counts\n\
 E stations [VNI]\n\
 E peers\n\
+E links\n\
 edges\n\
 help\n",
     )

@@ -3,12 +3,15 @@
 ghost use Rattle.std.specs.Prelude.{◌≡◌, ℕ, MatchOption};
 ghost use Rattle.ev_console.specs.Asking.{Asked, entered, table_seen, port_seen, view_seen, served_seen};
 
+use crate::loaded::rows_of;
 use crate::operated::Unreached;
 use ev_book::BookRefusal;
 use ev_edge::Reply;
 use ev_exchange::Known;
+use ev_history::Naming;
 use ev_mailboxes::{Command, Control, PortView, Running, Served};
-use ev_view::{EdgeQuestion, with_unlisted};
+use ev_notices::LinkCounts;
+use ev_view::{EdgeQuestion, links_of, with_unlisted};
 use route_wire::Update;
 use std::alloc::{AllocError, Global};
 use std::sync::{Mutex, Wait};
@@ -17,7 +20,8 @@ use std::sync::{Mutex, Wait};
 ///
 /// # Errors
 ///
-/// Each call returns `Unreached::Ended` if the edge has ended.
+/// Each call returns `Unreached::Ended` if the edge has ended. Only `view` returns the numbers of
+/// its links even then.
 pub(crate) trait OneEdge {
     /// The edge's number, from 1.
     ghost number: { Self → ℕ };
@@ -74,27 +78,29 @@ pub(crate) trait ManyEdges {
 
 /// The edges of this process, and the runtime on which a caller waits for their answers.
 #[derive(Drop)]
-pub(crate) struct Host<'x, R> {
+pub(crate) struct Host<'x, J: Naming, R> {
     /// The runtime.
     pub(crate) rt: &'x R,
     /// The edges.
-    pub(crate) running: Running<'x>,
+    pub(crate) running: Running<'x, J>,
     /// The edges elsewhere that the configuration doesn't name, for a caller that shows them.
     pub(crate) unlisted: Option<&'x Mutex<Known>>,
 }
 
 /// An edge of this process. Its answers come from a book under a lock, of which no clause knows.
 #[derive(Drop)]
-pub(crate) struct HostedEdge<'x, R> {
+pub(crate) struct HostedEdge<'x, J: Naming, R> {
     rt: &'x R,
-    control: Control<'x>,
+    control: Control<'x, J>,
+    /// The numbers of its links, the tunnel's first.
+    links: Option<&'x [LinkCounts]>,
     unlisted: Option<&'x Mutex<Known>>,
 }
 
-impl<'x, R: Wait> ManyEdges for Host<'x, R> {
+impl<'x, J: Naming, R: Wait> ManyEdges for Host<'x, J, R> {
     ghost use Rattle.std.specs.Prelude.{⊤, vec_len};
 
-    type Edge = HostedEdge<'x, R>;
+    type Edge = HostedEdge<'x, J, R>;
 
     ghost count = { λ host. vec_len host.running.mailboxes.now.all };
 
@@ -104,17 +110,29 @@ impl<'x, R: Wait> ManyEdges for Host<'x, R> {
         self.running.edges() as u64
     }
 
-    fn reach(&self, number: u64) -> Option<HostedEdge<'x, R>> {
+    fn reach(&self, number: u64) -> Option<HostedEdge<'x, J, R>> {
         let control = self.running.edge(number as usize)?;
+        let running = self.running;
         Some(HostedEdge {
             rt: self.rt,
             control,
+            links: running.links(number as usize),
             unlisted: self.unlisted,
         })
     }
 }
 
-impl<R: Wait> HostedEdge<'_, R> {
+impl<J: Naming, R: Wait> HostedEdge<'_, J, R> {
+    /// Returns the lines of the edge's links, with the numbers that its threads show. Makes no
+    /// request to the edge, so that an edge that is busy delays no answer.
+    fn links(&self, alloc: Global) -> Result<Vec<u8>, AllocError> {
+        let Some(links) = self.links else {
+            return Ok(Vec::new(alloc));
+        };
+        let rows = rows_of(alloc, links)?;
+        links_of(alloc, self.control.number() as u64, rows.as_slice())
+    }
+
     /// Returns the answer of the edge to a question, with the edges that the configuration doesn't
     /// name after it if the question is about other edges.
     fn shown(
@@ -132,7 +150,7 @@ impl<R: Wait> HostedEdge<'_, R> {
     }
 }
 
-impl<R: Wait> OneEdge for HostedEdge<'_, R> {
+impl<J: Naming, R: Wait> OneEdge for HostedEdge<'_, J, R> {
     ghost use Rattle.std.specs.Prelude.{⊤};
 
     ghost number = { λ edge. edge.control.mailbox.now.number };
@@ -165,6 +183,9 @@ impl<R: Wait> OneEdge for HostedEdge<'_, R> {
         alloc: Global,
         question: &EdgeQuestion,
     ) -> Result<Result<Vec<u8>, AllocError>, Unreached> {
+        if let EdgeQuestion::Links = question {
+            return Ok(self.links(alloc));
+        }
         match self.control.view(self.rt, alloc, *question) {
             Some(Ok(text)) => Ok(self.shown(alloc, question, text)),
             Some(Err(refused)) => Ok(Err(refused)),

@@ -8,6 +8,7 @@ use crate::reached::Host;
 use ev_book::BookRefusal;
 use ev_edge::Reply;
 use ev_exchange::{Sessions, Turn};
+use ev_history::Naming;
 use ev_mailboxes::{Command as Step, Running};
 use std::sync::Wait;
 
@@ -74,9 +75,9 @@ pub fn take_turn_with<O: Operated>(
 /// Enters the first step that is due for an edge elsewhere at each edge of this process: the edge
 /// is away if it has had no session for `hold` seconds, and back once it has one. Notes the step if
 /// no edge refused it; otherwise it is still due. Returns `true` if it noted a step.
-pub fn take_turn<'x, R: Wait>(
+pub fn take_turn<'x, J: Naming, R: Wait>(
     rt: &'x R,
-    running: &Running<'x>,
+    running: &Running<'x, J>,
     sessions: &mut Sessions,
     now: u64,
     hold: u64,

@@ -4,5 +4,6 @@ pub mod Line
 pub mod DirectLine
 pub mod Laws
 pub mod FailAt
+pub mod Flow
 pub mod Udp
 pub mod Inner

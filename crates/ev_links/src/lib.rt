@@ -4,16 +4,20 @@
 
 mod backlog;
 mod channels;
+mod counted;
 mod direct_line;
 mod fail_at;
+mod flow;
 pub mod laws;
 mod line;
 mod links;
 mod udp;
 
 pub use channels::{ChannelIn, ChannelOut, Datagram};
+pub use counted::Counted;
 pub use direct_line::DirectLine;
 pub use fail_at::FailAt;
+pub use flow::{Flow, FlowCell};
 pub use line::{LONGEST, Line};
 pub use links::{LinkIn, LinkOut, PromptOut};
 pub use udp::{Destination, UdpOut, Wire, socket_address};

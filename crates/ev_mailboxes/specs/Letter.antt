@@ -7,10 +7,10 @@ use Rattle.ev_mailboxes.specs.declared.message.Letter.{Letter}
 use Rattle.ev_mailboxes.specs.declared.message.Letter.TheVariants.{Of, Stop}
 
 -- the message of a letter; a stop is the end
-abbrev pub coming : Letter → Option Message
+abbrev pub coming : {U : Type 0} → Letter U → Option (Message U)
 coming (Of message) = Some message
 coming Stop = None
 
 -- the messages that came to a worker: that of each letter which its inbox received, and `None` for the end
-abbrev pub came_of : Inbox Letter → List (Option Message)
+abbrev pub came_of : {U : Type 0} → Inbox (Letter U) → List (Option (Message U))
 came_of inbox = map coming (received_by inbox)

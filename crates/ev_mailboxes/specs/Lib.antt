@@ -1,4 +1,5 @@
 pub mod Letter
+pub mod Mail
 pub mod Posts
 pub mod Outbox
 pub mod Inner

@@ -2,8 +2,11 @@
 //! operator's lines.
 ghost use Rattle.std.specs.Prelude.{◌≡◌, ◌-◌, IfOk, slice_get, option_copied, vec_len};
 
-use ev_notices::{Alarm, Board, News, Reception, Receptions, Refusals, Refused};
+use ev_notices::{
+    Alarm, Board, LINKS, LinkCounts, News, Reception, Receptions, Refusals, Refused, Sendings,
+};
 use std::alloc::{AllocError, Global};
+use std::sync::atomic::{AtomicUsize, Ordering};
 use std::sync::{Condvar, Mutex, Wait};
 
 /// The state of the bell that wakes the worker that writes the operator's lines.
@@ -22,6 +25,39 @@ struct OfEdge {
     board: Mutex<Board>,
     /// Changes of its links: receiving failed, or works again.
     receptions: Mutex<Receptions>,
+    /// Changes of its links: sends failed, or work again.
+    sendings: Mutex<Sendings>,
+    /// The numbers of its links, the tunnel's first, and of those that it could have.
+    links: Vec<LinkCounts>,
+    /// The number of links that it has.
+    used: AtomicUsize,
+}
+
+/// Returns the numbers of as many links as an edge can have.
+fn unused_links(alloc: Global) -> Result<Vec<LinkCounts>, AllocError>
+    ensures { IfOk result (λ links. vec_len links ≡ 65) }
+{
+    let mut links = Vec::with_capacity(alloc, LINKS)?;
+    for place in 0..LINKS {
+        let _ = place;
+        links.push_reserved(LinkCounts::new());
+    }
+    Ok(links)
+}
+
+impl OfEdge {
+    /// Looks at what came and was sent over each link, when a second passes. Returns `true` if a
+    /// change of the sends waits to be reported since then.
+    fn look<R: Wait>(&self, rt: &R) -> bool {
+        let mut is_put = false;
+        let mut sendings = self.sendings.lock(rt);
+        for (place, link) in self.links.iter().enumerate() {
+            link.second();
+            let is_changed = sendings.second(place, link.sent(), link.failed());
+            is_put = is_put || is_changed;
+        }
+        is_put
+    }
 }
 
 /// A board for each edge. The calls act as the calls of `Board` and `Receptions`; no clause can
@@ -52,6 +88,9 @@ impl Boards {
             all.push_reserved(OfEdge {
                 board: Mutex::new(Board::new()),
                 receptions: Mutex::new(Receptions::new()),
+                sendings: Mutex::new(Sendings::new()),
+                links: unused_links(alloc)?,
+                used: AtomicUsize::new(0),
             });
         }
         Ok(Boards {
@@ -84,10 +123,30 @@ impl Boards {
         self.ringing.notify_one();
     }
 
-    /// Counts a second that passes at the edge with this number.
-    pub(crate) fn second<R: Wait>(&self, rt: &R, edge: usize) {
+    /// Notes that the edge with this number has so many links.
+    pub(crate) fn use_links(&self, edge: usize, count: usize) {
         if let Some(of_edge) = self.of(edge) {
-            of_edge.board.lock(rt).second();
+            of_edge.used.store(count.min(LINKS), Ordering::SeqCst);
+        }
+    }
+
+    /// Returns the numbers of the links of the edge with this number, the tunnel's first.
+    pub(crate) fn links(&self, edge: usize) -> Option<&[LinkCounts]> {
+        let of_edge = self.of(edge)?;
+        let used = of_edge.used.load(Ordering::SeqCst);
+        let links = of_edge.links.as_slice();
+        let (links, _) = links.split_at(used.min(links.len()));
+        Some(links)
+    }
+
+    /// Counts a second that passes at the edge with this number, and looks at its links.
+    pub(crate) fn second<R: Wait>(&self, rt: &R, edge: usize) {
+        let Some(of_edge) = self.of(edge) else {
+            return;
+        };
+        of_edge.board.lock(rt).second();
+        if of_edge.look(rt) {
+            self.ring(rt, false);
         }
     }
 
@@ -136,6 +195,9 @@ impl Boards {
             let edge = place as u64 + 1;
             if let Some(reception) = of_edge.receptions.lock(rt).take() {
                 return Some((edge, News::Reception(reception)));
+            }
+            if let Some(sending) = of_edge.sendings.lock(rt).take() {
+                return Some((edge, News::Sending(sending)));
             }
             if let Some(notice) = of_edge.board.lock(rt).take() {
                 return Some((edge, News::Alerts(notice)));

@@ -10,26 +10,46 @@ use crate::request::{Command, PortView, Reading, Request, Served};
 use crate::shared_mailbox::SharedMailbox;
 use ev_book::BookRefusal;
 use ev_edge::Reply;
-use ev_notices::Refused;
+use ev_history::{Naming, Outside, Told};
+use ev_notices::{LinkCounts, Refused};
 use ev_view::EdgeQuestion;
 use route_wire::Update;
 use std::alloc::{AllocError, Global};
 use std::sync::Wait;
 
-/// The running edges.
-#[derive(Clone, Copy, Drop)]
-pub struct Running<'x> {
-    mailboxes: &'x Mailboxes,
+/// The running edges. `J` names their history.
+#[derive(Drop)]
+pub struct Running<'x, J: Naming> {
+    mailboxes: &'x Mailboxes<Told<J>>,
     boards: &'x Boards,
+    /// The right to bring in updates of other processes, if they may come in.
+    outside: Option<&'x Outside<J>>,
 }
 
-impl<'x> Running<'x> {
-    /// Returns the edges of these mailboxes and boards.
-    pub fn new(mailboxes: &'x Mailboxes, boards: &'x Boards) -> Self
+impl<'x, J: Naming> Clone for Running<'x, J> {
+    fn clone(&self) -> Result<Self, AllocError> {
+        Ok(*self)
+    }
+}
+
+impl<'x, J: Naming> Copy for Running<'x, J> {}
+
+impl<'x, J: Naming> Running<'x, J> {
+    /// Returns the edges of these mailboxes and boards. Updates of other processes come in if there
+    /// is a right to bring them in.
+    pub fn new(
+        mailboxes: &'x Mailboxes<Told<J>>,
+        boards: &'x Boards,
+        outside: Option<&'x Outside<J>>,
+    ) -> Self
         ensures mailboxes { result.mailboxes.now ≡ mailboxes.now }
         ensures boards { result.boards.now ≡ boards.now }
     {
-        Running { mailboxes, boards }
+        Running {
+            mailboxes,
+            boards,
+            outside,
+        }
     }
 
     /// Returns the number of edges.
@@ -40,11 +60,18 @@ impl<'x> Running<'x> {
     }
 
     /// Returns the edge with this number, from 1, if there is one.
-    pub fn edge(&self, number: usize) -> Option<Control<'x>>
+    pub fn edge(&self, number: usize) -> Option<Control<'x, J>>
         ensures { IfSome result (λ control. control.mailbox.now.number ≡ number) }
     {
         let mailbox = self.mailboxes.of(number)?;
         Some(Control { mailbox })
+    }
+
+    /// Returns the numbers of the links of the edge with this number, from 1: the tunnel's, then
+    /// those of the ports. The call needs no answer of the edge.
+    pub fn links(&self, edge: usize) -> Option<&'x [LinkCounts]> {
+        let boards = self.boards;
+        boards.links(edge)
     }
 
     /// Takes a place for a connection, which receives the updates that the edges announce from now
@@ -59,9 +86,12 @@ impl<'x> Running<'x> {
     }
 
     /// Puts an update from another process into the mailbox of each edge, after the waiting ones.
-    /// The call waits while an edge is behind.
+    /// The call waits while an edge is behind. It does nothing if no updates of other processes
+    /// come in.
     pub fn take<R: Wait>(&self, rt: &R, update: &Update) {
-        self.mailboxes.take(rt, update);
+        if let Some(outside) = self.outside {
+            self.mailboxes.take(rt, &outside.bring(*update));
+        }
     }
 
     /// Puts an update into the outbox of each connection, as one that an edge announces.
@@ -78,12 +108,20 @@ impl<'x> Running<'x> {
 
 /// A running edge that takes requests. Each call waits for the edge's answer, and a request that
 /// comes meanwhile waits for its turn.
-#[derive(Clone, Copy, Drop)]
-pub struct Control<'x> {
-    mailbox: &'x SharedMailbox,
+#[derive(Drop)]
+pub struct Control<'x, J: Naming> {
+    mailbox: &'x SharedMailbox<Told<J>>,
 }
 
-impl Control<'_> {
+impl<'x, J: Naming> Clone for Control<'x, J> {
+    fn clone(&self) -> Result<Self, AllocError> {
+        Ok(*self)
+    }
+}
+
+impl<'x, J: Naming> Copy for Control<'x, J> {}
+
+impl<J: Naming> Control<'_, J> {
     /// Returns the edge's number, from 1.
     pub fn number(&self) -> usize
         ensures { result ≡ self.now.mailbox.now.number }

@@ -11,28 +11,28 @@ use ev_notices::{News, NoticesIn};
 use std::sync::Wait;
 use std::thread;
 
-/// A source of the messages that other edges send.
-pub trait UpdatesIn {
+/// A source of the messages that other edges send. `U` is the type of their updates.
+pub trait UpdatesIn<U: Drop> {
     /// The messages that came, in their order, and `None` for the end.
-    ghost came: { Self → List (Option Message) };
+    ghost came: { Self → List (Option (Message U)) };
 
     /// Waits for the next message. Returns `None` at the end.
-    fn next(&mut self) -> Option<Message>
+    fn next(&mut self) -> Option<Message<U>>
         ensures { came self.new ≡ came self.old ++ result ∷ [] };
 }
 
 /// The messages in an edge's mailbox: those of the letters that its inbox receives.
 #[derive(Drop)]
-pub struct UpdateBox<'x, R> {
+pub struct UpdateBox<'x, U: Drop, R> {
     rt: &'x R,
     /// The mailboxes, as the edge sees them.
-    peers: Peers<'x>,
-    inbox: Inbox<Letter>,
+    peers: Peers<'x, U>,
+    inbox: Inbox<Letter<U>>,
 }
 
-impl<'x, R: Wait> UpdateBox<'x, R> {
+impl<'x, U: Drop, R: Wait> UpdateBox<'x, U, R> {
     /// Opens the edge's mailbox. Returns `None` if another worker has it.
-    pub fn open(rt: &'x R, peers: Peers<'x>) -> Option<Self> {
+    pub fn open(rt: &'x R, peers: Peers<'x, U>) -> Option<Self> {
         let inbox = peers.take_inbox(rt)?;
         Some(UpdateBox { rt, peers, inbox })
     }
@@ -46,10 +46,10 @@ impl<'x, R: Wait> UpdateBox<'x, R> {
     }
 }
 
-impl<R: Wait> UpdatesIn for UpdateBox<'_, R> {
+impl<U: Drop, R: Wait> UpdatesIn<U> for UpdateBox<'_, U, R> {
     ghost came = { λ b. came_of b.inbox };
 
-    fn next(&mut self) -> Option<Message> {
+    fn next(&mut self) -> Option<Message<U>> {
         for _ in self.rt.forever() {
             if let Some(letter) = self.inbox.next(self.rt) {
                 self.peers.received(self.rt, &letter);

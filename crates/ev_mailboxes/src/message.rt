@@ -3,13 +3,12 @@ ghost use Rattle.std.specs.Prelude.{◌≡◌};
 ghost use Rattle.ev_mailboxes.specs.Letter.{coming};
 
 use crate::request::Request;
-use route_wire::Update;
 
-/// A message to an edge, from another edge or from the operator.
-#[derive(Clone, Copy)]
-pub enum Message {
+/// A message to an edge, from another edge or from the operator. `U` is the type of its updates.
+#[derive(Drop)]
+pub enum Message<U: Drop> {
     /// An update that another edge has announced.
-    Record(Update),
+    Record(U),
     /// Another edge has room for updates again: it was behind and caught up, or it takes no more
     /// updates.
     Room,
@@ -18,16 +17,16 @@ pub enum Message {
 }
 
 /// A letter in the mailbox of an edge.
-#[derive(Clone, Copy)]
-pub enum Letter {
+#[derive(Drop)]
+pub enum Letter<U: Drop> {
     /// A message.
-    Of(Message),
+    Of(Message<U>),
     /// The end: the edge's worker takes no letter that comes after it.
     Stop,
 }
 
 /// Returns the message of a letter, or `None` for the end.
-pub(crate) fn coming(letter: Letter) -> Option<Message>
+pub(crate) fn coming<U: Drop>(letter: Letter<U>) -> Option<Message<U>>
     ensures { result ≡ coming letter }
 {
     match letter {

@@ -12,8 +12,8 @@ use crate::request::Answer;
 use crate::shared_mailbox::SharedMailbox;
 use crate::waiting::ROOM;
 use ev_channel::{Inbox, mailbox};
-use ev_notices::{Alarm, Reception};
-use route_wire::Update;
+use ev_history::{Naming, Told};
+use ev_notices::{Alarm, LinkCounts, Reception};
 use std::alloc::{AllocError, Global};
 use std::sync::{Mutex, Wait};
 
@@ -24,19 +24,19 @@ const OTHERS: usize = 16;
 /// The mailboxes of all edges, and the outboxes of the connections to other processes. No clause
 /// names the content of a lock or an atomic.
 #[derive(Drop)]
-pub struct Mailboxes {
-    all: Vec<SharedMailbox>,
+pub struct Mailboxes<U: Drop> {
+    all: Vec<SharedMailbox<U>>,
     /// The posts of the workers that haven't begun.
-    posts: Mutex<Vec<Posts>>,
+    posts: Mutex<Vec<Posts<U>>>,
     outboxes: Outboxes,
 }
 
 /// Returns the inboxes of `edges` empty mailboxes, each with `places` places.
-fn empty_inboxes(
+fn empty_inboxes<U: Drop>(
     alloc: Global,
     edges: usize,
     places: usize,
-) -> Result<Vec<Inbox<Letter>>, AllocError>
+) -> Result<Vec<Inbox<Letter<U>>>, AllocError>
     requires { 0 < places }
     ensures { IfOk result (λ inboxes. vec_len inboxes ≡ edges) }
 {
@@ -49,11 +49,11 @@ fn empty_inboxes(
 }
 
 /// Returns the posts of `workers` workers, each with one to each of these mailboxes.
-fn posts_of(
+fn posts_of<U: Drop>(
     alloc: Global,
     workers: usize,
-    inboxes: &mut [Inbox<Letter>],
-) -> Result<Vec<Posts>, AllocError>
+    inboxes: &mut [Inbox<Letter<U>>],
+) -> Result<Vec<Posts<U>>, AllocError>
     ensures all { IfOk result (λ posts. vec_len posts ≡ workers) }
     ensures len { length inboxes.new ≡ length inboxes.old }
 {
@@ -65,7 +65,7 @@ fn posts_of(
     Ok(posts)
 }
 
-impl Mailboxes {
+impl<U: Drop> Mailboxes<U> {
     /// Returns a mailbox for each of `edges` edges, which have `workers` workers together. Each
     /// mailbox has places for the updates with which its edge falls behind, and for one more of
     /// each worker, which may have checked for room before.
@@ -98,14 +98,6 @@ impl Mailboxes {
         self.all.len()
     }
 
-    /// Puts an update from another process into the mailbox of each edge, and waits while one is
-    /// behind.
-    pub(crate) fn take<R: Wait>(&self, rt: &R, update: &Update) {
-        for mailbox in self.all.iter() {
-            mailbox.put_waiting(rt, *update);
-        }
-    }
-
     /// Returns the outboxes of the connections to other processes.
     pub(crate) fn outboxes(&self) -> &Outboxes
         ensures { result.now ≡ self.now.outboxes }
@@ -114,7 +106,7 @@ impl Mailboxes {
     }
 
     /// Returns the mailbox of the edge with this number, from 1.
-    pub(crate) fn of(&self, number: usize) -> Option<&SharedMailbox>
+    pub(crate) fn of(&self, number: usize) -> Option<&SharedMailbox<U>>
         ensures { IfSome result (λ mailbox. mailbox.now.number ≡ number) }
     {
         for mailbox in self.all.iter() {
@@ -127,7 +119,7 @@ impl Mailboxes {
 
     /// Returns the mailboxes as the edge with this number sees them, counted from 1, with the
     /// boards of all edges.
-    pub fn seen_by<'x>(&'x self, number: usize, boards: &'x Boards) -> Peers<'x>
+    pub fn seen_by<'x>(&'x self, number: usize, boards: &'x Boards) -> Peers<'x, U>
         ensures number { result.number ≡ number }
         ensures mailboxes { result.mailboxes.now ≡ self.entry.now.all.items }
         ensures boards { result.boards.now ≡ boards.now }
@@ -142,20 +134,38 @@ impl Mailboxes {
     }
 }
 
+impl<J: Naming> Mailboxes<Told<J>> {
+    /// Puts an update from another process into the mailbox of each edge, and waits while one is
+    /// behind.
+    pub(crate) fn take<R: Wait>(&self, rt: &R, update: &Told<J>) {
+        for mailbox in self.all.iter() {
+            mailbox.put_waiting(rt, update.again());
+        }
+    }
+}
+
 /// The mailboxes and boards of all edges, as one of the edges sees them.
-#[derive(Clone, Copy, Drop)]
-pub struct Peers<'x> {
-    mailboxes: &'x [SharedMailbox],
-    posts: &'x Mutex<Vec<Posts>>,
+#[derive(Drop)]
+pub struct Peers<'x, U: Drop> {
+    mailboxes: &'x [SharedMailbox<U>],
+    posts: &'x Mutex<Vec<Posts<U>>>,
     outboxes: &'x Outboxes,
     boards: &'x Boards,
     /// The edge's number, from 1.
     number: usize,
 }
 
-impl Peers<'_> {
+impl<'x, U: Drop> Clone for Peers<'x, U> {
+    fn clone(&self) -> Result<Self, AllocError> {
+        Ok(*self)
+    }
+}
+
+impl<'x, U: Drop> Copy for Peers<'x, U> {}
+
+impl<'x, U: Drop> Peers<'x, U> {
     /// Returns the edge's own mailbox.
-    fn own(&self) -> Option<&SharedMailbox>
+    fn own(&self) -> Option<&SharedMailbox<U>>
         ensures { option_copied result ≡ slice_get self.now.mailboxes.now (self.now.number - 1) }
     {
         self.mailboxes.get(self.number.saturating_sub(1))
@@ -172,17 +182,20 @@ impl Peers<'_> {
     }
 
     /// Takes the posts of a worker that begins. Returns `None` if all workers have theirs.
-    pub fn posts<R: Wait>(&self, rt: &R) -> Option<Posts> {
+    pub fn posts<R: Wait>(&self, rt: &R) -> Option<Posts<U>> {
         self.posts.lock(rt).pop()
     }
 
-    /// Sends an update to each of the other edges, by the posts of the calling worker, and to other
-    /// processes.
-    pub fn send<R: Wait>(&self, rt: &R, posts: &mut Posts, update: Update)
-        ensures { sent_to posts.new ≡ with_record self.now.number update (sent_to posts.old) }
-    {
-        posts.send(rt, self.mailboxes, self.number, &update);
-        self.outboxes.put(rt, update);
+    /// Returns the numbers of this edge's link at a place: the tunnel's has place 0, and that of a
+    /// port the port's number.
+    pub fn link(&self, place: usize) -> Option<&'x LinkCounts> {
+        let boards = self.boards;
+        boards.links(self.number)?.get(place)
+    }
+
+    /// Notes that this edge has so many links, the tunnel's among them.
+    pub fn use_links(&self, count: usize) {
+        self.boards.use_links(self.number, count);
     }
 
     /// Counts a second that passes on this edge's board.
@@ -210,12 +223,12 @@ impl Peers<'_> {
     }
 
     /// Takes this edge's inbox for its worker of updates, unless another worker has it.
-    pub(crate) fn take_inbox<R: Wait>(&self, rt: &R) -> Option<Inbox<Letter>> {
+    pub(crate) fn take_inbox<R: Wait>(&self, rt: &R) -> Option<Inbox<Letter<U>>> {
         self.own()?.take_inbox(rt)
     }
 
     /// Takes this edge's inbox back from its worker of updates.
-    pub(crate) fn return_inbox<R: Wait>(&self, rt: &R, inbox: Inbox<Letter>) {
+    pub(crate) fn return_inbox<R: Wait>(&self, rt: &R, inbox: Inbox<Letter<U>>) {
         if let Some(own) = self.own() {
             own.return_inbox(rt, inbox);
         }
@@ -223,7 +236,7 @@ impl Peers<'_> {
 
     /// Is called for each letter that this edge's worker of updates receives. If the edge has
     /// caught up, calls the others.
-    pub(crate) fn received<R: Wait>(&self, rt: &R, letter: &Letter) {
+    pub(crate) fn received<R: Wait>(&self, rt: &R, letter: &Letter<U>) {
         let Some(own) = self.own() else {
             return;
         };
@@ -254,5 +267,16 @@ impl Peers<'_> {
             mailbox.close(rt);
         }
         self.call(rt);
+    }
+}
+
+impl<J: Naming> Peers<'_, Told<J>> {
+    /// Sends an update to each of the other edges, by the posts of the calling worker, and to other
+    /// processes.
+    pub fn send<R: Wait>(&self, rt: &R, posts: &mut Posts<Told<J>>, update: Told<J>)
+        ensures { sent_to posts.new ≡ with_record self.now.number update (sent_to posts.old) }
+    {
+        posts.send(rt, self.mailboxes, self.number, &update);
+        self.outboxes.put(rt, *update.update());
     }
 }

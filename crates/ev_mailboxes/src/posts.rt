@@ -6,26 +6,26 @@ ghost use Rattle.ev_mailboxes.specs.Inner.Posts.{none_sent};
 use crate::message::{Letter, Message};
 use crate::shared_mailbox::SharedMailbox;
 use ev_channel::{Inbox, Post};
-use route_wire::Update;
+use ev_history::{Naming, Told};
 use std::alloc::{AllocError, Global};
 use std::sync::Wait;
 
 /// A post to the mailbox of one edge.
 #[derive(Drop)]
-pub struct EdgePost {
+pub struct EdgePost<U: Drop> {
     /// The number of the edge, from 1.
     to: usize,
-    post: Post<Letter>,
+    post: Post<Letter<U>>,
 }
 
 /// Sends an update, unless the edge is the worker's own. Never waits for a place: if each place is
 /// taken, empties a closed mailbox and tries again.
-fn send_one<R: Wait>(
+fn send_one<J: Naming, R: Wait>(
     rt: &R,
-    mailboxes: &[SharedMailbox],
+    mailboxes: &[SharedMailbox<Told<J>>],
     own: usize,
-    post: &mut EdgePost,
-    update: &Update,
+    post: &mut EdgePost<Told<J>>,
+    update: &Told<J>,
 )
     ensures { letters_to post.new ≡ one_with own update.now (letters_to post.old) }
 {
@@ -36,7 +36,7 @@ fn send_one<R: Wait>(
     if let Some(mailbox) = mailbox {
         mailbox.expect_update();
     }
-    let mut letter = Letter::Of(Message::Record(*update));
+    let mut letter = Letter::Of(Message::Record(update.again()));
     for _ in rt.forever() {
         match post.post.send(rt, letter) {
             Ok(()) => return,
@@ -50,12 +50,12 @@ fn send_one<R: Wait>(
 }
 
 /// Sends an update to each of these edges but the worker's own.
-fn send_each<R: Wait>(
+fn send_each<J: Naming, R: Wait>(
     rt: &R,
-    mailboxes: &[SharedMailbox],
+    mailboxes: &[SharedMailbox<Told<J>>],
     own: usize,
-    posts: &mut [EdgePost],
-    update: &Update,
+    posts: &mut [EdgePost<Told<J>>],
+    update: &Told<J>,
 )
     ensures { map letters_to posts.new ≡ with_record own update.now (map letters_to posts.old) }
 {
@@ -66,17 +66,17 @@ fn send_each<R: Wait>(
 
 /// The posts of a worker, one to the mailbox of each edge. The post to its own edge sends nothing.
 #[derive(Drop)]
-pub struct Posts {
-    all: Vec<EdgePost>,
+pub struct Posts<U: Drop> {
+    all: Vec<EdgePost<U>>,
 }
 
-impl Posts {
+impl<U: Drop> Posts<U> {
     /// Makes posts to these mailboxes, of edges 1, 2 ..
     ///
     /// # Errors
     ///
     /// `AllocError` if memory is refused.
-    pub(crate) fn new(alloc: Global, inboxes: &mut [Inbox<Letter>]) -> Result<Self, AllocError>
+    pub(crate) fn new(alloc: Global, inboxes: &mut [Inbox<Letter<U>>]) -> Result<Self, AllocError>
         ensures sent { IfOk result (λ posts. sent_to posts ≡ none_sent (length inboxes.old)) }
         ensures len { length inboxes.new ≡ length inboxes.old }
     {
@@ -89,14 +89,16 @@ impl Posts {
         }
         Ok(Posts { all })
     }
+}
 
+impl<J: Naming> Posts<Told<J>> {
     /// Sends an update to each edge but the worker's own, which has the number `own`.
     pub(crate) fn send<R: Wait>(
         &mut self,
         rt: &R,
-        mailboxes: &[SharedMailbox],
+        mailboxes: &[SharedMailbox<Told<J>>],
         own: usize,
-        update: &Update,
+        update: &Told<J>,
     )
         ensures { sent_to self.new ≡ with_record own update.now (sent_to self.old) }
     {

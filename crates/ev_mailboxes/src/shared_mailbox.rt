@@ -9,7 +9,6 @@ use crate::message::{Letter, Message};
 use crate::request::{Answer, Request};
 use crate::waiting::Waiting;
 use ev_channel::{Inbox, Post};
-use route_wire::Update;
 use std::alloc::AllocError;
 use std::sync::atomic::{AtomicBool, Ordering};
 use std::sync::{Condvar, Mutex, Wait};
@@ -18,13 +17,13 @@ use std::thread;
 /// The shared part of a mailbox. No clause names the content of a lock or an atomic. A thread that
 /// holds a lock never waits for another lock.
 #[derive(Drop)]
-pub(crate) struct SharedMailbox {
+pub(crate) struct SharedMailbox<U: Drop> {
     /// The number of its edge, from 1.
     pub(crate) number: usize,
     /// The post for all letters but the updates of the other edges.
-    post: Mutex<Post<Letter>>,
+    post: Mutex<Post<Letter<U>>>,
     /// The inbox, while no worker receives from it.
-    inbox: Mutex<Option<Inbox<Letter>>>,
+    inbox: Mutex<Option<Inbox<Letter<U>>>>,
     /// The number of updates that wait.
     waiting: Waiting,
     /// Whether a call waits: then no other one is sent.
@@ -37,13 +36,13 @@ pub(crate) struct SharedMailbox {
     room_bell: Condvar,
 }
 
-impl SharedMailbox {
+impl<U: Drop> SharedMailbox<U> {
     /// Returns the mailbox of the edge with this number, which has this inbox.
     ///
     /// # Errors
     ///
     /// `AllocError` if the mailbox has as many posts as can be counted.
-    pub(crate) fn new(number: usize, inbox: Inbox<Letter>) -> Result<Self, AllocError>
+    pub(crate) fn new(number: usize, inbox: Inbox<Letter<U>>) -> Result<Self, AllocError>
         ensures { IfOk result (λ mailbox. mailbox.number ≡ number) }
     {
         let mut inbox = inbox;
@@ -94,7 +93,7 @@ impl SharedMailbox {
     }
 
     /// Sends a letter by the shared post.
-    fn send<R: Wait>(&self, rt: &R, letter: Letter) {
+    fn send<R: Wait>(&self, rt: &R, letter: Letter<U>) {
         let mut letter = letter;
         for _ in rt.forever() {
             let sent = self.post.lock(rt).send(rt, letter);
@@ -118,7 +117,7 @@ impl SharedMailbox {
     }
 
     /// Waits until its edge isn't behind, then sends an update from another process.
-    pub(crate) fn put_waiting<R: Wait>(&self, rt: &R, update: Update) {
+    pub(crate) fn put_waiting<R: Wait>(&self, rt: &R, update: U) {
         self.wait_for_room(rt);
         self.expect_update();
         self.send(rt, Letter::Of(Message::Record(update)));
@@ -146,12 +145,12 @@ impl SharedMailbox {
     }
 
     /// Takes the inbox for the worker that receives from it, unless another worker has it.
-    pub(crate) fn take_inbox<R: Wait>(&self, rt: &R) -> Option<Inbox<Letter>> {
+    pub(crate) fn take_inbox<R: Wait>(&self, rt: &R) -> Option<Inbox<Letter<U>>> {
         self.inbox.lock(rt).take()
     }
 
     /// Takes the inbox back from the worker.
-    pub(crate) fn return_inbox<R: Wait>(&self, rt: &R, inbox: Inbox<Letter>) {
+    pub(crate) fn return_inbox<R: Wait>(&self, rt: &R, inbox: Inbox<Letter<U>>) {
         *self.inbox.lock(rt) = Some(inbox);
     }
 
@@ -167,7 +166,7 @@ impl SharedMailbox {
 
     /// Is called for each letter that its worker receives. Returns `true` if its edge was behind
     /// and isn't any more.
-    pub(crate) fn received(&self, letter: &Letter) -> bool {
+    pub(crate) fn received(&self, letter: &Letter<U>) -> bool {
         match letter {
             Letter::Of(Message::Record(_)) => self.waiting.remove(),
             Letter::Of(Message::Room) => {

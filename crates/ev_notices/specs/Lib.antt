@@ -1,5 +1,9 @@
 pub mod Alarm
 pub mod Board
+pub mod Cause
+pub mod IdleWatch
+pub mod SendWatch
+pub mod Sendings
 pub mod Receptions
 pub mod Records
 pub mod Telling

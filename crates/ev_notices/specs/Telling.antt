@@ -15,10 +15,11 @@ use Rattle.ev_notices.specs.declared.board.Notice.{Notice}
 use Rattle.ev_notices.specs.declared.receptions.Input.{Input}
 use Rattle.ev_notices.specs.declared.receptions.Input.TheVariants.{Port, Tunnel, Clock}
 use Rattle.ev_notices.specs.declared.receptions.Reception.{Reception as Change}
+use Rattle.ev_notices.specs.declared.sendings.Sending.{Sending as SendChange}
 use Rattle.ev_notices.specs.declared.records.Refused.{Refused as Refusal}
 use Rattle.ev_notices.specs.declared.records.Refused.TheVariants.{Record, Unlisted, Outlived, OwnOutlived}
 use Rattle.ev_notices.specs.declared.telling.News.{News}
-use Rattle.ev_notices.specs.declared.telling.News.TheVariants.{Alerts, Reception, Untold, Refused}
+use Rattle.ev_notices.specs.declared.telling.News.TheVariants.{Alerts, Reception, Sending, Untold, Refused}
 use Rattle.ev_links.specs.Coming.{behind, after_these}
 
 -- ---- a line
@@ -83,6 +84,14 @@ state_text false = codes ": receiving failed\n"
 abbrev pub reception_text : ℕ → Change → List ℕ
 reception_text edge r = codes "edge " ++ decimal edge ++ codes " " ++ input_text r.input ++ state_text r.works
 
+abbrev pub sending_state_text : Bool → List ℕ
+sending_state_text true = codes ": sending again\n"
+sending_state_text false = codes ": sending failed\n"
+
+-- `edge E port P: sending failed`, `edge E tunnel: sending again`
+abbrev pub sending_text : ℕ → SendChange → List ℕ
+sending_text edge s = codes "edge " ++ decimal edge ++ codes " " ++ input_text s.output ++ sending_state_text s.works
+
 -- `edge E: receiving failed or was there again N more times`
 abbrev pub untold_text : ℕ → ℕ → List ℕ
 untold_text edge count =
@@ -113,6 +122,7 @@ refused_text (OwnOutlived originator) = records_text originator
 abbrev pub news_text : ℕ → News → List ℕ
 news_text edge (Alerts notice) = notice_text edge notice
 news_text edge (Reception change) = reception_text edge change
+news_text edge (Sending change) = sending_text edge change
 news_text edge (Untold count) = untold_text edge count
 news_text edge (Refused refusal) = refused_text refusal
 

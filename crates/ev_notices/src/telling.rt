@@ -3,12 +3,13 @@ ghost use Rattle.std.specs.Prelude.{◌≡◌, ◌++◌, ◌∷◌, [], Option, 
 ghost use Rattle.std.specs.Fmt.{decimal};
 ghost use Rattle.ether_wire.specs.Ends.{IsOpen, Puts};
 ghost use Rattle.ev_links.specs.Coming.{behind};
-ghost use Rattle.ev_notices.specs.Telling.{Told, alert_words, edge_text, count_text, held_text, station_text, place_text, about_text, alarm_text, notice_text, input_text, state_text, reception_text, untold_text, records_text, number_text, refused_text, news_text, TellsAll};
+ghost use Rattle.ev_notices.specs.Telling.{Told, alert_words, edge_text, count_text, held_text, station_text, place_text, about_text, alarm_text, notice_text, input_text, state_text, reception_text, sending_state_text, sending_text, untold_text, records_text, number_text, refused_text, news_text, TellsAll};
 
 use crate::alarm::Alarm;
 use crate::board::Notice;
 use crate::receptions::{Input, Reception};
 use crate::records::Refused;
+use crate::sendings::Sending;
 use ether_wire::{Addr, Device, Out, put_addr, put_decimal, put_mac};
 use ev_mobility::Alert;
 use mac_arena::Station;
@@ -21,6 +22,8 @@ pub enum News {
     Alerts(Notice),
     /// Receiving over a link failed, or works again.
     Reception(Reception),
+    /// Sends over a link have failed for a second, or work again.
+    Sending(Sending),
     /// The number of changes of links that were not reported.
     Untold(u64),
     /// Records of a connection were refused. It belongs to no edge.
@@ -199,6 +202,31 @@ fn put_reception<N: Out>(notes: &mut N, edge: u64, reception: Reception) -> Resu
     put_state(notes, reception.works)
 }
 
+/// Writes that sends failed, or work again, and the end of the line.
+fn put_sending_state<N: Out>(notes: &mut N, works: bool) -> Result<(), Device>
+    requires { IsOpen (N.end notes.old) }
+    ensures { Puts (N.end notes.old) (N.end notes.new) (sending_state_text works) result }
+{
+    if works {
+        notes.put(b": sending again\n")
+    } else {
+        notes.put(b": sending failed\n")
+    }
+}
+
+/// Writes `edge E OUTPUT: sending failed`, or that it works again.
+#[tactic(auto, using(ether_wire::proofs::Appending::with_text_twice))]
+fn put_sending<N: Out>(notes: &mut N, edge: u64, sending: Sending) -> Result<(), Device>
+    requires { IsOpen (N.end notes.old) }
+    ensures { Puts (N.end notes.old) (N.end notes.new) (sending_text edge sending) result }
+{
+    notes.put(b"edge ")?;
+    put_decimal(notes, edge)?;
+    notes.put(b" ")?;
+    put_input(notes, sending.output)?;
+    put_sending_state(notes, sending.works)
+}
+
 /// Writes `edge E: receiving failed or was there again N more times`.
 #[tactic(auto, using(ether_wire::proofs::Appending::with_text_twice))]
 fn put_untold<N: Out>(notes: &mut N, edge: u64, count: u64) -> Result<(), Device>
@@ -273,6 +301,10 @@ fn put_news<N: Out>(notes: &mut N, edge: u64, news: &News) -> Result<(), Device>
         News::Alerts(notice) => put_notice(notes, edge, notice),
         News::Reception(reception) => {
             put_reception(notes, edge, *reception)?;
+            notes.flush()
+        }
+        News::Sending(sending) => {
+            put_sending(notes, edge, *sending)?;
             notes.flush()
         }
         News::Untold(count) => {

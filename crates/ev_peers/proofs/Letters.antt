@@ -9,9 +9,8 @@ use Rattle.ev_book.specs.Book.{PassState}
 use Rattle.ev_channel.specs.declared.view.View.{View}
 use Rattle.ev_channel.specs.Delivery.{of, messages}
 use Rattle.ev_channel.proofs.Delivering.{are_sent, was_sent, messages_append}
-use Rattle.ev_mailboxes.specs.declared.message.Message.{Message}
+use Rattle.ev_mailboxes.specs.Mail.{Message, Letter}
 use Rattle.ev_mailboxes.specs.declared.message.Message.TheVariants.{Record}
-use Rattle.ev_mailboxes.specs.declared.message.Letter.{Letter}
 use Rattle.ev_mailboxes.specs.declared.message.Letter.TheVariants.{Of, Stop}
 use Rattle.ev_mailboxes.specs.Letter.{coming}
 use Rattle.ev_mailboxes.specs.Posts.{one_with, with_record}

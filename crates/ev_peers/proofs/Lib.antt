@@ -3,3 +3,4 @@ pub mod Plans
 pub mod Contained
 pub mod Letters
 pub mod Threads
+pub mod Histories

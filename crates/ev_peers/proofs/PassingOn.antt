@@ -2,15 +2,15 @@
 use Rattle.std.proofs.Common.{◌≡◌, Bool, true, List, [], ◌∷◌, ◌++◌, Option, Some, None, refl, ap, ◌∙◌}
 use Rattle.route_wire.specs.Fields.{Fields}
 use Rattle.ev_book.specs.Book.{PassState}
-use Rattle.ev_peers.specs.Passing.{Entered, Asked, AskedEach, Word, Said, said_of, says, sends, announced, has_room}
-use Rattle.ev_peers.specs.Passing.{Stops, Announces}
+use Rattle.ev_peers.specs.Passing.{Entered, Asked, AskedEach, Word, SaidOf, Said, said_of, says, sends, announced}
+use Rattle.ev_peers.specs.Passing.{has_room, Stops, Announces}
 use Rattle.ev_links.proofs.Behind.{behind_none, behind_twice}
 
 -- words after words, and no words
-pub says_twice : (s : Said) (a b : List Word) → says (says s a) b ≡ says s (a ++ b)
+pub says_twice : {U : Type 0} → (s : SaidOf U) (a b : List Word) → says (says s a) b ≡ says s (a ++ b)
 says_twice s a b = ap (λ (k : Option (List Word)). said_of s.own s.sent k) (behind_twice s.words a b)
 
-pub says_none : (s : Said) → says s [] ≡ s
+pub says_none : {U : Type 0} → (s : SaidOf U) → says s [] ≡ s
 says_none s = ap (λ (k : Option (List Word)). said_of s.own s.sent k) (behind_none s.words)
 
 -- the announcements that were requested and sent so far

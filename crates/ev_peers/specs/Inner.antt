@@ -1,6 +1,7 @@
 pub mod EdgeThreads
 pub mod Giving
 pub mod Handles
+pub mod History
 pub mod Outcome
 pub mod Passing
 pub mod Plan

@@ -7,9 +7,8 @@ use Rattle.ev_book.specs.Book.{PassState}
 use Rattle.ev_channel.specs.declared.view.View.{View}
 use Rattle.ev_channel.specs.declared.view.View.TheVariants.{Sender, Receiver}
 use Rattle.ev_channel.specs.Delivery.{messages, Delivers}
-use Rattle.ev_mailboxes.specs.declared.message.Message.{Message}
+use Rattle.ev_mailboxes.specs.Mail.{Message, Letter}
 use Rattle.ev_mailboxes.specs.declared.message.Message.TheVariants.{Record}
-use Rattle.ev_mailboxes.specs.declared.message.Letter.{Letter}
 use Rattle.ev_mailboxes.specs.declared.message.Letter.TheVariants.{Of}
 use Rattle.ev_mailboxes.specs.Letter.{coming}
 use Rattle.ev_peers.specs.declared.shared_edge.Ended.TheVariants.{End}

@@ -1,5 +1,6 @@
 pub mod Giving
 pub mod EdgeThreads
+pub mod History
 pub mod Passing
 pub mod Control
 pub mod Working

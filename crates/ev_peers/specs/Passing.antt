@@ -3,17 +3,20 @@ use Rattle.std.specs.Prelude.{◌≡◌, ℕ, Bool, false, true, List, [], ◌�
 use Rattle.std.specs.Prelude.{is_some, slice_get, if◌then◌else◌}
 use Rattle.route_wire.specs.Fields.{Fields}
 use Rattle.ev_edge.specs.declared.event.Event.{Event}
-use Rattle.ev_edge.specs.declared.event.Event.TheVariants.{Announce}
+use Rattle.ev_edge.specs.declared.event.Event.TheVariants.{Announce, Frame, TunnelFrame}
 use Rattle.ev_edge.specs.declared.reply.Reply.{Reply}
 use Rattle.ev_book.specs.declared.refusal.BookRefusal.{BookRefusal}
 use Rattle.ev_book.specs.Book.{BookState, PassState}
 use Rattle.ev_book.specs.Entering.{CallsBook}
+use Rattle.ev_history.specs.Booking.{announced_by}
 use Rattle.ev_notices.specs.declared.alarm.Alarm.{Alarm}
 use Rattle.ev_mailboxes.specs.declared.message.Letter.{Letter}
 use Rattle.ev_mailboxes.specs.declared.request.Answer.{Answer}
 use Rattle.ev_mailboxes.specs.Posts.{with_record}
 use Rattle.ev_notices.specs.declared.receptions.Reception.{Reception}
+use Rattle.ev_notices.specs.declared.cause.Cause.{Cause}
 use Rattle.ev_notices.specs.Alarm.{alarm_of, is_second}
+use Rattle.ev_notices.specs.Cause.{cause_of}
 use Rattle.ev_peers.specs.Giving.{Parcel, parcels_of}
 use Rattle.ev_links.specs.Coming.{behind}
 
@@ -35,11 +38,6 @@ pub record Leaves (p : PassState) (event : Event) (answer : Result Reply BookRef
 
 -- ---- announcements
 
--- the update that an answer announces
-abbrev pub announced_by : Result Reply BookRefusal → Option Fields
-announced_by (Ok reply) = reply.announced
-announced_by (Err refusal) = None
-
 -- a call of the book that requested an announcement, and the announcement that it returned, if any
 pub record Asked (p : PassState) (announced : Option Fields) (p' : PassState) : Type 0 where
   pub answer : Result Reply BookRefusal
@@ -52,30 +50,36 @@ AskedEach p [] p' = p' ≡ p
 AskedEach p (u ∷ us) p' = (middle : PassState) × AskedEach p us middle × Asked middle (Some u) p'
 
 -- a word of a worker's outlet: whether the other edges have room; or a message to the operator: a second that passes,
--- an alert, that receiving over a link failed or works again, or an answer to a request
+-- an alert, that receiving over a link failed or works again, an answer to a request, or a datagram that is dropped:
+-- the place of its link, and the cause
 pub data Word : Type 0 where
   has_room : Bool → Word
   second_passes : Word
   tells : Alarm → Word
   answers : Answer → Word
   hears : Reception → Word
+  drops : ℕ → Cause → Word
 
--- The messages of a worker's outlet: the number of its own edge, the letters that the worker has sent to each edge, and
--- the words, if the outlet shows any.
-pub record Said : Type 0 where
+-- The messages of a worker's outlet, whose records have this type: the number of its own edge, the letters that the
+-- worker has sent to each edge, and the words, if the outlet shows any.
+pub record SaidOf (U : Type 0) : Type 0 where
   pub own : ℕ
-  pub sent : List (ℕ × List Letter)
+  pub sent : List (ℕ × List (Letter U))
   pub words : Option (List Word)
 
-abbrev pub said_of : ℕ → List (ℕ × List Letter) → Option (List Word) → Said
+-- the messages of an outlet whose records are plain updates
+abbrev pub Said : Type 0
+Said = SaidOf Fields
+
+abbrev pub said_of : {U : Type 0} → ℕ → List (ℕ × List (Letter U)) → Option (List Word) → SaidOf U
 said_of own sent words = record { own = own; sent = sent; words = words }
 
 -- these words come after the others
-abbrev pub says : Said → List Word → Said
+abbrev pub says : {U : Type 0} → SaidOf U → List Word → SaidOf U
 says s more = said_of s.own s.sent (behind s.words more)
 
 -- a record is sent to each of the other edges, after the letters before; none is sent to the worker's own edge
-abbrev pub sends : Said → Fields → Said
+abbrev pub sends : {U : Type 0} → SaidOf U → U → SaidOf U
 sends s u = said_of s.own (with_record s.own u s.sent) s.words
 
 -- for each update one after the other: there was room, and then the update was sent to each of the other edges; the
@@ -119,8 +123,29 @@ told_of (Some alarm) = tells alarm ∷ []
 
 -- the words for the operator's board on an event of this VNI and its answer: a second if the event is one, and an alert
 -- if there is one
+abbrev pub alarms_of : ℕ → Event → Result Reply BookRefusal → List Word
+alarms_of vni event answer = (if is_second event then second_passes ∷ [] else []) ++ told_of (alarm_of vni event answer)
+
+-- the place of the link over which an event's datagram came: the tunnel's is 0, and that of a port the port's number
+abbrev pub link_of : Event → Option ℕ
+link_of (Frame port octets) = Some port
+link_of (TunnelFrame from octets) = Some 0
+link_of _ = None
+
+-- the word for a datagram that came over this link and is dropped for this cause
+abbrev pub drops_of : Option ℕ → Option Cause → List Word
+drops_of (Some place) (Some cause) = drops place cause ∷ []
+drops_of (Some place) None = []
+drops_of None cause = []
+
+-- the word for an event's datagram, if the answer drops it
+abbrev pub drop_of : Event → Result Reply BookRefusal → List Word
+drop_of event (Ok reply) = []
+drop_of event (Err refusal) = drops_of (link_of event) (cause_of refusal)
+
+-- all words on an event of this VNI and its answer
 abbrev pub signs_of : ℕ → Event → Result Reply BookRefusal → List Word
-signs_of vni event answer = (if is_second event then second_passes ∷ [] else []) ++ told_of (alarm_of vni event answer)
+signs_of vni event answer = drop_of event answer ++ alarms_of vni event answer
 
 -- The worker entered the event once, passed the answer's parcels to the links, passed the words of event and answer to
 -- the operator's board, and then announced, if an announcement was pending after the event.

@@ -9,7 +9,7 @@ use Rattle.ev_edge.specs.declared.event.Event.TheVariants as events
 use Rattle.ev_book.specs.Book.{PassState}
 use Rattle.ev_peers.specs.declared.shared_edge.Ended.{Ended}
 use Rattle.ev_peers.specs.declared.shared_edge.Ended.TheVariants.{End, Device as Failed, NoMemory}
-use Rattle.ev_mailboxes.specs.declared.message.Message.{Message}
+use Rattle.ev_mailboxes.specs.Mail.{Message}
 use Rattle.ev_mailboxes.specs.declared.message.Message.TheVariants.{Record, Room, Ask}
 use Rattle.ev_notices.specs.declared.receptions.Input.{Input}
 use Rattle.ev_notices.specs.declared.receptions.Input.TheVariants as inputs

@@ -1,6 +1,7 @@
 //! Answers the operator's requests in an edge's worker: it enters a step like any event, or reads
 //! from the edge's book.
-ghost use Rattle.std.specs.Prelude.{◌≡◌, ◌++◌, IfOk};
+ghost use Rattle.std.specs.Prelude.{◌≡◌, ◌++◌, true, IfOk};
+ghost use Rattle.ev_history.specs.Booking.{is_own};
 ghost use Rattle.route_join.specs.Updates.{all_updates};
 ghost use Rattle.ev_edge.specs.Edge.{table_of};
 ghost use Rattle.ev_book.specs.Entering.{answered};
@@ -12,8 +13,9 @@ use crate::outlet::Outlet;
 use crate::shared_edge::SharedEdge;
 use crate::worker::Worker;
 use ether_wire::Vni;
-use ev_book::{Book, BookRefusal};
+use ev_book::BookRefusal;
 use ev_edge::{Edge, Event, Reply};
+use ev_history::{LoggedBook, Naming, Placed, Told};
 use ev_mailboxes::{Answer, Command, PortView, Reading, Request, Served};
 use ev_view::EdgeQuestion;
 use route_wire::Update;
@@ -21,7 +23,6 @@ use rstp_run::bridge::Bridge;
 use std::alloc::{AllocError, Global};
 use std::mem;
 use std::sync::Wait;
-use std::sync::ledger::Ledger;
 
 /// Returns the book's answer, with the reply that the book wrote.
 fn replied(answer: Result<(), BookRefusal>, reply: &mut Reply) -> Result<Reply, BookRefusal>
@@ -35,7 +36,8 @@ fn replied(answer: Result<(), BookRefusal>, reply: &mut Reply) -> Result<Reply, 
 
 /// Returns the step as an event of an edge.
 fn event_of(command: &Command) -> Event<'static>
-    ensures { result ≡ event_of command.now }
+    ensures event { result ≡ event_of command.now }
+    ensures own { is_own result ≡ true }
 {
     match command {
         Command::Pin(station, port) => Event::Pin(*station, *port),
@@ -50,8 +52,8 @@ fn event_of(command: &Command) -> Event<'static>
 }
 
 /// Enters a step, and sends its frames and records, as for any event.
-fn obey<L: Ledger, O: Outlet + Drop, G: Gate, R: Wait>(
-    worker: &mut Worker<'_, L, O, G, R>,
+fn obey<L: Placed, J: Naming, O: Outlet<Told<J>> + Drop, G: Gate, R: Wait>(
+    worker: &mut Worker<'_, L, J, O, G, R>,
     command: &Command,
 ) -> Result<Reply, BookRefusal>
     ensures obeys { Obeys worker.old.shared_edge.now.bridge command.now result
@@ -60,7 +62,7 @@ fn obey<L: Ledger, O: Outlet + Drop, G: Gate, R: Wait>(
     ensures stays { worker.new.shared_edge ≡ worker.old.shared_edge }
 {
     let event = event_of(command);
-    let (answer, is_pending) = worker.give(&event, &Carried::none());
+    let (answer, is_pending) = worker.give(&event, &None, &Carried::none());
     let answer = replied(answer, &mut worker.scratch.reply);
     worker.announce_if(is_pending);
     answer
@@ -138,7 +140,7 @@ fn shown(edge: &Edge, reading: &Reading) -> Answer
 }
 
 /// Returns the answer to a reading, from this book.
-fn seen<L: Ledger>(book: &Book<L>, reading: &Reading) -> Answer
+fn seen<L: Placed, J: Naming>(book: &LoggedBook<L, J>, reading: &Reading) -> Answer
     ensures shows { Shows book.now.edge reading.now result }
     ensures looked { Looked reading.now result }
 {
@@ -146,8 +148,8 @@ fn seen<L: Ledger>(book: &Book<L>, reading: &Reading) -> Answer
 }
 
 /// Returns the answer to a reading, from the edge's book, which it locks and does not change.
-fn look<L: Ledger, G: Gate, R: Wait>(
-    shared_edge: &SharedEdge<'_, L, G, R>,
+fn look<L: Placed, J: Naming, G: Gate, R: Wait>(
+    shared_edge: &SharedEdge<'_, L, J, G, R>,
     reading: &Reading,
 ) -> Answer
     ensures { Looked reading.now result }
@@ -157,8 +159,8 @@ fn look<L: Ledger, G: Gate, R: Wait>(
 }
 
 /// Fulfils a request, and returns the answer.
-fn fulfil<L: Ledger, O: Outlet + Drop, G: Gate, R: Wait>(
-    worker: &mut Worker<'_, L, O, G, R>,
+fn fulfil<L: Placed, J: Naming, O: Outlet<Told<J>> + Drop, G: Gate, R: Wait>(
+    worker: &mut Worker<'_, L, J, O, G, R>,
     request: &Request,
 ) -> Answer
     ensures fulfils { Fulfils worker.old.shared_edge.now.bridge request.now result
@@ -173,8 +175,8 @@ fn fulfil<L: Ledger, O: Outlet + Drop, G: Gate, R: Wait>(
 }
 
 /// Fulfils a request, and gives the answer to the operator.
-pub(crate) fn answer<L: Ledger, O: Outlet + Drop, G: Gate, R: Wait>(
-    worker: &mut Worker<'_, L, O, G, R>,
+pub(crate) fn answer<L: Placed, J: Naming, O: Outlet<Told<J>> + Drop, G: Gate, R: Wait>(
+    worker: &mut Worker<'_, L, J, O, G, R>,
     request: &Request,
 )
     ensures answers { Answers worker.old.shared_edge.now.bridge request.now

@@ -10,7 +10,8 @@ use crate::shared_edge::{Ended, SharedEdge};
 use crate::worker::Worker;
 use crate::workers::{clock_worker, peer_worker, port_worker, tunnel_worker};
 use ev_book::Pass;
-use ev_links::{LinkIn, PromptOut};
+use ev_history::{Naming, Placed};
+use ev_links::{Counted, LinkIn, PromptOut};
 use ev_mailboxes::UpdateBox;
 use std::sync::Wait;
 use std::sync::atomic::{AtomicBool, Ordering};
@@ -20,20 +21,20 @@ use std::thread::{JoinHandle, Scope, Threads};
 /// The workplace of the workers of an edge that enter events: the edge, their outlet, and the
 /// values that they share.
 #[derive(Drop)]
-pub(crate) struct Workplace<'x, L: Ledger, K, G, R> {
+pub(crate) struct Workplace<'x, L: Placed, J: Naming, K, G, R> {
     /// The edge.
-    pub(crate) shared_edge: SharedEdge<'x, L, G, R>,
+    pub(crate) shared_edge: SharedEdge<'x, L, J, G, R>,
     /// The outlet for the answers of the edge's book.
-    pub(crate) outlet: Senders<'x, K, R>,
+    pub(crate) outlet: Senders<'x, J, K, R>,
     /// The values that all threads of the edge share.
     pub(crate) shared: &'x Shared<K>,
 }
 
 /// Runs the worker of other edges' updates over the edge's mailbox, and closes the mailbox. Returns
 /// at once with `Ended::NoMemory` if another worker has the mailbox.
-fn enter_updates<'x, L: Ledger, K: PromptOut, G: Gate, R: Wait>(
-    worker: &mut Worker<'_, L, WorkerOutlet<'x, K, R>, G, R>,
-    senders: Senders<'x, K, R>,
+fn enter_updates<'x, L: Placed, J: Naming, K: PromptOut, G: Gate, R: Wait>(
+    worker: &mut Worker<'x, L, J, WorkerOutlet<'x, J, K, R>, G, R>,
+    senders: Senders<'x, J, K, R>,
 ) -> Ended {
     let Some(mut updates) = UpdateBox::open(senders.rt, senders.peers) else {
         return Ended::NoMemory;
@@ -43,10 +44,23 @@ fn enter_updates<'x, L: Ledger, K: PromptOut, G: Gate, R: Wait>(
     ended
 }
 
+/// Returns the link at a place, which shows what comes over it.
+fn counted<'x, J: Naming, I: LinkIn, K, R>(
+    senders: Senders<'x, J, K, R>,
+    place: usize,
+    link: I,
+) -> Counted<'x, I> {
+    let cell = match senders.peers.link(place) {
+        Some(counts) => Some(&counts.received),
+        None => None,
+    };
+    Counted::new(link, cell)
+}
+
 /// Runs the worker of a task until it ends. Returns at once with `Ended::NoMemory` if the task's
 /// thread was refused.
-fn enter_task<L: Ledger, I: LinkIn + Drop, K: PromptOut, G: Gate, R: Wait>(
-    workplace: &Workplace<'_, L, K, G, R>,
+fn enter_task<'x, L: Placed, J: Naming, I: LinkIn + Drop, K: PromptOut, G: Gate, R: Wait>(
+    workplace: &'x Workplace<'x, L, J, K, G, R>,
     pass: Pass<L>,
     task: Task<I>,
     is_refused: &AtomicBool,
@@ -61,8 +75,14 @@ fn enter_task<L: Ledger, I: LinkIn + Drop, K: PromptOut, G: Gate, R: Wait>(
     let mut worker = Worker::new(&workplace.shared_edge, pass, outlet);
     let ended = match task {
         Task::Peer => enter_updates(&mut worker, senders),
-        Task::Port(port, vni, mut link) => port_worker(&mut worker, &mut link, port, vni),
-        Task::Tunnel(mut link) => tunnel_worker(&mut worker, &mut link),
+        Task::Port(port, vni, link) => {
+            let mut link = counted(senders, port as usize, link);
+            port_worker(&mut worker, &mut link, port, vni)
+        }
+        Task::Tunnel(link) => {
+            let mut link = counted(senders, 0, link);
+            tunnel_worker(&mut worker, &mut link)
+        }
         Task::Clock(mut clock) => clock_worker(&mut worker, &mut clock),
     };
     (worker.pass, ended)
@@ -72,14 +92,15 @@ fn enter_task<L: Ledger, I: LinkIn + Drop, K: PromptOut, G: Gate, R: Wait>(
 fn start_task<
     's,
     'x: 's,
-    L: Ledger + Send + Sync + 'x,
+    L: Placed + Send + Sync + 'x,
+    J: Naming + Send + Sync + 'x,
     I: LinkIn + Drop + Send + 'x,
     K: PromptOut + Send + 'x,
     G: Gate + Sync + 'x,
     R: Wait + Sync + 'x,
 >(
     scope: &Scope<'s, &'x ()>,
-    workplace: &'x Workplace<'x, L, K, G, R>,
+    workplace: &'x Workplace<'x, L, J, K, G, R>,
     pass: Pass<L>,
     task: Task<I>,
     is_refused: &'x AtomicBool,
@@ -97,14 +118,15 @@ fn start_task<
 pub(crate) fn start_entering<
     's,
     'x: 's,
-    L: Ledger + Send + Sync + 'x,
+    L: Placed + Send + Sync + 'x,
+    J: Naming + Send + Sync + 'x,
     I: LinkIn + Drop + Send + 'x,
     K: PromptOut + Send + 'x,
     G: Gate + Sync + 'x,
     R: Wait + Sync + 'x,
 >(
     scope: &Scope<'s, &'x ()>,
-    workplace: &'x Workplace<'x, L, K, G, R>,
+    workplace: &'x Workplace<'x, L, J, K, G, R>,
     tasks: Vec<Task<I>>,
     fresh: Vec<Pass<L>>,
     entering: Entering<L>,
@@ -165,14 +187,15 @@ pub(crate) fn join_entering<L: Ledger, R: Threads>(
 pub(crate) fn start_peer<
     's,
     'x: 's,
-    L: Ledger + Send + Sync + 'x,
+    L: Placed + Send + Sync + 'x,
+    J: Naming + Send + Sync + 'x,
     I: LinkIn + Drop + Send + 'x,
     K: PromptOut + Send + 'x,
     G: Gate + Sync + 'x,
     R: Wait + Sync + 'x,
 >(
     scope: &Scope<'s, &'x ()>,
-    workplace: &'x Workplace<'x, L, K, G, R>,
+    workplace: &'x Workplace<'x, L, J, K, G, R>,
     pass: Pass<L>,
 ) -> Result<JoinHandle<Entered<L>>, Entered<L>> {
     let task: Task<I> = Task::Peer;

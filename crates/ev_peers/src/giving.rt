@@ -33,7 +33,7 @@ impl Carried<'_> {
 }
 
 /// Passes each BPDU to its port, before frames, in a frame from this bridge.
-fn give_bpdus<O: Outlet>(outlet: &mut O, bridge: Mac, bpdus: &[(u8, Bpdu)])
+fn give_bpdus<U: Drop, O: Outlet<U>>(outlet: &mut O, bridge: Mac, bpdus: &[(u8, Bpdu)])
     ensures frames { O.parcels outlet.new
         ≡ behind (O.parcels outlet.old) (map (bpdu_parcel bridge) bpdus.now) }
     ensures records { O.records outlet.new ≡ O.records outlet.old }
@@ -47,7 +47,7 @@ fn give_bpdus<O: Outlet>(outlet: &mut O, bridge: Mac, bpdus: &[(u8, Bpdu)])
 }
 
 /// Passes a frame to each port of a set, ascending.
-fn give_ports<O: Outlet>(outlet: &mut O, ports: u64, frame: &[u8])
+fn give_ports<U: Drop, O: Outlet<U>>(outlet: &mut O, ports: u64, frame: &[u8])
     ensures frames { O.parcels outlet.new
         ≡ behind (O.parcels outlet.old) (to_ports frame.now (ports_of ports)) }
     ensures records { O.records outlet.new ≡ O.records outlet.old }
@@ -60,7 +60,7 @@ fn give_ports<O: Outlet>(outlet: &mut O, ports: u64, frame: &[u8])
 }
 
 /// Passes a datagram to each of these edges.
-fn give_edges<O: Outlet>(outlet: &mut O, edges: &[Addr], datagram: &[u8])
+fn give_edges<U: Drop, O: Outlet<U>>(outlet: &mut O, edges: &[Addr], datagram: &[u8])
     ensures frames { O.parcels outlet.new
         ≡ behind (O.parcels outlet.old) (to_edges datagram.now edges.now) }
     ensures records { O.records outlet.new ≡ O.records outlet.old }
@@ -72,7 +72,7 @@ fn give_edges<O: Outlet>(outlet: &mut O, edges: &[Addr], datagram: &[u8])
 
 /// Passes a frame to the targets of a decision: unchanged to the ports, and in a datagram to the
 /// edges.
-fn give_decided<O: Outlet>(
+fn give_decided<U: Drop, O: Outlet<U>>(
     outlet: &mut O,
     datagram: &mut [u8; 9026],
     carried: &Carried<'_>,
@@ -83,20 +83,20 @@ fn give_decided<O: Outlet>(
         (decided carried.now.vni carried.now.frame.now (Some decision.now)) }
     ensures records { O.records outlet.new ≡ O.records outlet.old }
 {
-    give_ports(outlet, decision.local, carried.frame);
+    give_ports::<U, O>(outlet, decision.local, carried.frame);
     let edges = decision.remote.as_slice();
     if edges.is_empty() {
         return;
     }
     let size = wrap(datagram, carried.vni, carried.frame);
-    give_edges(outlet, edges, &datagram[..size]);
+    give_edges::<U, O>(outlet, edges, &datagram[..size]);
 }
 
 /// Passes the frames of a reply to the links of its edge. Each BPDU goes to its port, in a frame
 /// from this bridge. Then the frame that the event carried goes to the targets of the decision:
 /// unchanged to the ports, and in a datagram to the edges. `datagram` is the buffer for that
 /// datagram.
-pub fn give_out<O: Outlet>(
+pub fn give_out<U: Drop, O: Outlet<U>>(
     outlet: &mut O,
     datagram: &mut [u8; 9026],
     bridge: Mac,
@@ -108,8 +108,8 @@ pub fn give_out<O: Outlet>(
         (parcels_of bridge carried.now.vni carried.now.frame.now reply.now) }
     ensures records { O.records outlet.new ≡ O.records outlet.old }
 {
-    give_bpdus(outlet, bridge, reply.bpdus.as_slice());
+    give_bpdus::<U, O>(outlet, bridge, reply.bpdus.as_slice());
     if let Some(decision) = &reply.decision {
-        give_decided(outlet, datagram, carried, decision);
+        give_decided::<U, O>(outlet, datagram, carried, decision);
     }
 }

@@ -5,15 +5,15 @@ ghost use Rattle.ev_peers.specs.Giving.{Parcel, parcel, first_parcel};
 ghost use Rattle.ev_peers.specs.Inner.Giving.{place_of};
 ghost use Rattle.ev_links.specs.Coming.{behind};
 ghost use Rattle.ev_mailboxes.specs.Posts.{sent_to};
-ghost use Rattle.ev_peers.specs.Passing.{Said, said_of, says, sends, has_room, second_passes, tells, hears, answers};
+ghost use Rattle.ev_peers.specs.Passing.{SaidOf, said_of, says, sends, has_room, second_passes, tells, hears, drops, answers};
 
 use crate::shared_line::SharedLine;
 use ether_wire::Addr;
+use ev_history::{Naming, Told};
 use ev_links::PromptOut;
 use ev_mailboxes::{Answer, Peers, Posts};
 use ev_mobility::Alert;
-use ev_notices::{Alarm, Reception};
-use route_wire::Update;
+use ev_notices::{Alarm, Cause, Reception};
 use std::alloc::AllocError;
 use std::sync::Wait;
 
@@ -26,16 +26,16 @@ pub enum Target {
     Edge(Addr),
 }
 
-/// Takes the frames and records of an edge's workers.
-pub trait Outlet {
+/// Takes the frames and records of an edge's workers. `U` is the type of the records.
+pub trait Outlet<U: Drop> {
     /// The frames that it took, each with its link, in their order; `None` if it shows none.
     ghost parcels: { Self → Option (List Parcel) };
 
     /// The messages to the other edges and to the operator: the records that were sent to each
     /// other edge, in their order; and each answer about room, each second and alert, each failure
-    /// or recovery of a link that receives, and each answer to a request, in their order, if it
-    /// shows these.
-    ghost records: { Self → Said };
+    /// or recovery of a link that receives, each dropped datagram, and each answer to a request, in
+    /// their order, if it shows these.
+    ghost records: { Self → SaidOf U };
 
     /// Takes a frame for a link. The link sends it at once, or it waits on the link's line. If the
     /// line is full, it drops and counts the frame.
@@ -56,7 +56,7 @@ pub trait Outlet {
         ensures parcels { parcels self.new ≡ parcels self.old };
 
     /// Takes a record for each of the other edges.
-    fn record(&mut self, update: Update)
+    fn record(&mut self, update: U)
         ensures given { records self.new ≡ sends (records self.old) update }
         ensures parcels { parcels self.new ≡ parcels self.old };
 
@@ -75,6 +75,11 @@ pub trait Outlet {
         ensures told { records self.new ≡ says (records self.old) (hears reception ∷ []) }
         ensures parcels { parcels self.new ≡ parcels self.old };
 
+    /// Counts a datagram that the edge dropped: from the link at this place, for this cause.
+    fn dropped(&mut self, place: usize, cause: Cause)
+        ensures told { records self.new ≡ says (records self.old) (drops place cause ∷ []) }
+        ensures parcels { parcels self.new ≡ parcels self.old };
+
     /// Gives the operator the answer to a request.
     fn answer(&mut self, answer: Answer)
         ensures told { records self.new ≡ says (records self.old) (answers answer ∷ []) }
@@ -83,22 +88,22 @@ pub trait Outlet {
 
 /// The lines to an edge's links, the mailboxes of the other edges, and the operator's board. It
 /// refers to them, and is copied for each worker.
-pub(crate) struct Senders<'x, K, R> {
+pub(crate) struct Senders<'x, J: Naming, K, R> {
     /// Waits for a lock.
     pub(crate) rt: &'x R,
     /// To the link of the tunnel, then to those of the access ports, port 1 first.
     pub(crate) lines: &'x [SharedLine<K>],
     /// To the other edges, and to the operator.
-    pub(crate) peers: Peers<'x>,
+    pub(crate) peers: Peers<'x, Told<J>>,
 }
 
-impl<'x, K, R> Clone for Senders<'x, K, R> {
+impl<'x, J: Naming, K, R> Clone for Senders<'x, J, K, R> {
     fn clone(&self) -> Result<Self, AllocError> {
         Ok(*self)
     }
 }
 
-impl<'x, K, R> Copy for Senders<'x, K, R> {}
+impl<'x, J: Naming, K, R> Copy for Senders<'x, J, K, R> {}
 
 /// Returns the place of a link's line, and the address that goes with a frame for it.
 fn place_of(to: Target) -> (usize, Addr)
@@ -120,20 +125,20 @@ fn line_at<K>(lines: &[SharedLine<K>], place: usize) -> Option<&SharedLine<K>>
 /// The outlet of one worker: the lines, mailboxes and board of its edge, and posts of its own to
 /// the mailboxes of the other edges.
 #[derive(Drop)]
-pub(crate) struct WorkerOutlet<'x, K, R> {
-    senders: Senders<'x, K, R>,
-    posts: Posts,
+pub(crate) struct WorkerOutlet<'x, J: Naming, K, R> {
+    senders: Senders<'x, J, K, R>,
+    posts: Posts<Told<J>>,
 }
 
-impl<'x, K, R: Wait> WorkerOutlet<'x, K, R> {
+impl<'x, J: Naming, K, R: Wait> WorkerOutlet<'x, J, K, R> {
     /// Returns the outlet of a worker that begins. Returns `None` if all workers have theirs.
-    pub(crate) fn new(senders: Senders<'x, K, R>) -> Option<Self> {
+    pub(crate) fn new(senders: Senders<'x, J, K, R>) -> Option<Self> {
         let posts = senders.peers.posts(senders.rt)?;
         Some(WorkerOutlet { senders, posts })
     }
 }
 
-impl<K: PromptOut, R: Wait> Outlet for WorkerOutlet<'_, K, R> {
+impl<J: Naming, K: PromptOut, R: Wait> Outlet<Told<J>> for WorkerOutlet<'_, J, K, R> {
     ghost use Rattle.std.specs.Prelude.{None};
 
     ghost parcels = { λ o. None };
@@ -143,7 +148,8 @@ impl<K: PromptOut, R: Wait> Outlet for WorkerOutlet<'_, K, R> {
     fn frame(&mut self, to: Target, octets: &[u8]) {
         let (place, address) = place_of(to);
         if let Some(line) = line_at(self.senders.lines, place) {
-            line.pass(self.senders.rt, address, octets);
+            let counts = self.senders.peers.link(place);
+            line.pass(self.senders.rt, counts, address, octets);
         }
     }
 
@@ -158,7 +164,10 @@ impl<K: PromptOut, R: Wait> Outlet for WorkerOutlet<'_, K, R> {
         self.senders.peers.have_room()
     }
 
-    fn record(&mut self, update: Update) {
+    fn record(&mut self, update: Told<J>)
+        ensures given { said_of self.new.senders.peers.number (sent_to self.new.posts) None
+            ≡ sends (said_of self.old.senders.peers.number (sent_to self.old.posts) None) update }
+    {
         let senders = self.senders;
         senders.peers.send(senders.rt, &mut self.posts, update);
     }
@@ -175,13 +184,19 @@ impl<K: PromptOut, R: Wait> Outlet for WorkerOutlet<'_, K, R> {
         self.senders.peers.reception(self.senders.rt, reception);
     }
 
+    fn dropped(&mut self, place: usize, cause: Cause) {
+        if let Some(counts) = self.senders.peers.link(place) {
+            counts.refuse(cause);
+        }
+    }
+
     fn answer(&mut self, answer: Answer) {
         self.senders.peers.answer(self.senders.rt, answer);
     }
 }
 
 /// Reports to the operator that an edge was refused memory or a thread at its start.
-pub(crate) fn report_refused<R: Wait>(rt: &R, peers: Peers<'_>) {
+pub(crate) fn report_refused<J: Naming, R: Wait>(rt: &R, peers: Peers<'_, Told<J>>) {
     peers.alarm(
         rt,
         Alarm {

@@ -1,22 +1,28 @@
 //! Edges that run beside each other, each on a thread, with a mailbox for each.
-ghost use Rattle.std.specs.Prelude.{◌≡◌, ℕ, ◌≤◌, List, length, map, reverse, vec_len, vec_capacity, IfOk};
+ghost use Rattle.std.specs.Prelude.{◌≡◌, ◌+◌, ◌≤◌, ◌∷◌, [], length, map, reverse, vec_len, vec_capacity, IfOk};
 ghost use Rattle.ev_edge.specs.Config.{IsConfig};
-ghost use Rattle.ev_peers.specs.EdgeThreads.{EdgeSetup, setup_of, IsRanOf, AreRanFrom};
+ghost use Rattle.ev_history.specs.declared.entry.Entry.TheVariants.{Begins};
+ghost use Rattle.ev_peers.specs.EdgeThreads.{setup_of, IsRanOf, AreRanFrom};
+ghost use Rattle.ev_peers.specs.History.{IsSeatOf, outcome_in, configs_of, IsHistoryOf};
+ghost use Rattle.ev_peers.specs.Inner.History.{AreSeatsOf, SeatedAs};
 ghost use Rattle.ev_peers.specs.Inner.Handles.{IsHandle, AreHandles};
 
 use crate::edge_links::EdgeLinks;
-use crate::edge_threads::{Host, edge_worker};
+use crate::edge_threads::Host;
 use crate::gate::Gate;
+use crate::history::{all_seen, settle_all};
+use crate::job::{Job, run_one};
+use crate::joining::join_edges;
 use crate::outcome::Outcome;
 use crate::outlet::report_refused;
 use ether_wire::Addr;
 use ev_edge::EdgeConfig;
+use ev_history::{Front, Naming, NewHistory, Outside, Seat, Told};
 use ev_links::{LinkIn, LinkOut, PromptOut};
 use ev_mailboxes::{Boards, Mailboxes, Running};
 use std::alloc::{AllocError, Global};
-use std::marker::{Brand, Model};
+use std::marker::Model;
 use std::sync::Wait;
-use std::sync::ledger::Blank;
 use std::thread;
 use std::thread::{Promise, PromisedHandle, Scope, Threads};
 use std::time::Clock;
@@ -25,8 +31,8 @@ use std::time::Clock;
 /// configuration and the links over which the ports send.
 #[derive(Drop)]
 pub struct Setup<I: Drop, O: Drop> {
-    config: EdgeConfig,
-    links: EdgeLinks<I, O>,
+    pub(crate) config: EdgeConfig,
+    pub(crate) links: EdgeLinks<I, O>,
 }
 
 impl<I: Drop, O: Drop> Model for Setup<I, O> {
@@ -74,26 +80,32 @@ impl<I: Drop, O: Drop> Setup<I, O> {
     }
 }
 
-/// The result of an edge's thread.
-type Ran = Result<Outcome, AllocError>;
+/// The result of an edge.
+pub(crate) type Ran = Result<Outcome, AllocError>;
+
+/// The result of an edge's thread: the outcome, and the edge's seat in the history.
+pub(crate) type SeatedRan<J> = Result<(Outcome, Seat<J>), AllocError>;
 
 /// The promise that the result of a thread is that of the edge with this number and address, over
 /// the links of `ports` ports.
 #[derive(Drop)]
-struct OfEdge {
+pub(crate) struct OfEdge {
     number: usize,
     address: Addr,
     ports: usize,
 }
 
-impl Promise<Ran> for OfEdge {
+impl<J: Naming> Promise<SeatedRan<J>> for OfEdge {
     ghost use Rattle.ev_peers.specs.EdgeThreads.{IsRanOf};
+    ghost use Rattle.ev_peers.specs.History.{outcome_in};
+    ghost use Rattle.ev_peers.specs.Inner.History.{SeatedAs};
 
-    ghost kept_by = { λ p ran. IsRanOf p.number p.address p.ports ran };
+    ghost kept_by = { λ p ran. IsRanOf p.number p.address p.ports (outcome_in ran)
+        × SeatedAs p.number ran };
 }
 
 /// The thread of an edge, or `None` if it was refused.
-type Handle = Option<PromisedHandle<Ran, OfEdge>>;
+pub(crate) type Handle<J> = Option<PromisedHandle<SeatedRan<J>, OfEdge>>;
 
 /// Returns how many workers of these edges send each other updates: one per port, and three.
 fn workers_of<I: Drop, O: Drop>(setups: &[Setup<I, O>]) -> u32 {
@@ -106,7 +118,7 @@ fn workers_of<I: Drop, O: Drop>(setups: &[Setup<I, O>]) -> u32 {
 
 /// The surroundings that edges share.
 #[derive(Drop)]
-struct Common<'x, G, R> {
+struct Common<'x, J: Naming, G, R> {
     /// Waits, and starts threads.
     rt: &'x R,
     /// The allocator.
@@ -114,14 +126,14 @@ struct Common<'x, G, R> {
     /// Called at three points of each call of a book.
     gate: &'x G,
     /// A mailbox for each edge.
-    mailboxes: &'x Mailboxes,
+    mailboxes: &'x Mailboxes<Told<J>>,
     /// The boards that the operator reads.
     boards: &'x Boards,
 }
 
-impl<'x, G, R> Common<'x, G, R> {
+impl<'x, J: Naming, G, R> Common<'x, J, G, R> {
     /// Returns the surroundings of the edge with this number.
-    fn host(&self, number: usize) -> Host<'x, G, R>
+    fn host(&self, number: usize) -> Host<'x, J, G, R>
         ensures number { result.number ≡ number }
         ensures rt { result.rt.now ≡ self.now.rt.now }
         ensures gate { result.gate.now ≡ self.now.gate.now }
@@ -136,45 +148,38 @@ impl<'x, G, R> Common<'x, G, R> {
     }
 }
 
-/// Runs one edge, under a ledger of its own.
-fn run_one<
-    I: LinkIn + Drop + Send,
-    O: LinkOut + PromptOut + Drop + Send,
-    G: Gate + Sync,
-    R: Threads + Wait + Clock + Sync,
->(host: Host<'_, G, R>, setup: Setup<I, O>) -> Ran
-    ensures { IsRanOf host.entry.number setup.config.address (length setup.outputs) result }
-{
-    let Setup { config, links } = setup;
-    let blank = Blank::new(links.ports.len() as u64 + 3);
-    let (rt, peers) = (host.rt, host.peers);
-    let ran = edge_worker::<Brand, I, O, G, R>(host, blank, config, links);
-    if ran.is_err() {
-        report_refused(rt, peers);
-    }
-    peers.leave(rt);
-    ran
-}
-
-/// Starts the thread of the edge with this number. If it is refused, the operator gets an alert.
+/// Starts the thread of the edge with this number and seat. If it is refused, the operator gets an
+/// alert.
 fn start_edge<
     's,
     'x: 's,
+    J: Naming + Send + Sync + 'x,
     I: LinkIn + Drop + Send + 'x,
     O: LinkOut + PromptOut + Drop + Send + 'x,
     G: Gate + Sync + 'x,
     R: Threads + Wait + Clock + Sync + 'x,
->(scope: &Scope<'s, &'x ()>, common: &Common<'x, G, R>, number: usize, setup: Setup<I, O>) -> Handle
+>(
+    scope: &Scope<'s, &'x ()>,
+    common: &Common<'x, J, G, R>,
+    number: usize,
+    setup: Setup<I, O>,
+    seat: Seat<J>,
+) -> Handle<J>
+    requires number { seat.place + 1 ≡ number }
+    requires seat { IsSeatOf setup.config seat }
     ensures { IsHandle number setup result }
 {
     let host = common.host(number);
     let peers = host.peers;
     let promise = setup.promise(number);
+    let job = Job { host, setup, seat };
     let started = scope.spawn_with(
         promise,
-        move || -> Ran
-            ensures { IsRanOf host.entry.number setup.config.address (length setup.outputs) result }
-        { run_one(host, setup) },
+        move || -> SeatedRan<J>
+            ensures ran { IsRanOf job.entry.number job.entry.setup.config.address
+                (length job.entry.setup.outputs) (outcome_in result) }
+            ensures seated { SeatedAs job.entry.number result }
+        { run_one(job) },
     );
     match started {
         Ok(handle) => Some(handle),
@@ -190,87 +195,95 @@ fn start_edge<
 fn start_edges<
     's,
     'x: 's,
+    J: Naming + Send + Sync + 'x,
     I: LinkIn + Drop + Send + 'x,
     O: LinkOut + PromptOut + Drop + Send + 'x,
     G: Gate + Sync + 'x,
     R: Threads + Wait + Clock + Sync + 'x,
 >(
     scope: &Scope<'s, &'x ()>,
-    common: &Common<'x, G, R>,
+    common: &Common<'x, J, G, R>,
     setups: Vec<Setup<I, O>>,
-    running: Vec<Handle>,
-) -> Vec<Handle>
+    seats: Vec<Seat<J>>,
+    running: Vec<Handle<J>>,
+) -> Vec<Handle<J>>
     requires room { (vec_len running ≡ 0) × (vec_len setups ≤ vec_capacity running) }
+    requires each { vec_len seats ≡ vec_len setups }
+    requires seats { AreSeatsOf setups.items seats.items }
     ensures len { vec_len result ≡ vec_len setups }
     ensures handles { AreHandles 0 (reverse setups.items) result.items }
 {
     let mut setups = setups;
+    let mut seats = seats;
     let mut running = running;
     while let Some(setup) = setups.pop() {
-        let handle = start_edge(scope, common, setups.len() + 1, setup);
+        let Some(seat) = seats.pop() else {
+            unreachable!()
+        };
+        let handle = start_edge(scope, common, setups.len() + 1, setup, seat);
         running.push_reserved(handle);
     }
     running
 }
 
-/// Waits for the thread of an edge. Returns `AllocError` if the thread was refused.
-fn join_edge<O: Drop, R: Threads>(rt: &R, handle: Handle) -> Ran
-    ensures { (number : ℕ) (setup : EdgeSetup O) → IsHandle number setup handle
-        → IsRanOf number setup.config.address (length setup.outputs) result }
-{
-    match handle {
-        Some(handle) => handle.join(rt),
-        None => Err(AllocError),
-    }
-}
-
-/// Waits for the threads of all edges, which were started the last one first. Returns the results
-/// in the edges' order.
-fn join_edges<O: Drop, R: Threads>(rt: &R, running: Vec<Handle>, ended: Vec<Ran>) -> Vec<Ran>
-    requires { (vec_len ended ≡ 0) × (vec_len running ≤ vec_capacity ended) }
-    ensures len { vec_len result ≡ vec_len running }
-    ensures each { (setups : List (EdgeSetup O)) → AreHandles 0 (reverse setups) running.items
-        → AreRanFrom 1 setups result.items }
-{
-    let mut running = running;
-    let mut ended = ended;
-    while let Some(handle) = running.pop() {
-        ended.push_reserved(join_edge::<O, R>(rt, handle));
-    }
-    ended
-}
-
 /// Edges that are ready to run. Its model is the list of their setups.
 #[derive(Drop)]
-struct Ready<I: Drop, O: Drop> {
+struct Ready<J: Naming, I: Drop, O: Drop> {
     setups: Vec<Setup<I, O>>,
-    running: Vec<Handle>,
+    seats: Vec<Seat<J>>,
+    /// The history as it begins.
+    front: Front<J>,
+    running: Vec<Handle<J>>,
     ended: Vec<Ran>,
+    left: Vec<Option<Seat<J>>>,
 }
 
-impl<I: Drop, O: Drop> Model for Ready<I, O> {
-    ghost use Rattle.std.specs.Prelude.{List, vec_len, vec_capacity};
+impl<J: Naming, I: Drop, O: Drop> Model for Ready<J, I, O> {
+    ghost use Rattle.std.specs.Prelude.{◌≡◌, ◌∷◌, [], List, vec_len, vec_capacity};
+    ghost use Rattle.ev_history.specs.declared.entry.Entry.TheVariants.{Begins};
     ghost use Rattle.ev_peers.specs.EdgeThreads.{EdgeSetup};
+    ghost use Rattle.ev_peers.specs.History.{configs_of};
+    ghost use Rattle.ev_peers.specs.Inner.History.{AreSeatsOf};
     ghost use Rattle.ev_peers.specs.Inner.EdgeThreads.{HasEdges};
 
     ghost Value = { List (EdgeSetup O) };
 
     ghost view = { λ s. s.setups.items };
 
-    ghost invariant = { λ s. HasEdges (vec_len s.setups) (vec_len s.running)
-        (vec_capacity s.running) (vec_len s.ended) (vec_capacity s.ended) };
+    ghost invariant = { λ s. HasEdges (vec_len s.setups) (vec_len s.seats) (vec_len s.running)
+        (vec_capacity s.running) (vec_len s.ended) (vec_capacity s.ended) (vec_len s.left)
+        (vec_capacity s.left)
+        × AreSeatsOf s.setups.items s.seats.items
+        × (s.front ≡ Begins J.outside (configs_of s.setups.items) ∷ []) };
+}
+
+/// The mailboxes of edges that run beside each other.
+#[derive(Drop)]
+pub struct Mailroom<J: Naming> {
+    mailboxes: Mailboxes<Told<J>>,
+    /// The right to bring in updates of other processes, if they may come in.
+    outside: Option<Outside<J>>,
+}
+
+impl<J: Naming> Mailroom<J> {
+    /// Returns the running edges, whose alerts go to these boards.
+    pub fn running<'x>(&'x self, boards: &'x Boards) -> Running<'x, J>
+        ensures mailboxes { result.mailboxes.now ≡ self.entry.now.mailboxes }
+        ensures boards { result.boards.now ≡ boards.now }
+    {
+        Running::new(&self.mailboxes, boards, self.outside.as_ref())
+    }
 }
 
 /// Edges that are about to run beside each other. Its model is the list of their setups.
 #[derive(Drop)]
-pub struct Start<I: Drop, O: Drop> {
-    ready: Ready<I, O>,
-    mailboxes: Mailboxes,
+pub struct Start<J: Naming, I: Drop, O: Drop> {
+    ready: Ready<J, I, O>,
     /// The allocator of the edges.
     alloc: Global,
 }
 
-impl<I: Drop, O: Drop> Model for Start<I, O> {
+impl<J: Naming, I: Drop, O: Drop> Model for Start<J, I, O> {
     ghost use Rattle.std.specs.Prelude.{List};
     ghost use Rattle.ev_peers.specs.EdgeThreads.{EdgeSetup};
 
@@ -279,117 +292,146 @@ impl<I: Drop, O: Drop> Model for Start<I, O> {
     ghost view = { λ s. s.ready };
 }
 
-impl<I: Drop, O: Drop> Start<I, O> {
-    /// Prepares these edges. Each edge also allocates its book from here, when it begins.
+impl<J: Naming, I: Drop, O: Drop> Start<J, I, O> {
+    /// Prepares these edges, whose history has just begun, and their mailboxes. Each edge also
+    /// allocates its book from here, when it begins.
     ///
     /// # Errors
     ///
     /// `AllocError` if memory is refused.
-    pub fn new(alloc: Global, setups: Vec<Setup<I, O>>) -> Result<Self, AllocError>
-        ensures { IfOk result (λ start. start ≡ setups.items) }
+    #[tactic(auto, using(crate::proofs::Histories::begun_each, crate::proofs::Histories::begun_seats))]
+    pub fn new(
+        alloc: Global,
+        setups: Vec<Setup<I, O>>,
+        history: NewHistory,
+    ) -> Result<(Self, Mailroom<J>), AllocError>
+        requires named { history.seen.book ≡ J.book }
+        requires begins { history.seen.log ≡ Begins J.outside (configs_of setups.items) ∷ [] }
+        ensures { IfOk result (λ r. r.0 ≡ setups.items) }
     {
         let mailboxes = Mailboxes::new(alloc, setups.len(), workers_of(setups.as_slice()))?;
+        let outside = history.outside::<J>();
+        let (front, seats) = history.seats::<J>(alloc)?;
         let running = Vec::with_capacity(alloc, setups.len())?;
         let ended = Vec::with_capacity(alloc, setups.len())?;
+        let left = Vec::with_capacity(alloc, setups.len())?;
         let ready = Ready {
             setups,
+            seats,
+            front,
             running,
             ended,
+            left,
         };
-        Ok(Start {
-            ready,
-            mailboxes,
-            alloc,
-        })
+        let mailroom = Mailroom { mailboxes, outside };
+        Ok((Start { ready, alloc }, mailroom))
     }
 }
 
 /// Starts the edges, waits until `until` has returned and then until all their workers have ended.
+#[tactic(auto, using(crate::proofs::Histories::ended))]
 fn run_within<
     's,
     'x: 's,
+    J: Naming + Send + Sync + 'x,
     I: LinkIn + Drop + Send + 'x,
     O: LinkOut + PromptOut + Drop + Send + 'x,
     G: Gate + Sync + 'x,
     R: Threads + Wait + Clock + Sync + 'x,
-    F: FnOnce(Running<'_>) -> T + Drop,
+    F: FnOnce() -> T + Drop,
     T,
 >(
     scope: &Scope<'s, &'x ()>,
-    common: &Common<'x, G, R>,
-    ready: Ready<I, O>,
+    common: &Common<'x, J, G, R>,
+    ready: Ready<J, I, O>,
     until: F,
 ) -> (Vec<Ran>, T)
-    requires { F.IsAlwaysCallable until }
+    requires { F.pre until }
     ensures each { AreRanFrom 1 ready result.0.items }
     ensures all { vec_len result.0 ≡ length ready }
-    ensures until { (running : _) × F.post until running result.1 }
+    ensures until { F.post until result.1 }
+    ensures history { IsHistoryOf J.outside (configs_of ready) result.0.items }
 {
     let Ready {
         setups,
+        seats,
+        front,
         running,
         ended,
+        left,
     } = ready;
-    let running = start_edges(scope, common, setups, running);
-    let told = until(Running::new(common.mailboxes, common.boards));
-    (join_edges::<O, R>(common.rt, running, ended), told)
+    let running = start_edges(scope, common, setups, seats, running);
+    let told = until();
+    let (ended, left) = join_edges::<J, O, R>(common.rt, running, ended, left);
+    let all = all_seen(front, left.as_slice());
+    settle_all(common.rt, &all, left.as_slice());
+    (ended, told)
 }
 
 /// Runs the edges until `until` has returned and all their workers have ended.
 fn run_ready<
     'x,
+    J: Naming + Send + Sync + 'x,
     I: LinkIn + Drop + Send + 'x,
     O: LinkOut + PromptOut + Drop + Send + 'x,
     G: Gate + Sync + 'x,
     R: Threads + Wait + Clock + Sync + 'x,
-    F: FnOnce(Running<'_>) -> T + Drop,
+    F: FnOnce() -> T + Drop,
     T,
->(common: Common<'x, G, R>, ready: Ready<I, O>, until: F) -> (Vec<Ran>, T)
-    requires { F.IsAlwaysCallable until }
+>(common: Common<'x, J, G, R>, ready: Ready<J, I, O>, until: F) -> (Vec<Ran>, T)
+    requires { F.pre until }
     ensures each { AreRanFrom 1 ready result.0.items }
     ensures all { vec_len result.0 ≡ length ready }
-    ensures until { (running : _) × F.post until running result.1 }
+    ensures until { F.post until result.1 }
+    ensures history { IsHistoryOf J.outside (configs_of ready) result.0.items }
 {
     thread::scope(
         thread::scope_env(),
         common.rt,
         move |scope| -> (Vec<Ran>, T)
-            requires { F.IsAlwaysCallable until }
+            requires { F.pre until }
             ensures each { AreRanFrom 1 ready result.0.items }
             ensures all { vec_len result.0 ≡ length ready }
-            ensures until { (running : _) × F.post until running result.1 }
+            ensures until { F.post until result.1 }
+            ensures history { IsHistoryOf J.outside (configs_of ready) result.0.items }
         { run_within(scope, &common, ready, until) },
     )
 }
 
 /// Runs edges beside each other, each on a thread with its workers, until `until` has returned and
-/// the links have ended. `until` makes the links end, and can query the edges meanwhile. The
+/// the links have ended. The mailroom is the one that was made with them. `until` makes the links
+/// end, and can query the edges meanwhile (`Mailroom::running`). The
 /// outcomes are in the edges' order, with an error if an edge was refused memory or a thread
 /// before it began. Alerts for the operator go to these boards, which get no more once it
-/// returns.
+/// returns. There is one history of all edges, which leads to these outcomes.
 pub fn run_all<
+    J: Naming + Send + Sync,
     I: LinkIn + Drop + Send,
     O: LinkOut + PromptOut + Drop + Send,
     G: Gate + Sync,
     R: Threads + Wait + Clock + Sync,
-    F: FnOnce(Running<'_>) -> T + Drop,
+    F: FnOnce() -> T + Drop,
     T,
->(rt: &R, start: Start<I, O>, boards: &Boards, gate: &G, until: F) -> (Vec<Ran>, T)
-    requires { F.IsAlwaysCallable until }
+>(
+    rt: &R,
+    start: Start<J, I, O>,
+    mailroom: &Mailroom<J>,
+    boards: &Boards,
+    gate: &G,
+    until: F,
+) -> (Vec<Ran>, T)
+    requires { F.pre until }
     ensures each { AreRanFrom 1 start result.0.items }
     ensures all { vec_len result.0 ≡ length start }
-    ensures until { (running : _) × F.post until running result.1 }
+    ensures until { F.post until result.1 }
+    ensures history { IsHistoryOf J.outside (configs_of start) result.0.items }
 {
-    let Start {
-        ready,
-        mailboxes,
-        alloc,
-    } = start;
+    let Start { ready, alloc } = start;
     let common = Common {
         rt,
         alloc,
         gate,
-        mailboxes: &mailboxes,
+        mailboxes: &mailroom.mailboxes,
         boards,
     };
     let ran = run_ready(common, ready, until);

@@ -9,7 +9,10 @@ use crate::plan::Shared;
 use crate::shared_edge::Ended;
 use crate::shared_line::SharedLine;
 use crate::workers::out_worker;
-use ev_links::{LinkOut, PromptOut};
+use ev_history::{Naming, Told};
+use ev_links::{Counted, LinkOut, PromptOut};
+use ev_mailboxes::Peers;
+use ev_notices::LinkCounts;
 use std::sync::Wait;
 use std::sync::atomic::{AtomicBool, Ordering};
 use std::thread::{JoinHandle, Scope, Threads};
@@ -21,9 +24,14 @@ fn send_all<O: LinkOut + PromptOut + Drop, R: Wait + Clock>(
     rt: &R,
     link: O,
     line: &SharedLine<O>,
+    counts: Option<&LinkCounts>,
     is_refused: &AtomicBool,
 ) -> Sent {
-    let mut link = link;
+    let cell = match counts {
+        Some(counts) => Some(&counts.queued),
+        None => None,
+    };
+    let mut link = Counted::new(link, cell);
     if is_refused.load(Ordering::SeqCst) {
         return (0, Ended::NoMemory);
     }
@@ -35,12 +43,14 @@ fn send_all<O: LinkOut + PromptOut + Drop, R: Wait + Clock>(
 pub(crate) fn start_sending<
     's,
     'x: 's,
+    J: Naming + 'x,
     O: LinkOut + PromptOut + Drop + Send + 'x,
     R: Wait + Clock + Sync + 'x,
 >(
     scope: &Scope<'s, &'x ()>,
     rt: &'x R,
     shared: &'x Shared<O>,
+    peers: Peers<'x, Told<J>>,
     outputs: Vec<O>,
     running: Vec<JoinHandle<Sent>>,
 ) -> (Vec<JoinHandle<Sent>>, Faults)
@@ -53,8 +63,9 @@ pub(crate) fn start_sending<
     let mut faults = Faults::none();
     while let Some(link) = outputs.pop() {
         let line = &shared.lines[outputs.len()];
+        let counts = peers.link(outputs.len());
         let is_refused = &shared.no_sending[outputs.len()];
-        match scope.spawn(move || send_all(rt, link, line, is_refused)) {
+        match scope.spawn(move || send_all(rt, link, line, counts, is_refused)) {
             Ok(handle) => running.push_reserved(handle),
             Err(no_thread) => {
                 is_refused.store(true, Ordering::SeqCst);
@@ -66,7 +77,9 @@ pub(crate) fn start_sending<
 }
 
 /// Ends the lines, so that the threads that send over links stop.
-pub(crate) fn stop_sending<K: PromptOut, R: Wait + Clock>(outlet: &Senders<'_, K, R>) {
+pub(crate) fn stop_sending<J: Naming, K: PromptOut, R: Wait + Clock>(
+    outlet: &Senders<'_, J, K, R>,
+) {
     for line in outlet.lines {
         line.end(outlet.rt);
     }

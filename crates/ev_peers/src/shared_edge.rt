@@ -3,18 +3,19 @@
 ghost use Rattle.std.specs.Prelude.{◌≡◌};
 ghost use Rattle.ev_book.specs.Entering.{answered, CallsBook};
 ghost use Rattle.ev_notices.specs.Alarm.{alert_of};
-ghost use Rattle.ev_peers.specs.Passing.{Leaves, Asked, has_pending, announced_by};
+ghost use Rattle.ev_edge.specs.declared.event.Event.TheVariants.{Announce};
+ghost use Rattle.ev_history.specs.Booking.{IsCovered};
+ghost use Rattle.ev_peers.specs.Passing.{Leaves, Asked, has_pending};
 ghost use Rattle.ev_peers.specs.Inner.Passing.{is_no_memory};
 
 use crate::gate::{Gate, Point};
 use ether_wire::Mac;
-use ev_book::{Book, BookRefusal, Pass};
+use ev_book::{BookRefusal, Pass};
 use ev_edge::{Event, Reply};
+use ev_history::{LoggedBook, Naming, Placed, Told};
 use ev_mobility::Alert;
 use ev_notices::alert_of;
-use route_wire::Update;
 use std::sync::atomic::{AtomicBool, Ordering};
-use std::sync::ledger::Ledger;
 use std::sync::{Mutex, Wait};
 
 /// Why a worker ended.
@@ -30,11 +31,11 @@ pub enum Ended {
 
 /// An edge as its workers share it.
 #[derive(Drop)]
-pub struct SharedEdge<'x, L: Ledger, G, R> {
+pub struct SharedEdge<'x, L: Placed, J: Naming, G, R> {
     /// Waits for the lock.
     pub rt: &'x R,
-    /// The edge's book.
-    pub book: &'x Mutex<Book<L>>,
+    /// The edge's book, which keeps the history of the edges.
+    pub book: &'x Mutex<LoggedBook<L, J>>,
     /// Called at three points of each call of the book.
     pub gate: &'x G,
     /// The edge's number for the gate.
@@ -45,36 +46,51 @@ pub struct SharedEdge<'x, L: Ledger, G, R> {
     pub out_of_memory: &'x AtomicBool,
 }
 
-impl<L: Ledger, G: Gate, R: Wait> SharedEdge<'_, L, G, R> {
-    /// Calls the book once, with all three points. Only the call itself holds the lock. Returns the
-    /// book's answer, and `true` exactly if an announcement is pending in the book after the call.
+impl<L: Placed, J: Naming, G: Gate, R: Wait> SharedEdge<'_, L, J, G, R> {
+    /// Calls the book once, with all three points: with an event that other edges have no part in,
+    /// or with the update `told`. Only the call itself holds the lock. Returns the book's answer,
+    /// and `true` exactly if an announcement is pending in the book after the call.
     pub(crate) fn enter(
         &self,
         pass: &mut Pass<L>,
         event: &Event<'_>,
+        told: &Option<Told<J>>,
         reply: &mut Reply,
     ) -> (Result<(), BookRefusal>, bool)
+        requires { IsCovered event.now told.now }
         ensures { Leaves pass.old event.now (answered result.0 reply.new) result.1 pass.new }
     {
         self.gate.at(self.edge, Point::Before);
         let (answer, is_pending) = {
             let mut book = self.book.lock(self.rt);
             self.gate.at(self.edge, Point::Inside);
-            call(&mut *book, pass, event, reply)
+            call(self.rt, &mut *book, pass, event, told, reply)
         };
         self.gate.at(self.edge, Point::After);
-        if lacks_memory(&answer, reply) {
-            self.out_of_memory.store(true, Ordering::SeqCst);
-        }
+        self.note(&answer, reply);
         (answer, is_pending)
     }
 
     /// Returns the edge's next announcement, or `None` if there is none or the call is refused.
-    pub(crate) fn ask(&self, pass: &mut Pass<L>, reply: &mut Reply) -> Option<Update>
+    pub(crate) fn ask(&self, pass: &mut Pass<L>, reply: &mut Reply) -> Option<Told<J>>
         ensures { Asked pass.old result pass.new }
     {
-        let (answer, _) = self.enter(pass, &Event::Announce, reply);
-        announced_by(&answer, reply)
+        self.gate.at(self.edge, Point::Before);
+        let (answer, told) = {
+            let mut book = self.book.lock(self.rt);
+            self.gate.at(self.edge, Point::Inside);
+            request(self.rt, &mut *book, pass, reply)
+        };
+        self.gate.at(self.edge, Point::After);
+        self.note(&answer, reply);
+        told
+    }
+
+    /// Notes if memory was refused for a call of the book.
+    fn note(&self, answer: &Result<(), BookRefusal>, reply: &Reply) {
+        if lacks_memory(answer, reply) {
+            self.out_of_memory.store(true, Ordering::SeqCst);
+        }
     }
 }
 
@@ -98,27 +114,34 @@ fn lacks_memory(answer: &Result<(), BookRefusal>, reply: &Reply) -> bool
 
 /// Calls a book once. Returns its answer, and `true` exactly if an announcement is pending in it
 /// after the call.
-fn call<L: Ledger>(
-    book: &mut Book<L>,
+fn call<L: Placed, J: Naming, R: Wait>(
+    rt: &R,
+    book: &mut LoggedBook<L, J>,
     pass: &mut Pass<L>,
     event: &Event<'_>,
+    told: &Option<Told<J>>,
     reply: &mut Reply,
 ) -> (Result<(), BookRefusal>, bool)
+    requires { IsCovered event.now told.now }
     ensures calls { CallsBook book.old pass.old event.now (answered result.0 reply.new) book.new
         pass.new }
     ensures pending { result.1 ≡ has_pending book.new }
     ensures leaves { Leaves pass.old event.now (answered result.0 reply.new) result.1 pass.new }
 {
-    let answer = book.enter_into(pass, event, reply);
+    let answer = book.enter(rt, pass, event, told.as_ref(), reply);
     (answer, book.edge().has_pending())
 }
 
-/// The update that an answer announces.
-fn announced_by(answer: &Result<(), BookRefusal>, reply: &Reply) -> Option<Update>
-    ensures { result ≡ announced_by (answered answer.now reply.now) }
+/// Requests the next announcement from a book. Returns the book's answer, and the announcement.
+fn request<L: Placed, J: Naming, R: Wait>(
+    rt: &R,
+    book: &mut LoggedBook<L, J>,
+    pass: &mut Pass<L>,
+    reply: &mut Reply,
+) -> (Result<(), BookRefusal>, Option<Told<J>>)
+    ensures calls { CallsBook book.old pass.old Announce (answered result.0 reply.new) book.new
+        pass.new }
+    ensures asked { Asked pass.old result.1 pass.new }
 {
-    match answer {
-        Ok(()) => reply.announced,
-        Err(_) => None,
-    }
+    book.announce(rt, pass, reply)
 }

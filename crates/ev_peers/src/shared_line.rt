@@ -3,10 +3,13 @@
 ghost use Rattle.std.specs.Prelude.{◌≡◌, ◌-◌, ◌/◌, ◌≤◌, nat_le, false, length, if◌then◌else◌, None, IfSome};
 ghost use Rattle.std.specs.Time.{instant_nanos};
 ghost use Rattle.ev_links.specs.Line.{first_of, handed};
-ghost use Rattle.ev_links.specs.DirectLine.{direct_of, after_turn, after_its_drop};
+ghost use Rattle.ev_links.specs.DirectLine.{direct_of, Passes, after_turn, after_its_drop};
+ghost use Rattle.ev_links.specs.Flow.{counted};
+ghost use Rattle.ev_links.specs.Links.{packet};
 
 use ether_wire::Addr;
-use ev_links::{DirectLine, PromptOut};
+use ev_links::{DirectLine, Flow, PromptOut};
+use ev_notices::LinkCounts;
 use std::alloc::{AllocError, Global};
 use std::sync::{Condvar, Mutex, Wait};
 use std::time::{Clock, Instant};
@@ -15,10 +18,12 @@ use std::time::{Clock, Instant};
 /// edge that enters events, which is up to a second after the end of the input.
 const PATIENCE: u64 = 1;
 
-/// A link with its line, and the time at which the line ended.
+/// A link with its line, the datagrams that were sent at once, and the time at which the line
+/// ended.
 #[derive(Drop)]
 struct TimedLine<K> {
     line: DirectLine<K>,
+    at_once: Flow,
     ended: Option<Instant>,
 }
 
@@ -45,6 +50,24 @@ fn is_over<R: Clock>(rt: &R, ended: Option<Instant>) -> bool
 }
 
 impl<K: PromptOut> TimedLine<K> {
+    /// Passes a frame on, as `DirectLine::pass` does, and shows the numbers of the link.
+    fn pass(&mut self, counts: Option<&LinkCounts>, to: Addr, octets: &[u8]) -> bool
+        ensures passes { Passes result (packet to octets.now) (direct_of K.tried self.old.line)
+            (direct_of K.tried self.new.line) }
+        ensures counted { self.new.at_once ≡ (if result
+            then counted (length octets.now) self.old.at_once else self.old.at_once) }
+    {
+        let is_sent = self.line.pass(to, octets);
+        if is_sent {
+            self.at_once = self.at_once.with(octets.len());
+        }
+        if let Some(counts) = counts {
+            counts.at_once.show(self.at_once);
+            counts.show_no_room(self.line.dropped());
+        }
+        is_sent
+    }
+
     /// Drops and counts all that waits if `is_over`. Then takes the first BPDU or frame, as
     /// `DirectLine::take` does.
     fn take(&mut self, is_over: bool, buffer: &mut [u8]) -> Option<(Addr, usize)>
@@ -55,6 +78,7 @@ impl<K: PromptOut> TimedLine<K> {
             (if is_over then after_its_drop (direct_of K.tried self.old.line)
             else direct_of K.tried self.old.line) }
         ensures fits { IfSome result (λ r. r.1 ≤ length buffer.new) }
+        ensures counted { self.new.at_once ≡ self.old.at_once }
     {
         if is_over {
             self.line.drop_rest();
@@ -83,17 +107,27 @@ impl<K: PromptOut> SharedLine<K> {
     pub(crate) fn new(alloc: Global, link: K) -> Result<Self, AllocError> {
         let line = DirectLine::new(alloc, link)?;
         Ok(SharedLine {
-            timed: Mutex::new(TimedLine { line, ended: None }),
+            timed: Mutex::new(TimedLine {
+                line,
+                at_once: Flow::none(),
+                ended: None,
+            }),
             bell: Condvar::new(),
         })
     }
 
     /// Sends a frame, or a datagram, at once. If that needs waiting, puts it on the line, or drops
-    /// and counts it.
-    pub(crate) fn pass<R: Wait>(&self, rt: &R, to: Addr, octets: &[u8]) {
+    /// and counts it. Shows the numbers.
+    pub(crate) fn pass<R: Wait>(
+        &self,
+        rt: &R,
+        counts: Option<&LinkCounts>,
+        to: Addr,
+        octets: &[u8],
+    ) {
         let is_sent = {
             let mut timed = self.timed.lock(rt);
-            timed.line.pass(to, octets)
+            timed.pass(counts, to, octets)
         };
         if !is_sent {
             self.bell.notify_one();

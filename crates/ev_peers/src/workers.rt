@@ -1,5 +1,6 @@
 //! The workers of an edge: each handles the input of one link or channel, one thing at a time.
-ghost use Rattle.std.specs.Prelude.{◌≡◌, ◌+◌, ◌^◌, ◌<◌, ◌≤◌, true, length, take};
+ghost use Rattle.std.specs.Prelude.{◌≡◌, ◌+◌, ◌^◌, ◌<◌, ◌≤◌, true, length, take, IfSome};
+ghost use Rattle.ev_history.specs.Booking.{is_own};
 ghost use Rattle.ev_links.specs.Links.{arrival, packet};
 ghost use Rattle.ev_peers.specs.declared.workers.Source.TheVariants.{Port, Tunnel, Clock};
 ghost use Rattle.ev_peers.specs.Working.{ended_of, IsEventOf, fitting, unwrapped, carried, standing, hearing, input_of, Handles, Turns, Changes, Becomes, Hears, Takes, Ends, PortEnds, PeerEnds};
@@ -16,12 +17,12 @@ use crate::shared_edge::Ended;
 use crate::worker::Worker;
 use ether_wire::{Addr, Vni};
 use ev_edge::Event;
+use ev_history::{Naming, Placed, Told};
 use ev_links::{LONGEST, LinkIn, LinkOut};
 use ev_mailboxes::{Message, UpdatesIn};
 use ev_notices::{Input, Reception};
 use ev_tunnel::unwrap_datagram;
 use std::sync::Wait;
-use std::sync::ledger::Ledger;
 
 /// The source of the datagrams that come over a link.
 #[derive(Clone, Copy)]
@@ -74,7 +75,8 @@ fn carried<'a>(source: &Source, octets: &'a [u8]) -> Carried<'a>
 
 /// Returns the event of a link's datagram. An empty datagram has none, except a clock's.
 fn event_of<'a>(source: &Source, from: Addr, octets: &'a [u8]) -> Option<Event<'a>>
-    ensures { IsEventOf source.now (arrival from octets.now) result }
+    ensures event { IsEventOf source.now (arrival from octets.now) result }
+    ensures own { IfSome result (λ event. is_own event ≡ true) }
 {
     match source {
         Source::Clock => Some(Event::Second),
@@ -85,8 +87,8 @@ fn event_of<'a>(source: &Source, from: Addr, octets: &'a [u8]) -> Option<Event<'
 }
 
 /// Enters the event of a link's datagram, if it has one, and passes on the answer.
-fn enter_datagram<L: Ledger, O: Outlet + Drop, G: Gate, R: Wait>(
-    worker: &mut Worker<'_, L, O, G, R>,
+fn enter_datagram<L: Placed, J: Naming, O: Outlet<Told<J>> + Drop, G: Gate, R: Wait>(
+    worker: &mut Worker<'_, L, J, O, G, R>,
     source: &Source,
     from: Addr,
     octets: &[u8],
@@ -100,12 +102,12 @@ fn enter_datagram<L: Ledger, O: Outlet + Drop, G: Gate, R: Wait>(
     let Some(event) = event_of(source, from, octets) else {
         return;
     };
-    worker.act(&event, &carried(source, octets));
+    worker.act(&event, &None, &carried(source, octets));
 }
 
 /// Brings an access port up, or takes it down.
-fn turn_port<L: Ledger, O: Outlet + Drop, G: Gate, R: Wait>(
-    worker: &mut Worker<'_, L, O, G, R>,
+fn turn_port<L: Placed, J: Naming, O: Outlet<Told<J>> + Drop, G: Gate, R: Wait>(
+    worker: &mut Worker<'_, L, J, O, G, R>,
     port: u8,
     vni: Vni,
     is_up: bool,
@@ -117,9 +119,9 @@ fn turn_port<L: Ledger, O: Outlet + Drop, G: Gate, R: Wait>(
 {
     let carried = Carried { vni, frame: &[] };
     if is_up {
-        worker.act(&Event::PortUp(port), &carried);
+        worker.act(&Event::PortUp(port), &None, &carried);
     } else {
-        worker.act(&Event::PortDown(port), &carried);
+        worker.act(&Event::PortDown(port), &None, &carried);
     }
 }
 
@@ -137,8 +139,8 @@ fn input_of(source: &Source) -> Input
 /// Reports to the operator that a link works again or has failed, and brings its access port up or
 /// takes it down. A bridge that receives nothing at a port any more would assume to be the only
 /// bridge there, and create a loop.
-fn change<L: Ledger, O: Outlet + Drop, G: Gate, R: Wait>(
-    worker: &mut Worker<'_, L, O, G, R>,
+fn change<L: Placed, J: Naming, O: Outlet<Told<J>> + Drop, G: Gate, R: Wait>(
+    worker: &mut Worker<'_, L, J, O, G, R>,
     source: &Source,
     works: bool,
 )
@@ -157,8 +159,8 @@ fn change<L: Ledger, O: Outlet + Drop, G: Gate, R: Wait>(
 }
 
 /// Calls `change` if the link started or stopped failing with this call.
-fn note_call<L: Ledger, O: Outlet + Drop, G: Gate, R: Wait>(
-    worker: &mut Worker<'_, L, O, G, R>,
+fn note_call<L: Placed, J: Naming, O: Outlet<Told<J>> + Drop, G: Gate, R: Wait>(
+    worker: &mut Worker<'_, L, J, O, G, R>,
     source: &Source,
     works: &mut bool,
     has_brought: bool,
@@ -177,8 +179,8 @@ fn note_call<L: Ledger, O: Outlet + Drop, G: Gate, R: Wait>(
 
 /// Waits for the next datagram of a link and enters it. Returns `false` exactly at the link's end.
 /// After a failed call it returns `true`, so that the link is called again.
-fn turn<L: Ledger, I: LinkIn, O: Outlet + Drop, G: Gate, R: Wait>(
-    worker: &mut Worker<'_, L, O, G, R>,
+fn turn<L: Placed, J: Naming, I: LinkIn, O: Outlet<Told<J>> + Drop, G: Gate, R: Wait>(
+    worker: &mut Worker<'_, L, J, O, G, R>,
     buffer: &mut [u8],
     link: &mut I,
     source: &Source,
@@ -211,8 +213,8 @@ fn turn<L: Ledger, I: LinkIn, O: Outlet + Drop, G: Gate, R: Wait>(
 /// Enters the datagrams of a link until it ends. Returns `false` if the last call before the end
 /// failed, else `true`. The buffer has one octet more than the longest datagram: a longer datagram
 /// must not be cut to a valid length and taken for whole.
-fn hear_all<L: Ledger, I: LinkIn, O: Outlet + Drop, G: Gate, R: Wait>(
-    worker: &mut Worker<'_, L, O, G, R>,
+fn hear_all<L: Placed, J: Naming, I: LinkIn, O: Outlet<Told<J>> + Drop, G: Gate, R: Wait>(
+    worker: &mut Worker<'_, L, J, O, G, R>,
     link: &mut I,
     source: &Source,
 ) -> bool
@@ -240,8 +242,8 @@ fn hear_all<L: Ledger, I: LinkIn, O: Outlet + Drop, G: Gate, R: Wait>(
 
 /// Enters the datagrams of a link until it ends. Returns `Device` exactly if a call of the link
 /// failed meanwhile.
-fn link_worker<L: Ledger, I: LinkIn, O: Outlet + Drop, G: Gate, R: Wait>(
-    worker: &mut Worker<'_, L, O, G, R>,
+fn link_worker<L: Placed, J: Naming, I: LinkIn, O: Outlet<Told<J>> + Drop, G: Gate, R: Wait>(
+    worker: &mut Worker<'_, L, J, O, G, R>,
     link: &mut I,
     source: &Source,
 ) -> Ended
@@ -265,8 +267,8 @@ fn link_worker<L: Ledger, I: LinkIn, O: Outlet + Drop, G: Gate, R: Wait>(
 /// If the port's link fails, the port is taken down until the link works again.
 ///
 /// Returns `Device` exactly if a call of the link failed.
-pub fn port_worker<L: Ledger, I: LinkIn, O: Outlet + Drop, G: Gate, R: Wait>(
-    worker: &mut Worker<'_, L, O, G, R>,
+pub fn port_worker<L: Placed, J: Naming, I: LinkIn, O: Outlet<Told<J>> + Drop, G: Gate, R: Wait>(
+    worker: &mut Worker<'_, L, J, O, G, R>,
     link: &mut I,
     port: u8,
     vni: Vni,
@@ -285,8 +287,8 @@ pub fn port_worker<L: Ledger, I: LinkIn, O: Outlet + Drop, G: Gate, R: Wait>(
 /// Enters the datagrams that other edges send. An empty datagram is not entered.
 ///
 /// Returns `Device` exactly if a call of the link failed.
-pub fn tunnel_worker<L: Ledger, I: LinkIn, O: Outlet + Drop, G: Gate, R: Wait>(
-    worker: &mut Worker<'_, L, O, G, R>,
+pub fn tunnel_worker<L: Placed, J: Naming, I: LinkIn, O: Outlet<Told<J>> + Drop, G: Gate, R: Wait>(
+    worker: &mut Worker<'_, L, J, O, G, R>,
     link: &mut I,
 ) -> Ended
     ensures ended { result ≡ ended_of (I.failed link.old) (I.failed link.new) }
@@ -302,8 +304,8 @@ pub fn tunnel_worker<L: Ledger, I: LinkIn, O: Outlet + Drop, G: Gate, R: Wait>(
 /// Enters a second at each tick of a clock.
 ///
 /// Returns `Device` exactly if a call of the clock failed.
-pub fn clock_worker<L: Ledger, I: LinkIn, O: Outlet + Drop, G: Gate, R: Wait>(
-    worker: &mut Worker<'_, L, O, G, R>,
+pub fn clock_worker<L: Placed, J: Naming, I: LinkIn, O: Outlet<Told<J>> + Drop, G: Gate, R: Wait>(
+    worker: &mut Worker<'_, L, J, O, G, R>,
     clock: &mut I,
 ) -> Ended
     ensures ended { result ≡ ended_of (I.failed clock.old) (I.failed clock.new) }
@@ -318,9 +320,9 @@ pub fn clock_worker<L: Ledger, I: LinkIn, O: Outlet + Drop, G: Gate, R: Wait>(
 
 /// Handles a message: enters an update of another edge, requests announcements if another edge has
 /// room for them again, or answers the operator.
-fn enter_message<L: Ledger, O: Outlet + Drop, G: Gate, R: Wait>(
-    worker: &mut Worker<'_, L, O, G, R>,
-    message: &Message,
+fn enter_message<L: Placed, J: Naming, O: Outlet<Told<J>> + Drop, G: Gate, R: Wait>(
+    worker: &mut Worker<'_, L, J, O, G, R>,
+    message: &Message<Told<J>>,
 )
     ensures takes { Takes worker.old.shared_edge.now.bridge
         (standing worker.old.pass (O.parcels worker.old.outlet) (O.records worker.old.outlet))
@@ -329,7 +331,10 @@ fn enter_message<L: Ledger, O: Outlet + Drop, G: Gate, R: Wait>(
     ensures stays { worker.new.shared_edge ≡ worker.old.shared_edge }
 {
     match message {
-        Message::Record(update) => worker.act(&Event::Take(*update), &Carried::none()),
+        Message::Record(told) => {
+            let event = Event::Take(*told.update());
+            worker.act(&event, &Some(told.again()), &Carried::none())
+        }
         Message::Room => worker.announce(),
         Message::Ask(request) => answer(worker, request),
     }
@@ -337,10 +342,14 @@ fn enter_message<L: Ledger, O: Outlet + Drop, G: Gate, R: Wait>(
 
 /// Handles messages until there are no more: enters the updates that other edges send, requests
 /// announcements if one of them has room again, and answers the operator's requests.
-pub fn peer_worker<L: Ledger, I: UpdatesIn, O: Outlet + Drop, G: Gate, R: Wait>(
-    worker: &mut Worker<'_, L, O, G, R>,
-    updates: &mut I,
-) -> Ended
+pub fn peer_worker<
+    L: Placed,
+    J: Naming,
+    I: UpdatesIn<Told<J>>,
+    O: Outlet<Told<J>> + Drop,
+    G: Gate,
+    R: Wait,
+>(worker: &mut Worker<'_, L, J, O, G, R>, updates: &mut I) -> Ended
     ensures { PeerEnds result worker.old.shared_edge.now.bridge
         (I.came updates.old)
         (standing worker.old.pass (O.parcels worker.old.outlet) (O.records worker.old.outlet))

@@ -3,3 +3,4 @@ pub mod Running
 pub mod Serving
 pub mod Shortening
 pub mod Threads
+pub mod AsFabric

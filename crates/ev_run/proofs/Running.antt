@@ -318,6 +318,8 @@ module _ (is_asked : Bool) (config : Config) (before held after : Devices) (stat
     ended = r.ended;
     all = r.all;
     each = r.each;
+    history = r.history;
+    runs = r.runs;
     alerts = r.alerts;
     table = r.table;
     told = passed_ended r.alerts r.ended (system_text r.table sockets) r.is_read r.told;

@@ -1,6 +1,6 @@
 -- The results of a run of edges over sockets.
 use Rattle.std.specs.Prelude.{◌≡◌, ℕ, ◌-◌, ◌^◌, min, ◌⊎◌, ◌||◌, Bool, true, false, not, ◌==◌, nat_lt}
-use Rattle.std.specs.Prelude.{if◌then◌else◌, List, [], ◌++◌, length, codes, Option, Some, None}
+use Rattle.std.specs.Prelude.{if◌then◌else◌, List, [], ◌∷◌, ◌++◌, length, codes, Option, Some, None}
 use Rattle.std.specs.Prelude.{Result, Ok, Err}
 use Rattle.std.specs.Fmt.{decimal}
 use Rattle.std.specs.Bool.{OnFalse}
@@ -11,6 +11,8 @@ use Rattle.ether_wire.specs.Addr.{addr_text}
 use Rattle.ev_edge.specs.Edge.{Edge, table_of}
 use Rattle.ev_edge.specs.declared.config.EdgeConfig.{EdgeConfig}
 use Rattle.ev_peers.specs.EdgeThreads.{EdgeSetup, AreRanFrom}
+use Rattle.ev_peers.specs.History.{configs_of, IsHistoryOf}
+use Rattle.ev_runs.specs.Laws.{IsRunOf}
 use Rattle.ev_peers.specs.declared.outcome.Outcome.{Outcome}
 use Rattle.ev_links.specs.declared.udp.UdpOut.{UdpOut}
 use Rattle.ev_notices.specs.Telling.{Told, lines_of}
@@ -157,6 +159,19 @@ pub record TellsEnded (alerts : List Told) (ended : List Ended) (system : Text) 
 
 -- ---- a run
 
+-- all edges ran, and these are their states at the end
+abbrev pub AllRan : List Ended → List Edge → Type 0
+AllRan [] [] = Unit {0}
+AllRan [] (edge ∷ edges) = ⊥
+AllRan (ran ∷ rans) [] = ⊥
+AllRan (Ok outcome ∷ rans) (edge ∷ edges) = (edge ≡ outcome.edge) × AllRan rans edges
+AllRan (Err refused ∷ rans) (edge ∷ edges) = ⊥
+
+-- If all edges ran, their states are those of a fabric at the end of a run, which begins with the edges as they were
+-- opened and with nothing announced. So each delivery is of an update that was announced before.
+abbrev pub RunsAsFabric : List EdgeConfig → List Ended → Type 0
+RunsAsFabric configs ended = (edges : List Edge) → AllRan ended edges → IsRunOf configs edges
+
 -- Edges with these configurations ran until the input's end, and each has its result, edge 1 first. `sockets` are the
 -- endpoints of their sockets, and `remotes` those to which their ports send. The incarnation is that of edges whose
 -- configuration names none: 0 unless clients may query them. `table` is the system's table of UDP sockets at that time,
@@ -172,6 +187,8 @@ pub record Ran (is_asked : Bool) (configs : List EdgeConfig) (sockets remotes : 
   pub ended : List Ended
   pub all : length ended ≡ length configs
   pub each : AreRanFrom 1 setups ended
+  pub history : IsHistoryOf is_asked (configs_of setups) ended
+  pub runs : OnFalse is_asked (RunsAsFabric (configs_of setups) ended)
   pub alerts : List Told
   pub table : Text
   pub told : TellsEnded alerts ended (system_text table sockets) is_read before.out after.out before.notes after.notes

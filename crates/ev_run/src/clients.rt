@@ -5,16 +5,17 @@ ghost use Rattle.ether_wire.specs.Ends.{Allows};
 ghost use Rattle.ev_run.specs.RunEdges.{ReadsOut};
 
 use crate::control_socket::ControlSocket;
+use crate::first_line::{Wanted, wanted_by};
 use crate::records::{ServedEdges, exchange};
 use crate::run::is_read_out;
 use crate::watching::enter_due;
-use arrayvec::ArrayVec;
 use ether_wire::{Buffered, In, Reader, Writer};
 use ev_console::converse;
 use ev_exchange::{Known, Sessions};
+use ev_history::Naming;
 use ev_mailboxes::Running;
 use std::alloc::Global;
-use std::io::{Read, Write};
+use std::io::Write;
 use std::net::Shutdown;
 use std::os::unix::net::UnixStream;
 use std::sync::{Mutex, Wait};
@@ -37,9 +38,6 @@ const FAREWELL: u64 = 100;
 /// The milliseconds to wait before the next try if no client could be accepted, and before the next
 /// look at the sessions if no step was due.
 const PAUSE: u64 = 100;
-
-/// The most octets of a client's first line that are read.
-const OPENING: usize = 16;
 
 /// A seat that a client has taken.
 #[derive(Drop)]
@@ -140,13 +138,13 @@ pub(crate) struct Service {
 
 /// The state that the clients share.
 #[derive(Drop)]
-struct Hall<'x, R> {
+struct Hall<'x, J: Naming, R> {
     /// The runtime, which waits and starts threads.
     rt: &'x R,
     /// The allocator of the answers.
     alloc: Global,
     /// The edges that the clients query.
-    running: Running<'x>,
+    running: Running<'x, J>,
     /// The service for the clients.
     service: &'x Service,
     /// The seats of the clients.
@@ -157,57 +155,9 @@ struct Hall<'x, R> {
     unlisted: &'x Mutex<Known>,
 }
 
-/// A client's request, by its first line.
-enum Wanted {
-    /// A conversation, line after line.
-    Console,
-    /// An exchange of records.
-    Records,
-    /// Any other first line.
-    Unknown,
-    /// No first line: the client has gone, or has sent nothing for too long.
-    Nothing,
-}
-
-/// Returns the next octet, or `None` at the end.
-fn next_octet(stream: &UnixStream) -> io::Result<Option<u8>> {
-    let mut stream = stream;
-    let mut octet = [0; 1];
-    match stream.read(&mut octet)? {
-        0 => Ok(None),
-        _ => Ok(Some(octet[0])),
-    }
-}
-
-/// Returns a client's first line without its line feed, cut off after `OPENING` octets. Returns
-/// `None` if the connection ends before that, or a read fails or times out.
-fn first_line(stream: &UnixStream) -> Option<ArrayVec<u8, OPENING>> {
-    let mut line = ArrayVec::new();
-    for _ in 0..OPENING {
-        match next_octet(stream) {
-            Ok(Some(b'\n')) => return Some(line),
-            Ok(Some(octet)) => {
-                let _ = line.try_push(octet);
-            }
-            _ => return None,
-        }
-    }
-    Some(line)
-}
-
-/// Reads a client's first line, and returns its request.
-fn wanted_by(stream: &UnixStream) -> Wanted {
-    match first_line(stream) {
-        Some(line) if line.as_slice() == b"console".as_slice() => Wanted::Console,
-        Some(line) if line.as_slice() == b"records".as_slice() => Wanted::Records,
-        Some(_) => Wanted::Unknown,
-        None => Wanted::Nothing,
-    }
-}
-
 /// Answers a client's lines until the client ends, sends nothing for too long, or doesn't read the
 /// answers in time.
-fn console<R: Wait>(hall: &Hall<'_, R>, stream: &UnixStream) -> io::Result<()> {
+fn console<J: Naming, R: Wait>(hall: &Hall<'_, J, R>, stream: &UnixStream) -> io::Result<()> {
     stream.set_read_timeout(Some(Duration::from_secs(hall.service.idle)))?;
     let mut reader = Reader::new(stream);
     let mut out = Buffered::new(Writer::new(stream));
@@ -229,8 +179,8 @@ fn console<R: Wait>(hall: &Hall<'_, R>, stream: &UnixStream) -> io::Result<()> {
 }
 
 /// Serves a client that is a console, or writes `busy` to it if there are six consoles already.
-fn console_seated<R: Wait>(
-    hall: &Hall<'_, R>,
+fn console_seated<J: Naming, R: Wait>(
+    hall: &Hall<'_, J, R>,
     stream: &UnixStream,
     place: usize,
 ) -> io::Result<()> {
@@ -249,8 +199,8 @@ fn say(stream: &UnixStream, words: &[u8]) {
 }
 
 /// Serves a client in a seat by its first line.
-fn attend<R: Threads + Wait + Clock + Sync>(
-    hall: &Hall<'_, R>,
+fn attend<J: Naming + Send + Sync, R: Threads + Wait + Clock + Sync>(
+    hall: &Hall<'_, J, R>,
     stream: &UnixStream,
     place: usize,
 ) -> io::Result<()> {
@@ -273,8 +223,8 @@ fn attend<R: Threads + Wait + Clock + Sync>(
 }
 
 /// Serves a client, ends its connection, and frees its seat.
-fn attend_seated<R: Threads + Wait + Clock + Sync>(
-    hall: &Hall<'_, R>,
+fn attend_seated<J: Naming + Send + Sync, R: Threads + Wait + Clock + Sync>(
+    hall: &Hall<'_, J, R>,
     stream: UnixStream,
     place: usize,
 ) {
@@ -284,9 +234,9 @@ fn attend_seated<R: Threads + Wait + Clock + Sync>(
 }
 
 /// Gives a client a seat and a thread, or writes `busy` to it if it gets no seat.
-fn let_in<'s, 'x: 's, R: Threads + Wait + Clock + Sync>(
+fn let_in<'s, 'x: 's, J: Naming + Send + Sync, R: Threads + Wait + Clock + Sync>(
     scope: &Scope<'s, &'x ()>,
-    hall: &'x Hall<'x, R>,
+    hall: &'x Hall<'x, J, R>,
     stream: UnixStream,
 ) {
     let Ok(end) = stream.try_clone() else {
@@ -306,9 +256,9 @@ fn let_in<'s, 'x: 's, R: Threads + Wait + Clock + Sync>(
 }
 
 /// Accepts clients as they connect, until the hall is closed.
-fn receive<'s, 'x: 's, R: Threads + Wait + Clock + Sync>(
+fn receive<'s, 'x: 's, J: Naming + Send + Sync, R: Threads + Wait + Clock + Sync>(
     scope: &Scope<'s, &'x ()>,
-    hall: &'x Hall<'x, R>,
+    hall: &'x Hall<'x, J, R>,
 ) {
     for _ in hall.rt.forever() {
         match hall.service.socket.accept() {
@@ -320,14 +270,16 @@ fn receive<'s, 'x: 's, R: Threads + Wait + Clock + Sync>(
 }
 
 /// Serves clients until the hall is closed and all clients have gone.
-fn serve_clients<'x, R: Threads + Wait + Clock + Sync>(hall: &'x Hall<'x, R>) {
+fn serve_clients<'x, J: Naming + Send + Sync, R: Threads + Wait + Clock + Sync>(
+    hall: &'x Hall<'x, J, R>,
+) {
     thread::scope(thread::scope_env(), hall.rt, move |scope| {
         receive(scope, hall)
     })
 }
 
 /// Marks edges elsewhere as away or back at the edges of this process, until the hall is closed.
-fn watch_sessions<R: Wait + Clock>(hall: &Hall<'_, R>) {
+fn watch_sessions<J: Naming, R: Wait + Clock>(hall: &Hall<'_, J, R>) {
     for _ in hall.rt.forever() {
         if hall.is_closed() {
             return;
@@ -341,9 +293,9 @@ fn watch_sessions<R: Wait + Clock>(hall: &Hall<'_, R>) {
 /// Reads an input out, and then closes the hall. Returns `true` if no read failed and the end came
 /// within 2^40 reads. Serves clients and watches sessions meanwhile, if a thread can be started for
 /// each of the two.
-fn read_beside<'s, 'x: 's, R: Threads + Wait + Clock + Sync, E: In>(
+fn read_beside<'s, 'x: 's, J: Naming + Send + Sync, R: Threads + Wait + Clock + Sync, E: In>(
     scope: &Scope<'s, &'x ()>,
-    hall: &'x Hall<'x, R>,
+    hall: &'x Hall<'x, J, R>,
     reader: &mut E,
 ) -> bool
     requires { Allows (2 ^ 40) (E.end reader.old) }
@@ -356,7 +308,7 @@ fn read_beside<'s, 'x: 's, R: Threads + Wait + Clock + Sync, E: In>(
     is_read
 }
 
-impl<R: Wait> Hall<'_, R> {
+impl<J: Naming, R: Wait> Hall<'_, J, R> {
     /// Returns `true` if the hall is closed to more clients.
     fn is_closed(&self) -> bool {
         self.seats.lock(self.rt).is_closed
@@ -369,9 +321,9 @@ impl<R: Wait> Hall<'_, R> {
     }
 }
 
-impl<'x, R> Hall<'x, R> {
+impl<'x, J: Naming, R> Hall<'x, J, R> {
     /// Returns the edges as clients exchange records with them.
-    fn served_edges(&self) -> ServedEdges<'x, R>
+    fn served_edges(&self) -> ServedEdges<'x, J, R>
         ensures { result.listed.now ≡ self.now.service.now.listed }
     {
         ServedEdges {
@@ -386,8 +338,8 @@ impl<'x, R> Hall<'x, R> {
 }
 
 /// Reads an input out, and serves clients meanwhile. Returns once all clients have gone.
-fn read_serving<'x, R: Threads + Wait + Clock + Sync, E: In>(
-    hall: &'x Hall<'x, R>,
+fn read_serving<'x, J: Naming + Send + Sync, R: Threads + Wait + Clock + Sync, E: In>(
+    hall: &'x Hall<'x, J, R>,
     reader: &mut E,
 ) -> bool
     requires { Allows (2 ^ 40) (E.end reader.old) }
@@ -411,10 +363,10 @@ fn read_serving<'x, R: Threads + Wait + Clock + Sync, E: In>(
 
 /// Reads an input out, and serves the clients of a socket meanwhile, if there is one. Returns
 /// `true` if no read failed and the end came within 2^40 reads. Returns once all clients have gone.
-pub(crate) fn read_out<'x, R: Threads + Wait + Clock + Sync, E: In>(
+pub(crate) fn read_out<'x, J: Naming + Send + Sync, R: Threads + Wait + Clock + Sync, E: In>(
     rt: &'x R,
     alloc: Global,
-    running: Running<'x>,
+    running: Running<'x, J>,
     service: Option<&'x Service>,
     reader: &mut E,
 ) -> bool

@@ -7,6 +7,7 @@ ghost use Rattle.ev_run.specs.Inner.Lives.{has_said, is_kept_over};
 use crate::records::ServedEdges;
 use ether_wire::Addr;
 use ev_exchange::{Known, Life};
+use ev_history::Naming;
 use ev_mailboxes::Control;
 use ev_notices::Refused;
 use route_wire::Update;
@@ -96,7 +97,7 @@ impl PeerLives {
 
     /// Reports each edge elsewhere of which these updates are, if it hasn't sent one of them that
     /// isn't of an earlier life.
-    fn report<R: Wait>(&self, edges: &ServedEdges<'_, R>, held: &[Update]) {
+    fn report<J: Naming, R: Wait>(&self, edges: &ServedEdges<'_, J, R>, held: &[Update]) {
         for life in self.lives.as_slice() {
             if life.lacks_any(held) {
                 let refused = Refused::Outlived(life.originator());
@@ -106,7 +107,7 @@ impl PeerLives {
     }
 
     /// Compares the lives, once, with the updates that the first edge of this process holds.
-    pub(crate) fn compare<R: Wait>(&mut self, edges: &ServedEdges<'_, R>) {
+    pub(crate) fn compare<J: Naming, R: Wait>(&mut self, edges: &ServedEdges<'_, J, R>) {
         if self.is_done {
             return;
         }
@@ -121,7 +122,10 @@ impl PeerLives {
 
 /// Returns the edge of this process with this address, or `None` if memory is refused or an edge
 /// has ended.
-fn edge_at<'x, R: Wait>(edges: &ServedEdges<'x, R>, originator: Addr) -> Option<Control<'x>> {
+fn edge_at<'x, J: Naming, R: Wait>(
+    edges: &ServedEdges<'x, J, R>,
+    originator: Addr,
+) -> Option<Control<'x, J>> {
     for place in 0..edges.running.edges() {
         let control = edges.running.edge(place + 1)?;
         let served = control.served(edges.rt, edges.alloc)?.ok()?;
@@ -146,7 +150,10 @@ fn life_in(alloc: Global, originator: Addr, updates: &[Update]) -> Option<Life> 
 
 /// Returns the present life of an edge of this process, by its table, or `None` if memory is
 /// refused or an edge has ended.
-fn present_life<R: Wait>(edges: &ServedEdges<'_, R>, originator: Addr) -> Option<Life> {
+fn present_life<J: Naming, R: Wait>(
+    edges: &ServedEdges<'_, J, R>,
+    originator: Addr,
+) -> Option<Life> {
     let control = edge_at(edges, originator)?;
     let updates = control.table(edges.rt, edges.alloc)?.ok()?;
     life_in(edges.alloc, originator, updates.as_slice())
@@ -206,7 +213,11 @@ impl OwnLives {
 
     /// Compares an update of an edge of this process that came back with the edge's table, and
     /// reports the edge, once, if it made the update in an earlier life that isn't older.
-    pub(crate) fn compare<R: Wait>(&mut self, edges: &ServedEdges<'_, R>, update: &Update) {
+    pub(crate) fn compare<J: Naming, R: Wait>(
+        &mut self,
+        edges: &ServedEdges<'_, J, R>,
+        update: &Update,
+    ) {
         let originator = update.register().originator;
         if self.has(update) || self.reported.has(originator) {
             return;

@@ -15,6 +15,7 @@ use ev_exchange::{
     Announcing, Due, EdgeTable, Entrance, Known, Sender, Sessions, StreamEnd, announce, has_any_of,
     receive,
 };
+use ev_history::Naming;
 use ev_mailboxes::{Control, Joined, Running};
 use ev_notices::Refused;
 use route_wire::Update;
@@ -31,10 +32,10 @@ const TRIES: usize = 100;
 
 /// The edges that exchange records with clients.
 #[derive(Drop)]
-pub(crate) struct ServedEdges<'x, R> {
+pub(crate) struct ServedEdges<'x, J: Naming, R> {
     pub(crate) rt: &'x R,
     pub(crate) alloc: Global,
-    pub(crate) running: Running<'x>,
+    pub(crate) running: Running<'x, J>,
     /// The originators that the configuration lists.
     pub(crate) listed: &'x Known,
     /// The sessions with edges elsewhere.
@@ -43,18 +44,18 @@ pub(crate) struct ServedEdges<'x, R> {
     pub(crate) unlisted: &'x Mutex<Known>,
 }
 
-impl<R> Clone for ServedEdges<'_, R> {
+impl<'x, J: Naming, R> Clone for ServedEdges<'x, J, R> {
     fn clone(&self) -> Result<Self, AllocError> {
         Ok(*self)
     }
 }
 
-impl<R> Copy for ServedEdges<'_, R> {}
+impl<'x, J: Naming, R> Copy for ServedEdges<'x, J, R> {}
 
 /// A connection that exchanges records, as its two threads share it.
 #[derive(Drop)]
-struct Connection<'x, R> {
-    edges: ServedEdges<'x, R>,
+struct Connection<'x, J: Naming, R> {
+    edges: ServedEdges<'x, J, R>,
     joined: Joined<'x>,
     /// The addresses of the edges of this process.
     own: Known,
@@ -64,13 +65,13 @@ struct Connection<'x, R> {
 /// Edges that run, as the source of the updates that a connection sends. The history of sent
 /// updates is `None`, since no clause describes state under a lock.
 #[derive(Drop)]
-struct Announced<'x, R> {
-    connection: &'x Connection<'x, R>,
+struct Announced<'x, J: Naming, R> {
+    connection: &'x Connection<'x, J, R>,
     /// The listed originator that the other side named last, if that was the last item.
     named: Option<Addr>,
 }
 
-impl<R: Wait> Announced<'_, R> {
+impl<J: Naming, R: Wait> Announced<'_, J, R> {
     /// Returns `true` if these updates of an edge's table contain one of the named originator, or
     /// none is named.
     fn is_taken(&self, updates: &[Update]) -> bool
@@ -85,7 +86,7 @@ impl<R: Wait> Announced<'_, R> {
 
     /// Returns the updates of an edge's table. An edge answers before it takes the waiting updates:
     /// asks again, up to 100 times, while the table lacks the update that named an originator.
-    fn updates(&self, alloc: Global, control: &Control<'_>) -> Option<Vec<Update>> {
+    fn updates(&self, alloc: Global, control: &Control<'_, J>) -> Option<Vec<Update>> {
         let edges = self.connection.edges;
         let rt = edges.rt;
         for _ in 0..TRIES {
@@ -114,7 +115,7 @@ impl<R: Wait> Announced<'_, R> {
     }
 }
 
-impl<R: Wait> Announcing for Announced<'_, R> {
+impl<J: Naming, R: Wait> Announcing for Announced<'_, J, R> {
     ghost use Rattle.std.specs.Prelude.{None};
 
     ghost told = { λ a. None };
@@ -146,8 +147,8 @@ impl<R: Wait> Announcing for Announced<'_, R> {
 /// Edges that run, as the receiver of the updates that come over a connection. The history of
 /// received updates is `None`, for the same reason.
 #[derive(Drop)]
-struct Entered<'x, R> {
-    connection: &'x Connection<'x, R>,
+struct Entered<'x, J: Naming, R> {
+    connection: &'x Connection<'x, J, R>,
     /// The listed edges elsewhere of which an update has come.
     named: Known,
     /// The other edges elsewhere of which an update has come.
@@ -158,7 +159,7 @@ struct Entered<'x, R> {
     own: OwnLives,
 }
 
-impl<R: Wait> Entered<'_, R> {
+impl<J: Naming, R: Wait> Entered<'_, J, R> {
     /// Handles an update of a listed edge elsewhere. With the first one its session begins, and the
     /// registers that the edges hold of that edge are due on the connection.
     fn meet(&mut self, originator: Addr, update: &Update) {
@@ -204,7 +205,7 @@ impl<R: Wait> Entered<'_, R> {
     }
 }
 
-impl<R: Wait> Entrance for Entered<'_, R> {
+impl<J: Naming, R: Wait> Entrance for Entered<'_, J, R> {
     ghost use Rattle.std.specs.Prelude.{None};
 
     ghost given = { λ e. None };
@@ -233,7 +234,7 @@ impl<R: Wait> Entrance for Entered<'_, R> {
 }
 
 /// Sends the edges' updates on a connection until it is cut off, and then ends the connection.
-fn say<R: Wait>(connection: &Connection<'_, R>) {
+fn say<J: Naming, R: Wait>(connection: &Connection<'_, J, R>) {
     let mut from = Announced {
         connection,
         named: None,
@@ -253,7 +254,7 @@ fn say<R: Wait>(connection: &Connection<'_, R>) {
 
 /// Ends the sessions of the edges elsewhere whose updates have come over a connection. They end
 /// once the present second is over, so that no edge is away too early.
-fn end_sessions<R: Wait + Clock>(edges: &ServedEdges<'_, R>, named: &Known) {
+fn end_sessions<J: Naming, R: Wait + Clock>(edges: &ServedEdges<'_, J, R>, named: &Known) {
     let end = second_now(edges.rt).saturating_add(1);
     let mut sessions = edges.sessions.lock(edges.rt);
     for edge in named.as_slice() {
@@ -262,7 +263,7 @@ fn end_sessions<R: Wait + Clock>(edges: &ServedEdges<'_, R>, named: &Known) {
 }
 
 /// Receives updates for the edges over a connection, up to its end or its first fault.
-fn hear<R: Wait + Clock>(connection: &Connection<'_, R>) {
+fn hear<J: Naming, R: Wait + Clock>(connection: &Connection<'_, J, R>) {
     let mut into = Entered {
         connection,
         named: Known::new(),
@@ -280,9 +281,9 @@ fn hear<R: Wait + Clock>(connection: &Connection<'_, R>) {
 
 /// Receives from a connection while a thread sends the edges' updates on it, and then ends the
 /// connection.
-fn hear_beside<'s, 'x: 's, R: Threads + Wait + Clock + Sync>(
+fn hear_beside<'s, 'x: 's, J: Naming + Send + Sync, R: Threads + Wait + Clock + Sync>(
     scope: &Scope<'s, &'x ()>,
-    connection: &'x Connection<'x, R>,
+    connection: &'x Connection<'x, J, R>,
 ) {
     if scope.spawn(move || say(connection)).is_ok() {
         hear(connection);
@@ -293,7 +294,7 @@ fn hear_beside<'s, 'x: 's, R: Threads + Wait + Clock + Sync>(
 
 /// Returns the addresses of the edges of this process, or `None` if an edge has ended or memory is
 /// refused.
-fn own_edges<R: Wait>(rt: &R, alloc: Global, running: Running<'_>) -> Option<Known> {
+fn own_edges<J: Naming, R: Wait>(rt: &R, alloc: Global, running: Running<'_, J>) -> Option<Known> {
     let mut own = Known::new();
     for place in 0..running.edges() {
         let served = running.edge(place + 1)?.served(rt, alloc)?.ok()?;
@@ -305,8 +306,8 @@ fn own_edges<R: Wait>(rt: &R, alloc: Global, running: Running<'_>) -> Option<Kno
 /// Exchanges records over a connection until either peer ends it, a fault is received, or the peer
 /// is too slow to read the updates. Doesn't begin if memory or a thread is refused, if an edge has
 /// ended, or if eight connections exchange records already.
-pub(crate) fn exchange<R: Threads + Wait + Clock + Sync>(
-    edges: ServedEdges<'_, R>,
+pub(crate) fn exchange<J: Naming + Send + Sync, R: Threads + Wait + Clock + Sync>(
+    edges: ServedEdges<'_, J, R>,
     stream: &UnixStream,
 ) {
     let (rt, alloc, running) = (edges.rt, edges.alloc, edges.running);

@@ -6,16 +6,16 @@ ghost use Rattle.ether_wire.specs.Ends.{IsOpen, Allows};
 ghost use Rattle.ev_fabric.specs.Opening.{AreConfigs};
 ghost use Rattle.ev_edge.specs.Config.{IsConfig};
 ghost use Rattle.ev_report.specs.Ends.{AreOpen, Holds, devices};
-ghost use Rattle.ev_peers.specs.EdgeThreads.{AreRanFrom};
 ghost use Rattle.ev_run.specs.Inner.Sockets.{bound_at, sent_to};
 ghost use Rattle.ev_run.specs.Links.{begun_of, destinations_of, sends_to};
 ghost use Rattle.ev_run.specs.RunEdges.{ReadsOut, sends_failed, link_failed, was_out_of_memory, all_lost, system_text, noted_text, Ran, start_text, RunsEdges};
 ghost use Rattle.ev_run.specs.Inner.RunEdges.{EachConfig, PutsRest, TellsMeanwhile, TellsRest};
 
 use crate::begun::{begun_in, first_incarnation};
-use crate::bound::{Sockets, end_all_reads};
-use crate::clients::{Service, read_out};
+use crate::bound::Sockets;
+use crate::clients::Service;
 use crate::links::links_of;
+use crate::named::{Ends, Prepared, run_named};
 use crate::print::{Watched, put_notes, put_reports};
 use crate::sockets::{StartError, bind_all, put_bind_error};
 use crate::system_drops::udp_table;
@@ -26,18 +26,19 @@ use ev_edge::EdgeConfig;
 use ev_links::{UdpOut, Wire};
 use ev_mailboxes::{Boards, NoticeBox};
 use ev_notices::notice_worker;
-use ev_peers::{OpenGate, Outcome, Setup, Start, run_all};
+use ev_peers::{Outcome, Setup, new_history};
 use ev_report::{Buffers, DEVICE, Devices, MEMORY, MOST_READS, status_of};
 use std::alloc::{AllocError, Global};
 use std::fs::Files;
+use std::marker::Brand;
 use std::net::Net;
 use std::sync::Wait;
-use std::sync::atomic::{AtomicBool, Ordering};
-use std::thread::{Threads, join};
+use std::sync::atomic::AtomicBool;
+use std::thread::Threads;
 use std::time::Clock;
 
 /// An edge over sockets, ready to run.
-type Ready<'x, R> = Setup<Wire<'x, R>, UdpOut<'x>>;
+pub(crate) type Ready<'x, R> = Setup<Wire<'x, R>, UdpOut<'x>>;
 
 /// Reads up to the end and ignores the octets. Returns `true` if no read failed and the end came
 /// within 2^40 reads.
@@ -214,16 +215,17 @@ fn tell_ended<W: Out, N: Out>(
 }
 
 /// Writes the alerts of these boards for the operator, until no more can come.
-fn tell_meanwhile<R: Wait, N: Out>(rt: &R, boards: &Boards, notes: &mut N) -> Result<(), Device>
+pub(crate) fn tell_meanwhile<R: Wait, N: Out>(
+    rt: &R,
+    boards: &Boards,
+    notes: &mut N,
+) -> Result<(), Device>
     requires { IsOpen (N.end notes.old) }
     ensures { TellsMeanwhile (N.end notes.old) (N.end notes.new) result }
 {
     let mut notices = NoticeBox { rt, boards };
     notice_worker(rt, &mut notices, notes)
 }
-
-/// The result of a run: that of each edge, and `true` if the input was read up to its end.
-type Reached = (Vec<Result<Outcome, AllocError>>, bool);
 
 /// The environment in which edges run.
 #[derive(Drop)]
@@ -245,52 +247,16 @@ impl<'x, R> Host<'x, R> {
     }
 }
 
-/// Runs edges until the reader ends, and then stops them. Clients of a control socket may query
-/// them meanwhile.
-fn run_reading<'x, R: Threads + Wait + Clock + Sync, E: In>(
-    host: &Host<'x, R>,
-    start: Start<Wire<'x, R>, UdpOut<'x>>,
-    boards: &Boards,
-    sockets: &'x [Sockets],
-    stop: &'x AtomicBool,
-    reader: &mut E,
-) -> Reached
-    requires { Allows (2 ^ 40) (E.end reader.old) }
-    ensures all { vec_len result.0 ≡ length start.entry }
-    ensures each { AreRanFrom 1 start.entry result.0.items }
-    ensures read { ReadsOut (E.end reader.old) (E.end reader.new) result.1 }
-{
-    let (rt, alloc, service) = (host.rt, host.alloc, host.service);
-    // The closure returns the reader; its ghost name shows that it is this reader.
-    let (ended, (is_read, _reader)) = run_all(
-        rt,
-        start,
-        boards,
-        &OpenGate,
-        |running| -> (bool, &mut E)
-            requires { Allows (2 ^ 40) (E.end reader.now) }
-            ensures same { result.1.ghost_name ≡ reader.entry.ghost_name }
-            ensures read { ReadsOut (E.end reader.entry.now) (E.end result.1.now) result.0 }
-        {
-            let is_read = read_out(rt, alloc, running, service, &mut *reader);
-            stop.store(true, Ordering::SeqCst);
-            end_all_reads(sockets);
-            (is_read, reader)
-        },
-    );
-    (ended, is_read)
-}
-
 /// Runs the edges of a configuration over these sockets until the reader ends. Clients of a control
 /// socket may query them meanwhile.
 ///
 /// # Errors
 ///
 /// `AllocError` if memory is refused before an edge has begun.
-fn run_bound<R: Threads + Wait + Files + Clock + Sync, E: In, W: Out, N: Out + Send>(
-    host: &Host<'_, R>,
+fn run_bound<'x, 'h: 'x, R: Threads + Wait + Files + Clock + Sync, E: In, W: Out, N: Out + Send>(
+    host: &Host<'h, R>,
     configs: Vec<EdgeConfig>,
-    sockets: &[Sockets],
+    sockets: &'x [Sockets],
     reader: &mut E,
     out: &mut W,
     notes: &mut N,
@@ -310,32 +276,19 @@ fn run_bound<R: Threads + Wait + Files + Clock + Sync, E: In, W: Out, N: Out + S
 {
     let (rt, alloc) = (host.rt, host.alloc);
     let stop = AtomicBool::new(false);
-    let incarnation = first_incarnation(rt, host.service.is_some());
+    let is_asked = host.service.is_some();
+    let incarnation = first_incarnation(rt, is_asked);
     let setups = all_ready(rt, alloc, incarnation, configs, sockets, &stop)?;
-    let boards = Boards::new(alloc, setups.len())?;
-    let start = Start::new(alloc, setups)?;
-    // The closures return `reader` and `notes`; their ghost names show that they are these.
-    let ((told, notes), ((ended, is_read), _reader)) = join(
-        rt,
-        || -> (Result<(), Device>, &mut N)
-            requires { IsOpen (N.end notes.now) }
-            ensures same { result.1.ghost_name ≡ notes.entry.ghost_name }
-            ensures told { TellsMeanwhile (N.end notes.entry.now) (N.end result.1.now) result.0 }
-        {
-            let told = tell_meanwhile(rt, &boards, &mut *notes);
-            (told, notes)
+    let history = new_history(setups.as_slice(), is_asked);
+    let prepared = Prepared {
+        setups,
+        history,
+        ends: Ends {
+            sockets,
+            stop: &stop,
         },
-        || -> (Reached, &mut E)
-            requires { Allows (2 ^ 40) (E.end reader.now) }
-            ensures same { result.1.ghost_name ≡ reader.entry.ghost_name }
-            ensures all { vec_len result.0.0 ≡ length start.entry }
-            ensures each { AreRanFrom 1 start.entry result.0.0.items }
-            ensures read { ReadsOut (E.end reader.entry.now) (E.end result.1.now) result.0.1 }
-        {
-            let reached = run_reading(host, start, &boards, sockets, &stop, &mut *reader);
-            (reached, reader)
-        },
-    );
+    };
+    let (told, (ended, is_read)) = run_named::<Brand, R, E, N>(host, prepared, reader, notes)?;
     let table = udp_table(rt, alloc);
     let watched = Watched {
         table: table.as_slice(),

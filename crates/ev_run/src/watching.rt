@@ -3,6 +3,7 @@
 
 use ev_console::take_turn;
 use ev_exchange::Sessions;
+use ev_history::Naming;
 use ev_mailboxes::Running;
 use std::sync::{Mutex, Wait};
 use std::time::Clock;
@@ -18,9 +19,9 @@ pub(crate) fn second_now<R: Clock>(rt: &R) -> u64 {
 /// Enters the first step that is due now for an edge elsewhere at the edges of this process. An
 /// edge is away `hold` seconds after its session has ended, or never if `hold` is 0. Returns `true`
 /// if a step was due and no edge refused it.
-pub(crate) fn enter_due<'x, R: Wait + Clock>(
+pub(crate) fn enter_due<'x, J: Naming, R: Wait + Clock>(
     rt: &'x R,
-    running: &Running<'x>,
+    running: &Running<'x, J>,
     sessions: &Mutex<Sessions>,
     hold: u64,
 ) -> bool {

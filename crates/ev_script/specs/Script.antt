@@ -13,7 +13,7 @@ use Rattle.ev_script.specs.declared.script.command.Verb.TheVariants.{Restart, Aw
 use Rattle.ev_script.specs.declared.script.question.Question.{Question}
 use Rattle.ev_script.specs.declared.script.question.Question.TheVariants.{Help, Edges, OfEdge}
 use Rattle.ev_view.specs.declared.view.EdgeQuestion.{EdgeQuestion}
-use Rattle.ev_view.specs.declared.view.EdgeQuestion.TheVariants.{Owner, Counts, Stations, Peers}
+use Rattle.ev_view.specs.declared.view.EdgeQuestion.TheVariants.{Owner, Counts, Stations, Peers, Links}
 use Rattle.ev_script.specs.declared.script.mode.Mode.{Mode}
 use Rattle.ev_script.specs.declared.script.mode.Mode.TheVariants.{Simulate, Play}
 use Rattle.ev_script.specs.declared.script.command.Command as read
@@ -225,7 +225,8 @@ abbrev pub question_alone : List ℕ → Option EdgeQuestion
 question_alone s =
     if bytes_eq s (codes "counts") then Some Counts
     else if bytes_eq s (codes "stations") then Some (Stations None)
-    else if bytes_eq s (codes "peers") then Some Peers else None
+    else if bytes_eq s (codes "peers") then Some Peers
+    else if bytes_eq s (codes "links") then Some Links else None
 
 -- a query about one edge: a verb with the text after it and a space
 abbrev pub question_with : List ℕ → List ℕ → Option EdgeQuestion

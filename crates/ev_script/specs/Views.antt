@@ -15,7 +15,7 @@ help_text =
     ++ codes "E announce\n" ++ codes "E deliver K\n" ++ codes "E restart N\n" ++ codes "E away ADDR\n"
     ++ codes "E back ADDR\n" ++ codes "E port P\n"
     ++ codes "E report\n" ++ codes "E owner VNI MAC\n" ++ codes "E counts\n" ++ codes "E stations [VNI]\n"
-    ++ codes "E peers\n" ++ codes "edges\n" ++ codes "help\n"
+    ++ codes "E peers\n" ++ codes "E links\n" ++ codes "edges\n" ++ codes "help\n"
 
 -- ---- the edges
 

@@ -3,7 +3,7 @@ use Rattle.std.specs.Prelude.{ℕ, ◌+◌, ◌==◌, if◌then◌else◌, List,
 use Rattle.ether_wire.specs.Addr.{addr_text}
 use Rattle.ev_edge.specs.Edge.{Edge, address_of, table_of}
 use Rattle.ev_view.specs.declared.view.EdgeQuestion.{EdgeQuestion}
-use Rattle.ev_view.specs.declared.view.EdgeQuestion.TheVariants.{Owner, Counts, Stations, Peers}
+use Rattle.ev_view.specs.declared.view.EdgeQuestion.TheVariants.{Owner, Counts, Stations, Peers, Links}
 use Rattle.ev_view.specs.Owners.{owner_text}
 use Rattle.ev_view.specs.Counts.{counts_text}
 use Rattle.ev_view.specs.Stations.{stations_text}
@@ -49,3 +49,4 @@ edge_view_text number e (Owner s) = owner_text number (table_of e) s.vni s.mac
 edge_view_text number e Counts = counts_text number e
 edge_view_text number e (Stations vni) = stations_text number e vni
 edge_view_text number e Peers = peers_text number e
+edge_view_text number e Links = []

@@ -3,4 +3,5 @@ pub mod Stations
 pub mod Counts
 pub mod Peers
 pub mod EdgeViews
+pub mod LinkLines
 pub mod Inner

@@ -5,7 +5,7 @@ use Rattle.std.specs.List.{list_any}
 use Rattle.ether_wire.specs.Addr.{addr_text}
 use Rattle.ev_edge.specs.Edge.{Edge, table_of, address_of}
 use Rattle.ev_view.specs.declared.view.EdgeQuestion.{EdgeQuestion}
-use Rattle.ev_view.specs.declared.view.EdgeQuestion.TheVariants.{Owner, Counts, Stations, Peers}
+use Rattle.ev_view.specs.declared.view.EdgeQuestion.TheVariants.{Owner, Counts, Stations, Peers, Links}
 
 abbrev pub state_words : Bool → List ℕ
 state_words true = codes " away\n"
@@ -57,3 +57,4 @@ text_after number unlisted (Owner s) = []
 text_after number unlisted Counts = []
 text_after number unlisted (Stations vni) = []
 text_after number unlisted Peers = unlisted_text number unlisted
+text_after number unlisted Links = []

@@ -5,6 +5,7 @@
 mod counts;
 mod edge_line;
 mod laws;
+mod link_lines;
 mod owner;
 mod peers;
 mod sheet;
@@ -14,5 +15,6 @@ mod view;
 
 pub use edge_line::{put_edge, put_edge_line};
 pub use laws::owner_leads;
+pub use link_lines::{LinkRow, links_of};
 pub use unlisted::with_unlisted;
 pub use view::{EdgeQuestion, put_edge_view, view_of};

@@ -85,7 +85,10 @@ pub fn with_unlisted(
 {
     match question {
         EdgeQuestion::Peers => {}
-        EdgeQuestion::Owner(_) | EdgeQuestion::Counts | EdgeQuestion::Stations(_) => {
+        EdgeQuestion::Owner(_)
+        | EdgeQuestion::Counts
+        | EdgeQuestion::Stations(_)
+        | EdgeQuestion::Links => {
             return Ok(text);
         }
     }

@@ -24,6 +24,9 @@ pub enum EdgeQuestion {
     Stations(Option<Vni>),
     /// The other edges that it lists, and whether they are away.
     Peers,
+    /// The numbers of its links. The edge itself has none, so its answer is empty: a console reads
+    /// the numbers elsewhere.
+    Links,
 }
 
 /// Writes the answer to a query of this edge, which has this number.
@@ -31,6 +34,7 @@ pub enum EdgeQuestion {
 /// # Errors
 ///
 /// `Device` exactly if a call of the writer failed; then no further call is made.
+#[tactic(auto, using(ether_wire::proofs::Appending::with_text_none))]
 pub fn put_edge_view<W: Out>(
     out: &mut W,
     number: u64,
@@ -52,6 +56,7 @@ pub fn put_edge_view<W: Out>(
         EdgeQuestion::Counts => put_counts(out, number, edge),
         EdgeQuestion::Stations(vni) => put_stations(out, number, edge, vni),
         EdgeQuestion::Peers => put_peers(out, number, edge),
+        EdgeQuestion::Links => Ok(()),
     }
 }
 

@@ -3,6 +3,6 @@ use Rattle.std.specs.Prelude.{ℕ, zero, suc, ◌+◌, List, [], ◌∷◌, ◌+
 use Rattle.ev_mailboxes.specs.declared.message.Letter.{Letter}
 
 -- nothing was sent to edges 1 .. n
-abbrev pub none_sent : ℕ → List (ℕ × List Letter)
+abbrev pub none_sent : {U : Type 0} → ℕ → List (ℕ × List (Letter U))
 none_sent zero = []
 none_sent (suc n) = none_sent n ++ (n + 1, []) ∷ []

@@ -21,9 +21,13 @@ pub record IsReady (tasks outputs entering entering_room sending sending_room pa
   pub line_each : outputs ≤ lines
   pub fresh_each : fresh ≡ tasks
 
--- No edge has a thread or a result yet, and there is room for the thread and the result of each.
-pub record HasEdges (setups running running_room ended ended_room : ℕ) : Type 0 where
+-- Each edge has a seat. No edge has a thread or a result yet, and there is room for the thread and the result of each,
+-- and for the seat that it leaves.
+pub record HasEdges (setups seats running running_room ended ended_room left left_room : ℕ) : Type 0 where
+  pub each : seats ≡ setups
   pub no_running : running ≡ 0
   pub no_ended : ended ≡ 0
   pub for_running : setups ≤ running_room
   pub for_ended : setups ≤ ended_room
+  pub no_left : left ≡ 0
+  pub for_left : setups ≤ left_room

@@ -2,13 +2,19 @@
 use Rattle.std.specs.Prelude.{◌≡◌, ℕ, ◌+◌, List, [], ◌∷◌, length, Option, Some, None, Result}
 use Rattle.std.specs.declared.alloc.AllocError.{AllocError}
 use Rattle.std.specs.declared.thread.PromisedHandle.{PromisedHandle}
+use Rattle.ev_history.specs.Rule.{SeatState}
 use Rattle.ev_peers.specs.declared.outcome.Outcome.{Outcome}
 use Rattle.ev_peers.specs.declared.run.OfEdge.{OfEdge}
 use Rattle.ev_peers.specs.EdgeThreads.{EdgeSetup}
 
+-- the number of an edge and its setup
+pub record Numbered (O : Type 0) : Type 0 where
+  pub number : ℕ
+  pub setup : EdgeSetup O
+
 -- the thread of an edge, or none if it was refused
 abbrev pub Handle : Type 0
-Handle = Option (PromisedHandle (Result Outcome AllocError) OfEdge)
+Handle = Option (PromisedHandle (Result (Outcome × SeatState) AllocError) OfEdge)
 
 -- the thread promises the result of the edge with this number and setup
 abbrev pub IsHandle : {O : Type 0} → ℕ → EdgeSetup O → Handle → Type 0

@@ -30,6 +30,9 @@ fn question_alone(text: &[u8]) -> Option<EdgeQuestion>
     if text == b"peers".as_slice() {
         return Some(EdgeQuestion::Peers);
     }
+    if text == b"links".as_slice() {
+        return Some(EdgeQuestion::Links);
+    }
     None
 }
 

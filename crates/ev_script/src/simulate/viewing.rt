@@ -36,6 +36,7 @@ E owner VNI MAC\n\
 E counts\n\
 E stations [VNI]\n\
 E peers\n\
+E links\n\
 edges\n\
 help\n",
     )

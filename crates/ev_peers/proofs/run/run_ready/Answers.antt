@@ -10,6 +10,8 @@ scoped-requires g c = record {
       search of_calls,
       search of_calls,
       search of_calls,
+      search of_calls,
+      search of_calls,
     ),
   );
 }

@@ -1,0 +1,6 @@
+pub mod Prefixes
+pub mod Histories
+pub mod Extending
+pub mod Standing
+pub mod Beginning
+pub mod Booking

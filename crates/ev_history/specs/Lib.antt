@@ -1,0 +1,6 @@
+pub mod Booking
+pub mod Log
+pub mod Opening
+pub mod Rule
+pub mod Standing
+pub mod Inner

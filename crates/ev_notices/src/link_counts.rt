@@ -1,0 +1,143 @@
+//! The numbers of a link, which other threads read while the link is used.
+
+use crate::cause::Cause;
+use crate::idle_watch::IdleWatch;
+use ev_links::FlowCell;
+use std::sync::atomic::{AtomicU64, Ordering};
+
+/// A watch that its owner shows to other threads.
+#[derive(Drop)]
+struct IdleCell {
+    count: AtomicU64,
+    seconds: AtomicU64,
+}
+
+impl IdleCell {
+    /// Creates the watch of a link over which nothing came or was sent.
+    fn new() -> Self {
+        let watch = IdleWatch::new();
+        IdleCell {
+            count: AtomicU64::new(watch.count),
+            seconds: AtomicU64::new(watch.seconds),
+        }
+    }
+
+    /// Notes a second that passes, with the number of datagrams so far.
+    fn second(&self, count: u64) {
+        let mut watch = IdleWatch {
+            count: self.count.load(Ordering::Relaxed),
+            seconds: self.seconds.load(Ordering::Relaxed),
+        };
+        watch.second(count);
+        self.count.store(watch.count, Ordering::Relaxed);
+        self.seconds.store(watch.seconds, Ordering::Relaxed);
+    }
+
+    /// Returns the seconds of the watch.
+    fn seconds(&self) -> u64 {
+        self.seconds.load(Ordering::Relaxed)
+    }
+}
+
+/// The numbers of one link. Each has one writer, and other threads read it without a lock. So a
+/// reader may get numbers of different moments.
+#[derive(Drop)]
+pub struct LinkCounts {
+    /// The datagrams that came over the link.
+    pub received: FlowCell,
+    /// The datagrams that were sent at once.
+    pub at_once: FlowCell,
+    /// The datagrams that the link's worker sent.
+    pub queued: FlowCell,
+    too_long: AtomicU64,
+    malformed: AtomicU64,
+    unlisted: AtomicU64,
+    other_network: AtomicU64,
+    no_memory: AtomicU64,
+    no_room: AtomicU64,
+    idle_in: IdleCell,
+    idle_out: IdleCell,
+}
+
+impl LinkCounts {
+    /// Creates the numbers of a link that wasn't used yet.
+    pub fn new() -> Self {
+        LinkCounts {
+            received: FlowCell::new(),
+            at_once: FlowCell::new(),
+            queued: FlowCell::new(),
+            too_long: AtomicU64::new(0),
+            malformed: AtomicU64::new(0),
+            unlisted: AtomicU64::new(0),
+            other_network: AtomicU64::new(0),
+            no_memory: AtomicU64::new(0),
+            no_room: AtomicU64::new(0),
+            idle_in: IdleCell::new(),
+            idle_out: IdleCell::new(),
+        }
+    }
+
+    /// Returns the number of datagrams that were dropped for this cause.
+    fn of(&self, cause: Cause) -> &AtomicU64 {
+        match cause {
+            Cause::TooLong => &self.too_long,
+            Cause::Malformed => &self.malformed,
+            Cause::Unlisted => &self.unlisted,
+            Cause::OtherNetwork => &self.other_network,
+            Cause::NoMemory => &self.no_memory,
+        }
+    }
+
+    /// Counts a datagram that was dropped for this cause.
+    pub fn refuse(&self, cause: Cause) {
+        self.of(cause).fetch_add(1, Ordering::Relaxed);
+    }
+
+    /// Returns the number of datagrams that were dropped for this cause.
+    pub fn refused(&self, cause: Cause) -> u64 {
+        self.of(cause).load(Ordering::Relaxed)
+    }
+
+    /// Shows the number of frames and BPDUs that found no room.
+    pub fn show_no_room(&self, count: u64) {
+        self.no_room.store(count, Ordering::Relaxed);
+    }
+
+    /// Returns the number of frames and BPDUs that found no room.
+    pub fn no_room(&self) -> u64 {
+        self.no_room.load(Ordering::Relaxed)
+    }
+
+    /// Returns the number of sends that failed. Only the link's worker finds out that a send fails.
+    pub fn failed(&self) -> u64 {
+        self.queued.failures()
+    }
+
+    /// Returns the number of datagrams that were sent, at once or by the link's worker.
+    pub fn sent(&self) -> u64 {
+        let (at_once, queued) = (self.at_once.shown(), self.queued.shown());
+        at_once.datagrams.saturating_add(queued.datagrams)
+    }
+
+    /// Returns the number of their octets.
+    pub fn sent_octets(&self) -> u64 {
+        let (at_once, queued) = (self.at_once.shown(), self.queued.shown());
+        at_once.octets.saturating_add(queued.octets)
+    }
+
+    /// Notes a second that passes. Only one thread calls this.
+    pub fn second(&self) {
+        self.idle_in.second(self.received.shown().datagrams);
+        self.idle_out.second(self.sent());
+    }
+
+    /// Returns the seconds since the last datagram came, or since the beginning if none came.
+    pub fn idle_in(&self) -> u64 {
+        self.idle_in.seconds()
+    }
+
+    /// Returns the seconds since the last datagram was sent, or since the beginning if none was.
+    pub fn idle_out(&self) -> u64 {
+        self.idle_out.seconds()
+    }
+}
