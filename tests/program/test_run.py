@@ -642,9 +642,9 @@ class Beginning(unittest.TestCase):
                     self.assertEqual(program.stderr.readline(), told)
                     time.sleep(0.5)
                     self.assertIsNone(program.poll())
-                    out, notes = program.communicate(timeout=PATIENCE)
-                    self.assertEqual((program.returncode, out.count("edge ")), (3, 2))
-                    self.assertRegex(notes, r"^(edge [12]: no memory\n)+$")
+                    program.stdin.close()
+                    self.assertEqual((program.wait(PATIENCE), program.stdout.read().count("edge ")), (3, 2))
+                    self.assertRegex(program.stderr.read(), r"^(edge [12]: no memory\n)+$")
                 finally:
                     program.kill()
         with self.limited(16, ["run", "--degraded"], text) as program:

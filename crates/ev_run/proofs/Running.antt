@@ -40,10 +40,9 @@ use Rattle.ether_wire.proofs.Appending.{puts_behind}
 use Rattle.ev_run.specs.RunEdges.{start_text, IsStartError, Begins, RunsEdges}
 use Rattle.ev_run.specs.Needs.{threads_of}
 use Rattle.ev_run.specs.ThreadCheck.{IsTooFew, too_few_text}
-use Rattle.ev_run.specs.Inner.ThreadCheck.{StopsBy}
 use Rattle.ev_run.specs.declared.thread_check.ThreadPolicy.{ThreadPolicy}
 use Rattle.ev_run.specs.declared.thread_check.TooFewThreads.{TooFewThreads}
-use Rattle.ev_run.proofs.Threads.{lacks_threads, passed_few}
+use Rattle.ev_run.proofs.Threads.{StopsBy, lacks_threads, passed_few}
 use Rattle.ev_report.proofs.Finishing.{put_holds, put_failed, passed_out, passed_notes, passed_status, failed_out}
 use Rattle.ev_report.proofs.Finishing.{failed_notes}
 use Rattle.ev_report.proofs.Gathering.{gathers_more, whole_ended, whole_failed, whole_unended}
@@ -276,8 +275,7 @@ pub runs_few : (is_asked : Bool) (policy : ThreadPolicy) (config : Config) (lack
     → StopsBy policy lack notes notes' (Some status)
     → RunsEdges is_asked policy config (devices input out notes) (devices input out notes') status
 runs_few is_asked policy config lack input out notes notes' status few stops =
-    inr (inr (inl (lacks_threads config.edges.items is_asked policy lack input out notes notes' status few stops.0
-    stops.1)))
+    inr (inr (inl (lacks_threads config.edges.items is_asked policy lack input out notes notes' status few stops)))
 
 pub runs_short : (is_asked : Bool) (policy : ThreadPolicy) (config : Config) (lack : TooFewThreads) (input : Source)
     (out notes notes' : End) (after : Devices) (status : ℕ)
@@ -365,5 +363,6 @@ module _ (is_asked : Bool) (policy : ThreadPolicy) (config : Config) (before hel
     lack = h.lack;
     few = h.few;
     begins = passed_begins is_asked config
-        (devices before.input before.out (with_text before.notes (too_few_text h.lack))) held after status last p h.begins;
+        (devices before.input before.out (with_text before.notes (too_few_text h.lack))) held after status last p
+        h.begins;
   })))

@@ -223,7 +223,7 @@ Begins is_asked config before after status =
     (all_remotes config.links.items) before after status)
     ⊎ IsRefusedMemory before.out after.out before.notes after.notes status
 
--- The system allows fewer threads than the edges need, and they began all the same: a note about the threads comes first.
+-- The system allows fewer threads than the edges need, and they began all the same, after a note about the threads.
 pub record BeginsShort (is_asked : Bool) (policy : ThreadPolicy) (config : Config) (before after : Devices)
     (status : ℕ) : Type 0 where
   pub allowed : policy ≡ RunWithout
@@ -232,7 +232,7 @@ pub record BeginsShort (is_asked : Bool) (policy : ThreadPolicy) (config : Confi
   pub begins : Begins is_asked config (devices before.input before.out (with_text before.notes (too_few_text lack)))
       after status
 
--- The edges began, perhaps with too few threads, if the policy allows that. Or no edge began, nothing was read, and only
+-- The edges began, with too few threads only if the policy allows that. Or no edge began, nothing was read, and only
 -- the reason was written: an address, or the lack of threads.
 abbrev pub RunsEdges : Bool → ThreadPolicy → Config → Devices → Devices → ℕ → Type 0
 RunsEdges is_asked policy config before after status =

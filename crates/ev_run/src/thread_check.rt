@@ -1,9 +1,10 @@
 //! The check before a run that the system starts as many threads as the run needs.
-ghost use Rattle.std.specs.Prelude.{◌≤◌, IfErr};
-ghost use Rattle.ether_wire.specs.Ends.{IsOpen, Puts};
+ghost use Rattle.std.specs.Prelude.{◌≡◌, ◌≤◌, true, false, IfErr, MatchOption};
+ghost use Rattle.ether_wire.specs.Ends.{IsOpen, Puts, with_text};
 ghost use Rattle.ev_run.specs.Needs.{threads_of};
 ghost use Rattle.ev_run.specs.ThreadCheck.{allowed_text, too_few_text, IsTooFew};
-ghost use Rattle.ev_run.specs.Inner.ThreadCheck.{StopsBy};
+ghost use Rattle.ev_report.specs.Ends.{Holds, has_failed};
+ghost use Rattle.ev_report.specs.Notes.{status_of};
 
 use crate::needs::threads_of;
 use crate::settling::{counted_threads, settle};
@@ -149,7 +150,12 @@ pub(crate) fn stopped_by<N: Out>(
     notes: &mut N,
 ) -> Option<u8>
     requires { IsOpen (N.end notes.old) }
-    ensures { StopsBy policy lack (N.end notes.old) (N.end notes.new) result }
+    ensures { MatchOption result
+        ((N.end notes.new ≡ with_text (N.end notes.old) (too_few_text lack))
+        × (policy ≡ ThreadPolicy.RunWithout))
+        (λ status. Holds (N.end notes.old) (N.end notes.new) (too_few_text lack)
+        × (status ≡ status_of (has_failed (N.end notes.old) (N.end notes.new)) true false)
+        × (policy ≡ ThreadPolicy.RunWithout → status ≡ 4)) }
 {
     match put_too_few(notes, lack) {
         Err(Device) => Some(DEVICE),

@@ -37,7 +37,8 @@ use Rattle.ev_words.specs.declared.subcommand.Subcommand.{Subcommand}
 use Rattle.ev_words.specs.declared.subcommand.Subcommand.TheVariants.{Report, Migrate, Check, Simulate, Play}
 use Rattle.ev_words.specs.declared.subcommand.Subcommand.TheVariants.{Run, Serve, Version}
 use Rattle.ev_words.specs.declared.subcommand.Given.{Given}
-use Rattle.ev_words.specs.declared.subcommand.Given.TheVariants.{Originators, Config, Script, ForRun, ForServe, Degraded}
+use Rattle.ev_words.specs.declared.subcommand.Given.TheVariants.{Originators, Config, Script, ForRun, ForServe}
+use Rattle.ev_words.specs.declared.subcommand.Given.TheVariants.{Degraded}
 use Rattle.ev_words.specs.declared.subcommand.Aim.{Aim}
 use Rattle.ev_words.specs.Args.{Parts, subcommands, name_of, option_name, needs_of, takes_of, with_option, with_flag}
 use Rattle.ev_words.specs.Args.{aim_in, subcommand_app, program, named, needed_in, given_in, invocation_in}

@@ -14,7 +14,8 @@ use Rattle.ev_words.specs.declared.subcommand.Subcommand.{Subcommand}
 use Rattle.ev_words.specs.declared.subcommand.Subcommand.TheVariants.{Report, Migrate, Check, Simulate, Play}
 use Rattle.ev_words.specs.declared.subcommand.Subcommand.TheVariants.{Run, Serve, Version}
 use Rattle.ev_words.specs.declared.subcommand.Given.{Given}
-use Rattle.ev_words.specs.declared.subcommand.Given.TheVariants.{Originators, Config, Script, ForRun, ForServe, Degraded}
+use Rattle.ev_words.specs.declared.subcommand.Given.TheVariants.{Originators, Config, Script, ForRun, ForServe}
+use Rattle.ev_words.specs.declared.subcommand.Given.TheVariants.{Degraded}
 use Rattle.ev_words.specs.declared.subcommand.Aim.{Aim}
 use Rattle.ev_words.specs.declared.subcommand.Aim.TheVariants as aim
 use Rattle.ev_words.specs.declared.args.Invocation.{Invocation}
@@ -150,7 +151,7 @@ given_in (Some option) rows = first_of (option_name option) rows
 abbrev pub is_flagged : Option Given → List Row → Bool
 is_flagged flag rows = option_map_or (λ text. bytes_eq text (codes "true")) (given_in flag rows) false
 
--- what a flag asks for
+-- the aim of a flag
 abbrev pub aim_of : Option Given → Aim
 aim_of None = aim.Any
 aim_of (Some Originators) = aim.Any
@@ -160,7 +161,7 @@ aim_of (Some ForRun) = aim.Run
 aim_of (Some ForServe) = aim.Serve
 aim_of (Some Degraded) = aim.Degraded
 
--- what a subcommand's flags among the matches ask for: `--serve` includes `--run`
+-- the aim of a subcommand, by its flags among the matches: `--serve` includes `--run`
 abbrev pub aim_in : Subcommand → List Row → Aim
 aim_in s rows =
     if is_flagged (other_flag_of s) rows then aim_of (other_flag_of s)

@@ -17,7 +17,7 @@ pub struct Invocation<'a> {
     pub value: &'a str,
     /// The value of its optional option, if given.
     pub more: Option<&'a str>,
-    /// What its flags ask for.
+    /// Its aim, by its flags.
     pub aim: Aim,
 }
 
@@ -272,7 +272,7 @@ fn is_flagged<'a>(flag: Option<Given>, matches: &ArgMatches<'a>) -> bool
     }
 }
 
-/// Returns what a flag asks for.
+/// Returns the aim of a flag.
 fn aim_of(flag: Option<Given>) -> Aim
     ensures { result ≡ aim_of flag }
 {
@@ -284,7 +284,7 @@ fn aim_of(flag: Option<Given>) -> Aim
     }
 }
 
-/// Returns what the flags of a subcommand ask for: the other flag includes the first.
+/// Returns the aim of a subcommand, by its flags. The other flag includes the first.
 fn aim_in<'a>(subcommand: Subcommand, matches: &ArgMatches<'a>) -> Aim
     ensures { result ≡ aim_in subcommand (rows_of (found_of matches.now)) }
 {

@@ -40,7 +40,7 @@ pub(crate) enum Given {
     Degraded,
 }
 
-/// What the flags of a subcommand ask for.
+/// The aim of a subcommand, by its flags.
 #[derive(Clone, Copy, Debug, PartialEq, Eq)]
 pub enum Aim {
     /// Nothing besides.
