@@ -437,12 +437,6 @@ pub fn run_buffered<H: Threads + Wait + Net + Files + Clock + Sync, R: In, W: Ou
     ensures { RunsEdges false host.now.policy config devices result.1 result.0 }
 {
     let mut all = Buffers::new(devices);
-    let status = run_edges(
-        host,
-        config,
-        &mut all.reader,
-        &mut all.out,
-        &mut all.notes,
-    );
+    let status = run_edges(host, config, &mut all.reader, &mut all.out, &mut all.notes);
     all.finish(status)
 }

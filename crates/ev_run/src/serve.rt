@@ -96,12 +96,6 @@ pub fn serve_buffered<H: Threads + Wait + Net + Files + Clock + Sync, R: In, W: 
         devices result.1 result.0 }
 {
     let mut all = Buffers::new(devices);
-    let status = serve_edges(
-        host,
-        served,
-        &mut all.reader,
-        &mut all.out,
-        &mut all.notes,
-    );
+    let status = serve_edges(host, served, &mut all.reader, &mut all.out, &mut all.notes);
     all.finish(status)
 }
