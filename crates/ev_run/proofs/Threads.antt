@@ -46,9 +46,9 @@ lacks_threads edges is_asked policy lack input out notes notes' status few told 
   unread = refl;
   unwritten = holds_none out;
   noted = told.0;
-  status_is = told.1.0
+  status_is = told.1
       ∙ ap (λ b. status_of (b || has_failed notes notes') true false) (sym (unfailed out));
-  must = told.1.1;
+  must = told.2;
 }
 
 module _ (is_asked : Bool) (policy : ThreadPolicy) (edges : List EdgeConfig) (before held after : Devices)

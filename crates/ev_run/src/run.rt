@@ -1,6 +1,6 @@
 //! Edges that carry frames until the input ends: each at its address and UDP port 4789, its access
 //! ports at sockets of their own. Alerts for the operator are written meanwhile.
-ghost use Rattle.std.specs.Prelude.{◌≡◌, ◌+◌, ◌-◌, ◌^◌, ◌||◌, min, not, nat_lt, is_some, true, false, length, map, reverse, vec_len, IfOk, OnOk, OnErr, MatchOption};
+ghost use Rattle.std.specs.Prelude.{◌≡◌, ◌+◌, ◌-◌, ◌^◌, ◌||◌, min, not, nat_lt, is_some, false, length, map, reverse, vec_len, IfOk, OnOk, OnErr, MatchOption};
 ghost use Rattle.std.specs.List.{list_any};
 ghost use Rattle.ether_wire.specs.Ends.{IsOpen, Allows};
 ghost use Rattle.ev_fabric.specs.Opening.{AreConfigs};
@@ -228,44 +228,34 @@ pub(crate) fn tell_meanwhile<R: Wait, N: Out>(
     notice_worker(rt, &mut notices, notes)
 }
 
+/// The system on which edges run.
+#[derive(Clone, Copy, Drop)]
+pub struct System<'x, R> {
+    /// The runtime, which waits, starts threads, and has sockets and a clock.
+    pub rt: &'x R,
+    /// The allocator.
+    pub alloc: Global,
+    /// What to do if the system refuses threads.
+    pub policy: ThreadPolicy,
+}
+
 /// The environment in which edges run.
 #[derive(Drop)]
-pub struct Host<'x, R> {
+pub(crate) struct Host<'x, R> {
     /// The runtime, which waits, starts threads, and has sockets and a clock.
     pub(crate) rt: &'x R,
     /// The allocator.
     pub(crate) alloc: Global,
-    /// What to do if the system refuses threads.
-    pub(crate) policy: ThreadPolicy,
     /// The service for clients, if they may query the edges.
     pub(crate) service: Option<&'x Service>,
 }
 
 impl<'x, R> Host<'x, R> {
-    /// Returns these as one value. No client may query the edges.
-    pub fn new(rt: &'x R, alloc: Global, policy: ThreadPolicy) -> Self
-        ensures policy { result.policy ≡ policy }
-        ensures service { is_some result.service ≡ false }
+    /// Returns these as one value.
+    pub(crate) fn new(rt: &'x R, alloc: Global, service: Option<&'x Service>) -> Self
+        ensures { is_some result.service ≡ is_some service.entry }
     {
-        Host {
-            rt,
-            alloc,
-            policy,
-            service: None,
-        }
-    }
-
-    /// Returns the same environment with this service, whose clients may query the edges.
-    pub(crate) fn asked<'s>(&'s self, service: &'s Service) -> Host<'s, R>
-        ensures policy { result.policy ≡ self.now.policy }
-        ensures service { is_some result.service ≡ true }
-    {
-        Host {
-            rt: self.rt,
-            alloc: self.alloc,
-            policy: self.policy,
-            service: Some(service),
-        }
+        Host { rt, alloc, service }
     }
 }
 
@@ -372,12 +362,19 @@ pub(crate) fn run_asked<
     E: In,
     W: Out,
     N: Out + Send,
->(host: &Host<'_, R>, config: Config, reader: &mut E, out: &mut W, notes: &mut N) -> u8
+>(
+    host: &Host<'_, R>,
+    policy: ThreadPolicy,
+    config: Config,
+    reader: &mut E,
+    out: &mut W,
+    notes: &mut N,
+) -> u8
     requires config { AreConfigs config.edges.items }
     requires reader { Allows (2 ^ 40) (E.end reader.old) }
     requires out { IsOpen (W.end out.old) }
     requires notes { IsOpen (N.end notes.old) }
-    ensures { RunsEdges (is_some host.now.service) host.now.policy config
+    ensures { RunsEdges (is_some host.now.service) policy config
         (devices (E.end reader.old) (W.end out.old) (N.end notes.old))
         (devices (E.end reader.new) (W.end out.new) (N.end notes.new)) result }
 {
@@ -388,7 +385,7 @@ pub(crate) fn run_asked<
     let sockets = sockets.as_slice();
     match check_threads(host.rt, &config, host.service.is_some()) {
         Ok(()) => begin(host, config, sockets, reader, out, notes),
-        Err(lack) => match stopped_by(host.policy, lack, notes) {
+        Err(lack) => match stopped_by(policy, lack, notes) {
             Some(status) => status,
             None => begin(host, config, sockets, reader, out, notes),
         },
@@ -406,10 +403,10 @@ pub(crate) fn run_asked<
 /// a link or a socket that can't be bound; 3 if memory or a thread was refused; else 0. If a socket
 /// can't be bound, no edge begins, and a line on `notes` has the address and the reason. If the
 /// system doesn't start as many threads as the run needs, a line on `notes` has both numbers, and
-/// no edge begins unless the policy of `host` allows it. If a port lacks an address, no edge begins
+/// no edge begins unless the policy of `system` allows it. If a port lacks an address, no edge begins
 /// either, and nothing is written.
 pub fn run_edges<R: Threads + Wait + Net + Files + Clock + Sync, E: In, W: Out, N: Out + Send>(
-    host: &Host<'_, R>,
+    system: &System<'_, R>,
     config: Config,
     reader: &mut E,
     out: &mut W,
@@ -419,24 +416,31 @@ pub fn run_edges<R: Threads + Wait + Net + Files + Clock + Sync, E: In, W: Out, 
     requires reader { Allows (2 ^ 40) (E.end reader.old) }
     requires out { IsOpen (W.end out.old) }
     requires notes { IsOpen (N.end notes.old) }
-    ensures { RunsEdges false host.now.policy config
+    ensures { RunsEdges false system.now.policy config
         (devices (E.end reader.old) (W.end out.old) (N.end notes.old))
         (devices (E.end reader.new) (W.end out.new) (N.end notes.new)) result }
 {
-    run_asked(host, config, reader, out, notes)
+    let host = Host::new(system.rt, system.alloc, None);
+    run_asked(&host, system.policy, config, reader, out, notes)
 }
 
 /// Runs edges as `run_edges` does, with few and large writes. Takes the devices and returns them.
 pub fn run_buffered<H: Threads + Wait + Net + Files + Clock + Sync, R: In, W: Out, N: Out + Send>(
-    host: &Host<'_, H>,
+    system: &System<'_, H>,
     config: Config,
     devices: Devices<R, W, N>,
 ) -> (u8, Devices<R, W, N>)
     requires config { AreConfigs config.edges.items }
     requires devices { AreOpen devices }
-    ensures { RunsEdges false host.now.policy config devices result.1 result.0 }
+    ensures { RunsEdges false system.now.policy config devices result.1 result.0 }
 {
     let mut all = Buffers::new(devices);
-    let status = run_edges(host, config, &mut all.reader, &mut all.out, &mut all.notes);
+    let status = run_edges(
+        system,
+        config,
+        &mut all.reader,
+        &mut all.out,
+        &mut all.notes,
+    );
     all.finish(status)
 }

@@ -10,7 +10,7 @@ use crate::configured::configured;
 use crate::files::Files;
 use ether_wire::{In, Out};
 use ev_report::Devices;
-use ev_run::{Host, ThreadPolicy, run_buffered};
+use ev_run::{System, ThreadPolicy, run_buffered};
 use std::alloc::Global;
 use std::fs::Files as SocketFiles;
 use std::net::Net;
@@ -40,7 +40,7 @@ pub(crate) fn run_file<
 {
     let mut devices = devices;
     match configured(alloc, files, path, true, &mut devices.notes) {
-        Ok(config) => run_buffered(&Host::new(rt, alloc, policy), config, devices),
+        Ok(config) => run_buffered(&System { rt, alloc, policy }, config, devices),
         Err(status) => (status, devices),
     }
 }

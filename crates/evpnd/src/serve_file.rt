@@ -9,7 +9,7 @@ use crate::configured::served;
 use crate::files::Files;
 use ether_wire::{In, Out};
 use ev_report::Devices;
-use ev_run::{Host, ThreadPolicy, serve_buffered};
+use ev_run::{System, ThreadPolicy, serve_buffered};
 use std::alloc::Global;
 use std::fs::Files as SocketFiles;
 use std::net::Net;
@@ -39,7 +39,7 @@ pub(crate) fn serve_file<
 {
     let mut devices = devices;
     match served(alloc, files, path, &mut devices.notes) {
-        Ok(found) => serve_buffered(&Host::new(rt, alloc, policy), found, devices),
+        Ok(found) => serve_buffered(&System { rt, alloc, policy }, found, devices),
         Err(status) => (status, devices),
     }
 }

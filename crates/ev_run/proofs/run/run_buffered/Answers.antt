@@ -10,7 +10,7 @@ pub returns : goal.returns
 returns g c =
     let run = c.run_edges-status in
     let config = c.args.config in
-    let policy = c.args.host.now.policy in
+    let policy = c.args.system.now.policy in
     let held = devices (g.R.In.end run.new.reader) (buffered_end g.W.Out.end run.new.out)
     (buffered_end g.N.Out.end run.new.notes) in
     buffered (RunsEdges false policy config) (passed_runs false policy config) c.args.devices _ held

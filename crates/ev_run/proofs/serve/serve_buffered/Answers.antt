@@ -11,7 +11,7 @@ returns g c =
     let run = c.serve_edges-status in
     let path = string_bytes c.args.served.control in
     let config = c.args.served.config in
-    let policy = c.args.host.now.policy in
+    let policy = c.args.system.now.policy in
     let held = devices (g.R.In.end run.new.reader) (buffered_end g.W.Out.end run.new.out)
     (buffered_end g.N.Out.end run.new.notes) in
     buffered (ServesEdges policy path config) (passed_serves policy path config) c.args.devices _ held
