@@ -630,6 +630,29 @@ class Beginning(unittest.TestCase):
         one.here.close()
         two.here.close()
 
+    @unittest.skipIf(os.getuid(), "only root can give a user a limit of its own")
+    def test_degraded(self) -> None:
+        """A lack of threads is told at once, and the edges begin. With enough threads nothing is told."""
+        one, two = Cable(), Cable(TWO)
+        text = edge(ONE, 1, one) + edge(TWO, 2, two)
+        for allowed in (8, 15):
+            told = f"can't start 16 threads: the system allows {allowed}; raise ulimit -u or TasksMax, or free memory\n"
+            with self.subTest(allowed=allowed), self.limited(allowed, ["run", "--degraded"], text) as program:
+                try:
+                    self.assertEqual(program.stderr.readline(), told)
+                    time.sleep(0.5)
+                    self.assertIsNone(program.poll())
+                    program.stdin.close()
+                    self.assertEqual((program.wait(PATIENCE), program.stdout.read().count("edge ")), (3, 2))
+                    self.assertRegex(program.stderr.read(), r"^(edge [12]: no memory\n)+$")
+                finally:
+                    program.kill()
+        with self.limited(16, ["run", "--degraded"], text) as program:
+            time.sleep(0.3)
+            self.assertEqual((program.communicate(timeout=PATIENCE)[1], program.returncode), ("", 0))
+        one.here.close()
+        two.here.close()
+
     def test_it_goes_on_until_its_input_ends(self) -> None:
         """What is read is ignored."""
         one = Cable()

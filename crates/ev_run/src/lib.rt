@@ -26,6 +26,7 @@ pub use control_socket::ListenError;
 pub use needs::{Needs, needs_of};
 pub use obstacles::{Cause, End, Limits, Obstacle, Seat, obstacles_of};
 pub use print_needs::{put_asked_needs, put_obstacles};
-pub use run::{run_buffered, run_edges};
+pub use run::{System, run_buffered, run_edges};
 pub use serve::{serve_buffered, serve_edges};
 pub use sockets::BindError;
+pub use thread_check::ThreadPolicy;

@@ -8,7 +8,8 @@ ghost use Rattle.ev_edge.specs.Config.{IsConfig};
 ghost use Rattle.ev_report.specs.Ends.{AreOpen, Holds, devices};
 ghost use Rattle.ev_run.specs.Inner.Sockets.{bound_at, sent_to};
 ghost use Rattle.ev_run.specs.Links.{begun_of, destinations_of, sends_to};
-ghost use Rattle.ev_run.specs.RunEdges.{ReadsOut, sends_failed, link_failed, was_out_of_memory, all_lost, system_text, noted_text, Ran, start_text, RunsEdges};
+ghost use Rattle.ev_run.specs.Sockets.{all_remotes, endpoints_of, lacks_address};
+ghost use Rattle.ev_run.specs.RunEdges.{ReadsOut, sends_failed, link_failed, was_out_of_memory, all_lost, system_text, noted_text, Ran, start_text, Begins, RunsEdges};
 ghost use Rattle.ev_run.specs.Inner.RunEdges.{EachConfig, PutsRest, TellsMeanwhile, TellsRest};
 
 use crate::begun::{begun_in, first_incarnation};
@@ -19,7 +20,7 @@ use crate::named::{Ends, Prepared, run_named};
 use crate::print::{Watched, put_notes, put_reports};
 use crate::sockets::{StartError, bind_all, put_bind_error};
 use crate::system_drops::udp_table;
-use crate::thread_check::{check_threads, tell_too_few};
+use crate::thread_check::{ThreadPolicy, check_threads, stopped_by};
 use ether_wire::{Device, In, Out};
 use ev_config::Config;
 use ev_edge::EdgeConfig;
@@ -227,6 +228,17 @@ pub(crate) fn tell_meanwhile<R: Wait, N: Out>(
     notice_worker(rt, &mut notices, notes)
 }
 
+/// The system on which edges run.
+#[derive(Clone, Copy, Drop)]
+pub struct System<'x, R> {
+    /// The runtime, which waits, starts threads, and has sockets and a clock.
+    pub rt: &'x R,
+    /// The allocator.
+    pub alloc: Global,
+    /// What to do if the system refuses threads.
+    pub policy: ThreadPolicy,
+}
+
 /// The environment in which edges run.
 #[derive(Drop)]
 pub(crate) struct Host<'x, R> {
@@ -314,6 +326,35 @@ fn tell_start_error<N: Out>(start_error: StartError, notes: &mut N) -> u8
     }
 }
 
+/// Runs the edges of a configuration over these sockets, or returns the status if memory is refused
+/// before an edge has begun.
+fn begin<'h, R: Threads + Wait + Files + Clock + Sync, E: In, W: Out, N: Out + Send>(
+    host: &Host<'h, R>,
+    config: Config,
+    sockets: &[Sockets],
+    reader: &mut E,
+    out: &mut W,
+    notes: &mut N,
+) -> u8
+    requires config { AreConfigs config.edges.items }
+    requires many { length sockets.now ≡ vec_len config.edges }
+    requires bound { map bound_at sockets.now ≡ endpoints_of config }
+    requires remotes { map sent_to sockets.now ≡ all_remotes config.links.items }
+    requires addresses { lacks_address config ≡ false }
+    requires reader { Allows (2 ^ 40) (E.end reader.old) }
+    requires out { IsOpen (W.end out.old) }
+    requires notes { IsOpen (N.end notes.old) }
+    ensures { Begins (is_some host.now.service) config
+        (devices (E.end reader.old) (W.end out.old) (N.end notes.old))
+        (devices (E.end reader.new) (W.end out.new) (N.end notes.new)) result }
+{
+    let Config { edges, links: _ } = config;
+    match run_bound(host, edges, sockets, reader, out, notes) {
+        Ok(status) => status,
+        Err(_) => MEMORY,
+    }
+}
+
 /// Runs edges as `run_edges` does, with or without a control socket whose clients may query them
 /// meanwhile.
 pub(crate) fn run_asked<
@@ -321,12 +362,19 @@ pub(crate) fn run_asked<
     E: In,
     W: Out,
     N: Out + Send,
->(host: &Host<'_, R>, config: Config, reader: &mut E, out: &mut W, notes: &mut N) -> u8
+>(
+    host: &Host<'_, R>,
+    policy: ThreadPolicy,
+    config: Config,
+    reader: &mut E,
+    out: &mut W,
+    notes: &mut N,
+) -> u8
     requires config { AreConfigs config.edges.items }
     requires reader { Allows (2 ^ 40) (E.end reader.old) }
     requires out { IsOpen (W.end out.old) }
     requires notes { IsOpen (N.end notes.old) }
-    ensures { RunsEdges (is_some host.now.service) config
+    ensures { RunsEdges (is_some host.now.service) policy config
         (devices (E.end reader.old) (W.end out.old) (N.end notes.old))
         (devices (E.end reader.new) (W.end out.new) (N.end notes.new)) result }
 {
@@ -334,13 +382,13 @@ pub(crate) fn run_asked<
         Ok(sockets) => sockets,
         Err(start_error) => return tell_start_error(start_error, notes),
     };
-    if let Err(lack) = check_threads(host.rt, &config, host.service.is_some()) {
-        return tell_too_few(lack, notes);
-    }
-    let Config { edges, links: _ } = config;
-    match run_bound(host, edges, sockets.as_slice(), reader, out, notes) {
-        Ok(status) => status,
-        Err(_) => MEMORY,
+    let sockets = sockets.as_slice();
+    match check_threads(host.rt, &config, host.service.is_some()) {
+        Ok(()) => begin(host, config, sockets, reader, out, notes),
+        Err(lack) => match stopped_by(policy, lack, notes) {
+            Some(status) => status,
+            None => begin(host, config, sockets, reader, out, notes),
+        },
     }
 }
 
@@ -354,11 +402,11 @@ pub(crate) fn run_asked<
 /// Returns the greatest status that applies: 4 if a device failed, which may be a reader, a writer,
 /// a link or a socket that can't be bound; 3 if memory or a thread was refused; else 0. If a socket
 /// can't be bound, no edge begins, and a line on `notes` has the address and the reason. If the
-/// system doesn't start as many threads as the run needs, no edge begins, and a line on `notes` has
-/// both numbers. If a port lacks an address, no edge begins either, and nothing is written.
+/// system doesn't start as many threads as the run needs, a line on `notes` has both numbers, and
+/// no edge begins unless the policy of `system` allows it. If a port lacks an address, no edge begins
+/// either, and nothing is written.
 pub fn run_edges<R: Threads + Wait + Net + Files + Clock + Sync, E: In, W: Out, N: Out + Send>(
-    rt: &R,
-    alloc: Global,
+    system: &System<'_, R>,
     config: Config,
     reader: &mut E,
     out: &mut W,
@@ -368,29 +416,27 @@ pub fn run_edges<R: Threads + Wait + Net + Files + Clock + Sync, E: In, W: Out, 
     requires reader { Allows (2 ^ 40) (E.end reader.old) }
     requires out { IsOpen (W.end out.old) }
     requires notes { IsOpen (N.end notes.old) }
-    ensures { RunsEdges false config
+    ensures { RunsEdges false system.now.policy config
         (devices (E.end reader.old) (W.end out.old) (N.end notes.old))
         (devices (E.end reader.new) (W.end out.new) (N.end notes.new)) result }
 {
-    let host = Host::new(rt, alloc, None);
-    run_asked(&host, config, reader, out, notes)
+    let host = Host::new(system.rt, system.alloc, None);
+    run_asked(&host, system.policy, config, reader, out, notes)
 }
 
 /// Runs edges as `run_edges` does, with few and large writes. Takes the devices and returns them.
 pub fn run_buffered<H: Threads + Wait + Net + Files + Clock + Sync, R: In, W: Out, N: Out + Send>(
-    rt: &H,
-    alloc: Global,
+    system: &System<'_, H>,
     config: Config,
     devices: Devices<R, W, N>,
 ) -> (u8, Devices<R, W, N>)
     requires config { AreConfigs config.edges.items }
     requires devices { AreOpen devices }
-    ensures { RunsEdges false config devices result.1 result.0 }
+    ensures { RunsEdges false system.now.policy config devices result.1 result.0 }
 {
     let mut all = Buffers::new(devices);
     let status = run_edges(
-        rt,
-        alloc,
+        system,
         config,
         &mut all.reader,
         &mut all.out,

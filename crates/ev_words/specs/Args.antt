@@ -15,6 +15,7 @@ use Rattle.ev_words.specs.declared.subcommand.Subcommand.TheVariants.{Report, Mi
 use Rattle.ev_words.specs.declared.subcommand.Subcommand.TheVariants.{Run, Serve, Version}
 use Rattle.ev_words.specs.declared.subcommand.Given.{Given}
 use Rattle.ev_words.specs.declared.subcommand.Given.TheVariants.{Originators, Config, Script, ForRun, ForServe}
+use Rattle.ev_words.specs.declared.subcommand.Given.TheVariants.{Degraded}
 use Rattle.ev_words.specs.declared.subcommand.Aim.{Aim}
 use Rattle.ev_words.specs.declared.subcommand.Aim.TheVariants as aim
 use Rattle.ev_words.specs.declared.args.Invocation.{Invocation}
@@ -43,6 +44,7 @@ option_name Config = codes "config"
 option_name Script = codes "script"
 option_name ForRun = codes "run"
 option_name ForServe = codes "serve"
+option_name Degraded = codes "degraded"
 
 -- the option that a subcommand requires
 abbrev pub needs_of : Subcommand → Option Given
@@ -73,8 +75,8 @@ flag_of Migrate = None
 flag_of Check = Some ForRun
 flag_of Simulate = None
 flag_of Play = None
-flag_of Run = None
-flag_of Serve = None
+flag_of Run = Some Degraded
+flag_of Serve = Some Degraded
 flag_of Version = None
 
 -- another flag that a subcommand allows
@@ -149,13 +151,22 @@ given_in (Some option) rows = first_of (option_name option) rows
 abbrev pub is_flagged : Option Given → List Row → Bool
 is_flagged flag rows = option_map_or (λ text. bytes_eq text (codes "true")) (given_in flag rows) false
 
--- the purpose of a check, by its two flags: `--serve` includes the other one
-abbrev pub aim_of : Bool → Bool → Aim
-aim_of is_run is_served = if is_served then aim.Serve else if is_run then aim.Run else aim.Any
+-- the aim of a flag
+abbrev pub aim_of : Option Given → Aim
+aim_of None = aim.Any
+aim_of (Some Originators) = aim.Any
+aim_of (Some Config) = aim.Any
+aim_of (Some Script) = aim.Any
+aim_of (Some ForRun) = aim.Run
+aim_of (Some ForServe) = aim.Serve
+aim_of (Some Degraded) = aim.Degraded
 
--- the purpose of a check, by a subcommand's flags among the matches
+-- the aim of a subcommand, by its flags among the matches: `--serve` includes `--run`
 abbrev pub aim_in : Subcommand → List Row → Aim
-aim_in s rows = aim_of (is_flagged (flag_of s) rows) (is_flagged (other_flag_of s) rows)
+aim_in s rows =
+    if is_flagged (other_flag_of s) rows then aim_of (other_flag_of s)
+    else if is_flagged (flag_of s) rows then aim_of (flag_of s)
+    else aim.Any
 
 -- a subcommand, the value of its required option, that of its optional one, and its flags
 abbrev pub Parts : Type 0

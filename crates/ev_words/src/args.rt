@@ -17,7 +17,7 @@ pub struct Invocation<'a> {
     pub value: &'a str,
     /// The value of its optional option, if given.
     pub more: Option<&'a str>,
-    /// The purpose of a check.
+    /// Its aim, by its flags.
     pub aim: Aim,
 }
 
@@ -272,26 +272,29 @@ fn is_flagged<'a>(flag: Option<Given>, matches: &ArgMatches<'a>) -> bool
     }
 }
 
-/// Returns the purpose of a check, by its two flags.
-fn aim_of(is_run: bool, is_served: bool) -> Aim
-    ensures { result ≡ aim_of is_run is_served }
+/// Returns the aim of a flag.
+fn aim_of(flag: Option<Given>) -> Aim
+    ensures { result ≡ aim_of flag }
 {
-    if is_served {
-        Aim::Serve
-    } else if is_run {
-        Aim::Run
-    } else {
-        Aim::Any
+    match flag {
+        Some(Given::ForRun) => Aim::Run,
+        Some(Given::ForServe) => Aim::Serve,
+        Some(Given::Degraded) => Aim::Degraded,
+        _ => Aim::Any,
     }
 }
 
-/// Returns the purpose of a check, by the flags of a subcommand.
+/// Returns the aim of a subcommand, by its flags. The other flag includes the first.
 fn aim_in<'a>(subcommand: Subcommand, matches: &ArgMatches<'a>) -> Aim
     ensures { result ≡ aim_in subcommand (rows_of (found_of matches.now)) }
 {
-    let is_run = is_flagged(subcommand.flag(), matches);
-    let is_served = is_flagged(subcommand.other_flag(), matches);
-    aim_of(is_run, is_served)
+    if is_flagged(subcommand.other_flag(), matches) {
+        aim_of(subcommand.other_flag())
+    } else if is_flagged(subcommand.flag(), matches) {
+        aim_of(subcommand.flag())
+    } else {
+        Aim::Any
+    }
 }
 
 /// Returns the invocation at the subcommand that was used.

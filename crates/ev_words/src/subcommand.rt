@@ -15,9 +15,9 @@ pub enum Subcommand {
     Simulate,
     /// `evpnd play --config FILE`
     Play,
-    /// `evpnd run --config FILE`
+    /// `evpnd run --config FILE`, perhaps with `--degraded`
     Run,
-    /// `evpnd serve --config FILE`
+    /// `evpnd serve --config FILE`, perhaps with `--degraded`
     Serve,
     /// `evpnd version`
     Version,
@@ -36,17 +36,21 @@ pub(crate) enum Given {
     ForRun,
     /// `--serve`
     ForServe,
+    /// `--degraded`
+    Degraded,
 }
 
-/// The purpose of a check.
+/// The aim of a subcommand, by its flags.
 #[derive(Clone, Copy, Debug, PartialEq, Eq)]
 pub enum Aim {
-    /// Anything.
+    /// Nothing besides.
     Any,
-    /// A run: `--run`.
+    /// A check for a run: `--run`.
     Run,
-    /// A run whose edges answer queries meanwhile: `--serve`.
+    /// A check for a run whose edges answer queries meanwhile: `--serve`.
     Serve,
+    /// A run that begins even if the system refuses threads: `--degraded`.
+    Degraded,
 }
 
 impl Subcommand {
@@ -97,6 +101,7 @@ impl Subcommand {
     {
         match self {
             Subcommand::Check => Some(Given::ForRun),
+            Subcommand::Run | Subcommand::Serve => Some(Given::Degraded),
             _ => None,
         }
     }
@@ -231,8 +236,11 @@ Runs the edges that FILE configures, as docs/configuration.md describes it; each
 and `remote`. Each edge takes and sends VXLAN datagrams at its address, UDP port 4789; each port takes
 frames at `local`, one a datagram, and sends them to `remote`. It ends when standard input ends, whose
 content is ignored. Then standard output has for each edge the line `edge E` and its report.
-Standard error has `lost N` where N sends failed; or which address can't be bound, and why, or which
-standard stream is closed: then no edge has begun.
+Standard error has `lost N` where N sends failed; or which address can't be bound, and why, which
+standard stream is closed, or how many threads the system refuses: then no edge has begun.
+
+With --degraded the edges begin even if the system starts too few threads. Standard error says so
+at once, ports or edges without their threads carry nothing, and the status at the end is 3.
 
 Status, the greatest that applies:
   0  the edges ran until standard input ended
@@ -292,6 +300,7 @@ impl Given {
             Given::Script => "script",
             Given::ForRun => "run",
             Given::ForServe => "serve",
+            Given::Degraded => "degraded",
         }
     }
 
@@ -300,7 +309,7 @@ impl Given {
         match self {
             Given::Originators => "LIST",
             Given::Config | Given::Script => "FILE",
-            Given::ForRun | Given::ForServe => "",
+            Given::ForRun | Given::ForServe | Given::Degraded => "",
         }
     }
 
@@ -312,6 +321,7 @@ impl Given {
             Given::Script => "The path of a script, whose lines are checked too",
             Given::ForRun => "Check what `run` needs too, and tell what it takes at its beginning",
             Given::ForServe => "So of `serve`, with its keys `control` and `peer`",
+            Given::Degraded => "Begin even if the system starts too few threads",
         }
     }
 }

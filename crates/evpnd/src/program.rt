@@ -9,7 +9,7 @@ ghost use Rattle.evpnd.specs.Checks.{desk};
 ghost use Rattle.evpnd.specs.Scripts.{ChecksAll};
 ghost use Rattle.evpnd.specs.Streams.{Unclosed, IsClosed};
 ghost use Rattle.ev_report.specs.Failures.{failures_of};
-ghost use Rattle.evpnd.specs.Program.{world, use_of, purpose_of, not_text, RunsOpen, FollowsAs, Follows, FollowsTelling, RunsWords, RunsProgram};
+ghost use Rattle.evpnd.specs.Program.{world, use_of, policy_of, purpose_of, not_text, RunsOpen, FollowsAs, Follows, FollowsTelling, RunsWords, RunsProgram};
 ghost use Rattle.evpnd.specs.Inner.Program.{TellsFault};
 
 use crate::check::{Purpose, Wanted, check_all};
@@ -25,6 +25,7 @@ use clap::Error;
 use ether_wire::{In, Out};
 use ev_config::Use;
 use ev_report::{Devices, Failures, MEMORY, tell, tell_failed, tell_words};
+use ev_run::ThreadPolicy;
 use ev_script::Mode;
 use ev_words::{Aim, ArgsError, Invocation, Parser, Subcommand, invocation_of};
 use std::alloc::Global;
@@ -81,9 +82,19 @@ fn use_of(aim: Aim) -> Use
     ensures { result ≡ use_of aim }
 {
     match aim {
-        Aim::Any => Use::Any,
+        Aim::Any | Aim::Degraded => Use::Any,
         Aim::Run => Use::Run,
         Aim::Serve => Use::Serve,
+    }
+}
+
+/// Returns what a run does if the system refuses threads, by the aim of its flags.
+fn policy_of(aim: Aim) -> ThreadPolicy
+    ensures { result ≡ policy_of aim }
+{
+    match aim {
+        Aim::Degraded => ThreadPolicy::RunWithout,
+        _ => ThreadPolicy::RequireAll,
     }
 }
 
@@ -114,18 +125,19 @@ fn run_open<
 >(
     host: &Host<'_, H>,
     is_asked: bool,
+    policy: ThreadPolicy,
     files: &mut F,
     path: &str,
     devices: Devices<R, W, N>,
 ) -> (u8, Devices<R, W, N>)
     requires files { HasRoom (F.shelf files.old) }
     requires devices { AreOpen devices }
-    ensures { RunsOpen is_asked host.now.descriptors.closed path.now
+    ensures { RunsOpen is_asked policy host.now.descriptors.closed path.now
         (desk (F.shelf files.old) devices) (desk (F.shelf files.new) result.1) result.0 }
 {
     match host.descriptors.closed {
-        None if is_asked => serve_file(host.rt, host.alloc, files, path, devices),
-        None => run_file(host.rt, host.alloc, files, path, devices),
+        None if is_asked => serve_file(host.rt, host.alloc, policy, files, path, devices),
+        None => run_file(host.rt, host.alloc, policy, files, path, devices),
         Some(stream) => tell_closed(stream, devices),
     }
 }
@@ -150,6 +162,7 @@ fn follow<
         (desk (F.shelf files.new) result.1) result.0 }
 {
     let alloc = host.alloc;
+    let policy = policy_of(invocation.aim);
     match invocation.subcommand {
         Subcommand::Report => report(alloc, invocation.value, devices),
         Subcommand::Migrate => migrate(alloc, invocation.value, devices),
@@ -165,11 +178,11 @@ fn follow<
         Subcommand::Play => simulate(alloc, Mode::Play, files, invocation.value, devices),
         Subcommand::Run => {
             let is_asked = false;
-            run_open(host, is_asked, files, invocation.value, devices)
+            run_open(host, is_asked, policy, files, invocation.value, devices)
         }
         Subcommand::Serve => {
             let is_asked = true;
-            run_open(host, is_asked, files, invocation.value, devices)
+            run_open(host, is_asked, policy, files, invocation.value, devices)
         }
         Subcommand::Version => version(devices),
     }
