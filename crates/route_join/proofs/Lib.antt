@@ -21,3 +21,4 @@ pub mod WinnerTrees
 pub mod Trees
 pub mod Abouts
 pub mod HexGroups
+pub mod Entries

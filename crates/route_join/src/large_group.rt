@@ -6,11 +6,14 @@ ghost use Rattle.std.specs.List.{slice_get};
 ghost use Rattle.std.specs.Iterator.{YieldsFirstBy, item_count};
 ghost use Rattle.route_wire.specs.Order.{is_newer, register_cmp};
 ghost use Rattle.route_join.specs.Table.{entries_of, IsOrdered};
+ghost use Rattle.route_join.specs.Group.{AreAbout};
 ghost use Rattle.route_join.specs.Inner.Group.{Takes, update_among, IsLeader, IsSilent};
 ghost use Rattle.route_join.specs.Inner.WinnerTree.{owns};
 ghost use Rattle.route_join.specs.Inner.LargeGroup.{IsLargeGroup, place_at, large_updates};
 
+use crate::entry::Entry;
 use crate::register_key::RegisterKey;
+use crate::subject::Subject;
 use crate::table::Taken;
 use crate::winner_tree::{WinnerNode, best, own_at, push, replace, reserve, said_at};
 use ether_wire::Addr;
@@ -91,15 +94,20 @@ impl Model for LargeGroup {
 }
 
 impl LargeGroup {
-    /// Returns the same updates in a tree.
-    pub(crate) fn of(alloc: Global, updates: &[Update]) -> Result<Self, AllocError>
-        requires { IsOrdered updates.now }
+    /// Returns the same updates, which are about this subject, in a tree.
+    pub(crate) fn of(
+        alloc: Global,
+        subject: &Subject,
+        updates: &[Entry],
+    ) -> Result<Self, AllocError>
+        requires ordered { IsOrdered updates.now }
+        requires about { AreAbout subject.now (entries_of updates.now) }
         ensures { IfOk result (λ m. m ≡ updates.now) }
     {
         let mut tree = BTreeMap::new(alloc);
         let mut nodes = Vec::new(alloc);
         for update in updates {
-            enter(&mut tree, &mut nodes, update)?;
+            enter(&mut tree, &mut nodes, &update.about(subject))?;
         }
         Ok(LargeGroup { tree, nodes })
     }
