@@ -11,28 +11,32 @@ use route_wire::{Addr6, Advert, Content, Ip, Key, Register, Update, Value};
 use std::marker::Model;
 use std::snapshot::Snapshot;
 
-/// Returns 0 for no IP address, else 1 for version 4 and 2 for version 6.
-fn version_of(ip: Option<Ip>) -> u32
-    ensures value { result ≡ version_of ip }
+/// Returns 0 for a key without an IP address, else 1 for version 4 and 2 for version 6.
+fn version_of(key: &Key) -> u32
+    ensures value { result ≡ version_of (ip_of key.now) }
     ensures small { result ≤ 2 }
 {
-    match ip {
+    match key.ip() {
         None => 0,
-        Some(Ip::V4(_)) => 1,
-        Some(Ip::V6(_)) => 2,
+        Some(ip) => match ip {
+            Ip::V4(_) => 1,
+            Ip::V6(_) => 2,
+        },
     }
 }
 
-/// Returns the number of an IP address, 0 for none.
+/// Returns the number of a key's IP address, 0 for none.
 #[tactic(auto, using(crate::proofs::Entries::v4_back))]
-fn number_of(ip: Option<Ip>) -> u128
-    ensures value { result ≡ ip_number ip }
-    ensures back { ip_by (version_of ip) (ip_number ip) ≡ ip }
+fn number_of(key: &Key) -> u128
+    ensures value { result ≡ ip_number (ip_of key.now) }
+    ensures back { ip_by (version_of (ip_of key.now)) result ≡ ip_of key.now }
 {
-    match ip {
+    match key.ip() {
         None => 0,
-        Some(Ip::V4(address)) => u128::from(address.number()),
-        Some(Ip::V6(address)) => address.number(),
+        Some(ip) => match ip {
+            Ip::V4(address) => u128::from(address.number()),
+            Ip::V6(address) => address.number(),
+        },
     }
 }
 
@@ -57,11 +61,9 @@ fn kind_of(content: &Content) -> u32
 {
     match content {
         Content::Withdrawn => 0,
-        Content::Advert(advert) => match (advert.is_static, advert.label2) {
-            (false, None) => 1,
-            (true, None) => 2,
-            (false, Some(_)) => 3,
-            (true, Some(_)) => 4,
+        Content::Advert(advert) => match advert.label2 {
+            None => { if advert.is_static { 2 } else { 1 } }
+            Some(_) => { if advert.is_static { 4 } else { 3 } }
         },
     }
 }
@@ -152,12 +154,11 @@ impl Entry {
     {
         update.always_well_formed();
         let Register { originator, key } = update.register();
-        let ip = key.ip();
         let value = update.value();
-        let form = version_of(ip) * 8 + kind_of(&value.content);
+        let form = version_of(&key) * 8 + kind_of(&value.content);
         Entry {
             counter: value.counter,
-            ip: Addr6::new(number_of(ip)),
+            ip: Addr6::new(number_of(&key)),
             originator,
             incarnation: value.incarnation,
             sequence: sequence_of(&value.content),

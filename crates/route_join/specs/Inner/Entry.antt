@@ -1,5 +1,5 @@
 -- Updates in entries, which have their numbers.
-use Rattle.std.specs.Prelude.{◌≡◌, ℕ, ◌+◌, ◌*◌, ◌/◌, ◌%◌, ◌^◌, ◌==◌, Option, Some, None, nat_lt, if◌then◌else◌}
+use Rattle.std.specs.Prelude.{◌≡◌, ℕ, Bool, ◌+◌, ◌*◌, ◌/◌, ◌%◌, ◌^◌, ◌==◌, Option, Some, None, nat_lt, if◌then◌else◌}
 use Rattle.route_wire.specs.declared.update.Ip.{Ip}
 use Rattle.route_wire.specs.declared.update.Ip.TheVariants.{V4, V6}
 use Rattle.route_wire.specs.declared.update.Key.{Key}
@@ -21,13 +21,13 @@ abbrev pub ip_by : ℕ → ℕ → Option Ip
 ip_by version n = if version == 0 then None else if version == 1 then Some (V4 (n % 2 ^ 32)) else Some (V6 n)
 
 -- ---- contents
-abbrev pub kind_by : Advert → Option ℕ → ℕ
-kind_by a None = if a.is_static then 2 else 1
-kind_by a (Some label) = if a.is_static then 4 else 3
+abbrev pub kind_by : Bool → Option ℕ → ℕ
+kind_by static None = if static then 2 else 1
+kind_by static (Some label) = if static then 4 else 3
 
 abbrev pub kind_of : Content → ℕ
 kind_of Withdrawn = 0
-kind_of (Advertised a) = kind_by a a.label2
+kind_of (Advertised a) = kind_by a.is_static a.label2
 
 abbrev pub number_in : Option ℕ → ℕ
 number_in None = 0
@@ -55,6 +55,9 @@ value_by counter incarnation sequence word = record {
   incarnation = incarnation;
   content = content_by (word / 2 ^ 24 % 8) sequence (word % 2 ^ 24);
 }
+
+abbrev pub update_by : ℕ → Key → Value → Fields
+update_by originator key value = record { register = record { originator = originator; key = key }; value = value }
 
 -- the numbers are those of the update
 pub record IsEntry (counter incarnation originator ip sequence word : ℕ) (u : Fields) : Type 0 where

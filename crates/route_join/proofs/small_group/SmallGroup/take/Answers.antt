@@ -11,21 +11,21 @@ index-requires c =
     let w : c.in-Ok.at < length c.self.inside.updates.items = p.within in
     omega arith
 
-pub returns-then-not-is_newer-clause-takes : goal.returns-then-not-is_newer-clause-takes
-returns-then-not-is_newer-clause-takes c =
+pub returns-then-not-is_older-clause-takes : goal.returns-then-not-is_older-clause-takes
+returns-then-not-is_older-clause-takes c =
     let there = told_at c.self.inside.updates.items c.deref.result.now c.args.self.now c.self.view_is
     c.args.update.now.register c.register.result c.in-Ok.at c.deref.ensures.value c.register.ensures c.index.result.now
     c.in-Ok.ensures c.index.ensures in
-    known_takes c.args.self.now c.args.update.now c.index.result.now.value there c.is_newer.result c.is_newer.ensures
-    c.args.held.now c.if-not-is_newer.true
+    known_takes c.args.self.now c.args.update.now c.index.result.now.value there c.is_older.result c.is_older.ensures
+    c.args.held.now c.if-not-is_older.true
 
-pub returns-else-not-is_newer-clause-takes : goal.returns-else-not-is_newer-clause-takes
-returns-else-not-is_newer-clause-takes c =
+pub returns-else-not-is_older-clause-takes : goal.returns-else-not-is_older-clause-takes
+returns-else-not-is_older-clause-takes c =
     let there = told_at c.self.inside.updates.items c.deref.result.now c.args.self.now c.self.view_is
     c.args.update.now.register c.register.result c.in-Ok.at c.deref.ensures.value c.register.ensures c.index.result.now
     c.in-Ok.ensures c.index.ensures in
-    newer_takes c.args.self.now c.args.update.now c.index.result.now.value there c.is_newer.result c.is_newer.ensures
-    c.args.held.now c.replace.new.self c.replace.ensures c.if-not-is_newer.false
+    newer_takes c.args.self.now c.args.update.now c.index.result.now.value there c.is_older.result c.is_older.ensures
+    c.args.held.now c.replace.new.self c.replace.ensures c.if-not-is_older.false
 
 pub returns-in_default-clause-takes : goal.returns-in_default-clause-takes
 returns-in_default-clause-takes c =
