@@ -31,22 +31,18 @@ content_back (Advertised a) = go a.is_static a.label2
     go false (Some label) = refl
 
 module _ (version kind label : ℕ) (few : version ≤ 2) (some : kind ≤ 4) (small : label < 2 ^ 24) where
-  form word : ℕ
-  form = version * 8 + kind
-  word = form * 2 ^ 24 + label
+  kind_back : ((version * 8 + kind) * 2 ^ 24 + label) / 2 ^ 24 % 8 ≡ kind
+  kind_back = ap (λ n. n % 8) (div-mul-add (version * 8 + kind) (2 ^ 24) label small) ∙ mod-mul-add version 8 kind (omega arith)
 
-  kind_back : word / 2 ^ 24 % 8 ≡ kind
-  kind_back = ap (λ n. n % 8) (div-mul-add form (2 ^ 24) label small) ∙ mod-mul-add version 8 kind (omega arith)
-
-  version_back : word / 2 ^ 27 ≡ version
+  version_back : ((version * 8 + kind) * 2 ^ 24 + label) / 2 ^ 27 ≡ version
   version_back =
-      let parts : word ≡ version * 2 ^ 27 + (kind * 2 ^ 24 + label) = omega arith in
+      let parts : (version * 8 + kind) * 2 ^ 24 + label ≡ version * 2 ^ 27 + (kind * 2 ^ 24 + label) = omega arith in
       ap (λ n. n / 2 ^ 27) parts ∙ div-mul-add version (2 ^ 27) (kind * 2 ^ 24 + label) (omega arith)
 
   pub is_entry : (u : Fields) (r : Register) (v : Value) (ip sequence : ℕ) → r ≡ u.register → v ≡ u.value
       → version ≡ version_of (ip_of r.key) → ip_by (version_of (ip_of r.key)) ip ≡ ip_of r.key
       → kind ≡ kind_of v.content → label ≡ label_of v.content → sequence ≡ sequence_of v.content → IsUpdate u
-      → IsEntry v.counter v.incarnation r.originator ip sequence word u
+      → IsEntry v.counter v.incarnation r.originator ip sequence ((version * 8 + kind) * 2 ^ 24 + label) u
   is_entry u r v ip sequence register value of back is_kind is_label is_sequence h = record {
     update = h;
     sender = ap (λ (x : Register). x.originator) register;
@@ -54,7 +50,7 @@ module _ (version kind label : ℕ) (few : version ≤ 2) (some : kind ≤ 4) (s
     value = (λ i. record {
       counter = v.counter;
       incarnation = v.incarnation;
-      content = ((λ j. content_by (kind_back j) sequence (mod-mul-add form (2 ^ 24) label small j))
+      content = ((λ j. content_by (kind_back j) sequence (mod-mul-add (version * 8 + kind) (2 ^ 24) label small j))
           ∙ (λ j. content_by (is_kind j) (is_sequence j) (is_label j)) ∙ content_back v.content) i;
     }) ∙ value;
   }
