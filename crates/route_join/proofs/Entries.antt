@@ -1,6 +1,6 @@
 -- The numbers of an entry give its update back.
 use Rattle.std.proofs.Common.{◌≡◌, ℕ, ◌+◌, ◌*◌, ◌/◌, ◌%◌, ◌^◌, ◌<◌, ◌≤◌, Bool, true, false, Option, Some, None, refl}
-use Rattle.std.proofs.Common.{sym, ap, subst, ◌∙◌, arith}
+use Rattle.std.proofs.Common.{sym, ap, ◌∙◌, arith}
 use Rattle.std.proofs.Math.Nat.{mod-eq_of_lt}
 use Rattle.std.proofs.lemmas.Nat.{div-mul-add, mod-mul-add}
 use Rattle.route_wire.specs.declared.update.Ip.{Ip}
@@ -13,7 +13,7 @@ use Rattle.route_wire.specs.declared.update.Value.{Value}
 use Rattle.route_wire.specs.Fields.{Fields, IsUpdate}
 use Rattle.route_wire.specs.Order.{ip_of, sequence_of}
 use Rattle.route_join.specs.Subject.{Subject, subject_of}
-use Rattle.route_join.specs.Inner.Entry.{ip_by, kind_by, kind_of, number_in, label_of, content_by, key_in, value_by}
+use Rattle.route_join.specs.Inner.Entry.{ip_by, kind_by, kind_of, number_in, label_of, content_by, key_in}
 use Rattle.route_join.specs.Inner.Entry.{version_of, update_by, IsEntry}
 
 pub v4_back : (n : ℕ) → n < 2 ^ 32 → n % 2 ^ 32 ≡ n

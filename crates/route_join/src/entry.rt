@@ -48,7 +48,7 @@ fn ip_by(version: u32, number: Addr6) -> Option<Ip>
         return None;
     }
     if version == 1 {
-        return Some(Ip::V4(Addr::new(number.number() as u32)));
+        return Some(Ip::V4(Addr::new((number.number() % 0x1_0000_0000) as u32)));
     }
     Some(Ip::V6(number))
 }
