@@ -1,34 +1,26 @@
 -- The numbers of an entry give its update back.
-use Rattle.std.proofs.Common.{◌≡◌, ℕ, ◌+◌, ◌*◌, ◌/◌, ◌%◌, ◌^◌, ◌<◌, ◌≤◌, Bool, true, false, Option, Some, None, refl}
-use Rattle.std.proofs.Common.{sym, ap, ◌∙◌, arith}
+use Rattle.std.proofs.Common.{◌≡◌, ℕ, ◌+◌, ◌*◌, ◌/◌, ◌%◌, ◌^◌, ◌<◌, ◌≤◌, Bool, Option, Some, None, sym, ap, ◌∙◌}
+use Rattle.std.proofs.Common.{arith}
 use Rattle.std.proofs.Math.Nat.{mod-eq_of_lt}
 use Rattle.std.proofs.lemmas.Nat.{div-mul-add, mod-mul-add}
 use Rattle.route_wire.specs.declared.update.Ip.{Ip}
 use Rattle.route_wire.specs.declared.update.Key.{Key}
 use Rattle.route_wire.specs.declared.update.Key.TheVariants.{Flood, Mac}
 use Rattle.route_wire.specs.declared.update.Register.{Register}
-use Rattle.route_wire.specs.declared.update.Content.{Content}
-use Rattle.route_wire.specs.declared.update.Content.TheVariants.{Withdrawn, Advert as Advertised}
+use Rattle.route_wire.specs.declared.update.Advert.{Advert}
+use Rattle.route_wire.specs.declared.update.Content.TheVariants.{Advert as Advertised}
 use Rattle.route_wire.specs.declared.update.Value.{Value}
 use Rattle.route_wire.specs.Fields.{Fields, IsUpdate}
-use Rattle.route_wire.specs.Order.{ip_of, sequence_of}
+use Rattle.route_wire.specs.Order.{ip_of}
 use Rattle.route_join.specs.Subject.{Subject, subject_of}
-use Rattle.route_join.specs.Inner.Entry.{ip_by, kind_by, kind_of, number_in, label_of, content_by, key_in}
-use Rattle.route_join.specs.Inner.Entry.{version_of, update_by, IsEntry}
+use Rattle.route_join.specs.Inner.Entry.{ip_by, content_by, key_in, update_by, IsEntry}
 
 pub v4_back : (n : ℕ) → n < 2 ^ 32 → n % 2 ^ 32 ≡ n
 v4_back n h = mod-eq_of_lt h
 
-content_back : (c : Content) → content_by (kind_of c) (sequence_of c) (label_of c) ≡ c
-content_back Withdrawn = refl
-content_back (Advertised a) = go a.is_static a.label2
-  where
-    go : (static : Bool) (label : Option ℕ) → content_by (kind_by static label) a.sequence (number_in label)
-        ≡ Advertised record { is_static = static; sequence = a.sequence; label2 = label }
-    go true None = refl
-    go false None = refl
-    go true (Some label) = refl
-    go false (Some label) = refl
+pub advert_is : (a : Advert) (static : Bool) (label : Option ℕ) → a.is_static ≡ static → a.label2 ≡ label
+    → Advertised record { is_static = static; sequence = a.sequence; label2 = label } ≡ Advertised a
+advert_is a static label e f = sym (λ i. Advertised record { is_static = e i; sequence = a.sequence; label2 = f i })
 
 module _ (version kind label : ℕ) (few : version ≤ 2) (some : kind ≤ 4) (small : label < 2 ^ 24) where
   kind_back : ((version * 8 + kind) * 2 ^ 24 + label) / 2 ^ 24 % 8 ≡ kind
@@ -40,18 +32,17 @@ module _ (version kind label : ℕ) (few : version ≤ 2) (some : kind ≤ 4) (s
       ap (λ n. n / 2 ^ 27) parts ∙ div-mul-add version (2 ^ 27) (kind * 2 ^ 24 + label) (omega arith)
 
   pub is_entry : (u : Fields) (r : Register) (v : Value) (ip sequence : ℕ) → r ≡ u.register → v ≡ u.value
-      → version ≡ version_of (ip_of r.key) → ip_by (version_of (ip_of r.key)) ip ≡ ip_of r.key
-      → kind ≡ kind_of v.content → label ≡ label_of v.content → sequence ≡ sequence_of v.content → IsUpdate u
+      → ip_by version ip ≡ ip_of r.key → content_by kind sequence label ≡ v.content → IsUpdate u
       → IsEntry v.counter v.incarnation r.originator ip sequence ((version * 8 + kind) * 2 ^ 24 + label) u
-  is_entry u r v ip sequence register value of back is_kind is_label is_sequence h = record {
+  is_entry u r v ip sequence register value at content h = record {
     update = h;
     sender = ap (λ (x : Register). x.originator) register;
-    address = ap (λ n. ip_by n ip) (version_back ∙ of) ∙ back ∙ ap (λ (x : Register). ip_of x.key) register;
+    address = ap (λ n. ip_by n ip) version_back ∙ at ∙ ap (λ (x : Register). ip_of x.key) register;
     value = (λ i. record {
       counter = v.counter;
       incarnation = v.incarnation;
       content = ((λ j. content_by (kind_back j) sequence (mod-mul-add (version * 8 + kind) (2 ^ 24) label small j))
-          ∙ (λ j. content_by (is_kind j) (is_sequence j) (is_label j)) ∙ content_back v.content) i;
+          ∙ content) i;
     }) ∙ value;
   }
 

@@ -1,9 +1,9 @@
 //! An update as a group stores it: 40 octets without the VNI and the MAC address, which whoever
 //! reads the group knows.
 ghost use Rattle.std.specs.Prelude.{◌≡◌, ◌<◌, ◌≤◌, ◌^◌};
-ghost use Rattle.route_wire.specs.Order.{ip_number, ip_of, is_newer, sequence_of};
+ghost use Rattle.route_wire.specs.Order.{ip_of, is_newer};
 ghost use Rattle.route_join.specs.Subject.{subject_of};
-ghost use Rattle.route_join.specs.Inner.Entry.{ip_by, content_by, version_of, kind_of, label_of, key_in};
+ghost use Rattle.route_join.specs.Inner.Entry.{ip_by, content_by, key_in};
 
 use crate::subject::Subject;
 use ether_wire::{Addr, Vni};
@@ -11,31 +11,18 @@ use route_wire::{Addr6, Advert, Content, Ip, Key, Register, Update, Value};
 use std::marker::Model;
 use std::snapshot::Snapshot;
 
-/// Returns 0 for a key without an IP address, else 1 for version 4 and 2 for version 6.
-fn version_of(key: &Key) -> u32
-    ensures value { result ≡ version_of (ip_of key.now) }
-    ensures small { result ≤ 2 }
-{
-    match key.ip() {
-        None => 0,
-        Some(ip) => match ip {
-            Ip::V4(_) => 1,
-            Ip::V6(_) => 2,
-        },
-    }
-}
-
-/// Returns the number of a key's IP address, 0 for none.
+/// Returns the version of a key's IP address, as 0 for none, 1 for IPv4 and 2 for IPv6, and its
+/// number.
 #[tactic(auto, using(crate::proofs::Entries::v4_back))]
-fn number_of(key: &Key) -> u128
-    ensures value { result ≡ ip_number (ip_of key.now) }
-    ensures back { ip_by (version_of (ip_of key.now)) result ≡ ip_of key.now }
+fn ip_numbers(key: &Key) -> (u32, u128)
+    ensures back { ip_by result.0 result.1 ≡ ip_of key.now }
+    ensures small { result.0 ≤ 2 }
 {
     match key.ip() {
-        None => 0,
+        None => (0, 0),
         Some(ip) => match ip {
-            Ip::V4(address) => u128::from(address.number()),
-            Ip::V6(address) => address.number(),
+            Ip::V4(address) => (1, u128::from(address.number())),
+            Ip::V6(address) => (2, address.number()),
         },
     }
 }
@@ -53,41 +40,29 @@ fn ip_by(version: u32, number: Addr6) -> Option<Ip>
     Some(Ip::V6(number))
 }
 
-/// Returns 0 for a withdrawal, 1 for a dynamic address, 2 for a static one, and for an advert with
-/// a second label two more.
-fn kind_of(content: &Content) -> u32
-    ensures value { result ≡ kind_of content.now }
-    ensures small { result ≤ 4 }
+/// Returns a kind, which is 0 for a withdrawal, 1 for a dynamic address, 2 for a static one, and 3
+/// or 4 with a second label; a sequence number; and that label.
+#[tactic(auto, using(crate::proofs::Entries::advert_is))]
+fn content_numbers(content: &Content) -> (u32, u32, u32)
+    ensures back { content_by result.0 result.1 result.2 ≡ content.now }
+    ensures kind { result.0 ≤ 4 }
+    ensures label { result.2 < 2 ^ 24 }
 {
     match content {
-        Content::Withdrawn => 0,
+        Content::Withdrawn => (0, 0, 0),
         Content::Advert(advert) => match advert.label2 {
-            None => { if advert.is_static { 2 } else { 1 } }
-            Some(_) => { if advert.is_static { 4 } else { 3 } }
-        },
-    }
-}
-
-/// Returns the sequence number of an advert, 0 for a withdrawal.
-fn sequence_of(content: &Content) -> u32
-    ensures { result ≡ sequence_of content.now }
-{
-    match content {
-        Content::Withdrawn => 0,
-        Content::Advert(advert) => advert.sequence,
-    }
-}
-
-/// Returns the number of the second label, 0 for none.
-fn label_of(content: &Content) -> u32
-    ensures value { result ≡ label_of content.now }
-    ensures small { result < 2 ^ 24 }
-{
-    match content {
-        Content::Withdrawn => 0,
-        Content::Advert(advert) => match advert.label2 {
-            None => 0,
-            Some(label) => label.number(),
+            None => {
+                if advert.is_static {
+                    return (2, advert.sequence, 0);
+                }
+                (1, advert.sequence, 0)
+            }
+            Some(label) => {
+                if advert.is_static {
+                    return (4, advert.sequence, label.number());
+                }
+                (3, advert.sequence, label.number())
+            }
         },
     }
 }
@@ -155,14 +130,15 @@ impl Entry {
         update.always_well_formed();
         let Register { originator, key } = update.register();
         let value = update.value();
-        let form = version_of(&key) * 8 + kind_of(&value.content);
+        let (version, ip) = ip_numbers(&key);
+        let (kind, sequence, label) = content_numbers(&value.content);
         Entry {
             counter: value.counter,
-            ip: Addr6::new(number_of(&key)),
+            ip: Addr6::new(ip),
             originator,
             incarnation: value.incarnation,
-            sequence: sequence_of(&value.content),
-            word: form * 0x100_0000 + label_of(&value.content),
+            sequence,
+            word: (version * 8 + kind) * 0x100_0000 + label,
             update: Snapshot::of(update),
         }
     }

@@ -1,41 +1,17 @@
 -- Updates in entries, which have their numbers.
-use Rattle.std.specs.Prelude.{◌≡◌, ℕ, Bool, ◌+◌, ◌*◌, ◌/◌, ◌%◌, ◌^◌, ◌==◌, Option, Some, None, nat_lt, if◌then◌else◌}
+use Rattle.std.specs.Prelude.{◌≡◌, ℕ, ◌+◌, ◌*◌, ◌/◌, ◌%◌, ◌^◌, ◌==◌, Option, Some, None, nat_lt, if◌then◌else◌}
 use Rattle.route_wire.specs.declared.update.Ip.{Ip}
 use Rattle.route_wire.specs.declared.update.Ip.TheVariants.{V4, V6}
 use Rattle.route_wire.specs.declared.update.Key.{Key}
 use Rattle.route_wire.specs.declared.update.Key.TheVariants.{Flood, Mac}
-use Rattle.route_wire.specs.declared.update.Advert.{Advert}
 use Rattle.route_wire.specs.declared.update.Content.{Content}
 use Rattle.route_wire.specs.declared.update.Content.TheVariants.{Withdrawn, Advert as Advertised}
 use Rattle.route_wire.specs.declared.update.Value.{Value}
 use Rattle.route_wire.specs.Fields.{Fields, IsUpdate}
 use Rattle.route_wire.specs.Order.{ip_of}
 
--- ---- IP addresses
-abbrev pub version_of : Option Ip → ℕ
-version_of None = 0
-version_of (Some (V4 n)) = 1
-version_of (Some (V6 n)) = 2
-
 abbrev pub ip_by : ℕ → ℕ → Option Ip
 ip_by version n = if version == 0 then None else if version == 1 then Some (V4 (n % 2 ^ 32)) else Some (V6 n)
-
--- ---- contents
-abbrev pub kind_by : Bool → Option ℕ → ℕ
-kind_by static None = if static then 2 else 1
-kind_by static (Some label) = if static then 4 else 3
-
-abbrev pub kind_of : Content → ℕ
-kind_of Withdrawn = 0
-kind_of (Advertised a) = kind_by a.is_static a.label2
-
-abbrev pub number_in : Option ℕ → ℕ
-number_in None = 0
-number_in (Some label) = label
-
-abbrev pub label_of : Content → ℕ
-label_of Withdrawn = 0
-label_of (Advertised a) = number_in a.label2
 
 abbrev pub content_by : ℕ → ℕ → ℕ → Content
 content_by kind sequence label = if kind == 0 then Withdrawn else Advertised record {
@@ -44,7 +20,6 @@ content_by kind sequence label = if kind == 0 then Withdrawn else Advertised rec
   label2 = if nat_lt kind 3 then None else Some label;
 }
 
--- ---- the whole update
 abbrev pub key_in : ℕ → Option ℕ → Option Ip → Key
 key_in vni None ip = Flood vni
 key_in vni (Some mac) ip = Mac vni mac ip

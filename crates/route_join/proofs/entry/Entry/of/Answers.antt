@@ -5,7 +5,7 @@ use Rattle.route_join.proofs.entry.Entry.of.Goals as goal
 
 pub invariant_of-result : goal.invariant_of-result
 invariant_of-result c = subst (IsEntry _ _ _ _ _ _) (sym c.of.ensures)
-    (is_entry _ _ _ c.version_of.ensures.small c.kind_of.ensures.small c.label_of.ensures.small c.args.update.now
-    c.register-originator.result c.value-value.result _ _ c.register-originator.ensures c.value-value.ensures c.version_of.ensures.value
-    c.number_of.ensures.back c.kind_of.ensures.value c.label_of.ensures.value c.sequence_of.ensures
-    c.always_well_formed.ensures)
+    (is_entry _ _ _ c.ip_numbers-version.ensures.small c.content_numbers-kind.ensures.kind
+    c.content_numbers-kind.ensures.label c.args.update.now c.register-originator.result c.value-value.result _ _
+    c.register-originator.ensures c.value-value.ensures c.ip_numbers-version.ensures.back
+    c.content_numbers-kind.ensures.back c.always_well_formed.ensures)
