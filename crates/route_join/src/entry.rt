@@ -3,7 +3,7 @@
 ghost use Rattle.std.specs.Prelude.{◌≡◌, ◌<◌, ◌≤◌, ◌^◌};
 ghost use Rattle.route_wire.specs.Order.{ip_of, is_newer};
 ghost use Rattle.route_join.specs.Subject.{subject_of};
-ghost use Rattle.route_join.specs.Inner.Entry.{ip_by, content_by, key_in};
+ghost use Rattle.route_join.specs.Inner.Entry.{ip_by, content_by};
 
 use crate::subject::Subject;
 use ether_wire::{Addr, Vni};
@@ -84,16 +84,6 @@ fn content_by(kind: u32, sequence: u32, label: u32) -> Content
             Some(Vni::new(label))
         },
     })
-}
-
-/// Returns the key of a subject with an IP address. A flood list has none.
-fn key_in(subject: &Subject, ip: Option<Ip>) -> Key
-    ensures { result ≡ key_in subject.now.vni subject.now.mac ip }
-{
-    match subject.mac() {
-        None => Key::Flood(subject.vni()),
-        Some(mac) => Key::Mac(subject.vni(), mac, ip),
-    }
 }
 
 /// An update in 40 octets. Contracts see the whole update. Its VNI and its MAC address take no
@@ -180,14 +170,25 @@ impl Entry {
         update.value().is_newer(&self.value())
     }
 
+    /// Returns the key, which is about this subject.
+    #[inline(always)]
+    fn key(&self, subject: &Subject) -> Key
+        requires { subject_of self.now.register.key ≡ subject.now }
+        ensures { result ≡ self.now.register.key }
+    {
+        match subject.mac() {
+            None => Key::Flood(subject.vni()),
+            Some(mac) => Key::Mac(subject.vni(), mac, self.ip()),
+        }
+    }
+
     /// Returns the update, which is about this subject.
     #[inline(always)]
     pub(crate) fn about(&self, subject: &Subject) -> Update
         requires { subject_of self.now.register.key ≡ subject.now }
         ensures { result ≡ self.now }
     {
-        let key = key_in(subject, self.ip());
-        let originator = self.originator;
+        let (originator, key) = (self.originator(), self.key(subject));
         Update::new(Register { originator, key }, self.value())
     }
 }

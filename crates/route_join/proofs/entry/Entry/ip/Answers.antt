@@ -4,4 +4,4 @@ use Rattle.route_wire.specs.Order.{ip_of}
 use Rattle.route_join.proofs.entry.Entry.ip.Goals as goal
 
 pub returns : goal.returns
-returns c = c.ip_by.ensures ∙ c.self.invariant.address ∙ ap (λ (u : Fields). ip_of u.register.key) c.self.view_is
+returns c = c.ip_by.ensures ∙ c.self.invariant.ip ∙ ap (λ (u : Fields). ip_of u.register.key) c.self.view_is

@@ -5,7 +5,7 @@ use Rattle.route_join.proofs.entry.Entry.value.Goals as goal
 pub returns : goal.returns
 returns c =
     (λ i. record {
-      counter = c.self.inside.counter;
-      incarnation = c.self.inside.incarnation;
-      content = c.content_by.ensures i;
-    }) ∙ c.self.invariant.value ∙ ap (λ (u : Fields). u.value) c.self.view_is
+      counter = c.self.invariant.counter i;
+      incarnation = c.self.invariant.incarnation i;
+      content = (c.content_by.ensures ∙ c.self.invariant.content) i;
+    }) ∙ ap (λ (u : Fields). u.value) c.self.view_is
