@@ -1,6 +1,7 @@
 //! An update as a group stores it: 40 octets without the VNI and the MAC address, which whoever
 //! reads the group knows.
 ghost use Rattle.std.specs.Prelude.{◌≡◌, ◌<◌, ◌≤◌, ◌^◌};
+ghost use Rattle.route_wire.specs.Fields.{IsUpdate};
 ghost use Rattle.route_wire.specs.Order.{ip_of, is_newer};
 ghost use Rattle.route_join.specs.Subject.{subject_of};
 ghost use Rattle.route_join.specs.Inner.Entry.{ip_by, content_by};
@@ -133,6 +134,14 @@ impl Entry {
         }
     }
 
+    /// A law, which does nothing: an entry's update is well formed.
+    #[inline(always)]
+    fn always_well_formed(&self)
+        ensures { IsUpdate self.now }
+    {
+        let _ = &self.counter;
+    }
+
     /// Returns the originator.
     #[inline(always)]
     pub(crate) fn originator(&self) -> Addr
@@ -188,6 +197,7 @@ impl Entry {
         requires { subject_of self.now.register.key ≡ subject.now }
         ensures { result ≡ self.now }
     {
+        self.always_well_formed();
         let (originator, key) = (self.originator(), self.key(subject));
         Update::new(Register { originator, key }, self.value())
     }

@@ -4,8 +4,10 @@ use Rattle.route_join.proofs.Entries.{whole}
 use Rattle.route_join.proofs.entry.Entry.about.Goals as goal
 
 pub new-requires : goal.new-requires
-new-requires c = subst IsUpdate (whole c.args.self.now _ _ _ c.originator.ensures c.key.ensures c.value.ensures)
-    (subst IsUpdate c.self.view_is c.self.invariant.update)
+new-requires c =
+    subst IsUpdate (whole c.args.self.now _ _ _ c.originator-originator.ensures c.key-key.ensures c.value.ensures)
+    c.always_well_formed.ensures
 
 pub returns : goal.returns
-returns c = c.new.ensures ∙ sym (whole c.args.self.now _ _ _ c.originator.ensures c.key.ensures c.value.ensures)
+returns c = c.new.ensures
+    ∙ sym (whole c.args.self.now _ _ _ c.originator-originator.ensures c.key-key.ensures c.value.ensures)

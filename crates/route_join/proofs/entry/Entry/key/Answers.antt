@@ -8,6 +8,6 @@ returns-in-None c = ap Flood c.vni.ensures
     ∙ flood_back c.args.self.now.register.key c.args.subject.now c.requires (sym c.mac.ensures ∙ c.in-None.is)
 
 pub returns-in-Some : goal.returns-in-Some
-returns-in-Some c = (λ i. Mac (c.vni.ensures i) c.in-Some.mac (c.ip.ensures i))
+returns-in-Some c = (λ i. Mac (c.vni-in-Some.ensures i) c.in-Some.mac (c.ip.ensures i))
     ∙ mac_back c.args.self.now.register.key c.args.subject.now c.in-Some.mac c.requires
     (sym c.mac.ensures ∙ c.in-Some.is)
