@@ -6,8 +6,8 @@ use Rattle.route_join.specs.Table.{entries_of}
 use Rattle.route_join.proofs.Taking.{about_taken}
 use Rattle.route_join.proofs.group.Group.take.Goals as goal
 
-pub settle-self-requires : goal.settle-self-requires
-settle-self-requires c =
+pub settle-requires : goal.settle-requires
+settle-requires c =
     let subject = c.subject_of.ensures ∙ ap (λ (r : Register). subject_of r.key) c.register.ensures in
     subst (λ s. AreAbout s (entries_of c.take_stored-taken.new.self)) (sym subject)
     (about_taken _ _ _ c.args.update.now c.take_stored-taken.result _ _ c.requires refl
