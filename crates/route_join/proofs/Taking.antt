@@ -71,7 +71,7 @@ module _ (gs : Groups) (u : Fields) (us new : List Fields) (k : AreGroups gs)
     groups_after (Ok t) held more took n = subst AreGroups (sym w) (groups_set (subject_of u.register.key) new
         (subst (AreAbout (subject_of u.register.key)) (sym took.entries)
         (about_with (subject_of u.register.key) (entries_of us) u
-        (about_there (subject_of u.register.key) gs us k h) refl))
+        (about_there k h) refl))
         (subst IsSome (sym took.entries) (some_with (entries_of us) u (some_there (subject_of u.register.key) gs us k
         h))) gs k)
     groups_after (Err x) held more took n = subst AreGroups (sym (unchanged_in n)) k
@@ -115,7 +115,7 @@ module _ (gs : Groups) (u : Fields) (k : AreGroups gs) (h : group_at (subject_of
 
     pub made_takes : (held more : ℕ) → more ≡ held + 1 → more < 2 ^ 64
         → Takes (entries_of (updates_in gs)) u held (Ok Newer) (entries_of (updates_in after)) more
-    made_takes held = new_takes (entries_of (updates_in gs)) u absent_in held (entries_of (updates_in after)) made_in
+    made_takes held more one few = new_takes absent_in made_in one few
 
     pub groups_made : AreGroups after
     groups_made = subst AreGroups (sym w) (groups_insert (subject_of u.register.key) new

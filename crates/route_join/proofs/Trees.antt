@@ -136,15 +136,15 @@ absent_place es bs q none = go (place_at es q) refl (sym (found_along (owns bs) 
     go (Some p) e h = cc
 
 -- the value of a register in a group with the view `now`, by the register's place
-module _ (es : Places) (bs : List WinnerNode) (now : List Fields) (m : IsLargeGroup es bs)
-    (view : large_updates es bs ≡ now) (q r : Register) (same : r ≡ q) where
-  pub found_now : (o : Option ℕ) → o ≡ place_at es r
+module _ {es : Places} {bs : List WinnerNode} {now : List Fields} (m : IsLargeGroup es bs)
+    (view : large_updates es bs ≡ now) {q r : Register} (same : r ≡ q) where
+  pub found_now : {o : Option ℕ} → o ≡ place_at es r
       → find register_cmp q (entries_of now) ≡ option_map (λ p. value_in (slice_get (owns bs) p)) o
-  found_now o e = ap (λ xs. find register_cmp q (entries_of xs)) (sym view) ∙ found_along (owns bs) es q
+  found_now e = ap (λ xs. find register_cmp q (entries_of xs)) (sym view) ∙ found_along (owns bs) es q
       ∙ ap (λ x. option_map (λ p. value_in (slice_get (owns bs) p)) (place_at es x)) (sym same)
       ∙ ap (option_map (λ p. value_in (slice_get (owns bs) p))) (sym e)
 
-  module _ (p : ℕ) (e : Some p ≡ place_at es r) where
+  module _ {p : ℕ} (e : Some p ≡ place_at es r) where
     pub has_place : place_at es q ≡ Some p
     has_place = ap (place_at es) (sym same) ∙ sym e
 
@@ -152,12 +152,12 @@ module _ (es : Places) (bs : List WinnerNode) (now : List Fields) (m : IsLargeGr
     stands = at_place (owns bs) q p (m.placed q p has_place)
 
     pub told_now : find register_cmp q (entries_of now) ≡ Some (value_in (slice_get (owns bs) p))
-    told_now = found_now (Some p) e
+    told_now = found_now e
 
-    pub compared : (b : Bool) (v : Value) (cs : List WinnerNode) → cs ≡ bs
+    pub compared : (b : Bool) (v : Value) {cs : List WinnerNode} → cs ≡ bs
         → IfSome (slice_get (owns cs) p) (λ was. b ≡ is_newer v was.value)
         → b ≡ is_newer v (value_in (slice_get (owns bs) p))
-    compared b v cs is h = subst (λ o. IfSome o (λ was. b ≡ is_newer v was.value)) stands
+    compared b v is h = subst (λ o. IfSome o (λ was. b ≡ is_newer v was.value)) stands
         (subst (λ xs. IfSome (slice_get (owns xs) p) (λ was. b ≡ is_newer v was.value)) is h)
 
     pub within : p < length bs
@@ -199,7 +199,7 @@ module _ (es : Places) (bs cs : List WinnerNode) (u : Fields) (m : IsLargeGroup 
           (same_or_other q u.register)
 
   -- another update of a register
-  module _ (p : ℕ) (there : place_at es u.register ≡ Some p) (own : vs ≡ set us p u) where
+  module _ {p : ℕ} (there : place_at es u.register ≡ Some p) (own : vs ≡ set us p u) where
     own_here : slice_get vs p ≡ Some u
     own_here = ap (λ xs. slice_get xs p) own ∙ set_here us p u (slice_get_within us p
         (update_at us (u.register, p)) (at_place us u.register p (m.placed u.register p there)))

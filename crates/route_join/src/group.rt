@@ -179,8 +179,8 @@ impl Group {
             Storage::One(own) => match take_one(own, update) {
                 Some(taken) => Ok(taken),
                 None => {
-                    let own = own.about(&subject_of(&update.register().key));
-                    let mut few = SmallGroup::new(alloc, &own)?;
+                    let own = own.again(&subject_of(&update.register().key));
+                    let mut few = SmallGroup::new(alloc, own)?;
                     let taken = few.take(held, guess, update)?;
                     self.kept = Storage::SmallGroup(few);
                     Ok(taken)

@@ -93,13 +93,23 @@ fn stays_best(was: &Option<Advert>, now: &Option<Advert>) -> bool
     }
 }
 
+/// Returns `true` if the advert of this update is no worse than that of the update which it
+/// replaces.
+#[inline(never)]
+fn stays_there(updates: &[Entry], at: usize, update: &Update) -> bool
+    ensures { result ≡ stays_best (said_at updates.now at) (advert_in update.now.value.content) }
+{
+    stays_best(&said_at(updates, at), &advert_in(&update.value().content))
+}
+
 /// Returns `true` only if the winner stays the best one where this update replaces it. Nothing is
 /// compared if the winner is at another place.
+#[inline(always)]
 fn stays_winner(updates: &[Entry], at: usize, winner: Option<usize>, update: &Update) -> bool
     ensures { result ≡ true
         → stays_best (said_at updates.now at) (advert_in update.now.value.content) ≡ true }
 {
-    winner == Some(at) && stays_best(&said_at(updates, at), &advert_in(&update.value().content))
+    winner == Some(at) && stays_there(updates, at, update)
 }
 
 /// Returns the winner's place after the update at a place was replaced. It searches for the winner
@@ -137,20 +147,20 @@ fn moved(at: usize, winner: Option<usize>) -> Option<usize>
 /// doubling each would leave a third of a large table's memory unused. At the end, where more than
 /// half of the updates come, `insert` would copy the update three times more.
 #[tactic(auto, using(crate::proofs::Places::at_end))]
-fn insert_at(updates: &mut Vec<Entry>, at: usize, update: &Update) -> Result<(), AllocError>
+fn insert_at(updates: &mut Vec<Entry>, at: usize, update: Entry) -> Result<(), AllocError>
     requires { at ≤ vec_len updates.old }
     ensures { updates.new.items
-        ≡ (if is_ok result then insert updates.old.items at update.now else updates.old.items) }
+        ≡ (if is_ok result then insert updates.old.items at update else updates.old.items) }
 {
     let len = updates.len();
     if len == updates.capacity() {
         updates.reserve_exact(len / 16 + 1)?;
     }
     if at == len {
-        updates.push_reserved(Entry::of(update));
+        updates.push_reserved(update);
         return Ok(());
     }
-    match updates.insert(at, Entry::of(update)) {
+    match updates.insert(at, update) {
         Ok(()) => Ok(()),
         Err(_) => Err(AllocError),
     }
@@ -185,12 +195,12 @@ impl Model for SmallGroup {
 
 impl SmallGroup {
     /// Returns a group of this update only, with room for a second one.
-    pub(crate) fn new(alloc: Global, update: &Update) -> Result<Self, AllocError>
-        ensures { IfOk result (λ g. g ≡ update.now ∷ []) }
+    pub(crate) fn new(alloc: Global, update: Entry) -> Result<Self, AllocError>
+        ensures { IfOk result (λ g. g ≡ update ∷ []) }
     {
         let mut updates = Vec::new(alloc);
         updates.reserve_exact(2)?;
-        insert_at(&mut updates, 0, update)?;
+        updates.push_reserved(update);
         let winner = best_place(&updates);
         Ok(SmallGroup { updates, winner })
     }
@@ -246,7 +256,7 @@ impl SmallGroup {
             (entries_of self.old)) }
         ensures err { OnErr result (self.new ≡ self.old) }
     {
-        if insert_at(&mut self.updates, at, update).is_err() {
+        if insert_at(&mut self.updates, at, Entry::of(update)).is_err() {
             return Err(AllocError);
         }
         self.winner = better_place(&self.updates, at, moved(at, self.winner));

@@ -1,4 +1,4 @@
-use Rattle.std.proofs.Common.{◌≡◌, ◌<◌, ℕ, Ok, List, [], length, ap, refl, sym, subst, ◌∙◌, arith, set}
+use Rattle.std.proofs.Common.{◌≡◌, ◌<◌, ℕ, Ok, List, [], length, refl, sym, subst, ◌∙◌, arith, set}
 use Rattle.std.specs.FinMap.Entries.{put}
 use Rattle.route_wire.specs.Fields.{Fields}
 use Rattle.route_wire.specs.Order.{register_cmp}
@@ -12,7 +12,7 @@ use Rattle.route_join.proofs.Leaders.{winner_set, winner_stays}
 use Rattle.route_join.proofs.small_group.SmallGroup.replace.Goals as goal
 
 -- the place of an update, which is that of its entry e
-module _ (us now : List Fields) (u e : Fields) (at : ℕ) (is : e ≡ u) (view : us ≡ now)
+module _ {us now : List Fields} {u e : Fields} {at : ℕ} (is : e ≡ u) (view : us ≡ now)
     (h : place_of now u.register ≡ Ok at) where
   there : IsPlace us e.register at
   there = placed us e.register at ((λ i. place_of (view i) ((is i).register)) ∙ h)
@@ -23,19 +23,19 @@ module _ (us now : List Fields) (u e : Fields) (at : ℕ) (is : e ≡ u) (view :
 pub index_mut-requires : goal.index_mut-requires
 index_mut-requires c =
     let w : c.args.at < length c.self.inside.updates.items =
-    (there _ _ c.args.update.now c.args.update.now c.args.at refl c.self.view_is c.requires).within in
+    (there {u = c.args.update.now} refl c.self.view_is c.requires).within in
     omega arith
 
 pub winner_after-self-inside-requires-clause-ordered : goal.winner_after-self-inside-requires-clause-ordered
 winner_after-self-inside-requires-clause-ordered c =
     subst IsOrdered (sym c.deref-2.ensures.value)
-    (in_order _ _ _ c.of.result c.args.at c.of.ensures c.self.view_is c.requires c.self.invariant.ordered)
+    (in_order c.of.ensures c.self.view_is c.requires c.self.invariant.ordered)
 
 pub winner_after-self-inside-requires-clause-other : goal.winner_after-self-inside-requires-clause-other
 winner_after-self-inside-requires-clause-other c = λ ne.
     subst (λ x. HasWinner x (told x) (better_place x c.args.at c.self.inside.winner)) (sym c.deref-2.ensures.value)
     (winner_set c.self.inside.updates.items c.args.at c.of.result c.self.inside.winner c.self.invariant.ordered
-    (there _ _ _ c.of.result c.args.at c.of.ensures c.self.view_is c.requires) c.self.invariant.winner ne)
+    (there c.of.ensures c.self.view_is c.requires) c.self.invariant.winner ne)
 
 pub winner_after-self-inside-requires-clause-same : goal.winner_after-self-inside-requires-clause-same
 winner_after-self-inside-requires-clause-same c = λ is stays.
@@ -46,17 +46,17 @@ winner_after-self-inside-requires-clause-same c = λ is stays.
     ∙ c.stays_winner-stays.ensures stays in
     subst (λ x. HasWinner x (told x) c.self.inside.winner) (sym c.deref-2.ensures.value)
     (subst (HasWinner (set us c.args.at e) (told (set us c.args.at e))) (sym is)
-    (winner_stays us c.args.at e (there us _ _ e c.args.at c.of.ensures c.self.view_is c.requires)
+    (winner_stays us c.args.at e (there c.of.ensures c.self.view_is c.requires)
     (subst (HasWinner us (told us)) is c.self.invariant.winner) test))
 
 pub invariant_of-self : goal.invariant_of-self
 invariant_of-self c = record {
-  ordered = in_order _ _ _ c.of.result c.args.at c.of.ensures c.self.view_is c.requires c.self.invariant.ordered;
+  ordered = in_order c.of.ensures c.self.view_is c.requires c.self.invariant.ordered;
   winner = subst (λ x. HasWinner x (told x) c.winner_after-self-inside.result) c.deref-2.ensures.value
       c.winner_after-self-inside.ensures;
 }
 
 pub returns : goal.returns
 returns c =
-    (there _ _ _ c.of.result c.args.at c.of.ensures c.self.view_is c.requires).write c.of.result refl
+    (there c.of.ensures c.self.view_is c.requires).write c.of.result refl
     ∙ (λ i. put register_cmp ((c.of.ensures i).register) ((c.of.ensures i).value) (entries_of (c.self.view_is i)))
