@@ -77,11 +77,13 @@ kept_put os us new u f k e h = record {
 -- ---- the result of a call of `place`
 pub found_at : {us ds : List Fields} {q r : Register} {at : ℕ} → ds ≡ us → r ≡ q → Ok at ≡ place_of ds r
     → IsPlace us q at
-found_at {us} {ds} {q} {r} {at} d e h = placed us q at (ap (λ x. place_of x q) (sym d) ∙ ap (place_of ds) (sym e) ∙ sym h)
+found_at {us} {ds} {q} {r} {at} d e h = placed us q at
+    (ap (λ x. place_of x q) (sym d) ∙ ap (place_of ds) (sym e) ∙ sym h)
 
 pub gap_at : {us ds : List Fields} {q r : Register} {at : ℕ} → IsOrdered us → ds ≡ us → r ≡ q → Err at ≡ place_of ds r
     → IsGap us q at
-gap_at {us} {ds} {q} {r} {at} s d e h = gapped us q at s (ap (λ x. place_of x q) (sym d) ∙ ap (place_of ds) (sym e) ∙ sym h)
+gap_at {us} {ds} {q} {r} {at} s d e h = gapped us q at s
+    (ap (λ x. place_of x q) (sym d) ∙ ap (place_of ds) (sym e) ∙ sym h)
 
 -- likewise for a group with the view `now`
 module _ {us ds now : List Fields} (view : us ≡ now) {q r : Register} {at : ℕ} (d : ds ≡ us) (e : r ≡ q) where
