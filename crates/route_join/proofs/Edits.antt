@@ -95,8 +95,8 @@ module _ {us ds now : List Fields} (view : us ≡ now) {q r : Register} {at : �
   pub new_at : IsOrdered us → Err at ≡ place_of ds r → find register_cmp q (entries_of now) ≡ None
   new_at s h = ap (λ xs. find register_cmp q (entries_of xs)) (sym view) ∙ (gap_at s d e h).value
 
-pub inserted : {new x y : List Fields} {b : Bool} → new ≡ cond b x y → b ≡ true → new ≡ x
-inserted {new} {x} {y} e t = e ∙ ap (λ z. cond z x y) t
+pub inserted : (new x y : List Fields) (b : Bool) → new ≡ cond b x y → b ≡ true → new ≡ x
+inserted new x y b e t = e ∙ ap (λ z. cond z x y) t
 
 -- ---- an update of a listed originator
 pub listed_by : {os ds : List ℕ} {q r : Register} → ds ≡ os → r ≡ q → true ≡ list_any (λ y. eqb y r.originator) ds

@@ -194,9 +194,9 @@ around s (g ∷ gs) k o h =
       | Greater ↦ λ e p. around_later s g gs k e o (around s gs k.3 o p)
     ] refl h
 
-pub about_there : {s : Subject} {gs : Groups} {us : List Fields} → AreGroups gs → group_at s gs ≡ Some us
+pub about_there : (s : Subject) (gs : Groups) (us : List Fields) → AreGroups gs → group_at s gs ≡ Some us
     → AreAbout s (entries_of us)
-about_there {s} {gs} {us} k h = (around s gs k (Some us) h).kept.0
+about_there s gs us k h = (around s gs k (Some us) h).kept.0
 
 pub some_there : (s : Subject) (gs : Groups) (us : List Fields) → AreGroups gs → group_at s gs ≡ Some us
     → IsSome (entries_of us)

@@ -327,8 +327,8 @@ some_update = record {
 }
 
 -- ---- the effect of an update on a group
-module _ {us : List Fields} {u : Fields} {v : Value} (there : find register_cmp u.register (entries_of us) ≡ Some v)
-    {b : Bool} (n : b ≡ is_newer u.value v) {held : ℕ} where
+module _ (us : List Fields) (u : Fields) {v : Value} (there : find register_cmp u.register (entries_of us) ≡ Some v)
+    {b : Bool} (n : b ≡ is_newer u.value v) (held : ℕ) where
   news_at : is_news (find register_cmp u.register (entries_of us)) u.value ≡ b
   news_at = ap (λ o. is_news o u.value) there ∙ sym n
 
@@ -347,9 +347,9 @@ module _ {us : List Fields} {u : Fields} {v : Value} (there : find register_cmp 
     uncounted = tt;
   }
 
-  pub newer_takes : {new : List Fields} → entries_of new ≡ put register_cmp u.register u.value (entries_of us)
+  pub newer_takes : (new : List Fields) → entries_of new ≡ put register_cmp u.register u.value (entries_of us)
       → b ≡ true → Takes (entries_of us) u held (Ok Newer) (entries_of new) held
-  newer_takes w t = record {
+  newer_takes new w t = record {
     taken = sym (ap (λ x. cond x Newer Known) (news_at ∙ t));
     entries = w ∙ sym (ap (λ x. cond x (put register_cmp u.register u.value (entries_of us)) (entries_of us))
         (news_at ∙ t));

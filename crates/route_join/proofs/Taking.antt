@@ -71,7 +71,7 @@ module _ (gs : Groups) (u : Fields) (us new : List Fields) (k : AreGroups gs)
     groups_after (Ok t) held more took n = subst AreGroups (sym w) (groups_set (subject_of u.register.key) new
         (subst (AreAbout (subject_of u.register.key)) (sym took.entries)
         (about_with (subject_of u.register.key) (entries_of us) u
-        (about_there k h) refl))
+        (about_there _ _ _ k h) refl))
         (subst IsSome (sym took.entries) (some_with (entries_of us) u (some_there (subject_of u.register.key) gs us k
         h))) gs k)
     groups_after (Err x) held more took n = subst AreGroups (sym (unchanged_in n)) k

@@ -125,16 +125,6 @@ module _ (us : List Fields) where
         let later = all_placed fs (λ k d l. a (suc k) d (omega (arith, l))) in
         (placed f.0 f.1 (a 0 f (omega arith)), later)
 
--- a register without a value has no place
-pub absent_place : (es : Places) (bs : List WinnerNode) (q : Register)
-    → find register_cmp q (entries_of (large_updates es bs)) ≡ None → place_at es q ≡ None
-absent_place es bs q none = go (place_at es q) refl (sym (found_along (owns bs) es q) ∙ none)
-  where
-    go : (o : Option ℕ) → place_at es q ≡ o → option_map (λ p. value_in (slice_get (owns bs) p)) o ≡ None
-        → place_at es q ≡ None
-    go None e h = e
-    go (Some p) e h = cc
-
 -- the value of a register in a group with the view `now`, by the register's place
 module _ {es : Places} {bs : List WinnerNode} {now : List Fields} (m : IsLargeGroup es bs)
     (view : large_updates es bs ≡ now) {q r : Register} (same : r ≡ q) where
@@ -150,9 +140,6 @@ module _ {es : Places} {bs : List WinnerNode} {now : List Fields} (m : IsLargeGr
 
     stands : slice_get (owns bs) p ≡ Some (update_at (owns bs) (q, p))
     stands = at_place (owns bs) q p (m.placed q p has_place)
-
-    pub told_now : find register_cmp q (entries_of now) ≡ Some (value_in (slice_get (owns bs) p))
-    told_now = found_now e
 
     pub compared : (b : Bool) (v : Value) {cs : List WinnerNode} → cs ≡ bs
         → IfSome (slice_get (owns cs) p) (λ was. b ≡ is_newer v was.value)

@@ -1,17 +1,13 @@
 use Rattle.std.proofs.Common.{rules, ◌≡◌, Some, None, List, [], ◌∷◌, cond, refl, ap, sym, ◌∙◌, arith}
 use Rattle.std.specs.BTreeMap.{insert_entry, is_at}
-use Rattle.std.specs.FinMap.Entries.{find}
 use Rattle.std.specs.HashMap.Entry.{entry_value, map_with_value}
 use Rattle.std.specs.Map.{set_value}
 use Rattle.route_wire.specs.declared.update.Register.{Register}
 use Rattle.route_wire.specs.Fields.{Fields}
-use Rattle.route_wire.specs.Order.{register_cmp}
 use Rattle.route_join.specs.Subject.{Subject, subject_cmp, subject_of}
-use Rattle.route_join.specs.Inner.Groups.{AreIndexed, group_at, group_in, groups_along}
+use Rattle.route_join.specs.Inner.Groups.{group_at, group_in, groups_along}
 use Rattle.route_join.specs.Inner.Subject.{subject_eq}
 use Rattle.route_join.proofs.Groupings.{about_there}
-use Rattle.route_join.specs.Group.{AreGroups, updates_in}
-use Rattle.route_join.specs.Table.{entries_of}
 use Rattle.route_join.proofs.Indexed.{found_as, found_of, written_as, set_indexed, new_indexed, entered, not_among}
 use Rattle.route_join.proofs.Leaders.{on_ok, refused_takes}
 use Rattle.route_join.proofs.Taking.{groups_after, takes_after, err_after, absent_in, made_takes, groups_made}
@@ -21,7 +17,7 @@ pub take-requires : goal.take-requires
 take-requires c =
     let at : Some c.into_mut.result.now ≡ group_in c.args.index.now.entries c.subject_of-subject.result =
     sym c.into_mut.ensures.value ∙ ap entry_value (sym c.in-Ok-Occupied.field-0-is) ∙ c.in-Ok-Occupied.ensures.value in
-    about_there c.requires.groups
+    about_there _ _ _ c.requires.groups
     (found_of c.requires.indexed refl c.subject_of-subject.ensures c.register.ensures at)
 
 -- ---- a subject that has a group
@@ -75,27 +71,21 @@ returns-in-Ok-Occupied-clause-err c =
     search rules
 
 -- ---- memory is refused, or the count is full
-refused : (ss : List Subject) (gs : List (Subject × List Fields)) (u : Fields) (r : Register) (s : Subject)
-    → AreIndexed ss gs → AreGroups (groups_along ss gs) → r ≡ u.register → s ≡ subject_of r.key
-    → None ≡ group_in gs s → find register_cmp u.register (entries_of (updates_in (groups_along ss gs))) ≡ None
-refused ss gs u r s k groups same named none = absent_in (groups_along ss gs) u groups
-    (found_of k refl named same none)
-
 pub returns-in_default-clause-takes : goal.returns-in_default-clause-takes
 returns-in_default-clause-takes c =
     let none : None ≡ group_in c.args.index.now.entries c.subject_of-subject.result = search rules in
-    refused_takes (refused _ _ c.args.update.now _ _ c.requires.indexed c.requires.groups c.register.ensures
-    c.subject_of-subject.ensures none)
+    refused_takes (absent_in _ c.args.update.now c.requires.groups
+    (found_of c.requires.indexed refl c.subject_of-subject.ensures c.register.ensures none))
 
 pub returns-then-is_err-clause-takes : goal.returns-then-is_err-clause-takes
 returns-then-is_err-clause-takes c =
     let none : None ≡ group_in c.args.index.now.entries c.subject_of-subject.result = search rules in
-    refused_takes (refused _ _ c.args.update.now _ _ c.requires.indexed c.requires.groups c.register.ensures
-    c.subject_of-subject.ensures none)
+    refused_takes (absent_in _ c.args.update.now c.requires.groups
+    (found_of c.requires.indexed refl c.subject_of-subject.ensures c.register.ensures none))
 
 pub returns-in-Err-clause-takes : goal.returns-in-Err-clause-takes
-returns-in-Err-clause-takes c = refused_takes (refused _ _ c.args.update.now _ _ c.requires.indexed c.requires.groups
-    c.register.ensures c.subject_of-subject.ensures (sym c.in-Err.ensures.absent))
+returns-in-Err-clause-takes c = refused_takes (absent_in _ c.args.update.now c.requires.groups
+    (found_of c.requires.indexed refl c.subject_of-subject.ensures c.register.ensures (sym c.in-Err.ensures.absent)))
 
 -- ---- a new subject
 module _ (c : goal.After-index-in-Ok-Vacant-2-1) where

@@ -35,7 +35,7 @@ moved-requires c =
 
 pub better_place-self-inside-requires : goal.better_place-self-inside-requires
 better_place-self-inside-requires c =
-    let there = inserted c.insert_at.ensures c.if-is_err.ensures.negation in
+    let there = inserted _ _ _ _ c.insert_at.ensures c.if-is_err.ensures.negation in
     subst IsOrdered (sym (c.deref.ensures.value ∙ there))
     (in_order c.self.invariant.ordered c.of.ensures c.self.view_is c.requires)
 
@@ -44,7 +44,7 @@ invariant_of-self-2 c =
     let us = c.self.inside.updates.items in
     let e = c.of.result in
     let there : c.insert_at.new.updates.items ≡ insert us c.args.at e =
-    inserted c.insert_at.ensures c.if-is_err.ensures.negation in
+    inserted _ _ _ _ c.insert_at.ensures c.if-is_err.ensures.negation in
     let place : c.better_place-self-inside.result ≡ better_place (insert us c.args.at e) c.args.at
     (moved c.args.at c.self.inside.winner) =
     c.better_place-self-inside.ensures ∙ ap (λ x. better_place x c.args.at c.moved.result) (c.deref.ensures.value
@@ -60,6 +60,6 @@ invariant_of-self-2 c =
 pub returns-clause-ok : goal.returns-clause-ok
 returns-clause-ok c =
     let e = c.of.result in
-    ap entries_of (inserted c.insert_at.ensures c.if-is_err.ensures.negation)
+    ap entries_of (inserted _ _ _ _ c.insert_at.ensures c.if-is_err.ensures.negation)
     ∙ (gap c.self.invariant.ordered c.of.ensures c.self.view_is c.requires).write e refl
     ∙ (λ i. put register_cmp ((c.of.ensures i).register) ((c.of.ensures i).value) (entries_of (c.self.view_is i)))

@@ -12,12 +12,12 @@ index-requires c =
 pub returns-then-not-is_older-clause-takes : goal.returns-then-not-is_older-clause-takes
 returns-then-not-is_older-clause-takes c =
     let there = told_at c.self.view_is c.deref.ensures.value c.register.ensures c.in-Ok.ensures c.index.ensures in
-    known_takes there c.is_older.ensures c.if-not-is_older.true
+    known_takes _ _ there c.is_older.ensures _ c.if-not-is_older.true
 
 pub returns-else-not-is_older-clause-takes : goal.returns-else-not-is_older-clause-takes
 returns-else-not-is_older-clause-takes c =
     let there = told_at c.self.view_is c.deref.ensures.value c.register.ensures c.in-Ok.ensures c.index.ensures in
-    newer_takes there c.is_older.ensures c.replace.ensures c.if-not-is_older.false
+    newer_takes _ _ there c.is_older.ensures _ _ c.replace.ensures c.if-not-is_older.false
 
 pub returns-in_default-clause-takes : goal.returns-in_default-clause-takes
 returns-in_default-clause-takes c = refused_takes (new_at c.self.view_is c.deref.ensures.value c.register.ensures

@@ -10,7 +10,7 @@ use Rattle.route_join.proofs.Holding.{flooding_there}
 use Rattle.route_join.proofs.table.Table.flood_into.Goals as goal
 
 pub updates-requires : goal.updates-requires
-updates-requires c = about_there c.self.invariant.grouped.groups (sym c.in-Some.ensures)
+updates-requires c = about_there _ _ _ c.self.invariant.grouped.groups (sym c.in-Some.ensures)
 
 pub put_flood-requires-clause-few : goal.put_flood-requires-clause-few
 put_flood-requires-clause-few c =

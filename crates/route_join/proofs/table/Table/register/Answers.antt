@@ -25,5 +25,5 @@ returns-in-Some c =
     ∙ ap (λ t. update_at t (register_of c.args.originator c.args.key)) c.self.view_is
 
 pub register-requires : goal.register-requires
-register-requires c = about_there c.self.invariant.grouped.groups
+register-requires c = about_there _ _ _ c.self.invariant.grouped.groups
     (ap (λ s. group_at s c.self.inside.groups) (sym c.subject_of.ensures) ∙ sym c.in-Some.ensures)

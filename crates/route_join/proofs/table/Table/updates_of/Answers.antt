@@ -7,7 +7,7 @@ use Rattle.route_join.proofs.Groupings.{about_there}
 use Rattle.route_join.proofs.table.Table.updates_of.Goals as goal
 
 pub updates-requires : goal.updates-requires
-updates-requires c = about_there c.self.invariant.grouped.groups (sym c.in-Some.ensures)
+updates-requires c = about_there _ _ _ c.self.invariant.grouped.groups (sym c.in-Some.ensures)
 
 pub returns-in-None-clause-value : goal.returns-in-None-clause-value
 returns-in-None-clause-value c =
