@@ -72,7 +72,9 @@ fn take_in(
             let Some(more) = held.checked_add(1) else {
                 return Err(AllocError);
             };
-            let place = reserve(nodes)?;
+            let Ok(place) = reserve(nodes) else {
+                return Err(AllocError);
+            };
             gap.insert(place);
             push(nodes, place, update);
             *held = more;
