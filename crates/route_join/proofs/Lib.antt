@@ -16,8 +16,8 @@ pub mod Holding
 pub mod Joins
 pub mod Lines
 pub mod Merging
-pub mod Sames
 pub mod WinnerTrees
 pub mod Trees
 pub mod Abouts
 pub mod HexGroups
+pub mod Entries

@@ -1,3 +1,4 @@
+pub mod Entry
 pub mod Equals
 pub mod Group
 pub mod Groups

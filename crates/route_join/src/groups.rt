@@ -189,7 +189,7 @@ fn put_group<O: Out>(
     ensures { Puts (O.end out.old) (O.end out.new) (report_lines (entries_of group.now)) result }
 {
     let text = subject_text(subject);
-    put_updates(out, line, names, &text, group.updates())?;
+    put_updates(out, line, names, &text, group.updates(subject))?;
     match subject.mac() {
         None => Ok(()),
         Some(_) => put_owner(out, line, names, &text, group.owner()),

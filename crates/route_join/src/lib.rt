@@ -1,6 +1,7 @@
 //! Tables of route updates: each register's newest value, and the owner of a MAC address.
 #![tactic(auto)]
 
+mod entry;
 mod flood;
 mod group;
 mod groups;

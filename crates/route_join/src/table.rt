@@ -253,9 +253,10 @@ impl Table {
         ensures value { result ≡ updates_of self.now vni mac }
         ensures exact { AreUpdatesOf self.now vni mac result }
     {
-        match self.groups.get(&Subject::address(vni, mac)) {
+        let subject = Subject::address(vni, mac);
+        match self.groups.get(&subject) {
             None => UpdatesOf::none(),
-            Some(group) => group.updates(),
+            Some(group) => group.updates(&subject),
         }
     }
 
@@ -285,9 +286,10 @@ impl Table {
         ensures list { IsFloodList self.now vni flood.new.items }
     {
         flood.clear();
-        match self.groups.get(&Subject::flood(vni)) {
+        let subject = Subject::flood(vni);
+        match self.groups.get(&subject) {
             None => {}
-            Some(group) => put_flood(group.updates(), vni, flood),
+            Some(group) => put_flood(group.updates(&subject), vni, flood),
         }
     }
 
