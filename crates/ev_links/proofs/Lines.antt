@@ -1,6 +1,8 @@
 -- A line after one more frame is put on it, or after its first frame is taken.
-use Rattle.std.proofs.Common.{◌≡◌, ◌≢◌, ℕ, zero, suc, ◌+◌, ◌-◌, ◌^◌, ◌≤◌, ◌<◌, min, Bool, true, false, cond, eqb, ◌&&◌, ◌||◌}
-use Rattle.std.proofs.Common.{nat_lt, nat_le, List, [], ◌∷◌, ◌++◌, length, take, drop, replicate, refl, sym, ap, subst, ◌∙◌, arith}
+use Rattle.std.proofs.Common.{◌≡◌, ◌≢◌, ℕ, zero, suc, ◌+◌, ◌-◌, ◌^◌, ◌≤◌, ◌<◌, min, Bool, true, false, cond, eqb}
+use Rattle.std.proofs.Common.{◌&&◌, ◌||◌}
+use Rattle.std.proofs.Common.{nat_lt, nat_le, List, [], ◌∷◌, ◌++◌, length, take, drop, replicate, refl, sym, ap}
+use Rattle.std.proofs.Common.{subst, ◌∙◌, arith}
 use Rattle.std.proofs.Common.{Option, Some, None}
 use Rattle.std.specs.Prelude.{slice_get, slice_set, IfSome}
 use Rattle.std.specs.Option.{option_map_or}
@@ -11,7 +13,8 @@ use Rattle.std.proofs.lemmas.List.{length-append, length-take-le, length-drop, t
 use Rattle.ev_links.specs.Links.{packet}
 use Rattle.ev_links.specs.declared.line.Head.{Head}
 use Rattle.ev_links.specs.declared.parts.Part.{Part}
-use Rattle.ev_links.specs.Line.{Sourced, sourced, octets_of, from_source, fits_part, waiting_of, after_frame, after_drop}
+use Rattle.ev_links.specs.Line.{Sourced, sourced, octets_of, from_source, fits_part, waiting_of, after_frame}
+use Rattle.ev_links.specs.Line.{after_drop}
 use Rattle.ev_links.specs.Line.{cut, sizes, NoneTooLong, heads_of, AreCounted, IsLine}
 use Rattle.ev_links.specs.Inner.Parts.{no_part, fits_in, one_more, one_less, with_one, without_one}
 
@@ -69,7 +72,8 @@ fit_put (g ∷ heads) h fit one = (fit.0, fit_put heads h fit.1 one)
 -- ---- the frames of a source
 
 -- a source has as many frames as heads
-own_length : (s : ℕ) (heads : List Head) (xs : List ℕ) → length (from_source s (cut heads xs)) ≡ length (heads_of s heads)
+own_length : (s : ℕ) (heads : List Head) (xs : List ℕ)
+    → length (from_source s (cut heads xs)) ≡ length (heads_of s heads)
 own_length s [] xs = refl
 own_length s (h ∷ heads) xs = go (eqb h.source s) (own_length s heads (drop h.size xs))
   where
@@ -121,7 +125,8 @@ own_room parts heads octets s size counted all = go (slice_get parts s) refl
     go (Some p) is =
         let c = counted s p is in
         let frames : p.frames ≡ length (from_source s (cut heads octets)) = c.0 ∙ sym (own_length s heads octets) in
-        let many : p.octets ≡ octets_of (from_source s (cut heads octets)) = c.1 ∙ sym (own_octets s heads octets all) in
+        let many : p.octets ≡ octets_of (from_source s (cut heads octets)) =
+        c.1 ∙ sym (own_octets s heads octets all) in
         rw (get_in parts s p is, sym frames, sym many) refl
 
 heads_put : (s : ℕ) (heads : List Head) (h : Head)
@@ -149,7 +154,8 @@ own_few s (h ∷ heads) = go (eqb h.source s) (own_few s heads)
 
 -- ---- counts
 
-set_here : (parts : List Part) (k : ℕ) (p q : Part) → slice_get parts k ≡ Some q → slice_get (slice_set parts k p) k ≡ Some p
+set_here : (parts : List Part) (k : ℕ) (p q : Part) → slice_get parts k ≡ Some q
+    → slice_get (slice_set parts k p) k ≡ Some p
 set_here [] k p q is = cc
 set_here (x ∷ xs) zero p q is = refl
 set_here (x ∷ xs) (suc k) p q is = set_here xs k p q is
@@ -257,7 +263,8 @@ pub counted_few : (parts : List Part) (heads : List Head) (octets : List ℕ) (s
     → IfSome (slice_get parts s) (λ p. (p.frames + 1 < 2 ^ 64) × (p.octets + size < 2 ^ 64))
 counted_few parts heads octets size s counted all many long = go (slice_get parts s) refl
   where
-    go : (o : Option Part) → slice_get parts s ≡ o → IfSome o (λ p. (p.frames + 1 < 2 ^ 64) × (p.octets + size < 2 ^ 64))
+    go : (o : Option Part) → slice_get parts s ≡ o
+        → IfSome o (λ p. (p.frames + 1 < 2 ^ 64) × (p.octets + size < 2 ^ 64))
     go None is = tt
     go (Some p) is =
         let c = counted s p is in let few = own_few s heads in
@@ -320,14 +327,15 @@ by_counts frames waiting size own =
 -- the line after a frame is put, if there is room for it
 pub put_view : (parts : List Part) (n : ℕ) (bpdus : List (List ℕ)) (heads : List Head) (octets : List ℕ) (dropped : ℕ)
     (ended : Bool) (source to : ℕ) (more : List ℕ) (h : Head) (frames waiting : ℕ) (own : Bool)
-    → n ≡ length parts → AreCounted parts heads → sizes heads ≡ length octets → h.source ≡ source → h.to ≡ to → h.size ≡ length more
+    → n ≡ length parts → AreCounted parts heads → sizes heads ≡ length octets → h.source ≡ source → h.to ≡ to
+    → h.size ≡ length more
     → frames ≡ length heads → waiting ≡ length octets
     → own ≡ fits_in (length parts) (slice_get parts source) (length more)
     → by_counts frames waiting (length more) own ≡ true
     → waiting_of n bpdus (cut (heads ++ h ∷ []) (octets ++ more)) dropped ended
     ≡ after_frame (sourced source (packet to more)) (waiting_of n bpdus (cut heads octets) dropped ended)
-put_view parts n bpdus heads octets dropped ended source to more h frames waiting own parts_are counted all from_is to_is
-    size many long own_is room =
+put_view parts n bpdus heads octets dropped ended source to more h frames waiting own parts_are counted all from_is
+    to_is size many long own_is room =
     let count : length (cut heads octets) ≡ frames = cut_length heads octets ∙ sym many in
     let octets_are : octets_of (cut heads octets) ≡ waiting = cut_octets heads octets all ∙ all ∙ sym long in
     let part : (nat_lt source n && fits_part n (from_source source (cut heads octets)) (length more)) ≡ own =
@@ -354,8 +362,9 @@ dropped_view parts n bpdus heads octets dropped dropped' ended source to more fr
     rw (count, octets_are, part, room, e) refl
 
 -- the line after all that waits is dropped
-pub drop_view : (parts : ℕ) (bpdus : List (List ℕ)) (heads : List Head) (octets : List ℕ) (dropped few dropped' : ℕ) (ended : Bool)
-    (b f : ℕ) → b ≡ length bpdus → f ≡ length heads → few ≡ min (dropped + b) (2 ^ 64 - 1)
+pub drop_view : (parts : ℕ) (bpdus : List (List ℕ)) (heads : List Head) (octets : List ℕ)
+    (dropped few dropped' : ℕ) (ended : Bool) (b f : ℕ) → b ≡ length bpdus → f ≡ length heads
+    → few ≡ min (dropped + b) (2 ^ 64 - 1)
     → dropped' ≡ min (few + f) (2 ^ 64 - 1)
     → waiting_of parts [] [] dropped' ended ≡ after_drop (waiting_of parts bpdus (cut heads octets) dropped ended)
 drop_view parts bpdus heads octets dropped few dropped' ended b f bs fs one two =

@@ -4,7 +4,8 @@ use Rattle.std.proofs.Common.{if◌then◌else◌}
 use Rattle.std.proofs.Common.{List, [], ◌∷◌, ◌++◌, length, refl, sym, ap, ◌∙◌, append_assoc, arith}
 use Rattle.std.proofs.lemmas.Bool.{eqb-true}
 use Rattle.std.proofs.lemmas.List.{append-nil}
-use Rattle.ev_links.specs.Line.{Sourced, Waiting, waiting_of, has_room, after_frame, after_bpdu, frames_in_front, frames_left}
+use Rattle.ev_links.specs.Line.{Sourced, Waiting, waiting_of, has_room, after_frame, after_bpdu, frames_in_front}
+use Rattle.ev_links.specs.Line.{frames_left}
 use Rattle.ev_links.specs.DirectLine.{Direct, is_free, after_try}
 use Rattle.ev_links.specs.Laws.{Step, passes, puts, takes, ends, drops_rest, after_step, after_steps, IsStep, AreSteps}
 use Rattle.ev_links.specs.Laws.{leaving, kept, drops, all_leaving, all_kept, all_drops}
@@ -28,11 +29,14 @@ none_waits d free = no_frames d.is_sending d.line.bpdus d.line.frames free
 
 -- ---- frames
 
-frames_put : (p : Sourced) (w : Waiting) (room : Bool) → has_room w.parts w.frames p.source (length p.packet.octets) ≡ room
+frames_put : (p : Sourced) (w : Waiting) (room : Bool)
+    → has_room w.parts w.frames p.source (length p.packet.octets) ≡ room
     → (after_frame p w).frames ≡ w.frames ++ (if room then p ∷ [] else [])
-frames_put p w true is = ap (λ (b : Bool). (if b then waiting_of w.parts w.bpdus (w.frames ++ p ∷ []) w.dropped w.has_ended
+frames_put p w true is = ap (λ (b : Bool).
+    (if b then waiting_of w.parts w.bpdus (w.frames ++ p ∷ []) w.dropped w.has_ended
     else waiting_of w.parts w.bpdus w.frames (min (w.dropped + 1) (2 ^ 64 - 1)) w.has_ended).frames) is
-frames_put p w false is = ap (λ (b : Bool). (if b then waiting_of w.parts w.bpdus (w.frames ++ p ∷ []) w.dropped w.has_ended
+frames_put p w false is = ap (λ (b : Bool).
+    (if b then waiting_of w.parts w.bpdus (w.frames ++ p ∷ []) w.dropped w.has_ended
     else waiting_of w.parts w.bpdus w.frames (min (w.dropped + 1) (2 ^ 64 - 1)) w.has_ended).frames) is
     ∙ sym (append-nil w.frames)
 
@@ -81,7 +85,8 @@ frames_keep_their_order (s ∷ steps) d are =
 one_counted : (n : ℕ) → n ≤ 2 ^ 64 - 1 → n ≡ min (n + 0) (2 ^ 64 - 1)
 one_counted n few = omega (arith, few)
 
-frame_counted : (p : Sourced) (w : Waiting) (room : Bool) → has_room w.parts w.frames p.source (length p.packet.octets) ≡ room
+frame_counted : (p : Sourced) (w : Waiting) (room : Bool)
+    → has_room w.parts w.frames p.source (length p.packet.octets) ≡ room
     → w.dropped ≤ 2 ^ 64 - 1
     → (after_frame p w).dropped ≡ min (w.dropped + (if room then 0 else 1)) (2 ^ 64 - 1)
 frame_counted p w true is few = rw is (one_counted w.dropped few)

@@ -1,10 +1,13 @@
 -- A line drops a frame that isn't too long only if the part of its source is full.
-use Rattle.std.proofs.Common.{◌≡◌, ◌≢◌, ℕ, zero, suc, ◌+◌, ◌-◌, ◌*◌, ◌/◌, ◌^◌, ◌≤◌, ◌<◌, min, Bool, true, false, cond, eqb}
-use Rattle.std.proofs.Common.{◌&&◌, ◌||◌, nat_lt, nat_le, List, [], ◌∷◌, ◌++◌, length, drop, refl, sym, ap, subst, ◌∙◌, arith}
+use Rattle.std.proofs.Common.{◌≡◌, ◌≢◌, ℕ, zero, suc, ◌+◌, ◌-◌, ◌*◌, ◌/◌, ◌^◌, ◌≤◌, ◌<◌, min, Bool, true, false, cond}
+use Rattle.std.proofs.Common.{eqb}
+use Rattle.std.proofs.Common.{◌&&◌, ◌||◌, nat_lt, nat_le, List, [], ◌∷◌, ◌++◌, length, drop, refl, sym, ap, subst}
+use Rattle.std.proofs.Common.{◌∙◌, arith}
 use Rattle.std.proofs.lemmas.Bool.{false≢true, eq-eqb}
 use Rattle.std.proofs.lemmas.Bool.Decides.{nat_tests}
 use Rattle.std.proofs.Math.Nat.{mul-div-le}
-use Rattle.ev_links.specs.Line.{Sourced, Waiting, waiting_of, nothing_waits, octets_of, from_source, fits_half, fits_part}
+use Rattle.ev_links.specs.Line.{Sourced, Waiting, waiting_of, nothing_waits, octets_of, from_source, fits_half}
+use Rattle.ev_links.specs.Line.{fits_part}
 use Rattle.ev_links.specs.Line.{fits_line, has_room, after_frame, after_bpdu, frames_left}
 use Rattle.ev_links.specs.DirectLine.{Direct, is_free, after_try}
 use Rattle.ev_links.specs.Laws.{Step, passes, puts, takes, ends, drops_rest, after_step, after_steps, IsStep, AreSteps}
@@ -97,7 +100,7 @@ sum_below (suc n) s k p f less few one = go (eqb n s) refl (λ less. sum_below n
         let rest = before (omega (arith, less, ne)) in let last = few n in
         let more = times_more n p in omega (arith, rest, last, more)
 
--- ---- what waits, by a measure of frames
+-- ---- the waiting frames, by a measure
 
 module _ (m : Sourced → ℕ) where
   abbrev amount : List Sourced → ℕ
@@ -135,11 +138,11 @@ module _ (m : Sourced → ℕ) where
       go true = refl
       go false = omega arith
 
-  -- what a source uses of its part
+  -- the used part of a source
   abbrev share : ℕ → List Sourced → ℕ → ℕ
   share part frames s = min (used frames s) part
 
-  -- beside the shared half there is no more than what the sources use of their parts
+  -- beside the shared half there is no more than the used parts of the sources
   abbrev IsFair : ℕ → ℕ → ℕ → List Sourced → Type 0
   IsFair half part n frames = amount frames ≤ half + sum_to n (share part frames)
 
@@ -175,7 +178,7 @@ module _ (m : Sourced → ℕ) where
       (let u = used_first f frames f.source in let own = own_source f in omega (arith, u, own)) in
       omega (arith, all, fair)
 
-  -- so whatever fits a part fits the line
+  -- so a frame that fits a part fits the line
   fair_fits : (half n s k : ℕ) (frames : List Sourced) → s < n → used frames s + k ≤ half / n
       → IsFair half (half / n) n frames → amount frames + k ≤ half + half
   fair_fits half n s k frames less fits fair =

@@ -2,7 +2,8 @@
 use Rattle.std.specs.Prelude.{◌≡◌, ℕ, ◌&&◌, Bool, false, true, not, List, [], ◌∷◌, Option, is_some, if◌then◌else◌}
 use Rattle.ev_links.specs.Coming.{behind}
 use Rattle.ev_links.specs.Links.{Try, a_try}
-use Rattle.ev_links.specs.Line.{Sourced, Waiting, is_empty, after_frame, after_bpdu, first_of, after_take, after_end, after_drop}
+use Rattle.ev_links.specs.Line.{Sourced, Waiting, is_empty, after_frame, after_bpdu, first_of, after_take, after_end}
+use Rattle.ev_links.specs.Line.{after_drop}
 use Rattle.ev_links.specs.declared.direct_line.DirectLine.{DirectLine}
 
 -- the line; whether the link's worker sends the datagram that it took last; and the datagrams that the link was to send

@@ -24,8 +24,8 @@ pub struct DirectLine<K> {
 }
 
 impl<K: PromptOut> DirectLine<K> {
-    /// Creates a line to this link on which nothing waits, with parts for the sources below `parts`.
-    /// The link's worker sends nothing yet.
+    /// Creates a line to this link on which nothing waits, with parts for the sources below
+    /// `parts`. The link's worker sends nothing yet.
     ///
     /// # Errors
     ///
@@ -43,9 +43,9 @@ impl<K: PromptOut> DirectLine<K> {
     }
 
     /// Sends a frame, or a datagram, of a source at once if nothing waits, the link's worker sends
-    /// nothing, and the link takes it without waiting. Otherwise appends it to the line, which drops
-    /// and counts it if neither the shared half nor the part of the source has room. Returns `true`
-    /// exactly if it was sent.
+    /// nothing, and the link takes it without waiting. Otherwise appends it to the line, which
+    /// drops and counts it if neither the shared half nor the part of the source has room. Returns
+    /// `true` exactly if it was sent.
     pub fn pass(&mut self, source: usize, to: Addr, octets: &[u8]) -> bool
         ensures { Passes result (sourced source (packet to octets.now))
             (direct_of K.tried self.old) (direct_of K.tried self.new) }

@@ -13,8 +13,8 @@ pub fn each_drop_is_counted()
     ensures { EachDropIsCounted }
 {}
 
-/// A line on which nothing waited drops a frame only if it is too long, or if the part of its source
-/// is full, whatever the sources have passed on: no source takes another's part.
+/// A line on which nothing waited drops a frame only if it is too long, or if the part of its
+/// source is full, whatever the sources have passed on: no source takes another's part.
 pub fn only_a_full_part_drops()
     ensures { OnlyAFullPartDrops }
 {}

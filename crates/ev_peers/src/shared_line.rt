@@ -105,7 +105,8 @@ pub(crate) struct SharedLine<K> {
 }
 
 impl<K: PromptOut> SharedLine<K> {
-    /// Creates a line to this link on which nothing waits, with parts for the sources below `parts`.
+    /// Creates a line to this link on which nothing waits, with parts for the sources below
+    /// `parts`.
     ///
     /// # Errors
     ///
@@ -122,8 +123,8 @@ impl<K: PromptOut> SharedLine<K> {
         })
     }
 
-    /// Sends a frame, or a datagram, of a source at once. If that needs waiting, puts it on the line,
-    /// or drops and counts it. Shows the numbers.
+    /// Sends a frame, or a datagram, of a source at once. If that needs waiting, puts it on the
+    /// line, or drops and counts it. Shows the numbers.
     pub(crate) fn pass<R: Wait>(
         &self,
         rt: &R,

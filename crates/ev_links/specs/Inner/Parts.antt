@@ -21,7 +21,8 @@ one_less size p = record { frames = p.frames - 1; octets = p.octets - size }
 
 -- in the part of this source, if it has one
 abbrev pub with_one : ℕ → ℕ → List Part → List Part
-with_one source size parts = option_map_or (λ p. slice_set parts source (one_more size p)) (slice_get parts source) parts
+with_one source size parts =
+    option_map_or (λ p. slice_set parts source (one_more size p)) (slice_get parts source) parts
 
 abbrev pub without_one : ℕ → ℕ → List Part → List Part
 without_one source size parts =
