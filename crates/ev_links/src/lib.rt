@@ -11,6 +11,7 @@ mod flow;
 pub mod laws;
 mod line;
 mod links;
+mod parts;
 mod udp;
 
 pub use channels::{ChannelIn, ChannelOut, Datagram};

@@ -5,7 +5,7 @@ ghost use Rattle.std.specs.Prelude.{◌≡◌, ◌+◌, ◌≤◌, vec_len, vec_
 use crate::gate::Gate;
 use crate::outcome::Faults;
 use crate::outlet::{Senders, WorkerOutlet};
-use crate::plan::{Entered, Entering, Shared, Task};
+use crate::plan::{Entered, Entering, Shared, Task, source_of};
 use crate::shared_edge::{Ended, SharedEdge};
 use crate::worker::Worker;
 use crate::workers::{clock_worker, peer_worker, port_worker, tunnel_worker};
@@ -69,7 +69,7 @@ fn enter_task<'x, L: Placed, J: Naming, I: LinkIn + Drop, K: PromptOut, G: Gate,
         return (pass, Ended::NoMemory);
     }
     let senders = workplace.outlet;
-    let Some(outlet) = WorkerOutlet::new(senders) else {
+    let Some(outlet) = WorkerOutlet::new(senders, source_of(&task)) else {
         return (pass, Ended::NoMemory);
     };
     let mut worker = Worker::new(&workplace.shared_edge, pass, outlet);
