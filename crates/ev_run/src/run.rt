@@ -17,8 +17,9 @@ use crate::clients::Service;
 use crate::links::links_of;
 use crate::named::{Ends, Prepared, run_named};
 use crate::print::{Watched, put_notes, put_reports};
+use crate::socket_drops::SocketDrops;
 use crate::sockets::{StartError, bind_all, put_bind_error};
-use crate::system_drops::udp_table;
+use crate::system_drops::{UdpTable, rows_of_drops};
 use crate::thread_check::{check_threads, tell_too_few};
 use ether_wire::{Device, In, Out};
 use ev_config::Config;
@@ -253,7 +254,7 @@ impl<'x, R> Host<'x, R> {
 /// # Errors
 ///
 /// `AllocError` if memory is refused before an edge has begun.
-fn run_bound<'x, 'h: 'x, R: Threads + Wait + Files + Clock + Sync, E: In, W: Out, N: Out + Send>(
+fn run_bound<'x, 'h: 'x, R: Threads + Wait + UdpTable + Clock + Sync, E: In, W: Out, N: Out + Send>(
     host: &Host<'h, R>,
     configs: Vec<EdgeConfig>,
     sockets: &'x [Sockets],
@@ -280,16 +281,20 @@ fn run_bound<'x, 'h: 'x, R: Threads + Wait + Files + Clock + Sync, E: In, W: Out
     let incarnation = first_incarnation(rt, is_asked);
     let setups = all_ready(rt, alloc, incarnation, configs, sockets, &stop)?;
     let history = new_history(setups.as_slice(), is_asked);
+    let system = SocketDrops { rt, sockets };
     let prepared = Prepared {
         setups,
         history,
         ends: Ends {
             sockets,
             stop: &stop,
+            system: &system,
         },
     };
-    let (told, (ended, is_read)) = run_named::<Brand, R, E, N>(host, prepared, reader, notes)?;
-    let table = udp_table(rt, alloc);
+    let (told, (ended, is_read)) = run_named::<Brand, R, SocketDrops<'_, R>, E, N>(
+        host, prepared, reader, notes,
+    )?;
+    let table = rows_of_drops(rt, alloc);
     let watched = Watched {
         table: table.as_slice(),
         sockets,
@@ -317,7 +322,7 @@ fn tell_start_error<N: Out>(start_error: StartError, notes: &mut N) -> u8
 /// Runs edges as `run_edges` does, with or without a control socket whose clients may query them
 /// meanwhile.
 pub(crate) fn run_asked<
-    R: Threads + Wait + Net + Files + Clock + Sync,
+    R: Threads + Wait + Net + Files + UdpTable + Clock + Sync,
     E: In,
     W: Out,
     N: Out + Send,
@@ -356,14 +361,12 @@ pub(crate) fn run_asked<
 /// can't be bound, no edge begins, and a line on `notes` has the address and the reason. If the
 /// system doesn't start as many threads as the run needs, no edge begins, and a line on `notes` has
 /// both numbers. If a port lacks an address, no edge begins either, and nothing is written.
-pub fn run_edges<R: Threads + Wait + Net + Files + Clock + Sync, E: In, W: Out, N: Out + Send>(
-    rt: &R,
-    alloc: Global,
-    config: Config,
-    reader: &mut E,
-    out: &mut W,
-    notes: &mut N,
-) -> u8
+pub fn run_edges<
+    R: Threads + Wait + Net + Files + UdpTable + Clock + Sync,
+    E: In,
+    W: Out,
+    N: Out + Send,
+>(rt: &R, alloc: Global, config: Config, reader: &mut E, out: &mut W, notes: &mut N) -> u8
     requires config { AreConfigs config.edges.items }
     requires reader { Allows (2 ^ 40) (E.end reader.old) }
     requires out { IsOpen (W.end out.old) }
@@ -377,12 +380,12 @@ pub fn run_edges<R: Threads + Wait + Net + Files + Clock + Sync, E: In, W: Out, 
 }
 
 /// Runs edges as `run_edges` does, with few and large writes. Takes the devices and returns them.
-pub fn run_buffered<H: Threads + Wait + Net + Files + Clock + Sync, R: In, W: Out, N: Out + Send>(
-    rt: &H,
-    alloc: Global,
-    config: Config,
-    devices: Devices<R, W, N>,
-) -> (u8, Devices<R, W, N>)
+pub fn run_buffered<
+    H: Threads + Wait + Net + Files + UdpTable + Clock + Sync,
+    R: In,
+    W: Out,
+    N: Out + Send,
+>(rt: &H, alloc: Global, config: Config, devices: Devices<R, W, N>) -> (u8, Devices<R, W, N>)
     requires config { AreConfigs config.edges.items }
     requires devices { AreOpen devices }
     ensures { RunsEdges false config devices result.1 result.0 }

@@ -1,2 +1,2 @@
 pub mod Running
-mod Sound
+pub mod Sound
