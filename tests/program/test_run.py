@@ -391,6 +391,27 @@ class FullSockets(TwoCables):
                 status, _, notes = self.running.end()
                 self.assertEqual((status, notes), (0, lines))
 
+    def test_a_console_shows_it(self) -> None:
+        """While the edge runs, in the line of each link; where no file can be opened any more the lines have no such number."""
+        with tempfile.TemporaryDirectory() as folder:
+            path = f"{folder}/control"
+            self.filled(f'control = "{path}"\n', "serve")
+            with socket.socket(socket.AF_UNIX, socket.SOCK_STREAM) as console:
+                console.settimeout(PATIENCE)
+                console.connect(path)
+                console.sendall(b"console\n")
+                shown = system_drops(console)
+                self.assertEqual(shown, {link: row_of(ONE, port).dropped for link, port in self.links().items()})
+                self.assertTrue(shown["tunnel"] > 0 and shown["1"] > 0 and shown["2"] == 0, shown)
+                most = resource.getrlimit(resource.RLIMIT_NOFILE)[1]
+                resource.prlimit(self.running.program.pid, resource.RLIMIT_NOFILE, (3, most))
+                self.assertEqual(system_drops(console), dict.fromkeys(shown))
+            self.assertEqual(self.running.end()[0], 0)
+
+    def links(self) -> Dict[str, int]:
+        """The UDP port of each link, by the link's word in a console's line."""
+        return {"tunnel": TUNNELS, "1": self.one.port, "2": self.two.port}
+
     def test_where_that_cannot_be_read(self) -> None:
         """Where no file can be opened any more nothing is told of it, and the status is 0."""
         self.filled("", "run")
@@ -398,6 +419,16 @@ class FullSockets(TwoCables):
         resource.prlimit(self.running.program.pid, resource.RLIMIT_NOFILE, (3, most))
         status, _, notes = self.running.end()
         self.assertEqual((status, notes), (0, ""))
+
+
+def system_drops(console: socket.socket) -> Dict[str, Optional[int]]:
+    """What each link's line says that the system has dropped, where it says it."""
+    console.sendall(b"1 links\n")
+    came = b""
+    while not came.endswith(b"\n\n"):
+        came += console.recv(65535)
+    found = (re.match(r"1 link (\S+) in .* memory [0-9]+(?: system ([0-9]+))? out ", line) for line in came.decode().splitlines() if line)
+    return {each[1]: each[2] and int(each[2]) for each in found}
 
 
 @needs_program

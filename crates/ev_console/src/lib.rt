@@ -9,9 +9,12 @@ mod loaded;
 mod operated;
 mod printing;
 mod reached;
+mod system_drops;
 mod table;
 mod turns;
 
 pub use conversation::{converse, converse_with};
 pub use operated::{Operated, Unreached};
+pub use reached::Host;
+pub use system_drops::{NoDrops, SystemDrops};
 pub use turns::{take_turn, take_turn_with};

@@ -1,5 +1,6 @@
 //! The numbers of links as their threads show them, and the rows that a console prints of them.
-ghost use Rattle.std.specs.Prelude.{◌≡◌, ◌+◌, ◌-◌, ◌^◌, min, length, vec_len, None, IfOk};
+ghost use Rattle.std.specs.Prelude.{◌≡◌, ◌+◌, ◌-◌, ◌^◌, min, map, IfOk};
+ghost use Rattle.ev_console.specs.Inner.LinksShown.{drops_at, drops_of};
 
 use ev_links::Flow;
 use ev_notices::{Cause, LinkCounts};
@@ -57,9 +58,9 @@ impl Loaded {
         }
     }
 
-    /// Returns the row of these numbers. Datagrams that were sent at once and those that the link's
-    /// worker sent are counted together.
-    pub(crate) fn row(&self) -> LinkRow
+    /// Returns the row of these numbers, with the drops of the system. Datagrams that were sent at
+    /// once and those that the link's worker sent are counted together.
+    pub(crate) fn row(&self, system_drops: Option<u64>) -> LinkRow
         ensures received { result.received ≡ self.now.received.datagrams }
         ensures received_octets { result.received_octets ≡ self.now.received.octets }
         ensures failed_reads { result.failed_reads ≡ self.now.failed_reads }
@@ -69,7 +70,7 @@ impl Loaded {
         ensures unlisted { result.unlisted ≡ self.now.unlisted }
         ensures other_network { result.other_network ≡ self.now.other_network }
         ensures no_memory { result.no_memory ≡ self.now.no_memory }
-        ensures system_drops { result.system_drops ≡ None }
+        ensures system_drops { result.system_drops ≡ system_drops }
         ensures sent { result.sent
             ≡ min (self.now.at_once.datagrams + self.now.queued.datagrams) (2 ^ 64 - 1) }
         ensures sent_octets { result.sent_octets
@@ -88,7 +89,7 @@ impl Loaded {
             unlisted: self.unlisted,
             other_network: self.other_network,
             no_memory: self.no_memory,
-            system_drops: None,
+            system_drops,
             sent: self.at_once.datagrams.saturating_add(self.queued.datagrams),
             sent_octets: self.at_once.octets.saturating_add(self.queued.octets),
             no_room: self.no_room,
@@ -98,17 +99,33 @@ impl Loaded {
     }
 }
 
-/// Loads the numbers of these links, and returns a row for each link.
+/// Returns the drops at a place of these, or `None` if there is no such place.
+fn drops_at(drops: &[Option<u64>], place: usize) -> Option<u64>
+    ensures { result ≡ drops_at drops.now place }
+{
+    match drops.get(place) {
+        Some(drops) => *drops,
+        None => None,
+    }
+}
+
+/// Loads the numbers of these links, and returns a row for each link, with its drops of the system.
 ///
 /// # Errors
 ///
 /// `AllocError` if memory is refused.
-pub(crate) fn rows_of(alloc: Global, links: &[LinkCounts]) -> Result<Vec<LinkRow>, AllocError>
-    ensures { IfOk result (λ rows. vec_len rows ≡ length links.now) }
+pub(crate) fn rows_of(
+    alloc: Global,
+    links: &[LinkCounts],
+    drops: &[Option<u64>],
+) -> Result<Vec<LinkRow>, AllocError>
+    ensures { IfOk result
+        (λ rows. map (λ row. row.system_drops) rows.items ≡ drops_of drops.now links.now) }
 {
     let mut rows = Vec::with_capacity(alloc, links.len())?;
-    for counts in links {
-        rows.push_reserved(Loaded::load(counts).row());
+    for (place, counts) in links.iter().enumerate() {
+        let system_drops = drops_at(drops, place);
+        rows.push_reserved(Loaded::load(counts).row(system_drops));
     }
     Ok(rows)
 }

@@ -5,6 +5,7 @@ ghost use Rattle.ev_console.specs.Turns.{step_of, is_taken, EntersAtEach, TakesT
 use crate::edges::Edges;
 use crate::operated::{Operated, Unreached};
 use crate::reached::Host;
+use crate::system_drops::NoDrops;
 use ev_book::BookRefusal;
 use ev_edge::Reply;
 use ev_exchange::{Sessions, Turn};
@@ -89,6 +90,7 @@ pub fn take_turn<'x, J: Naming, R: Wait>(
             rt,
             running: *running,
             unlisted: None,
+            system: &NoDrops,
         },
     };
     take_turn_with(&mut edges, sessions, now, hold)

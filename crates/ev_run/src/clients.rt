@@ -10,7 +10,7 @@ use crate::records::{ServedEdges, exchange};
 use crate::run::is_read_out;
 use crate::watching::enter_due;
 use ether_wire::{Buffered, In, Reader, Writer};
-use ev_console::converse;
+use ev_console::{Host, SystemDrops, converse};
 use ev_exchange::{Known, Sessions};
 use ev_history::Naming;
 use ev_mailboxes::Running;
@@ -138,7 +138,7 @@ pub(crate) struct Service {
 
 /// The state that the clients share.
 #[derive(Drop)]
-struct Hall<'x, J: Naming, R> {
+struct Hall<'x, J: Naming, R, T> {
     /// The runtime, which waits and starts threads.
     rt: &'x R,
     /// The allocator of the answers.
@@ -153,22 +153,20 @@ struct Hall<'x, J: Naming, R> {
     sessions: &'x Mutex<Sessions>,
     /// The edges elsewhere that the configuration doesn't name.
     unlisted: &'x Mutex<Known>,
+    /// The system's counters at the sockets of the edges.
+    system: &'x T,
 }
 
 /// Answers a client's lines until the client ends, sends nothing for too long, or doesn't read the
 /// answers in time.
-fn console<J: Naming, R: Wait>(hall: &Hall<'_, J, R>, stream: &UnixStream) -> io::Result<()> {
+fn console<J: Naming, R: Wait, T: SystemDrops>(
+    hall: &Hall<'_, J, R, T>,
+    stream: &UnixStream,
+) -> io::Result<()> {
     stream.set_read_timeout(Some(Duration::from_secs(hall.service.idle)))?;
     let mut reader = Reader::new(stream);
     let mut out = Buffered::new(Writer::new(stream));
-    let conversed = converse(
-        hall.rt,
-        hall.alloc,
-        &hall.running,
-        hall.unlisted,
-        &mut reader,
-        &mut out,
-    );
+    let conversed = converse(hall.alloc, hall.host(), &mut reader, &mut out);
     let _ = out.abandon();
     if conversed.is_err() {
         // A read timed out, or the client doesn't read: then this line has no room either.
@@ -179,8 +177,8 @@ fn console<J: Naming, R: Wait>(hall: &Hall<'_, J, R>, stream: &UnixStream) -> io
 }
 
 /// Serves a client that is a console, or writes `busy` to it if there are six consoles already.
-fn console_seated<J: Naming, R: Wait>(
-    hall: &Hall<'_, J, R>,
+fn console_seated<J: Naming, R: Wait, T: SystemDrops>(
+    hall: &Hall<'_, J, R, T>,
     stream: &UnixStream,
     place: usize,
 ) -> io::Result<()> {
@@ -199,8 +197,8 @@ fn say(stream: &UnixStream, words: &[u8]) {
 }
 
 /// Serves a client in a seat by its first line.
-fn attend<J: Naming + Send + Sync, R: Threads + Wait + Clock + Sync>(
-    hall: &Hall<'_, J, R>,
+fn attend<J: Naming + Send + Sync, R: Threads + Wait + Clock + Sync, T: SystemDrops + Sync>(
+    hall: &Hall<'_, J, R, T>,
     stream: &UnixStream,
     place: usize,
 ) -> io::Result<()> {
@@ -223,8 +221,8 @@ fn attend<J: Naming + Send + Sync, R: Threads + Wait + Clock + Sync>(
 }
 
 /// Serves a client, ends its connection, and frees its seat.
-fn attend_seated<J: Naming + Send + Sync, R: Threads + Wait + Clock + Sync>(
-    hall: &Hall<'_, J, R>,
+fn attend_seated<J: Naming + Send + Sync, R: Threads + Wait + Clock + Sync, T: SystemDrops + Sync>(
+    hall: &Hall<'_, J, R, T>,
     stream: UnixStream,
     place: usize,
 ) {
@@ -234,11 +232,13 @@ fn attend_seated<J: Naming + Send + Sync, R: Threads + Wait + Clock + Sync>(
 }
 
 /// Gives a client a seat and a thread, or writes `busy` to it if it gets no seat.
-fn let_in<'s, 'x: 's, J: Naming + Send + Sync, R: Threads + Wait + Clock + Sync>(
-    scope: &Scope<'s, &'x ()>,
-    hall: &'x Hall<'x, J, R>,
-    stream: UnixStream,
-) {
+fn let_in<
+    's,
+    'x: 's,
+    J: Naming + Send + Sync,
+    R: Threads + Wait + Clock + Sync,
+    T: SystemDrops + Sync,
+>(scope: &Scope<'s, &'x ()>, hall: &'x Hall<'x, J, R, T>, stream: UnixStream) {
     let Ok(end) = stream.try_clone() else {
         return;
     };
@@ -256,10 +256,13 @@ fn let_in<'s, 'x: 's, J: Naming + Send + Sync, R: Threads + Wait + Clock + Sync>
 }
 
 /// Accepts clients as they connect, until the hall is closed.
-fn receive<'s, 'x: 's, J: Naming + Send + Sync, R: Threads + Wait + Clock + Sync>(
-    scope: &Scope<'s, &'x ()>,
-    hall: &'x Hall<'x, J, R>,
-) {
+fn receive<
+    's,
+    'x: 's,
+    J: Naming + Send + Sync,
+    R: Threads + Wait + Clock + Sync,
+    T: SystemDrops + Sync,
+>(scope: &Scope<'s, &'x ()>, hall: &'x Hall<'x, J, R, T>) {
     for _ in hall.rt.forever() {
         match hall.service.socket.accept() {
             Ok(stream) => let_in(scope, hall, stream),
@@ -270,16 +273,19 @@ fn receive<'s, 'x: 's, J: Naming + Send + Sync, R: Threads + Wait + Clock + Sync
 }
 
 /// Serves clients until the hall is closed and all clients have gone.
-fn serve_clients<'x, J: Naming + Send + Sync, R: Threads + Wait + Clock + Sync>(
-    hall: &'x Hall<'x, J, R>,
-) {
+fn serve_clients<
+    'x,
+    J: Naming + Send + Sync,
+    R: Threads + Wait + Clock + Sync,
+    T: SystemDrops + Sync,
+>(hall: &'x Hall<'x, J, R, T>) {
     thread::scope(thread::scope_env(), hall.rt, move |scope| {
         receive(scope, hall)
     })
 }
 
 /// Marks edges elsewhere as away or back at the edges of this process, until the hall is closed.
-fn watch_sessions<J: Naming, R: Wait + Clock>(hall: &Hall<'_, J, R>) {
+fn watch_sessions<J: Naming, R: Wait + Clock, T: SystemDrops>(hall: &Hall<'_, J, R, T>) {
     for _ in hall.rt.forever() {
         if hall.is_closed() {
             return;
@@ -293,11 +299,14 @@ fn watch_sessions<J: Naming, R: Wait + Clock>(hall: &Hall<'_, J, R>) {
 /// Reads an input out, and then closes the hall. Returns `true` if no read failed and the end came
 /// within 2^40 reads. Serves clients and watches sessions meanwhile, if a thread can be started for
 /// each of the two.
-fn read_beside<'s, 'x: 's, J: Naming + Send + Sync, R: Threads + Wait + Clock + Sync, E: In>(
-    scope: &Scope<'s, &'x ()>,
-    hall: &'x Hall<'x, J, R>,
-    reader: &mut E,
-) -> bool
+fn read_beside<
+    's,
+    'x: 's,
+    J: Naming + Send + Sync,
+    R: Threads + Wait + Clock + Sync,
+    T: SystemDrops + Sync,
+    E: In,
+>(scope: &Scope<'s, &'x ()>, hall: &'x Hall<'x, J, R, T>, reader: &mut E) -> bool
     requires { Allows (2 ^ 40) (E.end reader.old) }
     ensures { ReadsOut (E.end reader.old) (E.end reader.new) result }
 {
@@ -308,7 +317,7 @@ fn read_beside<'s, 'x: 's, J: Naming + Send + Sync, R: Threads + Wait + Clock + 
     is_read
 }
 
-impl<J: Naming, R: Wait> Hall<'_, J, R> {
+impl<J: Naming, R: Wait, T> Hall<'_, J, R, T> {
     /// Returns `true` if the hall is closed to more clients.
     fn is_closed(&self) -> bool {
         self.seats.lock(self.rt).is_closed
@@ -321,7 +330,19 @@ impl<J: Naming, R: Wait> Hall<'_, J, R> {
     }
 }
 
-impl<'x, J: Naming, R> Hall<'x, J, R> {
+impl<'x, J: Naming, R, T> Hall<'x, J, R, T> {
+    /// Returns the edges as a console queries them.
+    fn host(&self) -> Host<'x, J, R, T>
+        ensures { result.system.now ≡ self.now.system.now }
+    {
+        Host {
+            rt: self.rt,
+            running: self.running,
+            unlisted: Some(self.unlisted),
+            system: self.system,
+        }
+    }
+
     /// Returns the edges as clients exchange records with them.
     fn served_edges(&self) -> ServedEdges<'x, J, R>
         ensures { result.listed.now ≡ self.now.service.now.listed }
@@ -338,10 +359,13 @@ impl<'x, J: Naming, R> Hall<'x, J, R> {
 }
 
 /// Reads an input out, and serves clients meanwhile. Returns once all clients have gone.
-fn read_serving<'x, J: Naming + Send + Sync, R: Threads + Wait + Clock + Sync, E: In>(
-    hall: &'x Hall<'x, J, R>,
-    reader: &mut E,
-) -> bool
+fn read_serving<
+    'x,
+    J: Naming + Send + Sync,
+    R: Threads + Wait + Clock + Sync,
+    T: SystemDrops + Sync,
+    E: In,
+>(hall: &'x Hall<'x, J, R, T>, reader: &mut E) -> bool
     requires { Allows (2 ^ 40) (E.end reader.old) }
     ensures { ReadsOut (E.end reader.old) (E.end reader.new) result }
 {
@@ -363,11 +387,18 @@ fn read_serving<'x, J: Naming + Send + Sync, R: Threads + Wait + Clock + Sync, E
 
 /// Reads an input out, and serves the clients of a socket meanwhile, if there is one. Returns
 /// `true` if no read failed and the end came within 2^40 reads. Returns once all clients have gone.
-pub(crate) fn read_out<'x, J: Naming + Send + Sync, R: Threads + Wait + Clock + Sync, E: In>(
+pub(crate) fn read_out<
+    'x,
+    J: Naming + Send + Sync,
+    R: Threads + Wait + Clock + Sync,
+    T: SystemDrops + Sync,
+    E: In,
+>(
     rt: &'x R,
     alloc: Global,
     running: Running<'x, J>,
     service: Option<&'x Service>,
+    system: &'x T,
     reader: &mut E,
 ) -> bool
     requires { Allows (2 ^ 40) (E.end reader.old) }
@@ -387,6 +418,7 @@ pub(crate) fn read_out<'x, J: Naming + Send + Sync, R: Threads + Wait + Clock + 
         seats: &seats,
         sessions: &sessions,
         unlisted: &unlisted,
+        system,
     };
     read_serving(&hall, reader)
 }

@@ -11,6 +11,7 @@ use crate::bound::{Sockets, end_all_reads};
 use crate::clients::read_out;
 use crate::run::{Host, Ready, tell_meanwhile};
 use ether_wire::{Device, In, Out};
+use ev_console::SystemDrops;
 use ev_history::{Naming, NewHistory};
 use ev_links::{UdpOut, Wire};
 use ev_mailboxes::Boards;
@@ -24,23 +25,31 @@ use std::time::Clock;
 /// The result of a run: that of each edge, and `true` if the input was read up to its end.
 pub(crate) type Reached = (Vec<Result<Outcome, AllocError>>, bool);
 
-/// The means to stop edges.
+/// The sockets of edges, and the means to stop them.
 #[derive(Drop)]
-pub(crate) struct Ends<'x> {
+pub(crate) struct Ends<'x, T> {
     /// The sockets of the edges.
     pub(crate) sockets: &'x [Sockets],
     /// The flag that makes the edges stop.
     pub(crate) stop: &'x AtomicBool,
+    /// The system's counters at the sockets.
+    pub(crate) system: &'x T,
 }
 
 /// Runs edges until the reader ends, and then stops them. Clients of a control socket may query
 /// them meanwhile.
-fn run_reading<'x, J: Naming + Send + Sync, R: Threads + Wait + Clock + Sync, E: In>(
+fn run_reading<
+    'x,
+    J: Naming + Send + Sync,
+    R: Threads + Wait + Clock + Sync,
+    T: SystemDrops + Sync,
+    E: In,
+>(
     host: &Host<'x, R>,
     start: Start<J, Wire<'x, R>, UdpOut<'x>>,
     mailroom: &Mailroom<J>,
     boards: &Boards,
-    ends: Ends<'x>,
+    ends: Ends<'x, T>,
     reader: &mut E,
 ) -> Reached
     requires { Allows (2 ^ 40) (E.end reader.old) }
@@ -50,7 +59,11 @@ fn run_reading<'x, J: Naming + Send + Sync, R: Threads + Wait + Clock + Sync, E:
     ensures read { ReadsOut (E.end reader.old) (E.end reader.new) result.1 }
 {
     let (rt, alloc, service) = (host.rt, host.alloc, host.service);
-    let Ends { sockets, stop } = ends;
+    let Ends {
+        sockets,
+        stop,
+        system,
+    } = ends;
     // The closure returns the reader; its ghost name shows that it is this reader.
     let (ended, (is_read, _reader)) = run_all(
         rt,
@@ -64,7 +77,7 @@ fn run_reading<'x, J: Naming + Send + Sync, R: Threads + Wait + Clock + Sync, E:
             ensures read { ReadsOut (E.end reader.entry.now) (E.end result.1.now) result.0 }
         {
             let running = mailroom.running(boards);
-            let is_read = read_out(rt, alloc, running, service, &mut *reader);
+            let is_read = read_out(rt, alloc, running, service, system, &mut *reader);
             stop.store(true, Ordering::SeqCst);
             end_all_reads(sockets);
             (is_read, reader)
@@ -75,13 +88,13 @@ fn run_reading<'x, J: Naming + Send + Sync, R: Threads + Wait + Clock + Sync, E:
 
 /// Edges over sockets that are about to run, and their history, which has just begun.
 #[derive(Drop)]
-pub(crate) struct Prepared<'x, R> {
+pub(crate) struct Prepared<'x, R, T> {
     /// The edges.
     pub(crate) setups: Vec<Ready<'x, R>>,
     /// Their history.
     pub(crate) history: NewHistory,
     /// The means to stop them.
-    pub(crate) ends: Ends<'x>,
+    pub(crate) ends: Ends<'x, T>,
 }
 
 /// Runs edges under a name of their history until the reader ends, and writes their alerts
@@ -94,11 +107,12 @@ pub(crate) fn run_named<
     'x,
     J: Naming + Send + Sync,
     R: Threads + Wait + Clock + Sync,
+    T: SystemDrops + Sync,
     E: In,
     N: Out + Send,
 >(
     host: &Host<'x, R>,
-    prepared: Prepared<'x, R>,
+    prepared: Prepared<'x, R, T>,
     reader: &mut E,
     notes: &mut N,
 ) -> Result<(Result<(), Device>, Reached), AllocError>

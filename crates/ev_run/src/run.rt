@@ -18,8 +18,9 @@ use crate::clients::Service;
 use crate::links::links_of;
 use crate::named::{Ends, Prepared, run_named};
 use crate::print::{Watched, put_notes, put_reports};
+use crate::socket_drops::SocketDrops;
 use crate::sockets::{StartError, bind_all, put_bind_error};
-use crate::system_drops::udp_table;
+use crate::system_drops::{UdpTable, rows_of_drops};
 use crate::thread_check::{ThreadPolicy, check_threads, stopped_by};
 use ether_wire::{Device, In, Out};
 use ev_config::Config;
@@ -265,7 +266,7 @@ impl<'x, R> Host<'x, R> {
 /// # Errors
 ///
 /// `AllocError` if memory is refused before an edge has begun.
-fn run_bound<'x, 'h: 'x, R: Threads + Wait + Files + Clock + Sync, E: In, W: Out, N: Out + Send>(
+fn run_bound<'x, 'h: 'x, R: Threads + Wait + UdpTable + Clock + Sync, E: In, W: Out, N: Out + Send>(
     host: &Host<'h, R>,
     configs: Vec<EdgeConfig>,
     sockets: &'x [Sockets],
@@ -292,16 +293,20 @@ fn run_bound<'x, 'h: 'x, R: Threads + Wait + Files + Clock + Sync, E: In, W: Out
     let incarnation = first_incarnation(rt, is_asked);
     let setups = all_ready(rt, alloc, incarnation, configs, sockets, &stop)?;
     let history = new_history(setups.as_slice(), is_asked);
+    let system = SocketDrops { rt, sockets };
     let prepared = Prepared {
         setups,
         history,
         ends: Ends {
             sockets,
             stop: &stop,
+            system: &system,
         },
     };
-    let (told, (ended, is_read)) = run_named::<Brand, R, E, N>(host, prepared, reader, notes)?;
-    let table = udp_table(rt, alloc);
+    let (told, (ended, is_read)) = run_named::<Brand, R, SocketDrops<'_, R>, E, N>(
+        host, prepared, reader, notes,
+    )?;
+    let table = rows_of_drops(rt, alloc);
     let watched = Watched {
         table: table.as_slice(),
         sockets,
@@ -328,7 +333,7 @@ fn tell_start_error<N: Out>(start_error: StartError, notes: &mut N) -> u8
 
 /// Runs the edges of a configuration over these sockets, or returns the status if memory is refused
 /// before an edge has begun.
-fn begin<'h, R: Threads + Wait + Files + Clock + Sync, E: In, W: Out, N: Out + Send>(
+fn begin<'h, R: Threads + Wait + UdpTable + Clock + Sync, E: In, W: Out, N: Out + Send>(
     host: &Host<'h, R>,
     config: Config,
     sockets: &[Sockets],
@@ -358,7 +363,7 @@ fn begin<'h, R: Threads + Wait + Files + Clock + Sync, E: In, W: Out, N: Out + S
 /// Runs edges as `run_edges` does, with or without a control socket whose clients may query them
 /// meanwhile.
 pub(crate) fn run_asked<
-    R: Threads + Wait + Net + Files + Clock + Sync,
+    R: Threads + Wait + Net + Files + UdpTable + Clock + Sync,
     E: In,
     W: Out,
     N: Out + Send,
@@ -405,13 +410,12 @@ pub(crate) fn run_asked<
 /// system doesn't start as many threads as the run needs, a line on `notes` has both numbers, and
 /// no edge begins unless the policy of `system` allows it. If a port lacks an address, no edge begins
 /// either, and nothing is written.
-pub fn run_edges<R: Threads + Wait + Net + Files + Clock + Sync, E: In, W: Out, N: Out + Send>(
-    system: &System<'_, R>,
-    config: Config,
-    reader: &mut E,
-    out: &mut W,
-    notes: &mut N,
-) -> u8
+pub fn run_edges<
+    R: Threads + Wait + Net + Files + UdpTable + Clock + Sync,
+    E: In,
+    W: Out,
+    N: Out + Send,
+>(system: &System<'_, R>, config: Config, reader: &mut E, out: &mut W, notes: &mut N) -> u8
     requires config { AreConfigs config.edges.items }
     requires reader { Allows (2 ^ 40) (E.end reader.old) }
     requires out { IsOpen (W.end out.old) }
@@ -425,11 +429,12 @@ pub fn run_edges<R: Threads + Wait + Net + Files + Clock + Sync, E: In, W: Out, 
 }
 
 /// Runs edges as `run_edges` does, with few and large writes. Takes the devices and returns them.
-pub fn run_buffered<H: Threads + Wait + Net + Files + Clock + Sync, R: In, W: Out, N: Out + Send>(
-    system: &System<'_, H>,
-    config: Config,
-    devices: Devices<R, W, N>,
-) -> (u8, Devices<R, W, N>)
+pub fn run_buffered<
+    H: Threads + Wait + Net + Files + UdpTable + Clock + Sync,
+    R: In,
+    W: Out,
+    N: Out + Send,
+>(system: &System<'_, H>, config: Config, devices: Devices<R, W, N>) -> (u8, Devices<R, W, N>)
     requires config { AreConfigs config.edges.items }
     requires devices { AreOpen devices }
     ensures { RunsEdges false system.now.policy config devices result.1 result.0 }

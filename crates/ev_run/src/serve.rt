@@ -9,6 +9,7 @@ ghost use Rattle.ev_run.specs.Inner.Serving.{listed_by};
 use crate::clients::Service;
 use crate::control_socket::{ControlSocket, ListenError, put_listen_error};
 use crate::run::{Host, System, run_asked};
+use crate::system_drops::UdpTable;
 use ether_wire::{In, Out};
 use ev_config::{Config, Served};
 use ev_exchange::Known;
@@ -44,13 +45,12 @@ fn listed_by(config: &Config) -> Known
 ///
 /// If nothing can listen at the path, no edge begins, a line on `notes` has the reason, and the
 /// status is 4.
-pub fn serve_edges<R: Threads + Wait + Net + Files + Clock + Sync, E: In, W: Out, N: Out + Send>(
-    system: &System<'_, R>,
-    served: Served,
-    reader: &mut E,
-    out: &mut W,
-    notes: &mut N,
-) -> u8
+pub fn serve_edges<
+    R: Threads + Wait + Net + Files + UdpTable + Clock + Sync,
+    E: In,
+    W: Out,
+    N: Out + Send,
+>(system: &System<'_, R>, served: Served, reader: &mut E, out: &mut W, notes: &mut N) -> u8
     requires config { AreConfigs served.config.edges.items }
     requires reader { Allows (2 ^ 40) (E.end reader.old) }
     requires out { IsOpen (W.end out.old) }
@@ -85,11 +85,12 @@ pub fn serve_edges<R: Threads + Wait + Net + Files + Clock + Sync, E: In, W: Out
 }
 
 /// Runs edges as `serve_edges` does, with few and large writes. Takes the devices and returns them.
-pub fn serve_buffered<H: Threads + Wait + Net + Files + Clock + Sync, R: In, W: Out, N: Out + Send>(
-    system: &System<'_, H>,
-    served: Served,
-    devices: Devices<R, W, N>,
-) -> (u8, Devices<R, W, N>)
+pub fn serve_buffered<
+    H: Threads + Wait + Net + Files + UdpTable + Clock + Sync,
+    R: In,
+    W: Out,
+    N: Out + Send,
+>(system: &System<'_, H>, served: Served, devices: Devices<R, W, N>) -> (u8, Devices<R, W, N>)
     requires config { AreConfigs served.config.edges.items }
     requires devices { AreOpen devices }
     ensures { ServesEdges system.now.policy (string_bytes served.control) served.config

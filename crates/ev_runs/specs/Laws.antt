@@ -5,8 +5,9 @@ use Rattle.ev_edge.specs.declared.config.EdgeConfig.{EdgeConfig}
 use Rattle.ev_edge.specs.Edge.{Edge}
 use Rattle.ev_fabric.specs.declared.step.Step.{Step}
 use Rattle.ev_fabric.specs.Fabric.{fabric_of}
-use Rattle.ev_fabric.specs.Opening.{AreOpened}
+use Rattle.ev_fabric.specs.Opening.{AreConfigs, AreOpened}
 use Rattle.ev_fabric.specs.Runs.{Runs}
+use Rattle.ev_fabric.specs.Sound.{IsSound}
 use Rattle.ev_history.specs.declared.entry.Entry.{Entry}
 use Rattle.ev_history.specs.declared.entry.Entry.TheVariants.{Begins}
 use Rattle.ev_history.specs.Log.{IsHistory}
@@ -26,3 +27,10 @@ abbrev pub HistoryIsARun : Type 0
 HistoryIsARun =
     (configs : List EdgeConfig) (entries : List Entry) (edges : List Edge) → IsHistory (Begins false configs ∷ entries)
     → length edges ≡ length configs → AllStand (Begins false configs ∷ entries) 0 edges → IsRunOf configs edges
+
+-- If these configurations can be opened as a fabric, the edges are those of a sound fabric, in which the updates of the
+-- run are announced. So the laws on sound fabrics hold for them.
+abbrev pub RunIsSound : Type 0
+RunIsSound =
+    (configs : List EdgeConfig) (edges : List Edge) → AreConfigs configs → (run : IsRunOf configs edges)
+    → IsSound (fabric_of edges configs run.pool)

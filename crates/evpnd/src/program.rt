@@ -25,7 +25,7 @@ use clap::Error;
 use ether_wire::{In, Out};
 use ev_config::Use;
 use ev_report::{Devices, Failures, MEMORY, tell, tell_failed, tell_words};
-use ev_run::ThreadPolicy;
+use ev_run::{ThreadPolicy, UdpTable};
 use ev_script::Mode;
 use ev_words::{Aim, ArgsError, Invocation, Parser, Subcommand, invocation_of};
 use std::alloc::Global;
@@ -117,7 +117,7 @@ fn wanted_of<'a>(descriptors: Descriptors, invocation: &Invocation<'a>) -> Wante
 /// Runs the edges of the configuration in the file at a path, with or without clients, if no
 /// standard stream was closed: a socket would get its number.
 fn run_open<
-    H: Threads + Wait + Net + SocketFiles + Clock + Sync,
+    H: Threads + Wait + Net + SocketFiles + UdpTable + Clock + Sync,
     F: Files,
     R: In,
     W: Out,
@@ -144,7 +144,7 @@ fn run_open<
 
 /// Executes an invocation.
 fn follow<
-    H: Threads + Wait + Net + SocketFiles + Clock + Sync,
+    H: Threads + Wait + Net + SocketFiles + UdpTable + Clock + Sync,
     F: Files,
     R: In,
     W: Out,
@@ -190,7 +190,7 @@ fn follow<
 
 /// Executes an invocation, and reports whether reading or writing failed.
 fn follow_telling<
-    H: Threads + Wait + Net + SocketFiles + Clock + Sync,
+    H: Threads + Wait + Net + SocketFiles + UdpTable + Clock + Sync,
     F: Files,
     R: In,
     W: Out,
@@ -213,7 +213,7 @@ fn follow_telling<
 
 /// Runs the program with these arguments.
 fn run_words<
-    H: Threads + Wait + Net + SocketFiles + Clock + Sync,
+    H: Threads + Wait + Net + SocketFiles + UdpTable + Clock + Sync,
     P: Parser,
     F: Files,
     R: In,
@@ -253,7 +253,7 @@ fn run_words<
 // (its frame is large: in `main`, which names a small stack, it would not fit that stack)
 #[inline(never)]
 pub(crate) fn run<
-    H: Threads + Wait + Net + SocketFiles + Clock + Sync,
+    H: Threads + Wait + Net + SocketFiles + UdpTable + Clock + Sync,
     P: Parser,
     F: Files,
     R: In,

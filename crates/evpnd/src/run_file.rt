@@ -10,7 +10,7 @@ use crate::configured::configured;
 use crate::files::Files;
 use ether_wire::{In, Out};
 use ev_report::Devices;
-use ev_run::{System, ThreadPolicy, run_buffered};
+use ev_run::{System, ThreadPolicy, UdpTable, run_buffered};
 use std::alloc::Global;
 use std::fs::Files as SocketFiles;
 use std::net::Net;
@@ -20,7 +20,7 @@ use std::time::Clock;
 
 /// Runs the edges that the file at a path configures.
 pub(crate) fn run_file<
-    H: Threads + Wait + Net + SocketFiles + Clock + Sync,
+    H: Threads + Wait + Net + SocketFiles + UdpTable + Clock + Sync,
     F: Files,
     R: In,
     W: Out,

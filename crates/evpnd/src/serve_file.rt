@@ -9,7 +9,7 @@ use crate::configured::served;
 use crate::files::Files;
 use ether_wire::{In, Out};
 use ev_report::Devices;
-use ev_run::{System, ThreadPolicy, serve_buffered};
+use ev_run::{System, ThreadPolicy, UdpTable, serve_buffered};
 use std::alloc::Global;
 use std::fs::Files as SocketFiles;
 use std::net::Net;
@@ -19,7 +19,7 @@ use std::time::Clock;
 
 /// Runs the edges that the file at a path configures. They answer queries meanwhile.
 pub(crate) fn serve_file<
-    H: Threads + Wait + Net + SocketFiles + Clock + Sync,
+    H: Threads + Wait + Net + SocketFiles + UdpTable + Clock + Sync,
     F: Files,
     R: In,
     W: Out,
