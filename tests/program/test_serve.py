@@ -343,7 +343,7 @@ class Asked(Served):
         self.assertEqual((done.returncode, done.stderr), (0, ""))
         found = [line.split(" ")[0] for line in done.stdout.splitlines() if not line.startswith("#")]
         ways = [f"{name}{{LINK,way=\"{way}\"}}" for name in ("datagrams_total", "octets_total", "failures_total", "idle_seconds") for way in ("in", "out")]
-        causes = ("no_room", "too_long", "malformed", "unlisted", "other_network", "no_memory")
+        causes = ("no_room", "too_long", "malformed", "unlisted", "other_network", "storm", "no_memory")
         wanted = ways + [f"drops_total{{LINK,cause=\"{cause}\"}}" for cause in causes]
         links = [f'edge="{number}",link="{link}"' for number in (1, 2) for link in ("tunnel", "port1")]
         self.assertEqual(sorted(found), sorted(f"evpnd_link_{line.replace('LINK', link)}" for line in wanted for link in links))
