@@ -36,7 +36,8 @@ use Rattle.ev_edge.specs.declared.reply.Reply.{Reply}
 use Rattle.ev_edge.specs.Edge.{Edge, table_of, address_of}
 use Rattle.ether_wire.specs.Addr.{is_reserved}
 use Rattle.ev_edge.specs.Arrival.{holds_bpdu, message_in, reserved_arrival, data_in, arrival_at}
-use Rattle.ev_edge.specs.Arrival.{arrival_on, port_arrival, frame_arrival, is_up, serves, inner_arrival, datagram_arrival, is_other}
+use Rattle.ev_edge.specs.Arrival.{arrival_on, port_arrival, frame_arrival, is_up, serves, inner_arrival}
+use Rattle.ev_edge.specs.Arrival.{datagram_arrival, is_other}
 use Rattle.ev_edge.specs.Arrival.{tunnel_arrival}
 use Rattle.ev_edge.specs.Sending.{IsDecision, port_of}
 use Rattle.ev_edge.specs.Storms.{taking_on}
@@ -142,8 +143,9 @@ module _ (e : Edge) (port : ℕ) (result : Result Reply Refusal) (e' : Edge) (ke
       → DataSteps (taking_on e port vni destination) port vni destination source reply e'
       → ForSome reply.decision (LeavesBy e port)
   data_leaves vni destination source reply at h d is =
-      sent vni destination d at (learnt_stays (taking_on e port vni destination) (record { vni = vni; mac = source }) port
-      reply.alert e' _ h.learning.learning) h.passes (subst (SendsIf h.passes e' vni destination (Port port)) is h.sending)
+      sent vni destination d at (learnt_stays (taking_on e port vni destination) (record { vni = vni; mac = source })
+      port reply.alert e' _ h.learning.learning) h.passes
+      (subst (SendsIf h.passes e' vni destination (Port port)) is h.sending)
 
   in_frame : (vni : ℕ) (frame : List ℕ) → vni_at e.routes.ports port ≡ Some vni → (b : Bool)
       → (r : Result Reply Refusal) → FrameSteps (cond b (reserved_arrival frame) (Ok (data_in vni frame))) e port r e'

@@ -419,7 +419,8 @@ frame_limits (Ok (Message b)) e port result e' p h = let r = bridge_rests _ e re
     (ap (λ qs. (quota_at qs p).limits) r.quotas, r.later)
 frame_limits (Ok (Data vni destination source)) e port (Ok reply) e' p h =
     learnt_by (λ x. (limits_at x p ≡ limits_at e p) × (e.clock ≤ x.clock)) (taking_on e port vni destination)
-    (record { vni = vni; mac = source }) port reply.alert e' (refl, no_more e.clock) (λ heard. (refl, no_more e.clock)) (refl, no_more e.clock)
+    (record { vni = vni; mac = source }) port reply.alert e' (refl, no_more e.clock)
+    (λ heard. (refl, no_more e.clock)) (refl, no_more e.clock)
     (λ new. (counted_limits e (record { vni = vni; mac = source }) port p, no_more e.clock))
     (λ n new. (counted_limits e (record { vni = vni; mac = source }) port p, no_more e.clock))
     (h.learning.learns && not (is_group source)) h.learning.learning
@@ -471,9 +472,21 @@ kind_of e (events.Take u) result e' h = inl (record {
 })
 kind_of e (events.Pin s port) result e' h = let c = pin_counts e s port result e' (refused_pin e s port) h in
     inr (inr (record { none = λ p. refl; calm = λ p. refl; pin = refl; same = c.0; storms = c.1; later = c.2 }))
-kind_of e (events.Unpin s) result e' h = inl (record { none = λ p. refl; calm = λ p. refl; rests = unpin_rests e s e' h.1 })
-kind_of e (events.Thaw s) result e' h = inl (record { none = λ p. refl; calm = λ p. refl; rests = thaw_rests e s e' h.1 })
-kind_of e events.Second result e' h = inl (record { none = λ p. refl; calm = λ p. refl; rests = second_rests e result e' h })
+kind_of e (events.Unpin s) result e' h = inl (record {
+  none = λ p. refl;
+  calm = λ p. refl;
+  rests = unpin_rests e s e' h.1;
+})
+kind_of e (events.Thaw s) result e' h = inl (record {
+  none = λ p. refl;
+  calm = λ p. refl;
+  rests = thaw_rests e s e' h.1;
+})
+kind_of e events.Second result e' h = inl (record {
+  none = λ p. refl;
+  calm = λ p. refl;
+  rests = second_rests e result e' h;
+})
 kind_of e (events.PortUp port) result e' h = inl (record {
   none = λ p. refl;
   calm = λ p. refl;

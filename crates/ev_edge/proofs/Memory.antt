@@ -27,7 +27,8 @@ use Rattle.ev_edge.specs.declared.reply.Reply.{Reply}
 use Rattle.ev_edge.specs.Edge.{Edge, table_of, address_of}
 use Rattle.ether_wire.specs.Addr.{is_reserved}
 use Rattle.ev_edge.specs.Arrival.{holds_bpdu, message_in, reserved_arrival, data_in, arrival_at}
-use Rattle.ev_edge.specs.Arrival.{arrival_on, port_arrival, admitted, is_up, serves, inner_arrival, datagram_arrival, is_other}
+use Rattle.ev_edge.specs.Arrival.{arrival_on, port_arrival, admitted, is_up, serves, inner_arrival, datagram_arrival}
+use Rattle.ev_edge.specs.Arrival.{is_other}
 use Rattle.ev_edge.specs.Storms.{is_stormy}
 use Rattle.ev_edge.specs.Steps.{Steps, FrameSteps, TunnelSteps, Bridges, BridgesAt, Seconds, Takes, TakesOther}
 use Rattle.ev_edge.specs.Steps.{lost_alert, Marks}

@@ -1,7 +1,8 @@
 -- The storm limits of ports: they spare all other frames, no event changes them, and the edge takes on no more group
 -- and unknown frames than they allow.
 use Rattle.std.proofs.Common.{◌≡◌, ◌≢◌, ◌⊎◌, inl, inr, ℕ, zero, suc, ◌+◌, ◌-◌, ◌*◌, ◌<◌, ◌≤◌, Bool, true, false, cond}
-use Rattle.std.proofs.Common.{◌&&◌, not, eqb, Option, Some, None, Result, Ok, Err, List, [], ◌∷◌, refl, sym, ap, subst, ◌∙◌, arith}
+use Rattle.std.proofs.Common.{◌&&◌, not, eqb, Option, Some, None, Result, Ok, Err, List, [], ◌∷◌, refl, sym, ap}
+use Rattle.std.proofs.Common.{subst, ◌∙◌, arith}
 use Rattle.std.specs.Prelude.{is_some, slice_set}
 use Rattle.std.proofs.lemmas.Bool.{false≢true, eq-eqb}
 use Rattle.std.proofs.lemmas.Bool.Decides.{nat_tests}
@@ -159,8 +160,8 @@ module _ (e : Edge) (event : Event) (p limit : ℕ) (some : 0 < p) (is : (storm_
     where
       with : storms_with e port vni destination ≡ with_taken e.storms port e.clock
       with = ap (λ b. cond b (with_taken e.storms port e.clock) e.storms)
-          (ap (λ q. is_taken e q vni destination) same ∙ ap (λ (o : Option ℕ). is_some o && is_flooded e vni destination)
-          is ∙ f)
+          (ap (λ q. is_taken e q vni destination) same
+          ∙ ap (λ (o : Option ℕ). is_some o && is_flooded e vni destination) is ∙ f)
 
       first : (b : Bool) → (b && true) ≡ false → b ≡ false
       first true h = h

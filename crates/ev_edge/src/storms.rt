@@ -107,8 +107,8 @@ fn take_at(storms: &mut ArrayVec<Storm, 64>, port: u8, second: u64)
 }
 
 impl Edge {
-    /// Returns `true` if a destination is a group address, or unknown: no port has learnt it, and no
-    /// other edge owns it.
+    /// Returns `true` if a destination is a group address, or unknown: no port has learnt it, and
+    /// no other edge owns it.
     fn is_flooded(&self, vni: Vni, destination: Mac) -> bool
         ensures { result ≡ is_flooded self.now vni destination }
     {

@@ -262,8 +262,8 @@ good tree address listed = record {
   };
   keeps = (edge.opened (start_of (config_of tree address)) (opened_routes_of address) tree
       (settings_of (port_of ∷ port_of ∷ [])) 300 (start tree (settings_of (port_of ∷ port_of ∷ [])))
-      (record { windows = empty; places = [] }) unlimited no_storms (opens_routes tree address) refl refl served (lit< tt)
-      (opened_kept (port_of ∷ port_of ∷ []))).keeps;
+      (record { windows = empty; places = [] }) unlimited no_storms (opens_routes tree address) refl refl served
+      (lit< tt) (opened_kept (port_of ∷ port_of ∷ []))).keeps;
 }
 
 -- ---- the fabric

@@ -21,7 +21,8 @@ use Rattle.ev_edge.specs.declared.refusal.EdgeRefusal.TheVariants.{UnknownOrigin
 use Rattle.ev_edge.specs.declared.refusal.Refusal.{Refusal}
 use Rattle.ev_edge.specs.declared.refusal.Refusal.TheVariants.{Edge as OfEdge}
 use Rattle.ev_edge.specs.declared.reply.Reply.{Reply}
-use Rattle.ev_edge.specs.Arrival.{port_arrival, frame_arrival, arrival_on, arrival_at, reserved_arrival, message_in, data_in}
+use Rattle.ev_edge.specs.Arrival.{port_arrival, frame_arrival, arrival_on, arrival_at, reserved_arrival, message_in}
+use Rattle.ev_edge.specs.Arrival.{data_in}
 use Rattle.ether_wire.specs.Addr.{is_reserved}
 use Rattle.ev_edge.specs.Arrival.{holds_bpdu, is_up, inner_arrival, serves, datagram_arrival}
 use Rattle.ev_edge.specs.Arrival.{tunnel_arrival}

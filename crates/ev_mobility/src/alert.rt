@@ -70,7 +70,7 @@ impl Display for Alert {
         let text = match self {
             Alert::PortFull(port) => return write!(f, "too many stations at port {port}"),
             Alert::PortBusy(port) => return write!(f, "too many new stations at port {port}"),
-            Alert::PortStorm(port) => return write!(f, "too many group or unknown frames at port {port}"),
+            Alert::PortStorm(port) => return write!(f, "too many frames to flood at port {port}"),
             Alert::StaticElsewhere => "static at another edge",
             Alert::SequenceSpent => "sequence numbers are spent",
             Alert::Duplicate => "duplicate: frozen after five moves",

@@ -20,7 +20,8 @@ returns c =
     let f = c.self.inside in
     let u = c.args.update.now in
     let e = edge_of f.routes f.clock f.ageing f.bridge f.moves f.away.items f.quotas.items f.storms.items in
-    let new = edge_of c.import_own.new.self f.clock f.ageing f.bridge f.moves f.away.items f.quotas.items f.storms.items in
+    let new = edge_of c.import_own.new.self f.clock f.ageing f.bridge f.moves f.away.items f.quotas.items
+    f.storms.items in
     subst (λ r. TakesOwn c.args.self.now u r new) (sym c.tell_own.ensures)
     (subst (λ (x : Edge). TakesOwn x u (own_result c.import_own.result) new) c.self.view_is
     (own_steps e u c.import_own.new.self c.import_own.result c.import_own.ensures.taken c.import_own.ensures.ok
