@@ -523,6 +523,25 @@ class LimitedPort(TwoCables):
         """Two new stations in 60 seconds."""
         self.flood("new_stations = 2\n", "too many new stations")
 
+    def test_storm(self) -> None:
+        """Of 200 broadcasts at once at most 20 a second are carried, one line names the port, and other frames go on."""
+        self.begin(edge(ONE, 1, self.one, self.two).replace(self.one.keys(), "storm = 20\n" + self.one.keys()))
+        self.is_carried(self.two, self.one, frame(BROADCAST, station(9), b"known from now on"))
+        start, known = time.monotonic(), frame(station(9), station(1), b"for a known station")
+        for number in range(200):
+            self.one.send(frame(BROADCAST, station(1), b"storm %d" % number))
+        self.one.send(known)
+        carried = 0
+        while (came := self.two.receive()) not in (known, b""):
+            carried += 1
+        self.assertEqual(came, known)
+        seconds = int(time.monotonic() - start) + 2
+        self.assertTrue(20 <= carried <= 20 * seconds, (carried, seconds))
+        self.assertEqual(self.running.note(), "edge 1: too many group or unknown frames on port 1\n")
+        status, report, _ = self.running.end()
+        self.assertEqual(status, 0)
+        self.assertEqual(report, f"edge 1\nflood {VNI} {ONE} 1 up\n" + learnt(1, ONE, 3) + learnt(9, ONE, 2))
+
     def test_each_port_is_named(self) -> None:
         """Where both ports are full each has a line of its own."""
         self.begin(edge(ONE, 1, self.one, self.two).replace("admin_edge = true\n", "admin_edge = true\nstations = 1\n"))

@@ -195,6 +195,33 @@ def udp_socket(process: int, place: Tuple[str, int]) -> socket.socket:
 
 
 @needs_program
+class Stormy(Served):
+    """Edges whose ports have a storm limit."""
+
+    def text(self) -> str:
+        """The configuration, with two group or unknown frames a second at each port."""
+        return super().text().replace("[[edge.port]]\n", "[[edge.port]]\nstorm = 2\n")
+
+    def test_storm_is_counted(self) -> None:
+        """Broadcasts beyond the limit of a port are counted at its link."""
+        self.begin()
+        console, begun = self.console(), time.monotonic()
+        for number in range(100):
+            self.one.send(frame(BROADCAST, station(1), b"storm %d" % number))
+
+        def is_counted() -> bool:
+            """Whether all came, and all were dropped that no second of the edge allowed."""
+            row, most = self.links(console, 1)["1"], 2 * (int(time.monotonic() - begun) + 2)
+            return row["in in"] == 100 and 100 - most <= row["in storm"] <= 98
+
+        self.assertTrue(is_reached(is_counted))
+        self.assertEqual([row["in memory"] for row in self.links(console, 1).values()], [0, 0])
+        self.assertEqual(self.links(console, 1)["tunnel"]["in storm"], 0)
+        status, _, notes = self.running.end()
+        self.assertEqual((status, notes.splitlines()[0]), (0, "edge 1: too many group or unknown frames on port 1"))
+
+
+@needs_program
 class Asked(Served):
     """What is asked of edges that run."""
 
@@ -343,7 +370,7 @@ class Asked(Served):
         self.assertEqual((done.returncode, done.stderr), (0, ""))
         found = [line.split(" ")[0] for line in done.stdout.splitlines() if not line.startswith("#")]
         ways = [f"{name}{{LINK,way=\"{way}\"}}" for name in ("datagrams_total", "octets_total", "failures_total", "idle_seconds") for way in ("in", "out")]
-        causes = ("no_room", "too_long", "malformed", "unlisted", "other_network", "no_memory")
+        causes = ("no_room", "too_long", "malformed", "unlisted", "other_network", "storm", "no_memory")
         wanted = ways + [f"drops_total{{LINK,cause=\"{cause}\"}}" for cause in causes]
         links = [f'edge="{number}",link="{link}"' for number in (1, 2) for link in ("tunnel", "port1")]
         self.assertEqual(sorted(found), sorted(f"evpnd_link_{line.replace('LINK', link)}" for line in wanted for link in links))

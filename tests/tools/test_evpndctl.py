@@ -38,12 +38,13 @@ owner 5002 {STATION} none
 """
 
 NUMBERS_OF_LINK = (
-    "in 1 octets 2 failed 3 idle 13 long 4 malformed 5 unlisted 6 network 7 memory 8 system 15 "
+    "in 1 octets 2 failed 3 idle 13 long 4 malformed 5 unlisted 6 network 7 storm 16 memory 8 system 15 "
     "out 9 octets 10 dropped 11 failed 12 idle 14"
 )
 OBJECT_OF_LINK = {
     **{"received": 1, "received_octets": 2, "failed_reads": 3, "idle_in": 13, "too_long": 4, "malformed": 5, "unlisted": 6},
-    **{"other_network": 7, "no_memory": 8, "by_system": 15, "sent": 9, "sent_octets": 10, "dropped": 11, "failed_sends": 12, "idle_out": 14},
+    **{"other_network": 7, "storm": 16, "no_memory": 8, "by_system": 15, "sent": 9, "sent_octets": 10, "dropped": 11, "failed_sends": 12},
+    "idle_out": 14,
 }
 
 # each command of a console: a line, its answer, and the answer's objects
@@ -475,6 +476,7 @@ class Evpndctl(unittest.TestCase):
                 'evpnd_link_drops_total{edge="1",link="tunnel",cause="malformed"} 5',
                 'evpnd_link_drops_total{edge="1",link="tunnel",cause="unlisted"} 6',
                 'evpnd_link_drops_total{edge="1",link="tunnel",cause="other_network"} 7',
+                'evpnd_link_drops_total{edge="1",link="tunnel",cause="storm"} 16',
                 'evpnd_link_drops_total{edge="1",link="tunnel",cause="no_memory"} 8',
                 'evpnd_link_drops_total{edge="1",link="tunnel",cause="by_system"} 15',
                 'evpnd_link_idle_seconds{edge="1",link="tunnel",way="in"} 13',

@@ -77,6 +77,10 @@ stations = range 1 65536 512
 abbrev pub new_stations : Range
 new_stations = range 1 (2 ^ 32 - 1) 256
 
+-- of group and unknown frames in a second; 0 is no limit
+abbrev pub storm : Range
+storm = range 0 (2 ^ 32 - 1) 0
+
 -- ---- tables
 
 abbrev pub file_rows : List Row
@@ -118,6 +122,7 @@ port_rows =
     ∷ (codes "point_to_point", kind.Flag true)
     ∷ (codes "stations", kind.Number stations)
     ∷ (codes "new_stations", kind.Number new_stations)
+    ∷ (codes "storm", kind.Number storm)
     ∷ (codes "local", kind.Endpoint)
     ∷ (codes "remote", kind.Endpoint) ∷ []
 

@@ -104,7 +104,7 @@ pub(crate) const EDGE: [Row; 14] = [
 ];
 
 /// The keys of a port.
-pub(crate) const PORT: [Row; 10] = [
+pub(crate) const PORT: [Row; 11] = [
     Row("vni", Kind::Vni, "allowed is one of the edge's vnis"),
     Row("cost", Kind::Number(COST), ""),
     Row("priority", Kind::Number(PORT_PRIORITY), ""),
@@ -113,6 +113,7 @@ pub(crate) const PORT: [Row; 10] = [
     Row("point_to_point", Kind::Flag(true), FLAG),
     Row("stations", Kind::Number(STATIONS), ""),
     Row("new_stations", Kind::Number(NEW_STATIONS), ""),
+    Row("storm", Kind::Number(STORM), ""),
     Row("local", Kind::Endpoint, PLACE),
     Row("remote", Kind::Endpoint, PLACE),
 ];
@@ -158,6 +159,8 @@ pub(crate) const PORT_PRIORITY: Range = Range(0, 240, 16, 128);
 pub(crate) const STATIONS: Range = Range(1, 65_536, 0, 512);
 /// The maximum number of new stations that a port brings in 60 seconds.
 pub(crate) const NEW_STATIONS: Range = Range(1, 0xffff_ffff, 0, 256);
+/// The maximum number of group and unknown frames of a port in a second; with 0 there is none.
+pub(crate) const STORM: Range = Range(0, 0xffff_ffff, 0, 0);
 
 const FLAG: &'static str = "allowed are true and false";
 

@@ -32,6 +32,8 @@ pub(crate) struct Loaded {
     unlisted: u64,
     /// The dropped datagrams of networks that the edge doesn't serve.
     other_network: u64,
+    /// The dropped group and unknown frames beyond the storm limit of the port.
+    storm: u64,
     /// The datagrams that were dropped because memory was refused.
     no_memory: u64,
     /// The frames and BPDUs that were dropped because there was no room.
@@ -53,6 +55,7 @@ impl Loaded {
             malformed: counts.refused(Cause::Malformed),
             unlisted: counts.refused(Cause::Unlisted),
             other_network: counts.refused(Cause::OtherNetwork),
+            storm: counts.refused(Cause::Storm),
             no_memory: counts.refused(Cause::NoMemory),
             no_room: counts.no_room(),
         }
@@ -69,6 +72,7 @@ impl Loaded {
         ensures malformed { result.malformed ≡ self.now.malformed }
         ensures unlisted { result.unlisted ≡ self.now.unlisted }
         ensures other_network { result.other_network ≡ self.now.other_network }
+        ensures storm { result.storm ≡ self.now.storm }
         ensures no_memory { result.no_memory ≡ self.now.no_memory }
         ensures system_drops { result.system_drops ≡ system_drops }
         ensures sent { result.sent
@@ -88,6 +92,7 @@ impl Loaded {
             malformed: self.malformed,
             unlisted: self.unlisted,
             other_network: self.other_network,
+            storm: self.storm,
             no_memory: self.no_memory,
             system_drops,
             sent: self.at_once.datagrams.saturating_add(self.queued.datagrams),

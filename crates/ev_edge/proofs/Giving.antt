@@ -28,6 +28,7 @@ use Rattle.ev_edge.specs.Edge.{Edge, table_of, address_of}
 use Rattle.ev_edge.specs.Arrival.{frame_arrival, tunnel_arrival}
 use Rattle.ev_edge.specs.Pinning.{refused_pin}
 use Rattle.ev_edge.specs.Sending.{IsDecision, port_of}
+use Rattle.ev_edge.specs.Storms.{taking_on}
 use Rattle.ev_edge.specs.Steps.{Steps, LearnsIf, SendsIf, FrameSteps, TunnelSteps, BridgesAt, Seconds, Takes, Pins}
 use Rattle.ev_edge.specs.Steps.{Marks}
 use Rattle.ev_edge.specs.Laws.{decision_in}
@@ -64,7 +65,8 @@ by_frame (Ok Dropped) e port result e' h = none result (ap decision_in h.0) (Up 
 by_frame (Ok (Message b)) e port result e' h = none result (bridged _ e result e' h) (Up e)
 by_frame (Ok (Data vni destination source)) e port (Ok reply) e' h = λ d is o there.
     subst (λ (away : List ℕ). is_up away o ≡ true)
-    (learnt_away e (record { vni = vni; mac = source }) port reply.alert e' _ h.learning.learning)
+    (learnt_away (taking_on e port vni destination) (record { vni = vni; mac = source }) port reply.alert e' _
+    h.learning.learning)
     (sent_up h.passes e' vni destination (Port port) d
     (subst (SendsIf h.passes e' vni destination (Port port)) is h.sending) o there)
 by_frame (Ok (Data vni destination source)) e port (Err r) e' h = absurd h

@@ -31,6 +31,7 @@ use Rattle.ev_claims.specs.LocalRoutes.{LocalRoutes, key_of}
 use Rattle.ev_claims.specs.Opening.{IsOpening, after_floods}
 use Rattle.ev_mobility.specs.Moves.{Moves}
 use Rattle.ev_edge.specs.declared.limits.Quota.{Quota}
+use Rattle.ev_edge.specs.declared.storms.Storm.{Storm}
 use Rattle.ev_edge.specs.Limits.{AreKept}
 use Rattle.ev_edge.specs.Edge.{ArePassing, AreIndividual, IsEdge, edge_of}
 use Rattle.ev_edge.proofs.Marking.{none_listed}
@@ -92,12 +93,12 @@ nobody_individual s c h = subst AreIndividual (sym h.learned)
     never_learnt (Some a) is some = cc
 
 pub opened : (s : Start) (c : LocalRoutes) (settings : Settings) (ports : List PortSettings) (ageing : ℕ) (tree : Tree)
-    (moves : Moves) (quotas : List Quota) → IsOpening s c → tree ≡ start settings ports
+    (moves : Moves) (quotas : List Quota) (storms : List Storm) → IsOpening s c → tree ≡ start settings ports
     → length s.ports.items ≡ length ports
     → ((v : ℕ) → Contains s.ports.items v → Contains s.vnis.items v) → 0 < s.buckets
-    → AreKept quotas 0 → IsEdge (edge_of c 0 ageing tree moves [] quotas) 0
-opened s c settings ports ageing tree moves quotas h is size serves some kept =
-    subst (λ t. IsEdge (edge_of c 0 ageing t moves [] quotas) 0) (sym is) (record {
+    → AreKept quotas 0 → IsEdge (edge_of c 0 ageing tree moves [] quotas storms) 0
+opened s c settings ports ageing tree moves quotas storms h is size serves some kept =
+    subst (λ t. IsEdge (edge_of c 0 ageing t moves [] quotas storms) 0) (sym is) (record {
       keeps = record {
         owns = λ r some. absurd (never_some (own_advert c.speaker (key_of r))
             (ap (λ v. own_advert v (key_of r)) h.speaker

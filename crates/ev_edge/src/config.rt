@@ -14,7 +14,7 @@ pub struct PortConfig {
     pub vni: Vni,
     /// How the spanning tree sees it.
     pub settings: PortSettings,
-    /// How many stations may be learnt on it.
+    /// How many stations may be learnt on it, and how many frames flooded.
     pub limits: Limits,
 }
 

@@ -6,7 +6,8 @@ use Rattle.ev_book.specs.declared.refusal.BookRefusal.TheVariants as book
 use Rattle.ev_edge.specs.declared.refusal.Refusal.TheVariants as refused
 use Rattle.ev_edge.specs.declared.refusal.EdgeRefusal.TheVariants as edge
 use Rattle.ev_notices.specs.declared.cause.Cause.{Cause}
-use Rattle.ev_notices.specs.declared.cause.Cause.TheVariants.{TooLong, Malformed, Unlisted, OtherNetwork, NoMemory}
+use Rattle.ev_notices.specs.declared.cause.Cause.TheVariants.{TooLong, Malformed, Unlisted, OtherNetwork, Storm}
+use Rattle.ev_notices.specs.declared.cause.Cause.TheVariants.{NoMemory}
 
 abbrev pub cause_of : BookRefusal → Option Cause
 cause_of (book.Edge (refused.Ether Long)) = Some TooLong
@@ -15,6 +16,7 @@ cause_of (book.Edge (refused.Bpdu _)) = Some Malformed
 cause_of (book.Edge (refused.Vxlan _)) = Some Malformed
 cause_of (book.Edge (refused.Edge edge.UnknownOriginator)) = Some Unlisted
 cause_of (book.Edge (refused.Edge edge.NoSuchVni)) = Some OtherNetwork
+cause_of (book.Edge (refused.Edge (edge.PortStorm port))) = Some Storm
 cause_of (book.Edge (refused.Edge edge.NoMemory)) = Some NoMemory
 cause_of book.NoRoom = Some NoMemory
 cause_of _ = None

@@ -9,7 +9,8 @@ use Rattle.ether_wire.specs.Ends.{End, Puts}
 use Rattle.mac_arena.specs.declared.station.Station.{Station}
 use Rattle.ev_mobility.specs.declared.alert.Alert.{Alert}
 use Rattle.ev_mobility.specs.declared.alert.Alert.TheVariants.{StaticElsewhere, SequenceSpent, Duplicate, LostStatic}
-use Rattle.ev_mobility.specs.declared.alert.Alert.TheVariants.{CounterSpent, TableFull, PortFull, PortBusy, NoMemory}
+use Rattle.ev_mobility.specs.declared.alert.Alert.TheVariants.{CounterSpent, TableFull, PortFull, PortBusy, PortStorm}
+use Rattle.ev_mobility.specs.declared.alert.Alert.TheVariants.{NoMemory}
 use Rattle.ev_notices.specs.declared.alarm.Alarm.{Alarm}
 use Rattle.ev_notices.specs.declared.board.Notice.{Notice}
 use Rattle.ev_notices.specs.declared.receptions.Input.{Input}
@@ -33,6 +34,7 @@ alert_words CounterSpent = codes "counter spent"
 alert_words TableFull = codes "learning table full"
 alert_words (PortFull port) = codes "too many stations"
 alert_words (PortBusy port) = codes "too many new stations"
+alert_words (PortStorm port) = codes "too many group or unknown frames"
 alert_words NoMemory = codes "no memory"
 
 -- `edge E: `

@@ -18,6 +18,8 @@ pub enum Cause {
     Unlisted,
     /// The edge doesn't serve the network of the tunnel's datagram.
     OtherNetwork,
+    /// It is a group or unknown frame beyond the storm limit of its port.
+    Storm,
     /// Memory was refused.
     NoMemory,
 }
@@ -31,6 +33,7 @@ fn cause_in(refusal: &Refusal) -> Option<Cause>
         Refusal::Ether(_) | Refusal::Bpdu(_) | Refusal::Vxlan(_) => Some(Cause::Malformed),
         Refusal::Edge(EdgeRefusal::UnknownOriginator) => Some(Cause::Unlisted),
         Refusal::Edge(EdgeRefusal::NoSuchVni) => Some(Cause::OtherNetwork),
+        Refusal::Edge(EdgeRefusal::PortStorm(_)) => Some(Cause::Storm),
         Refusal::Edge(EdgeRefusal::NoMemory) => Some(Cause::NoMemory),
         Refusal::Edge(_) => None,
     }

@@ -53,6 +53,7 @@ pub struct LinkCounts {
     malformed: AtomicU64,
     unlisted: AtomicU64,
     other_network: AtomicU64,
+    storm: AtomicU64,
     no_memory: AtomicU64,
     no_room: AtomicU64,
     idle_in: IdleCell,
@@ -70,6 +71,7 @@ impl LinkCounts {
             malformed: AtomicU64::new(0),
             unlisted: AtomicU64::new(0),
             other_network: AtomicU64::new(0),
+            storm: AtomicU64::new(0),
             no_memory: AtomicU64::new(0),
             no_room: AtomicU64::new(0),
             idle_in: IdleCell::new(),
@@ -84,6 +86,7 @@ impl LinkCounts {
             Cause::Malformed => &self.malformed,
             Cause::Unlisted => &self.unlisted,
             Cause::OtherNetwork => &self.other_network,
+            Cause::Storm => &self.storm,
             Cause::NoMemory => &self.no_memory,
         }
     }

@@ -54,6 +54,7 @@ fn alert_words(alert: Alert) -> &'static str
         Alert::TableFull => "learning table full",
         Alert::PortFull(_) => "too many stations",
         Alert::PortBusy(_) => "too many new stations",
+        Alert::PortStorm(_) => "too many group or unknown frames",
         Alert::NoMemory => "no memory",
     }
 }

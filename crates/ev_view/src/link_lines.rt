@@ -27,6 +27,8 @@ pub struct LinkRow {
     pub unlisted: u64,
     /// The dropped datagrams of networks that the edge doesn't serve.
     pub other_network: u64,
+    /// The dropped group and unknown frames beyond the storm limit of the port.
+    pub storm: u64,
     /// The datagrams that were dropped because memory was refused.
     pub no_memory: u64,
     /// The datagrams that the system dropped at the link's socket, if their number is known.
@@ -88,6 +90,7 @@ fn put_refused<W: Out>(out: &mut W, row: &LinkRow) -> Result<(), Device>
     put_amount(out, b" malformed ", row.malformed)?;
     put_amount(out, b" unlisted ", row.unlisted)?;
     put_amount(out, b" network ", row.other_network)?;
+    put_amount(out, b" storm ", row.storm)?;
     put_amount(out, b" memory ", row.no_memory)
 }
 
