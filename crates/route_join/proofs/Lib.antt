@@ -21,3 +21,5 @@ pub mod WinnerTrees
 pub mod Trees
 pub mod Abouts
 pub mod HexGroups
+pub mod Afters
+pub mod RunningReports

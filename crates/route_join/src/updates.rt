@@ -3,10 +3,12 @@ ghost use Rattle.std.specs.Prelude.{◌≡◌, [], Some};
 ghost use Rattle.std.specs.Iterator.{YieldsFirst, item_count};
 ghost use Rattle.route_join.specs.Group.{AreGroups, updates_in};
 ghost use Rattle.route_join.specs.LargeGroup.{left_in_tree};
+ghost use Rattle.route_join.specs.After.{updates_after};
 
 use crate::groups::{Groups, GroupsIter};
 use crate::large_group::LargeUpdates;
-use route_wire::Update;
+use crate::subject::subject_of;
+use route_wire::{Register, Update};
 use std::marker::Model;
 
 /// The updates of a MAC address, seen as the list of those that are left.
@@ -107,6 +109,17 @@ impl<'a> Updates<'a> {
         Updates {
             first: UpdatesOf::none(),
             groups: groups.iter(),
+        }
+    }
+
+    /// Returns the updates of the registers after this one.
+    pub(crate) fn after(groups: &'a Groups, register: &Register) -> Self
+        requires { AreGroups groups.now }
+        ensures { result ≡ updates_after register.now (updates_in groups.now) }
+    {
+        Updates {
+            first: groups.rest_after(register),
+            groups: groups.after(&subject_of(&register.key)),
         }
     }
 }
