@@ -16,11 +16,13 @@ use Rattle.route_wire.specs.declared.update.Value.{Value}
 use Rattle.route_wire.specs.Fields.{Fields}
 use Rattle.route_wire.specs.Order.{register_cmp}
 use Rattle.route_wire.specs.Inner.Totals.{register_total, register_exact}
+use Rattle.route_wire.specs.Inner.Ties.{equal_from}
 use Rattle.route_join.specs.Subject.{Subject, subject_cmp, subject_of}
 use Rattle.route_join.specs.Table.{Table, entries_of, IsOrdered}
 use Rattle.route_join.specs.Group.{AreAbout, IsBefore, AreGroups, updates_in}
 use Rattle.route_join.specs.Updates.{all_updates}
 use Rattle.route_join.specs.After.{comes_after, updates_after, updates_from, page_len, page_at, AreAfter, IsPage}
+use Rattle.route_join.specs.After.{is_same_place}
 use Rattle.route_join.specs.Inner.Groups.{group_at, group_in, groups_along, groups_after, AreThere}
 use Rattle.route_join.specs.Inner.LargeGroup.{updates_along, update_at}
 use Rattle.route_join.specs.Inner.Place.{place_of, later_by}
@@ -38,11 +40,11 @@ all_kept p [] h = refl
 all_kept p (x ∷ xs) h = ap (λ b. cond b (x ∷ filter p xs) (filter p xs)) (h x) ∙ ap (λ y. x ∷ y) (all_kept p xs h)
 
 -- ---- one update, and the rest
-first_kept : (r : Register) (u : Fields) (us : List Fields) → register_cmp r u.register ≡ Less
+pub first_kept : (r : Register) (u : Fields) (us : List Fields) → register_cmp r u.register ≡ Less
     → updates_after r (u ∷ us) ≡ u ∷ updates_after r us
 first_kept r u us e = ap (λ o. cond (is_lt o) (u ∷ updates_after r us) (updates_after r us)) e
 
-first_left : (r : Register) (u : Fields) (us : List Fields) (o : Ordering) → register_cmp r u.register ≡ o
+pub first_left : (r : Register) (u : Fields) (us : List Fields) (o : Ordering) → register_cmp r u.register ≡ o
     → is_lt o ≡ false → updates_after r (u ∷ us) ≡ updates_after r us
 first_left r u us o e n = ap (λ x. cond (is_lt x) (u ∷ updates_after r us) (updates_after r us)) e
     ∙ ap (λ b. cond b (u ∷ updates_after r us) (updates_after r us)) n
@@ -219,43 +221,41 @@ first_page xs ys zs e l =
 pub whole_page : (xs zs : List Fields) → xs ≡ zs → length xs ≤ page_len → xs ≡ take page_len zs
 whole_page xs zs e l = sym (take_all page_len xs l) ∙ ap (take page_len) e
 
+first_entries : (us : List Fields) → entries_of (take page_len us) ≡ take page_len (entries_of us)
+first_entries us = sym (take-map (λ (u : Fields). (u.register, u.value)) page_len us)
+
+after_entries : (r : Register) (us : List Fields) → entries_of (updates_after r us)
+    ≡ filter (λ (e : Register × Value). is_lt (register_cmp r e.0)) (entries_of us)
+after_entries r [] = refl
+after_entries r (u ∷ us) =
+    elim (is_lt (register_cmp r u.register)) as (λ b. entries_of (cond b (u ∷ updates_after r us) (updates_after r us))
+    ≡ cond b ((u.register, u.value) ∷ filter (λ (e : Register × Value). is_lt (register_cmp r e.0)) (entries_of us))
+    (filter (λ (e : Register × Value). is_lt (register_cmp r e.0)) (entries_of us))) [
+      | true ↦ ap (λ x. (u.register, u.value) ∷ x) (after_entries r us)
+      | false ↦ after_entries r us
+    ]
+
+pub from_ordered : (after : Option Register) (t : Table) → IsOrdered (updates_from after (all_updates t))
+from_ordered None t = (all_updates_are t).ordered
+from_ordered (Some r) t = ap (is_sorted register_cmp) (after_entries r (all_updates t))
+    ∙ from_T _ (is_sorted-where_key register_cmp (λ (q : Register). is_lt (register_cmp r q))
+    (entries_of (all_updates t)) (to_T _ (all_updates_are t).ordered))
+
 pub page_is : (after : Option Register) (t : Table) → IsPage after (page_at after t)
 page_is after t = record {
   few = let l = length-take page_len (updates_from after (all_updates t)) in omega (arith, l);
-  ordered = ordered_first after;
+  ordered = ap (is_sorted register_cmp) (first_entries (updates_from after (all_updates t)))
+      ∙ sorted_front page_len (entries_of (updates_from after (all_updates t))) (from_ordered after t);
   behind = behind_first after;
 }
   where
-    in_order : IsOrdered (all_updates t)
-    in_order = (all_updates_are t).ordered
-
-    first_entries : (us : List Fields) → entries_of (take page_len us) ≡ take page_len (entries_of us)
-    first_entries us = sym (take-map (λ (u : Fields). (u.register, u.value)) page_len us)
-
-    after_entries : (r : Register) (us : List Fields) → entries_of (updates_after r us)
-        ≡ filter (λ (e : Register × Value). is_lt (register_cmp r e.0)) (entries_of us)
-    after_entries r [] = refl
-    after_entries r (u ∷ us) =
-        elim (is_lt (register_cmp r u.register)) as (λ b.
-        entries_of (cond b (u ∷ updates_after r us) (updates_after r us))
-        ≡ cond b ((u.register, u.value)
-        ∷ filter (λ (e : Register × Value). is_lt (register_cmp r e.0)) (entries_of us))
-        (filter (λ (e : Register × Value). is_lt (register_cmp r e.0)) (entries_of us))) [
-          | true ↦ ap (λ x. (u.register, u.value) ∷ x) (after_entries r us)
-          | false ↦ after_entries r us
-        ]
-
-    ordered_from : (after : Option Register) → IsOrdered (updates_from after (all_updates t))
-    ordered_from None = in_order
-    ordered_from (Some r) = ap (is_sorted register_cmp) (after_entries r (all_updates t))
-        ∙ from_T _ (is_sorted-where_key register_cmp (λ (q : Register). is_lt (register_cmp r q))
-        (entries_of (all_updates t)) (to_T _ in_order))
-
-    ordered_first : (after : Option Register) → IsOrdered (page_at after t)
-    ordered_first after = ap (is_sorted register_cmp) (first_entries (updates_from after (all_updates t)))
-        ∙ sorted_front page_len (entries_of (updates_from after (all_updates t))) (ordered_from after)
-
     behind_first : (after : Option Register) → AreAfter after (page_at after t)
     behind_first None = tt
     behind_first (Some r) = ap (below_all register_cmp r) (first_entries (updates_after r (all_updates t)))
         ∙ below_front r page_len (entries_of (updates_after r (all_updates t))) (after_below r (all_updates t))
+
+pub same_place : (a b : Option Register) → is_same_place a b ≡ true → a ≡ b
+same_place None None h = refl
+same_place None (Some q) h = cc
+same_place (Some r) None h = cc
+same_place (Some r) (Some q) h = ap Some (register_exact r q (equal_from (register_cmp r q) h))

@@ -22,4 +22,6 @@ pub mod Trees
 pub mod Abouts
 pub mod HexGroups
 pub mod Afters
+pub mod Pages
+pub mod PageLaws
 pub mod RunningReports

@@ -1,7 +1,7 @@
 -- The updates after a register in the order of a report, and the pages of a report.
-use Rattle.std.specs.Prelude.{◌≡◌, ℕ, ◌-◌, ◌≤◌, Bool, true, Option, Some, None, List, length, take, nat_lt, slice_get}
+use Rattle.std.specs.Prelude.{◌≡◌, ℕ, ◌-◌, ◌≤◌, Bool, true, false, Option, Some, None, List, length, take, nat_lt, slice_get}
 use Rattle.std.specs.List.{filter}
-use Rattle.std.specs.Ordering.{is_lt}
+use Rattle.std.specs.Ordering.{is_lt, is_eq}
 use Rattle.std.specs.FinMap.Entries.{below_all}
 use Rattle.route_wire.specs.declared.update.Register.{Register}
 use Rattle.route_wire.specs.Fields.{Fields}
@@ -51,6 +51,13 @@ pub record IsPage (after : Option Register) (us : List Fields) : Type 0 where
   pub few : length us ≤ page_len
   pub ordered : IsOrdered us
   pub behind : AreAfter after us
+
+-- two registers after which pages begin are the same
+abbrev pub is_same_place : Option Register → Option Register → Bool
+is_same_place None None = true
+is_same_place None (Some q) = false
+is_same_place (Some r) None = false
+is_same_place (Some r) (Some q) = is_eq (register_cmp r q)
 
 -- the update's register, or this one if there is no update
 abbrev pub register_or : Option Register → Option Fields → Option Register

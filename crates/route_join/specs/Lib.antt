@@ -11,4 +11,5 @@ pub mod LargeGroup
 pub mod Updates
 pub mod After
 pub mod RunningReport
+pub mod PageLaws
 pub mod Inner

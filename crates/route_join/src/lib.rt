@@ -10,6 +10,7 @@ mod laws;
 mod names;
 mod owner;
 mod page;
+mod page_laws;
 mod place;
 mod register_key;
 mod report;
@@ -30,6 +31,7 @@ pub use laws::{
 };
 pub use owner::{advert_in, is_better};
 pub use page::Page;
+pub use page_laws::{pages_ascend, pages_of_one, register_stays};
 pub use register_key::RegisterKey;
 pub use running_report::RunningReport;
 pub use salt::Salted;

@@ -1,9 +1,10 @@
 //! The pages of a table's report: a reader that takes page after page holds few updates at a time,
 //! and a table that is shared is locked for one page only.
 ghost use Rattle.std.specs.Prelude.{◌≡◌, IfOk, take};
-ghost use Rattle.route_join.specs.After.{updates_from, page_at, page_len, is_last, last_from, IsPage};
+ghost use Rattle.route_join.specs.After.{updates_from, page_at, page_len, is_last, is_same_place, last_from, IsPage};
 ghost use Rattle.route_join.specs.Updates.{all_updates};
 
+use crate::register_key::RegisterKey;
 use crate::table::Table;
 use crate::updates::Updates;
 use route_wire::{Register, Update};
@@ -39,17 +40,30 @@ impl Page {
         self.after
     }
 
+    /// Returns `true` if the page begins after this register, or is the first page and there is none.
+    pub fn begins_after(&self, after: &Option<Register>) -> bool
+        ensures { result ≡ is_same_place self.now.after after.now }
+    {
+        match (&self.after, after) {
+            (None, None) => true,
+            (Some(own), Some(other)) => {
+                RegisterKey::new(*own).cmp(&RegisterKey::new(*other)).is_eq()
+            }
+            _ => false,
+        }
+    }
+
     /// Returns the updates, in the order of a report.
     pub fn updates(&self) -> &[Update]
-        ensures updates { result.now ≡ self.now.updates }
-        ensures page { IsPage self.now.after self.now.updates }
+        ensures { result.now ≡ self.now.updates }
     {
         &self.updates
     }
 
     /// Returns `true` if the table had no more updates: there are fewer than 256.
     pub fn is_last(&self) -> bool
-        ensures { result ≡ is_last self.now.updates }
+        ensures last { result ≡ is_last self.now.updates }
+        ensures page { IsPage self.now.after self.now.updates }
     {
         self.updates.len() < PAGE
     }
