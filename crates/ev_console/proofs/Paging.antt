@@ -122,7 +122,8 @@ last_answer (Ok (Ok page)) h = go (is_last page.updates) refl h
         → is_last page.updates ≡ true
     go true e h = e
     go false e h = let end = full_end page.after page.updates e in
-        let next = ap (λ b. cond b None (last_from page.after page.updates)) e ∙ end.1 in cc
+        let next = ap (λ b. cond b None (last_from page.after page.updates)) e ∙ end.1 in
+        let no = sym (ap is_none next) ∙ h in cc
 
 module _ (e n : ℕ) (before middle : Option (List Asked)) (old mid : End) (is_told : Bool) (place : Option Register)
     (report : Begun) (s : Paging e n before middle old mid is_told place report) where
@@ -238,7 +239,8 @@ paging_more e n before middle old mid is_told place report s (Ok (Ok page)) afte
   where
     is_full : (x : Bool) → is_last page.updates ≡ x → is_none (next_after (Ok (Ok page))) ≡ false
         → is_last page.updates ≡ false
-    is_full true e h = let last = ap (λ y. is_none (cond y None (last_from page.after page.updates))) e in cc
+    is_full true e h = let last = ap (λ y. is_none (cond y None (last_from page.after page.updates))) e in
+        let no = sym last ∙ h in cc
     is_full false e h = e
 
 -- likewise, with the register after which the next page begins

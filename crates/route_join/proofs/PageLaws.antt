@@ -111,7 +111,7 @@ pub pages_of_one : PagesOfOne
 pages_of_one t ts ps all a w = of_one t None [] (all_updates t) ts ps refl refl tt (all_updates_are t).ordered all a w
 
 -- ---- a register that stays
-IsToCome : Option Register → Register → Type 0
+abbrev IsToCome : Option Register → Register → Type 0
 IsToCome None r = Unit {0}
 IsToCome (Some q) r = register_cmp q r ≡ Less
 

@@ -165,7 +165,6 @@ goes (e ∷ es) ps s best r w =
     let line = register_line e.0 e.1 in
     let first = less _ (both (is_lt (register_cmp r e.0)) (below_all register_cmp r es) w.below).0 in
     let whole = append_assoc ps (e ∷ []) es in
-    let next : Subject → Option (Register × Advert) → List ℕ = λ t b. rest_of (state t b) es in
     elim (same_or_later r e.0 first) as (λ _. rest_of (state s best) (e ∷ es)
     ≡ after_register (owner_among all) r.key (e ∷ es) ++ lines_of (owner_among all) (e ∷ es)) [
       | inl l ↦
