@@ -1,16 +1,17 @@
 -- A report page by page: the pages that were requested, and the text that was written for them.
-use Rattle.std.proofs.Common.{◌≡◌, ℕ, ◌+◌, ◌^◌, Bool, true, false, Option, Some, None, is_none, cond, Result, Ok, Err, List}
-use Rattle.std.proofs.Common.{[], ◌∷◌, ◌++◌, length, length-append, refl, sym, ap, subst, ◌∙◌, inl, inr, append_assoc, append-nil}
+use Rattle.std.proofs.Common.{◌≡◌, ℕ, ◌+◌, ◌^◌, Bool, true, false, Option, Some, None, is_none, cond, Result, Ok, Err}
+use Rattle.std.proofs.Common.{List}
+use Rattle.std.proofs.Common.{[], ◌∷◌, ◌++◌, length, length-append, refl, sym, ap, subst, ◌∙◌, inl, inr, append_assoc}
+use Rattle.std.proofs.Common.{append-nil}
 use Rattle.std.proofs.Common.{arith}
 use Rattle.std.specs.Prelude.{is_ok, IfOk}
-use Rattle.std.specs.List.{All, flat_map}
+use Rattle.std.specs.List.{All}
 use Rattle.std.specs.declared.alloc.AllocError.{AllocError}
 use Rattle.std.proofs.lemmas.Grind.{flat_map-append}
 use Rattle.std.proofs.lemmas.List.{map-append}
 use Rattle.std.proofs.lemmas.List.Elements.{All-push, All-nil}
 use Rattle.ether_wire.specs.declared.ends.Device.{Device}
-use Rattle.ether_wire.specs.Ends.{End, IsOpen, Puts, with_text}
-use Rattle.ether_wire.proofs.Appending.{with_text_twice}
+use Rattle.ether_wire.specs.Ends.{End, Puts}
 use Rattle.route_wire.specs.declared.update.Register.{Register}
 use Rattle.route_wire.specs.Fields.{Fields}
 use Rattle.route_join.specs.Table.{entries_of, IsOrdered, table_from}
@@ -26,7 +27,7 @@ use Rattle.ev_links.proofs.Behind.{behind_none, behind_twice}
 use Rattle.ev_console.specs.Asking.{Asked, PageSeen, page_seen}
 use Rattle.ev_console.specs.Answers.{ShowsTable, last_words, no_memory_text}
 use Rattle.ev_console.specs.Table.{IsReportOf, IsFull, IsLast, pages_seen, end_of, updates_of, last_updates}
-use Rattle.ev_console.specs.Inner.Answers.{Does, Ends, IsShown, next_after}
+use Rattle.ev_console.specs.Inner.Answers.{Does, IsShown, next_after}
 
 abbrev begun_after : List Fields → Begun
 begun_after us = begun_by nothing_begun (entries_of us)
@@ -38,7 +39,8 @@ texts_of us = texts_with nothing_begun (entries_of us)
 seen_more : (e : ℕ) (after : Option Register) (ps : List PageView) (p : PageView)
     → pages_seen e after (ps ++ p ∷ []) ≡ pages_seen e after ps ++ page_seen e (end_of after ps) (Ok (Ok p)) ∷ []
 seen_more e after [] p = refl
-seen_more e after (q ∷ ps) p = ap (λ x. page_seen e after (Ok (Ok q)) ∷ x) (seen_more e (last_from after q.updates) ps p)
+seen_more e after (q ∷ ps) p = ap (λ x. page_seen e after (Ok (Ok q)) ∷ x)
+    (seen_more e (last_from after q.updates) ps p)
 
 end_more : (after : Option Register) (ps : List PageView) (p : PageView)
     → end_of after (ps ++ p ∷ []) ≡ last_from (end_of after ps) p.updates
@@ -74,12 +76,19 @@ retold a b false q s t h k = record {
   failed = λ e f. cc;
 }
 
-ended : (old mid new : End) (q : Bool) (t w : List ℕ) (r : Result (Unit {0}) Device) → Tells old mid true q t
-    → Ends q mid new w r → Puts old new (t ++ w) r
-ended old mid new true t w (Ok done) k p = p ∙ ap (λ x. with_text x w) (k.written refl) ∙ with_text_twice old t w
-ended old mid new true t w (Err device) k p = p ∙ ap (λ (x : End). x.failures + 1) (k.written refl)
-ended old mid new false t w (Ok done) k p = let no = p.1 in cc
-ended old mid new false t w (Err device) k p = ap (λ (x : End). x.failures) p.0 ∙ k.failed refl refl
+-- the result tells whether all was written
+put_told : (old new : End) (q : Bool) (t : List ℕ) (r : Result (Unit {0}) Device) → is_ok r ≡ q → Tells old new true q t
+    → Puts old new t r
+put_told old new q t (Ok done) e k = k.written (sym e)
+put_told old new q t (Err device) e k = k.failed refl (sym e)
+
+-- the lines, followed by the last owner's and by words
+whole_text : (old mid new : End) (p q : Bool) (t : List ℕ) (b c : Begun) (w : List ℕ) → Tells old mid true p t
+    → (p ≡ true → b ≡ c) → Tells mid new p q (end_text b ++ w) → Tells old new true q ((t ++ end_text c) ++ w)
+whole_text old mid new p q t b c w k same ends =
+    subst (Tells old new true q) (sym (append_assoc t (end_text c) w))
+    (tells_more old mid new true p q t (end_text c ++ w) k
+    (retold mid new p q _ _ (λ e. ap (λ x. end_text x ++ w) (same e)) ends))
 
 -- ---- the pages so far
 -- `n` full pages were requested, the next one begins after `place`, and their lines were written
@@ -150,7 +159,8 @@ module _ (e n : ℕ) (before middle : Option (List Asked)) (old mid : End) (is_t
         (retold mid new is_told is_told' _ _
         (λ t. ap (λ b. texts_with b (entries_of (last_updates answer))) (s.begun t)) told))
 
-    still : (p q : Bool) → Tells mid new p q (texts_with report (entries_of (last_updates answer))) → q ≡ true → p ≡ true
+    still : (p q : Bool) → Tells mid new p q (texts_with report (entries_of (last_updates answer))) → q ≡ true
+        → p ≡ true
     still true q k t = refl
     still false q k t = let no = (k.kept refl).0 in cc
 
@@ -165,10 +175,10 @@ module _ (e n : ℕ) (before middle : Option (List Asked)) (old mid : End) (is_t
         ∙ ap (λ r. behind before (pages_seen e None s.full ++ page_seen e r answer ∷ [])) s.place_is
 
     -- no page follows
-    pub shows_last : is_none (next_after answer) ≡ true → (end : End) (words : List ℕ) (r : Result (Unit {0}) Device)
-        → words ≡ end_text report' ++ last_words e answer → Ends is_told' new end words r
+    pub shows_last : is_none (next_after answer) ≡ true → (end : End) (is_told'' : Bool) (r : Result (Unit {0}) Device)
+        → Tells new end is_told' is_told'' (end_text report' ++ last_words e answer) → is_ok r ≡ is_told''
         → Does (ShowsTable e) before after old end r
-    shows_last none end words r are ends = record {
+    shows_last none end is_told'' r ends ok = record {
       asked = pages_seen e None s.full ++ page_seen e (end_of None s.full) answer ∷ [];
       text = (texts_of all ++ end_text (begun_after all)) ++ last_words e answer;
       said = inl record {
@@ -182,23 +192,10 @@ module _ (e n : ℕ) (before middle : Option (List Asked)) (old mid : End) (is_t
         is = refl;
       };
       told = asked_all;
-      written = finish is_told' refl;
+      written = put_told old end is_told'' _ r ok
+          (whole_text old new end is_told' is_told'' (texts_of all) report' (begun_after all) (last_words e answer)
+          told_all begun_all ends);
     }
-      where
-        finish : (b : Bool) → is_told' ≡ b
-            → Puts old end ((texts_of all ++ end_text (begun_after all)) ++ last_words e answer) r
-        finish true t = subst (λ x. Puts old end x r)
-            (ap (λ x. texts_of all ++ x) (are ∙ ap (λ b. end_text b ++ last_words e answer) (begun_all t))
-            ∙ sym (append_assoc (texts_of all) (end_text (begun_after all)) (last_words e answer)))
-            (ended old new end is_told' (texts_of all) words r told_all ends)
-        finish false t = failed is_told' t r ends told_all
-          where
-            failed : (b : Bool) → b ≡ false → (x : Result (Unit {0}) Device) → Ends b new end words x
-                → Tells old new true b (texts_of all)
-                → Puts old end ((texts_of all ++ end_text (begun_after all)) ++ last_words e answer) x
-            failed true f x p k = cc
-            failed false f (Ok done) p k = let no = p.1 in cc
-            failed false f (Err device) p k = ap (λ (x : End). x.failures) p.0 ∙ k.failed refl refl
 
 -- the answer is a full page
 pub paging_more : (e n : ℕ) (before middle : Option (List Asked)) (old mid : End) (is_told : Bool)
@@ -210,8 +207,10 @@ pub paging_more : (e n : ℕ) (before middle : Option (List Asked)) (old mid : E
     → (is_told' ≡ true → report' ≡ begun_by report (entries_of (last_updates answer)))
     → is_none (next_after answer) ≡ false
     → Paging e (n + 1) before after old new is_told' (next_after answer) report'
-paging_more e n before middle old mid is_told place report s (Err unreached) after new is_told' report' p a q t b some = cc
-paging_more e n before middle old mid is_told place report s (Ok (Err refused)) after new is_told' report' p a q t b some =
+paging_more e n before middle old mid is_told place report s (Err unreached) after new is_told' report' p a q t b some =
+    cc
+paging_more e n before middle old mid is_told place report s (Ok (Err refused)) after new is_told' report' p a q t b
+    some =
     cc
 paging_more e n before middle old mid is_told place report s (Ok (Ok page)) after new is_told' report' p a q t b some =
     let answer : PageSeen = Ok (Ok page) in
@@ -233,7 +232,8 @@ paging_more e n before middle old mid is_told place report s (Ok (Ok page)) afte
           (page_up_to place (updates_of s.full) page.updates s.up_to is_page));
       told = subst (λ us. Tells old new true is_told' (texts_of us)) more
           (told_all e n before middle old mid is_told place report s answer after new is_told' report' p a q t b);
-      begun = λ h. begun_all e n before middle old mid is_told place report s answer after new is_told' report' p a q t b h
+      begun = λ h. begun_all e n before middle old mid is_told place report s answer after new is_told' report' p a q t
+          b h
           ∙ ap begun_after more;
     }
   where
@@ -261,37 +261,25 @@ paging_on e n before middle old mid is_told place report s answer after new is_t
 -- 2^40 pages were full
 pub shows_most : (e n : ℕ) (before middle : Option (List Asked)) (old mid : End) (is_told : Bool)
     (place : Option Register) (report : Begun) (s : Paging e n before middle old mid is_told place report) → n ≡ 2 ^ 40
-    → (end : End) (words : List ℕ) (r : Result (Unit {0}) Device) → words ≡ end_text report ++ no_memory_text e
-    → Ends is_told mid end words r → Does (ShowsTable e) before middle old end r
-shows_most e n before middle old mid is_told place report s most end words r are ends = record {
-  asked = pages_seen e None s.full;
-  text = (texts_of us ++ end_text (begun_after us)) ++ no_memory_text e;
-  said = inr record {
-    full = s.full;
-    are_full = s.are_full;
-    many = s.many ∙ most;
-    asked_are = refl;
-    report = texts_of us ++ end_text (begun_after us);
-    of = reported us s.ordered;
-    is = refl;
-  };
-  told = s.asked;
-  written = finish is_told refl;
-}
-  where
-    us : List Fields
-    us = updates_of s.full
-
-    finish : (b : Bool) → is_told ≡ b → Puts old end ((texts_of us ++ end_text (begun_after us)) ++ no_memory_text e) r
-    finish true t = subst (λ x. Puts old end x r)
-        (ap (λ x. texts_of us ++ x) (are ∙ ap (λ b. end_text b ++ no_memory_text e) (s.begun t))
-        ∙ sym (append_assoc (texts_of us) (end_text (begun_after us)) (no_memory_text e)))
-        (ended old mid end is_told (texts_of us) words r s.told ends)
-    finish false t = failed is_told t r ends s.told
-      where
-        failed : (b : Bool) → b ≡ false → (x : Result (Unit {0}) Device) → Ends b mid end words x
-            → Tells old mid true b (texts_of us)
-            → Puts old end ((texts_of us ++ end_text (begun_after us)) ++ no_memory_text e) x
-        failed true f x p k = cc
-        failed false f (Ok done) p k = let no = p.1 in cc
-        failed false f (Err device) p k = ap (λ (x : End). x.failures) p.0 ∙ k.failed refl refl
+    → (end : End) (is_told' : Bool) (r : Result (Unit {0}) Device)
+    → Tells mid end is_told is_told' (end_text report ++ no_memory_text e) → is_ok r ≡ is_told'
+    → Does (ShowsTable e) before middle old end r
+shows_most e n before middle old mid is_told place report s most end is_told' r ends ok =
+    let us = updates_of s.full in
+    record {
+      asked = pages_seen e None s.full;
+      text = (texts_of us ++ end_text (begun_after us)) ++ no_memory_text e;
+      said = inr record {
+        full = s.full;
+        are_full = s.are_full;
+        many = s.many ∙ most;
+        asked_are = refl;
+        report = texts_of us ++ end_text (begun_after us);
+        of = reported us s.ordered;
+        is = refl;
+      };
+      told = s.asked;
+      written = put_told old end is_told' _ r ok
+          (whole_text old mid end is_told is_told' (texts_of us) report (begun_after us) (no_memory_text e) s.told
+          s.begun ends);
+    }

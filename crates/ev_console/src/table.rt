@@ -1,13 +1,14 @@
-//! The report of an edge's table, page by page: the edge is locked for one page only, and the console
-//! keeps one page only.
-ghost use Rattle.std.specs.Prelude.{◌≡◌, ◌++◌, true};
+//! The report of an edge's table, page by page: the edge is locked for one page only, and the
+//! console keeps one page only.
+ghost use Rattle.std.specs.Prelude.{◌≡◌, ◌++◌, true, Ok, is_ok};
 ghost use Rattle.ether_wire.specs.Ends.{IsOpen, Puts};
+ghost use Rattle.route_join.specs.After.{IsPage};
 ghost use Rattle.route_join.specs.Table.{entries_of};
 ghost use Rattle.route_join.specs.RunningReport.{texts_with, begun_by, end_text};
 ghost use Rattle.ev_report.specs.Ends.{Tells};
 ghost use Rattle.ev_console.specs.Answers.{ShowsTable, last_words, no_memory_text};
 ghost use Rattle.ev_console.specs.Table.{last_updates};
-ghost use Rattle.ev_console.specs.Inner.Answers.{Does, Ends, IsShown, next_after};
+ghost use Rattle.ev_console.specs.Inner.Answers.{Does, IsShown, next_after};
 
 use crate::operated::{Operated, Unreached};
 use crate::printing::{put_no_memory, put_unreached};
@@ -74,23 +75,34 @@ fn put_end<W: Out>(
     put_last(out, edge, answer)
 }
 
-/// Writes the end of a report, if nothing has failed.
+/// Writes the end of a report, if nothing has failed. Returns `true` if nothing has failed then.
 fn tell_end<W: Out>(
     is_told: bool,
     out: &mut W,
     report: &mut RunningReport,
     edge: u64,
     answer: &PageSeen,
-) -> Result<(), Device>
+) -> bool
     requires { is_told ≡ true → IsOpen (W.end out.old) }
-    ensures { Ends is_told (W.end out.old) (W.end out.new)
-        (end_text report.old ++ last_words edge answer.now) result }
+    ensures { Tells (W.end out.old) (W.end out.new) is_told result
+        (end_text report.old ++ last_words edge answer.now) }
 {
-    if is_told {
-        put_end(out, report, edge, answer)
-    } else {
-        Err(Device)
-    }
+    is_told && put_end(out, report, edge, answer).is_ok()
+}
+
+/// Returns the result of a report, of which all was written or a call of the writer failed.
+fn told(is_told: bool) -> Result<(), Device>
+    ensures { is_ok result ≡ is_told }
+{
+    if is_told { Ok(()) } else { Err(Device) }
+}
+
+/// Returns the register after which the page after this one begins, or `None` if this is the last.
+fn after_page(page: &Page) -> Option<Register>
+    ensures next { result ≡ next_after (Ok (Ok page.now)) }
+    ensures page { IsPage page.now.after page.now.updates }
+{
+    if page.is_last() { None } else { page.end() }
 }
 
 /// Returns the register after which the next page begins, or `None` if no page follows.
@@ -99,13 +111,7 @@ fn next_after(answer: &PageSeen) -> Option<Register>
     ensures page { IsShown answer.now }
 {
     match answer {
-        Ok(Ok(page)) => {
-            if page.is_last() {
-                None
-            } else {
-                page.end()
-            }
-        }
+        Ok(Ok(page)) => after_page(page),
         Ok(Err(_)) | Err(_) => None,
     }
 }
@@ -131,8 +137,10 @@ pub(crate) fn show_table<O: Operated, W: Out>(
         is_told = tell_updates(is_told, out, &mut report, &answer);
         after = next_after(&answer);
         if after.is_none() {
-            return tell_end(is_told, out, &mut report, edge, &answer);
+            is_told = tell_end(is_told, out, &mut report, edge, &answer);
+            return told(is_told);
         }
     }
-    tell_end(is_told, out, &mut report, edge, &Ok(Err(AllocError)))
+    is_told = tell_end(is_told, out, &mut report, edge, &Ok(Err(AllocError)));
+    told(is_told)
 }

@@ -1,6 +1,7 @@
 //! The operator's requests to a running edge, and the edge's answers.
-ghost use Rattle.std.specs.Prelude.{◌≡◌, IfSome, IfOk};
-ghost use Rattle.ev_mailboxes.specs.Inner.Request.{begun_after, is_after, entered_in, page_in, port_in, served_in, view_in};
+ghost use Rattle.std.specs.Prelude.{◌≡◌, ⊥, true, false, IfSome, IfNone, IfOk, MatchResult};
+ghost use Rattle.route_join.specs.After.{is_same_place};
+ghost use Rattle.ev_mailboxes.specs.Inner.Request.{entered_in, page_in, port_in, served_in, view_in};
 
 use ether_wire::{Addr, Vni};
 use ev_book::BookRefusal;
@@ -98,7 +99,9 @@ pub(crate) fn begun_after(
     answer: Result<Page, AllocError>,
     after: &Option<Register>,
 ) -> Option<Result<Page, AllocError>>
-    ensures value { result ≡ begun_after answer after.now }
+    ensures none { IfNone result (MatchResult answer
+        (λ page. is_same_place page.after after.now ≡ false) (λ refused. ⊥)) }
+    ensures same { IfSome result (λ it. it ≡ answer) }
     ensures after { IfSome result (λ answer. IfOk answer (λ page. page.after ≡ after.now)) }
 {
     if is_after(&answer, after) {
@@ -110,7 +113,8 @@ pub(crate) fn begun_after(
 
 /// Returns `true` unless the answer is another page than the one after this register.
 fn is_after(answer: &Result<Page, AllocError>, after: &Option<Register>) -> bool
-    ensures { result ≡ is_after answer.now after.now }
+    ensures { MatchResult answer.now (λ page. result ≡ is_same_place page.after after.now)
+        (λ refused. result ≡ true) }
 {
     match answer {
         Ok(page) => page.begins_after(after),

@@ -23,7 +23,7 @@ use Rattle.route_join.specs.Group.{AreAbout, IsBefore, AreGroups, updates_in}
 use Rattle.route_join.specs.Updates.{all_updates}
 use Rattle.route_join.specs.After.{comes_after, updates_after, updates_from, page_len, page_at, AreAfter, IsPage}
 use Rattle.route_join.specs.After.{is_same_place}
-use Rattle.route_join.specs.Inner.Groups.{group_at, group_in, groups_along, groups_after, AreThere}
+use Rattle.route_join.specs.Inner.Groups.{group_at, group_in, groups_along, AreThere}
 use Rattle.route_join.specs.Inner.LargeGroup.{updates_along, update_at}
 use Rattle.route_join.specs.Inner.Place.{place_of, later_by}
 use Rattle.route_join.specs.Inner.Ranks.{subject_exact}
@@ -82,7 +82,8 @@ after_ok [] q at s h = cc
 after_ok (u ∷ us) q at s h =
     let parts = both (below_all register_cmp u.register (entries_of us)) (is_sorted register_cmp (entries_of us)) s in
     elim (register_cmp q u.register) as (λ o. register_cmp q u.register ≡ o
-    → by_order o (Err 0) (Ok 0) (later_by 1 (place_of us q)) ≡ Ok at → drop (at + 1) (u ∷ us) ≡ updates_after q (u ∷ us)) [
+    → by_order o (Err 0) (Ok 0) (later_by 1 (place_of us q)) ≡ Ok at
+    → drop (at + 1) (u ∷ us) ≡ updates_after q (u ∷ us)) [
       | Less ↦ λ e p. cc
       | Equal ↦ λ e p.
           let z : 0 ≡ at = cc in
@@ -136,6 +137,10 @@ along_after us r (e ∷ es) =
     ]
 
 -- ---- groups in an index
+-- the groups of the subjects after this one
+abbrev pub groups_after : Subject → Groups → Groups
+groups_after s gs = filter (λ (g : Subject × List Fields). is_lt (subject_cmp s g.0)) gs
+
 pub groups_along_after : (s : Subject) (ss : List Subject) (gs : Groups)
     → groups_along (filter (is_after subject_cmp s) ss) gs ≡ groups_after s (groups_along ss gs)
 groups_along_after s [] gs = refl

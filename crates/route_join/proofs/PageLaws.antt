@@ -18,7 +18,8 @@ use Rattle.route_wire.specs.Order.{register_cmp}
 use Rattle.route_wire.specs.Inner.Totals.{register_total}
 use Rattle.route_join.specs.Table.{Table, IsOrdered, entries_of, value_at}
 use Rattle.route_join.specs.Updates.{all_updates}
-use Rattle.route_join.specs.After.{comes_after, updates_after, updates_from, page_at, page_len, is_last, last_from, AreAfter}
+use Rattle.route_join.specs.After.{comes_after, updates_after, updates_from, page_at, page_len, is_last, last_from}
+use Rattle.route_join.specs.After.{AreAfter}
 use Rattle.route_join.specs.After.{IsPage}
 use Rattle.route_join.specs.PageLaws.{ArePages, IsWhole, joined, PagesAscend, PagesOfOne, RegisterStays}
 use Rattle.route_join.proofs.Orders.{less, both}
@@ -52,7 +53,8 @@ none_after r (u ∷ us) a = elim a.0 as (λ _. updates_after r (u ∷ us) ≡ []
 -- of updates in order those after the last of the first ones
 last_below : (v : Fields) (vs q : List Fields) → IsOrdered (v ∷ vs ++ q)
     → below_all register_cmp (last_of v vs).register (entries_of q) ≡ true
-last_below v [] q s = (both (below_all register_cmp v.register (entries_of q)) (is_sorted register_cmp (entries_of q)) s).0
+last_below v [] q s = (both (below_all register_cmp v.register (entries_of q))
+    (is_sorted register_cmp (entries_of q)) s).0
 last_below v (w ∷ ws) q s = last_below w ws q (both (below_all register_cmp v.register (entries_of (w ∷ ws ++ q)))
     (is_sorted register_cmp (entries_of (w ∷ ws ++ q))) s).1
 
@@ -140,7 +142,8 @@ kept_after r (x ∷ xs) u l c =
     single (suc n, k, e) = absurd (omega (arith, k))
 
     first : x ≡ u → Contains (updates_after r (x ∷ xs)) u
-    first e = subst (λ y. Contains y u) (sym (first_kept r x xs (subst (λ (y : Fields). register_cmp r y.register ≡ Less)
+    first e = subst (λ y. Contains y u) (sym (first_kept r x xs
+        (subst (λ (y : Fields). register_cmp r y.register ≡ Less)
         (sym e) l))) (0, omega arith, e)
 
 to_come : (after : Option Register) (us : List Fields) (u : Fields) → IsToCome after u.register → Contains us u
@@ -155,7 +158,8 @@ below_each r us u b c = go (kept_below r us b) c
     go : updates_after r us ≡ us → Contains us u → register_cmp r u.register ≡ Less
     go e c = less _ (passes us u (subst (λ y. Contains y u) (sym e) c))
 
-    passes : (xs : List Fields) (u : Fields) → Contains (updates_after r xs) u → is_lt (register_cmp r u.register) ≡ true
+    passes : (xs : List Fields) (u : Fields) → Contains (updates_after r xs) u
+        → is_lt (register_cmp r u.register) ≡ true
     passes xs u c = subst (λ (y : Fields). is_lt (register_cmp r y.register) ≡ true) c.2
         (filter_passes (comes_after r) xs c.0 u c.1)
 
@@ -187,8 +191,11 @@ stays r after (t ∷ ts) (p ∷ ps) to all a w = go p ps a.0 a.1 w
 
     go : (x : List Fields) (ps : List (List Fields)) → x ≡ take page_len left → ArePages (last_from after p) ts ps
         → IsWhole (x ∷ ps) → (v : Value) × Contains (joined (x ∷ ps)) (record { register = r; value = v })
-    go x [] e a w = (value.0, Contains-append_left x [] update
-        (subst (λ y. Contains y update) (sym (e ∙ short left (subst (λ y. is_last y ≡ true) e w))) there))
+    go x [] e a w = (
+      value.0,
+      Contains-append_left x [] update
+          (subst (λ y. Contains y update) (sym (e ∙ short left (subst (λ y. is_last y ≡ true) e w))) there),
+    )
     go [] (q ∷ ps) e a w = let no = w.0 in cc
     go (v ∷ vs) (q ∷ ps) e a w =
         let end = drop page_len left in
@@ -201,8 +208,11 @@ stays r after (t ∷ ts) (p ∷ ps) to all a w = go p ps a.0 a.1 w
               let next = stays r (last_from after (v ∷ vs)) ts (q ∷ ps)
               (subst (λ k. IsToCome k r) (sym (last_some after v vs))
               (below_each (last_of v vs).register end update (last_below v vs end (subst IsOrdered whole ordered)) c))
-              all.1 (subst (λ y. ArePages (last_from after y) ts (q ∷ ps)) same a) w.1 in
-              (next.0, Contains-append_right (v ∷ vs) (joined (q ∷ ps)) (record { register = r; value = next.0 }) next.1)
+              all.1 (subst (λ y. ArePages (last_from after y) ts (q ∷ ps)) same a) w.1 in (
+                next.0,
+                Contains-append_right (v ∷ vs) (joined (q ∷ ps)) (record { register = r; value = next.0 })
+                    next.1,
+              )
         ]
 
 pub register_stays : RegisterStays

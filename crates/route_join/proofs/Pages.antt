@@ -110,7 +110,8 @@ page_up_to (Some r) us (v ∷ vs) a p =
     (up_to_later r (last_of v vs).register us (last_above r v vs p.behind) a) (up_to_last v vs p.ordered))
 
 -- a full page has a last register
-pub full_end : (r : Option Register) (us : List Fields) → is_last us ≡ false → (q : Register) × (last_from r us ≡ Some q)
+pub full_end : (r : Option Register) (us : List Fields) → is_last us ≡ false
+    → (q : Register) × (last_from r us ≡ Some q)
 full_end r [] h = cc
 full_end r (u ∷ us) h = ((last_of u us).register, last_some r u us)
 
@@ -118,6 +119,9 @@ full_end r (u ∷ us) h = ((last_of u us).register, last_some r u us)
 pub ordered_table : (os : List ℕ) (us : List Fields) → IsOrdered us → IsTableOf us (table_from os us)
 ordered_table os us s = record {
   from = λ r v at. found_contains us r v (sym (found os us r s) ∙ at);
-  newest = λ u c. (u.value, found os us u.register s ∙ contains_found us u s c,
-      ap is_lt (tied_itself value_total u.value));
+  newest = λ u c. (
+    u.value,
+    found os us u.register s ∙ contains_found us u s c,
+    ap is_lt (tied_itself value_total u.value),
+  );
 }

@@ -16,7 +16,8 @@ use Rattle.route_join.specs.Subject.{Subject, subject_cmp, subject_of}
 use Rattle.route_join.specs.Owner.{advert_in, is_about, said_of, better_of, best_among}
 use Rattle.route_join.specs.Report.{register_line, owner_line, goes_on, after_register, lines_of, report_of}
 use Rattle.route_join.specs.Table.{entries_of, IsOrdered, table_from}
-use Rattle.route_join.specs.RunningReport.{Begun, nothing_begun, origin_of, owner_text, end_text, begun_with, texts_with}
+use Rattle.route_join.specs.RunningReport.{Begun, nothing_begun, origin_of, owner_text, end_text, begun_with}
+use Rattle.route_join.specs.RunningReport.{texts_with}
 use Rattle.route_join.specs.RunningReport.{begun_by, text_with}
 use Rattle.route_join.specs.Inner.Report.{owner_among, report_lines}
 use Rattle.route_join.specs.Inner.Ranks.{subject_total, subject_exact}
@@ -35,7 +36,8 @@ not_greater Greater p h = cc
 
 -- a later register is of the same subject or of a later one
 same_or_later : (r q : Register) → register_cmp r q ≡ Less
-    → (subject_cmp (subject_of r.key) (subject_of q.key) ≡ Less) ⊎ (subject_cmp (subject_of r.key) (subject_of q.key) ≡ Equal)
+    → (subject_cmp (subject_of r.key) (subject_of q.key) ≡ Less)
+    ⊎ (subject_cmp (subject_of r.key) (subject_of q.key) ≡ Equal)
 same_or_later r q h = not_greater _ _ (sym (by_subject r q) ∙ h)
 
 later_still : (s : Subject) (r q : Register) → subject_cmp s (subject_of r.key) ≡ Less → register_cmp r q ≡ Less
@@ -148,16 +150,22 @@ module _ (ps : Entries) (s : Subject) (best : Option (Register × Advert)) (r : 
       → (goes_on v m (e ∷ es) ≡ false) × (origin_of best ≡ owner_among (ps ++ e ∷ es) v m)
   owner_told l v m a =
       let l' = subst (λ x. subject_cmp x own ≡ Less) a l in
-      let first = after_address v m e.0.key l' in
-      (first, ap origin_of (w.best_is v m a
-          ∙ sym (best_append v m ps (e ∷ es) None
-          ∙ best_skip v m (e ∷ es) (best_among v m ps None) (first, none_later v m e.0 es l' split_order.0))))
+      let first = after_address v m e.0.key l' in (
+        first,
+        ap origin_of (w.best_is v m a
+            ∙ sym (best_append v m ps (e ∷ es) None
+            ∙ best_skip v m (e ∷ es) (best_among v m ps None) (first, none_later v m e.0 es l' split_order.0))),
+      )
 
 goes : (es ps : Entries) (s : Subject) (best : Option (Register × Advert)) (r : Register) → Written ps s best r es
-    → rest_of (state s best) es ≡ after_register (owner_among (ps ++ es)) r.key es ++ lines_of (owner_among (ps ++ es)) es
+    → rest_of (state s best) es
+    ≡ after_register (owner_among (ps ++ es)) r.key es ++ lines_of (owner_among (ps ++ es)) es
 goes [] ps s best r w =
-    ended s best (ps ++ []) r.key [] w.last (λ v m a. (refl, ap origin_of (w.best_is v m a
-    ∙ sym (best_append v m ps [] None))))
+    ended s best (ps ++ []) r.key [] w.last (λ v m a. (
+      refl,
+      ap origin_of (w.best_is v m a
+          ∙ sym (best_append v m ps [] None)),
+    ))
     ∙ sym (append-nil (after_register (owner_among (ps ++ [])) r.key []))
 goes (e ∷ es) ps s best r w =
     let all = ps ++ e ∷ es in
@@ -227,7 +235,8 @@ pub begun_more : (b : Begun) (es fs : Entries) → begun_by b (es ++ fs) ≡ beg
 begun_more b [] fs = refl
 begun_more b (e ∷ es) fs = begun_more (begun_with b e) es fs
 
-pub texts_more : (b : Begun) (es fs : Entries) → texts_with b (es ++ fs) ≡ texts_with b es ++ texts_with (begun_by b es) fs
+pub texts_more : (b : Begun) (es fs : Entries)
+    → texts_with b (es ++ fs) ≡ texts_with b es ++ texts_with (begun_by b es) fs
 texts_more b [] fs = refl
 texts_more b (e ∷ es) fs = ap (λ x. text_with b e ++ x) (texts_more (begun_with b e) es fs)
     ∙ sym (append_assoc (text_with b e) (texts_with (begun_with b e) es) (texts_with (begun_by (begun_with b e) es) fs))

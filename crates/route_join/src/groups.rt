@@ -1,15 +1,17 @@
 //! A table's groups in an index: an update goes into the group of its subject, and groups are
 //! reported one after the other in the order of their subjects.
 ghost use Rattle.std.specs.Prelude.{◌≡◌, [], OnErr};
+ghost use Rattle.std.specs.List.{filter};
 ghost use Rattle.std.specs.Option.{option_copied, unwrap_or};
+ghost use Rattle.std.specs.Ordering.{is_lt};
 ghost use Rattle.std.specs.Iterator.{YieldsFirstBy, item_count};
 ghost use Rattle.ether_wire.specs.Ends.{IsOpen, Puts};
 ghost use Rattle.route_join.specs.Table.{entries_of};
-ghost use Rattle.route_join.specs.Subject.{subject_of};
+ghost use Rattle.route_join.specs.Subject.{subject_cmp, subject_of};
 ghost use Rattle.route_join.specs.After.{updates_after};
 ghost use Rattle.route_join.specs.Group.{AreAbout, IsSome, AreGroups, updates_in};
 ghost use Rattle.route_join.specs.Inner.Group.{Takes};
-ghost use Rattle.route_join.specs.Inner.Groups.{group_at, groups_after, groups_along, AreIndexed};
+ghost use Rattle.route_join.specs.Inner.Groups.{group_at, groups_along, AreIndexed};
 ghost use Rattle.route_join.specs.Inner.Report.{report_lines};
 ghost use Rattle.route_join.specs.Inner.Lines.{group_lines};
 
@@ -137,7 +139,7 @@ impl Groups {
 
     /// Returns the groups of the subjects after this one, in the order of their subjects.
     pub(crate) fn after(&self, subject: &Subject) -> GroupsIter<'_>
-        ensures { result ≡ groups_after subject.now self.now }
+        ensures { result ≡ filter (λ g. is_lt (subject_cmp subject.now g.0)) self.now }
     {
         GroupsIter {
             order: self

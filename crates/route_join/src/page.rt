@@ -40,14 +40,17 @@ impl Page {
         self.after
     }
 
-    /// Returns `true` if the page begins after this register, or is the first page and there is none.
+    /// Returns `true` if the page begins after this register, or is the first page and there is
+    /// none.
     pub fn begins_after(&self, after: &Option<Register>) -> bool
         ensures { result ≡ is_same_place self.now.after after.now }
     {
         match (&self.after, after) {
             (None, None) => true,
             (Some(own), Some(other)) => {
-                RegisterKey::new(*own).cmp(&RegisterKey::new(*other)).is_eq()
+                RegisterKey::new(*own)
+                    .cmp(&RegisterKey::new(*other))
+                    .is_eq()
             }
             _ => false,
         }
@@ -105,9 +108,9 @@ impl Table {
         }
     }
 
-    /// Returns the page of the table's report after this register, or the first page: the updates of
-    /// the next 256 registers, or of those that are left. The cost doesn't depend on the number of
-    /// registers before the page.
+    /// Returns the page of the table's report after this register, or the first page: the updates
+    /// of the next 256 registers, or of those that are left. The cost doesn't depend on the number
+    /// of registers before the page.
     ///
     /// # Errors
     ///

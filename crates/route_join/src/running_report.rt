@@ -111,7 +111,8 @@ impl RunningReport {
         }
     }
 
-    /// Writes the owner's line of the last MAC address, if there is one. The report is complete then.
+    /// Writes the owner's line of the last MAC address, if there is one. The report is complete
+    /// then.
     ///
     /// # Errors
     ///

@@ -1,6 +1,5 @@
 -- The requests that a line of the console makes to edges that run, and its answer.
-use Rattle.std.specs.Prelude.{◌≡◌, ℕ, Bool, true, false, if◌then◌else◌, List, ◌++◌, codes, Option, None, Result, Ok}
-use Rattle.std.specs.Prelude.{Err, is_ok}
+use Rattle.std.specs.Prelude.{◌≡◌, ℕ, if◌then◌else◌, List, ◌++◌, codes, Option, None, Result, Ok, Err}
 use Rattle.ether_wire.specs.Ends.{End, Puts}
 use Rattle.ether_wire.specs.declared.ends.Device.{Device}
 use Rattle.route_wire.specs.declared.update.Register.{Register}
@@ -8,11 +7,6 @@ use Rattle.route_join.specs.After.{is_last, last_from, IsPage}
 use Rattle.ev_links.specs.Coming.{behind}
 use Rattle.ev_console.specs.Asking.{Asked, PageSeen}
 use Rattle.ev_console.specs.Answers.{AnswersLine}
-
--- The text was written, or a call of the writer failed, now or, if `is_told` is false, before.
-abbrev pub Ends : Bool → End → End → List ℕ → Result (Unit {0}) Device → Type 0
-Ends true old new text result = Puts old new text result
-Ends false old new text result = (new ≡ old) × (is_ok result ≡ false)
 
 -- an answer that is a page is at most 256 updates in order, after the register at which it begins
 abbrev pub IsShown : PageSeen → Type 0

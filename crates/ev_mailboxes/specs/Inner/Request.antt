@@ -1,9 +1,8 @@
 -- The content of an edge's answer.
-use Rattle.std.specs.Prelude.{ℕ, Bool, true, if◌then◌else◌, Option, Some, None, Result, Ok, Err}
+use Rattle.std.specs.Prelude.{ℕ, Option, Some, None, Result}
 use Rattle.std.specs.Global.{Vec}
 use Rattle.std.specs.declared.alloc.AllocError.{AllocError}
-use Rattle.route_join.specs.After.{PageView, is_same_place}
-use Rattle.route_wire.specs.declared.update.Register.{Register}
+use Rattle.route_join.specs.After.{PageView}
 use Rattle.ev_edge.specs.declared.reply.Reply.{Reply}
 use Rattle.ev_book.specs.declared.refusal.BookRefusal.{BookRefusal}
 use Rattle.ev_mailboxes.specs.declared.request.Answer.{Answer}
@@ -26,14 +25,6 @@ page_in (Page page) = Some page
 page_in (Port view) = None
 page_in (Serves served) = None
 page_in (View text) = None
-
--- the answer is no other page than the one after this register
-abbrev pub is_after : Result PageView AllocError → Option Register → Bool
-is_after (Ok page) after = is_same_place page.after after
-is_after (Err refused) after = true
-
-abbrev pub begun_after : Result PageView AllocError → Option Register → Option (Result PageView AllocError)
-begun_after answer after = if is_after answer after then Some answer else None
 
 -- the state of a port, if this is the answer to that query
 abbrev pub port_in : Answer → Option (Option PortView)

@@ -1,9 +1,8 @@
 -- Groups in an index: found by their subjects, which are in the order of a report.
 use Rattle.std.specs.Prelude.{◌≡◌, Bool, true, Option, is_some, List, [], ◌∷◌}
-use Rattle.std.specs.List.{list_any, filter}
+use Rattle.std.specs.List.{list_any}
 use Rattle.std.specs.List.Sorted.{IsStrictlySortedBy}
 use Rattle.std.specs.Option.{unwrap_or}
-use Rattle.std.specs.Ordering.{is_lt}
 use Rattle.std.specs.Map.{lookup}
 use Rattle.std.specs.BTreeMap.{is_at}
 use Rattle.route_wire.specs.Fields.{Fields}
@@ -22,10 +21,6 @@ group_in gs s = lookup (subject_eq s) gs
 abbrev pub groups_along : List Subject → List (Subject × List Fields) → List (Subject × List Fields)
 groups_along [] gs = []
 groups_along (s ∷ ss) gs = (s, unwrap_or (group_in gs s) []) ∷ groups_along ss gs
-
--- the groups of the subjects after this one
-abbrev pub groups_after : Subject → List (Subject × List Fields) → List (Subject × List Fields)
-groups_after s gs = filter (λ (g : Subject × List Fields). is_lt (subject_cmp s g.0)) gs
 
 abbrev pub is_among : List Subject → Subject → Bool
 is_among ss s = list_any (is_at (subject_cmp s)) ss

@@ -34,7 +34,8 @@ returns-then-is_none-clause-does g c =
     c.next_after-after.ensures.page c.page-answer.ensures.after
     c.page-answer.ensures.asked c.tell_updates-is_told.ensures.told c.tell_updates-is_told.ensures.begun
     (ap is_none (sym c.next_after-after.ensures.next) ∙ sym c.is_none.ensures ∙ c.if-is_none.true)
-    (g.W.Out.end c.tell_end.new.out) _ c.tell_end.result refl c.tell_end.ensures
+    (g.W.Out.end c.tell_end-is_told.new.out) c.tell_end-is_told.result c.told.result c.tell_end-is_told.ensures
+    c.told.ensures
 
 pub returns-clause-does : goal.returns-clause-does
 returns-clause-does g c =
@@ -42,4 +43,5 @@ returns-clause-does g c =
     (g.O.Operated.asked c.loop-turn.operated) (g.W.Out.end c.args.out.now) (g.W.Out.end c.loop-turn.out)
     c.loop-turn.is_told c.loop-turn.after c.loop-turn.report c.loop-turn.invariant.paging
     (omega (arith, c.loop-turn.auto.turn-end, c.loop-turn-test.false))
-    (g.W.Out.end c.tell_end.new.out) _ c.tell_end.result refl c.tell_end.ensures
+    (g.W.Out.end c.tell_end-is_told.new.out) c.tell_end-is_told.result c.told.result c.tell_end-is_told.ensures
+    c.told.ensures

@@ -1,8 +1,8 @@
 use Rattle.std.proofs.Common.{sym, ap, subst, ◌∙◌}
-use Rattle.route_join.specs.Inner.Groups.{AreThere, groups_along, groups_after}
+use Rattle.route_join.specs.Inner.Groups.{AreThere, groups_along}
 use Rattle.route_join.specs.Subject.{subject_cmp}
 use Rattle.route_join.proofs.Indexed.{are_there}
-use Rattle.route_join.proofs.Afters.{is_after, groups_along_after, there_where}
+use Rattle.route_join.proofs.Afters.{is_after, groups_after, groups_along_after, there_where}
 use Rattle.route_join.proofs.groups.Groups.after.Goals as goal
 
 pub invariant_of-result : goal.invariant_of-result

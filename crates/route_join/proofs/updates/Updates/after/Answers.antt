@@ -3,8 +3,8 @@ use Rattle.std.specs.Option.{unwrap_or}
 use Rattle.route_join.specs.After.{updates_after}
 use Rattle.route_join.specs.Subject.{subject_of}
 use Rattle.route_join.specs.Group.{AreGroups, updates_in}
-use Rattle.route_join.specs.Inner.Groups.{group_at, groups_after}
-use Rattle.route_join.proofs.Afters.{after_in, groups_kept}
+use Rattle.route_join.specs.Inner.Groups.{group_at}
+use Rattle.route_join.proofs.Afters.{groups_after, after_in, groups_kept}
 use Rattle.route_join.proofs.updates.Updates.after.Goals as goal
 
 pub invariant_of-result : goal.invariant_of-result
