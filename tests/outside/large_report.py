@@ -1,3 +1,4 @@
+#!/usr/bin/env python3
 """Measures a console's report of a large table: the memory that it takes, and how long frames of known stations wait meanwhile.
 
     tests/outside/large_report.py [REGISTERS]        (default: 200,000)
