@@ -71,6 +71,11 @@ short us h =
     take_all page_len us (omega (arith, l, few))
 
 -- ---- one table
+-- the pages of these tables have what was left
+abbrev AreLeft : Table → List Table → Type 0
+AreLeft t ts = (r : Option Register) (ds us : List Fields) (qs : List (List Fields)) → all_updates t ≡ ds ++ us
+    → AreUpTo r ds → AreAfter r us → IsOrdered us → ArePages r ts qs → IsWhole qs → joined qs ≡ us
+
 of_one : (t : Table) (after : Option Register) (done rest : List Fields) (ts : List Table) (ps : List (List Fields))
     → all_updates t ≡ done ++ rest → AreUpTo after done → AreAfter after rest → IsOrdered rest
     → AllByRecursion (λ s. s ≡ t) ts → ArePages after ts ps → IsWhole ps → joined ps ≡ rest
@@ -78,6 +83,7 @@ of_one t after done rest [] [] is u b o all a w = absurd w
 of_one t after done rest [] (p ∷ ps) is u b o all a w = absurd a
 of_one t after done rest (s ∷ ts) [] is u b o all a w = absurd a
 of_one t after done rest (s ∷ ts) (p ∷ ps) is u b o all a w = go p ps page_is_first a.1 w
+    (λ r ds us qs e v c n k m. of_one t r ds us ts qs e v c n all.1 k m)
   where
     left : (after : Option Register) → AreUpTo after done → AreAfter after rest
         → updates_from after (all_updates t) ≡ rest
@@ -92,20 +98,20 @@ of_one t after done rest (s ∷ ts) (p ∷ ps) is u b o all a w = go p ps page_i
     is_page = subst (IsPage after) (sym a.0) (page_is after s)
 
     go : (x : List Fields) (ps : List (List Fields)) → x ≡ take page_len rest → ArePages (last_from after p) ts ps
-        → IsWhole (x ∷ ps) → joined (x ∷ ps) ≡ rest
-    go x [] e a w = append-nil x ∙ e ∙ short rest (subst (λ y. is_last y ≡ true) e w)
-    go [] (q ∷ ps) e a w = let no = w.0 in cc
-    go (v ∷ vs) (q ∷ ps) e a w =
+        → IsWhole (x ∷ ps) → AreLeft t ts → joined (x ∷ ps) ≡ rest
+    go x [] e a w next = append-nil x ∙ e ∙ short rest (subst (λ y. is_last y ≡ true) e w)
+    go [] (q ∷ ps) e a w next = let no = w.0 in cc
+    go (v ∷ vs) (q ∷ ps) e a w next =
         let end = drop page_len rest in
         let whole : rest ≡ v ∷ vs ++ end = sym (take-append-drop page_len rest) ∙ ap (λ y. y ++ end) (sym e) in
         let same : p ≡ v ∷ vs = page_is_first ∙ sym e in
         let page = subst (IsPage after) same is_page in
         let ordered = subst IsOrdered whole o in
-        ap (λ y. v ∷ vs ++ y) (of_one t (last_from after (v ∷ vs)) (done ++ v ∷ vs) end ts (q ∷ ps)
+        ap (λ y. v ∷ vs ++ y) (next (last_from after (v ∷ vs)) (done ++ v ∷ vs) end (q ∷ ps)
         (is ∙ ap (λ y. done ++ y) whole ∙ sym (append_assoc done (v ∷ vs) end))
         (page_up_to after done (v ∷ vs) u page)
         (subst (λ r. AreAfter r end) (sym (last_some after v vs)) (last_below v vs end ordered))
-        (ordered_end (v ∷ vs) end ordered) all.1
+        (ordered_end (v ∷ vs) end ordered)
         (subst (λ y. ArePages (last_from after y) ts (q ∷ ps)) same a) w.1)
         ∙ sym whole
 
@@ -121,8 +127,8 @@ some_value : (o : Option Value) → is_some o ≡ true → (v : Value) × (o ≡
 some_value None h = cc
 some_value (Some v) h = (v, refl)
 
-later : (x : Fields) (xs : List Fields) (u : Fields) → Contains xs u → Contains (x ∷ xs) u
-later x xs u h = (suc h.0, omega (arith, h.1), h.2)
+one_more : (x : Fields) (xs : List Fields) (u : Fields) → Contains xs u → Contains (x ∷ xs) u
+one_more x xs u h = (suc h.0, omega (arith, h.1), h.2)
 
 kept_after : (r : Register) (us : List Fields) (u : Fields) → register_cmp r u.register ≡ Less → Contains us u
     → Contains (updates_after r us) u
@@ -132,7 +138,7 @@ kept_after r (x ∷ xs) u l c =
       | inl h ↦ first (single h)
       | inr h ↦ elim (is_lt (register_cmp r x.register)) as (λ b.
           Contains (cond b (x ∷ updates_after r xs) (updates_after r xs)) u) [
-            | true ↦ later x (updates_after r xs) u (kept_after r xs u l h)
+            | true ↦ one_more x (updates_after r xs) u (kept_after r xs u l h)
             | false ↦ kept_after r xs u l h
           ]
     ]
@@ -153,15 +159,17 @@ to_come (Some r) us u h c = kept_after r us u h c
 
 below_each : (r : Register) (us : List Fields) (u : Fields) → below_all register_cmp r (entries_of us) ≡ true
     → Contains us u → register_cmp r u.register ≡ Less
-below_each r us u b c = go (kept_below r us b) c
+below_each r us u b c = less _ (passes us u (subst (λ y. Contains y u) (sym (kept_below r us b)) c))
   where
-    go : updates_after r us ≡ us → Contains us u → register_cmp r u.register ≡ Less
-    go e c = less _ (passes us u (subst (λ y. Contains y u) (sym e) c))
-
     passes : (xs : List Fields) (u : Fields) → Contains (updates_after r xs) u
         → is_lt (register_cmp r u.register) ≡ true
     passes xs u c = subst (λ (y : Fields). is_lt (register_cmp r y.register) ≡ true) c.2
         (filter_passes (comes_after r) xs c.0 u c.1)
+
+-- the pages of these tables have the register
+abbrev IsLater : Register → List Table → Type 0
+IsLater r ts = (q : Option Register) (qs : List (List Fields)) → IsToCome q r → ArePages q ts qs → IsWhole qs
+    → (v : Value) × Contains (joined qs) (record { register = r; value = v })
 
 stays : (r : Register) (after : Option Register) (ts : List Table) (ps : List (List Fields)) → IsToCome after r
     → AllByRecursion (λ t. is_some (value_at t r) ≡ true) ts → ArePages after ts ps → IsWhole ps
@@ -169,7 +177,7 @@ stays : (r : Register) (after : Option Register) (ts : List Table) (ps : List (L
 stays r after [] [] to all a w = absurd w
 stays r after [] (p ∷ ps) to all a w = absurd a
 stays r after (t ∷ ts) [] to all a w = absurd a
-stays r after (t ∷ ts) (p ∷ ps) to all a w = go p ps a.0 a.1 w
+stays r after (t ∷ ts) (p ∷ ps) to all a w = go p ps a.0 a.1 w (λ q qs k b m. stays r q ts qs k all.1 b m)
   where
     value : (v : Value) × (value_at t r ≡ Some v)
     value = some_value (value_at t r) all.0
@@ -190,14 +198,11 @@ stays r after (t ∷ ts) (p ∷ ps) to all a w = go p ps a.0 a.1 w
     ordered = from_ordered after t
 
     go : (x : List Fields) (ps : List (List Fields)) → x ≡ take page_len left → ArePages (last_from after p) ts ps
-        → IsWhole (x ∷ ps) → (v : Value) × Contains (joined (x ∷ ps)) (record { register = r; value = v })
-    go x [] e a w = (
-      value.0,
-      Contains-append_left x [] update
-          (subst (λ y. Contains y update) (sym (e ∙ short left (subst (λ y. is_last y ≡ true) e w))) there),
-    )
-    go [] (q ∷ ps) e a w = let no = w.0 in cc
-    go (v ∷ vs) (q ∷ ps) e a w =
+        → IsWhole (x ∷ ps) → IsLater r ts → (v : Value) × Contains (joined (x ∷ ps)) (record { register = r; value = v })
+    go x [] e a w next = (value.0, Contains-append_left x [] update
+        (subst (λ y. Contains y update) (sym (e ∙ short left (subst (λ y. is_last y ≡ true) e w))) there))
+    go [] (q ∷ ps) e a w next = let no = w.0 in cc
+    go (v ∷ vs) (q ∷ ps) e a w next =
         let end = drop page_len left in
         let whole : left ≡ v ∷ vs ++ end = sym (take-append-drop page_len left) ∙ ap (λ y. y ++ end) (sym e) in
         let same : p ≡ v ∷ vs = first_is ∙ sym e in
@@ -205,14 +210,12 @@ stays r after (t ∷ ts) (p ∷ ps) to all a w = go p ps a.0 a.1 w
         (x : Value) × Contains (joined ((v ∷ vs) ∷ q ∷ ps)) (record { register = r; value = x })) [
           | inl c ↦ (value.0, Contains-append_left (v ∷ vs) (joined (q ∷ ps)) update c)
           | inr c ↦
-              let next = stays r (last_from after (v ∷ vs)) ts (q ∷ ps)
+              let later = next (last_from after (v ∷ vs)) (q ∷ ps)
               (subst (λ k. IsToCome k r) (sym (last_some after v vs))
               (below_each (last_of v vs).register end update (last_below v vs end (subst IsOrdered whole ordered)) c))
-              all.1 (subst (λ y. ArePages (last_from after y) ts (q ∷ ps)) same a) w.1 in (
-                next.0,
-                Contains-append_right (v ∷ vs) (joined (q ∷ ps)) (record { register = r; value = next.0 })
-                    next.1,
-              )
+              (subst (λ y. ArePages (last_from after y) ts (q ∷ ps)) same a) w.1 in
+              (later.0, Contains-append_right (v ∷ vs) (joined (q ∷ ps)) (record { register = r; value = later.0 })
+                  later.1)
         ]
 
 pub register_stays : RegisterStays
