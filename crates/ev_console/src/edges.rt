@@ -7,7 +7,8 @@ use ev_book::BookRefusal;
 use ev_edge::Reply;
 use ev_mailboxes::{Command, PortView, Served};
 use ev_view::EdgeQuestion;
-use route_wire::Update;
+use route_join::Page;
+use route_wire::Register;
 use std::alloc::{AllocError, Global};
 
 /// Running edges that a console queries. The history of requests is `None`, since no clause
@@ -46,13 +47,14 @@ impl<M: ManyEdges> Operated for Edges<M> {
         }
     }
 
-    fn table(
+    fn page(
         &mut self,
         alloc: Global,
         edge: u64,
-    ) -> Result<Result<Vec<Update>, AllocError>, Unreached> {
+        after: Option<Register>,
+    ) -> Result<Result<Page, AllocError>, Unreached> {
         match self.many.reach(edge) {
-            Some(one) => one.table(alloc),
+            Some(one) => one.page(alloc, after),
             None => Err(Unreached::NoEdge),
         }
     }

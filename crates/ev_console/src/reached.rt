@@ -1,7 +1,7 @@
 //! Running edges by their numbers. A console that is proved for any of them asks exactly the edge
 //! that it names, and returns that edge's answer.
 ghost use Rattle.std.specs.Prelude.{◌≡◌, ℕ, option_map, IfOk, MatchOption};
-ghost use Rattle.ev_console.specs.Asking.{Asked, entered, table_seen, port_seen, view_seen, served_seen};
+ghost use Rattle.ev_console.specs.Asking.{Asked, entered, page_seen, port_seen, view_seen, served_seen};
 ghost use Rattle.ev_console.specs.Inner.LinksShown.{ShowsAny};
 
 use crate::loaded::rows_of;
@@ -14,7 +14,8 @@ use ev_history::Naming;
 use ev_mailboxes::{Command, Control, PortView, Running, Served};
 use ev_notices::LinkCounts;
 use ev_view::{EdgeQuestion, links_of, with_unlisted};
-use route_wire::Update;
+use route_join::Page;
+use route_wire::Register;
 use std::alloc::{AllocError, Global};
 use std::sync::{Mutex, Wait};
 
@@ -35,9 +36,14 @@ pub(crate) trait OneEdge {
     fn enter(&self, command: &Command) -> Result<Result<Reply, BookRefusal>, Unreached>
         ensures { gave self.now (entered (number self.now) command.now result) };
 
-    /// Returns the contents of the edge's table, in the order of a report.
-    fn table(&self, alloc: Global) -> Result<Result<Vec<Update>, AllocError>, Unreached>
-        ensures { gave self.now (table_seen (number self.now) result) };
+    /// Returns the page of the report of the edge's table after this register, or the first page.
+    fn page(
+        &self,
+        alloc: Global,
+        after: Option<Register>,
+    ) -> Result<Result<Page, AllocError>, Unreached>
+        ensures gave { gave self.now (page_seen (number self.now) after result) }
+        ensures after { IfOk result (λ answer. IfOk answer (λ page. page.after ≡ after)) };
 
     /// Returns the state of a port in the edge's spanning tree, or `None` if the edge has no port
     /// with this number.
@@ -181,9 +187,13 @@ impl<J: Naming, R: Wait, T: SystemDrops> OneEdge for HostedEdge<'_, J, R, T> {
         }
     }
 
-    fn table(&self, alloc: Global) -> Result<Result<Vec<Update>, AllocError>, Unreached> {
-        match self.control.table(self.rt, alloc) {
-            Some(updates) => Ok(updates),
+    fn page(
+        &self,
+        alloc: Global,
+        after: Option<Register>,
+    ) -> Result<Result<Page, AllocError>, Unreached> {
+        match self.control.page(self.rt, alloc, after) {
+            Some(page) => Ok(page),
             None => Err(Unreached::Ended),
         }
     }

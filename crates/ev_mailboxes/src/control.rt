@@ -1,19 +1,20 @@
 //! Access to running edges: the caller that waits until they end can send each of them a step, or a
 //! query about its state.
-ghost use Rattle.std.specs.Prelude.{◌≡◌, IfSome, vec_len};
+ghost use Rattle.std.specs.Prelude.{◌≡◌, IfSome, IfOk, vec_len};
 
 use crate::boards::Boards;
 use crate::outbox::Outbox;
 use crate::outboxes::Joined;
 use crate::peers::Mailboxes;
-use crate::request::{Command, PortView, Reading, Request, Served};
+use crate::request::{Command, PortView, Reading, Request, Served, begun_after};
 use crate::shared_mailbox::SharedMailbox;
 use ev_book::BookRefusal;
 use ev_edge::Reply;
 use ev_history::{Naming, Outside, Told};
 use ev_notices::{LinkCounts, Refused};
 use ev_view::EdgeQuestion;
-use route_wire::Update;
+use route_join::Page;
+use route_wire::{Register, Update};
 use std::alloc::{AllocError, Global};
 use std::sync::Wait;
 
@@ -135,11 +136,19 @@ impl<J: Naming> Control<'_, J> {
         answer.take_entered()
     }
 
-    /// Returns the updates of the edge's table.
-    pub fn table<R: Wait>(&self, rt: &R, alloc: Global) -> Option<Result<Vec<Update>, AllocError>> {
-        self.mailbox
-            .ask(rt, &Request::Read(Reading::Table(alloc)))?
-            .table()
+    /// Returns the page of the report of the edge's table after this register, or the first page.
+    /// Returns `None` if the edge has ended.
+    pub fn page<R: Wait>(
+        &self,
+        rt: &R,
+        alloc: Global,
+        after: Option<Register>,
+    ) -> Option<Result<Page, AllocError>>
+        ensures { IfSome result (λ answer. IfOk answer (λ page. page.after ≡ after)) }
+    {
+        let reading = Reading::Page(alloc, after);
+        let answer = self.mailbox.ask(rt, &Request::Read(reading))?;
+        begun_after(answer.page()?, &after)
     }
 
     /// Returns the state of the port in the spanning tree.

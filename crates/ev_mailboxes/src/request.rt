@@ -1,13 +1,15 @@
 //! The operator's requests to a running edge, and the edge's answers.
-ghost use Rattle.std.specs.Prelude.{◌≡◌};
-ghost use Rattle.ev_mailboxes.specs.Inner.Request.{entered_in, table_in, port_in, served_in, view_in};
+ghost use Rattle.std.specs.Prelude.{◌≡◌, ⊥, true, false, IfSome, IfNone, IfOk, MatchResult};
+ghost use Rattle.route_join.specs.After.{is_same_place};
+ghost use Rattle.ev_mailboxes.specs.Inner.Request.{entered_in, page_in, port_in, served_in, view_in};
 
 use ether_wire::{Addr, Vni};
 use ev_book::BookRefusal;
 use ev_edge::Reply;
 use ev_view::EdgeQuestion;
 use mac_arena::Station;
-use route_wire::Update;
+use route_join::Page;
+use route_wire::Register;
 use rstp_state::port::PortState;
 use std::alloc::{AllocError, Global};
 use std::mem;
@@ -36,8 +38,9 @@ pub enum Command {
 /// A query of the operator about an edge's state.
 #[derive(Clone, Copy)]
 pub enum Reading {
-    /// The updates of its table, in memory of this allocator.
-    Table(Global),
+    /// A page of its table's report, in memory of this allocator: the one after this register, or
+    /// the first one.
+    Page(Global, Option<Register>),
     /// The state of the port with this number in its spanning tree.
     Port(u8),
     /// Its address and the networks that it serves, in memory of this allocator.
@@ -80,15 +83,43 @@ pub struct Served {
 pub enum Answer {
     /// The book's answer to the step.
     Entered(Result<Reply, BookRefusal>),
-    /// The updates of all registers of its table, in the order of a report, or `AllocError` if
-    /// memory was refused for them.
-    Table(Result<Vec<Update>, AllocError>),
+    /// The page of its table's report, or `AllocError` if memory was refused for it.
+    Page(Result<Page, AllocError>),
     /// The state of the port in its spanning tree. `None` if no port has that number.
     Port(Option<PortView>),
     /// Its address and networks, or `AllocError` if memory was refused for them.
     Served(Result<Served, AllocError>),
     /// The answer to a query, or `AllocError` if memory was refused for it.
     View(Result<Vec<u8>, AllocError>),
+}
+
+/// Returns an answer unless it is another page than the one after this register. The clauses of a
+/// mailbox don't tell which request an answer belongs to, so that this is compared.
+pub(crate) fn begun_after(
+    answer: Result<Page, AllocError>,
+    after: &Option<Register>,
+) -> Option<Result<Page, AllocError>>
+    ensures none { IfNone result (MatchResult answer
+        (λ page. is_same_place page.after after.now ≡ false) (λ refused. ⊥)) }
+    ensures same { IfSome result (λ it. it ≡ answer) }
+    ensures after { IfSome result (λ answer. IfOk answer (λ page. page.after ≡ after.now)) }
+{
+    if is_after(&answer, after) {
+        Some(answer)
+    } else {
+        None
+    }
+}
+
+/// Returns `true` unless the answer is another page than the one after this register.
+fn is_after(answer: &Result<Page, AllocError>, after: &Option<Register>) -> bool
+    ensures { MatchResult answer.now (λ page. result ≡ is_same_place page.after after.now)
+        (λ refused. result ≡ true) }
+{
+    match answer {
+        Ok(page) => page.begins_after(after),
+        Err(_) => true,
+    }
 }
 
 impl Answer {
@@ -99,16 +130,16 @@ impl Answer {
         match self {
             Answer::Entered(Ok(reply)) => Some(Ok(mem::replace(reply, Reply::nothing()))),
             Answer::Entered(Err(refusal)) => Some(Err(*refusal)),
-            Answer::Table(_) | Answer::Port(_) | Answer::Served(_) | Answer::View(_) => None,
+            Answer::Page(_) | Answer::Port(_) | Answer::Served(_) | Answer::View(_) => None,
         }
     }
 
-    /// Returns the updates of the table, if this is the answer to that query.
-    pub(crate) fn table(self) -> Option<Result<Vec<Update>, AllocError>>
-        ensures { result ≡ table_in self }
+    /// Returns the page of the report, if this is the answer to that query.
+    pub(crate) fn page(self) -> Option<Result<Page, AllocError>>
+        ensures { result ≡ page_in self }
     {
         match self {
-            Answer::Table(updates) => Some(updates),
+            Answer::Page(page) => Some(page),
             Answer::Entered(_) | Answer::Port(_) | Answer::Served(_) | Answer::View(_) => None,
         }
     }
@@ -119,7 +150,7 @@ impl Answer {
     {
         match self {
             Answer::Port(view) => Some(*view),
-            Answer::Entered(_) | Answer::Table(_) | Answer::Served(_) | Answer::View(_) => None,
+            Answer::Entered(_) | Answer::Page(_) | Answer::Served(_) | Answer::View(_) => None,
         }
     }
 
@@ -129,7 +160,7 @@ impl Answer {
     {
         match self {
             Answer::Served(served) => Some(served),
-            Answer::Entered(_) | Answer::Table(_) | Answer::Port(_) | Answer::View(_) => None,
+            Answer::Entered(_) | Answer::Page(_) | Answer::Port(_) | Answer::View(_) => None,
         }
     }
 
@@ -139,7 +170,7 @@ impl Answer {
     {
         match self {
             Answer::View(text) => Some(text),
-            Answer::Entered(_) | Answer::Table(_) | Answer::Port(_) | Answer::Served(_) => None,
+            Answer::Entered(_) | Answer::Page(_) | Answer::Port(_) | Answer::Served(_) => None,
         }
     }
 }

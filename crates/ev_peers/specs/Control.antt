@@ -4,8 +4,8 @@ use Rattle.std.specs.Prelude.{Err, IsTrue}
 use Rattle.std.specs.Global.{Vec}
 use Rattle.std.specs.declared.alloc.AllocError.{AllocError}
 use Rattle.ether_wire.specs.Ports.{place_of_port}
-use Rattle.route_wire.specs.Fields.{Fields}
-use Rattle.route_join.specs.Updates.{all_updates}
+use Rattle.route_wire.specs.declared.update.Register.{Register}
+use Rattle.route_join.specs.After.{PageView, page_at}
 use Rattle.rstp_run.specs.Rules.{Tree}
 use Rattle.rstp_run.specs.Events.{IsPort, Passes}
 use Rattle.ev_edge.specs.Edge.{Edge, address_of, table_of}
@@ -21,7 +21,7 @@ use Rattle.ev_mailboxes.specs.declared.request.Command.TheVariants as commands
 use Rattle.ev_mailboxes.specs.declared.request.Request.{Request}
 use Rattle.ev_mailboxes.specs.declared.request.Request.TheVariants.{Enter, Read}
 use Rattle.ev_mailboxes.specs.declared.request.Reading.{Reading}
-use Rattle.ev_mailboxes.specs.declared.request.Reading.TheVariants.{Table, Port, Served as Serves, View}
+use Rattle.ev_mailboxes.specs.declared.request.Reading.TheVariants.{Page, Port, Served as Serves, View}
 use Rattle.ev_mailboxes.specs.declared.request.Answer.{Answer}
 use Rattle.ev_mailboxes.specs.declared.request.Answer.TheVariants as replies
 use Rattle.ev_mailboxes.specs.declared.request.PortView.{PortView}
@@ -51,10 +51,10 @@ pub record Obeys (bridge : ℕ) (command : Command) (answer : Result Reply BookR
 
 -- ---- a reading
 
--- the updates of all registers of the table, in the order of a report; memory may be refused for them
-abbrev pub ShowsTable : Edge → Result (Vec Fields) AllocError → Type 0
-ShowsTable e (Ok updates) = updates.items ≡ all_updates (table_of e)
-ShowsTable e (Err refused) = Unit {0}
+-- the page of the table's report after the register, or the first one; memory may be refused for it
+abbrev pub ShowsPage : Edge → Option Register → Result PageView AllocError → Type 0
+ShowsPage e after (Ok page) = page ≡ record { after = after; updates = page_at after (table_of e) }
+ShowsPage e after (Err refused) = Unit {0}
 
 -- the port's state, and whether frames pass there; `None` only if there is no port of this number
 abbrev pub ShowsPort : Tree → ℕ → Option PortView → Type 0
@@ -75,8 +75,8 @@ ShowsServed e (Err refused) = Unit {0}
 
 -- the answer of an edge to a reading
 abbrev pub Shows : Edge → Reading → Answer → Type 0
-Shows e (Table alloc) (replies.Table updates) = ShowsTable e updates
-Shows e (Table alloc) answer = ⊥
+Shows e (Page alloc after) (replies.Page page) = ShowsPage e after page
+Shows e (Page alloc after) answer = ⊥
 Shows e (Port p) (replies.Port view) = ShowsPort e.tree p view
 Shows e (Port p) answer = ⊥
 Shows e (Serves alloc) (replies.Served served) = ShowsServed e served

@@ -2,10 +2,8 @@
 //! from the edge's book.
 ghost use Rattle.std.specs.Prelude.{◌≡◌, ◌++◌, true, IfOk};
 ghost use Rattle.ev_history.specs.Booking.{is_own};
-ghost use Rattle.route_join.specs.Updates.{all_updates};
-ghost use Rattle.ev_edge.specs.Edge.{table_of};
 ghost use Rattle.ev_book.specs.Entering.{answered};
-ghost use Rattle.ev_peers.specs.Control.{event_of, Obeys, ShowsTable, ShowsPort, ShowsServed, ShowsView, Shows, Looked, Fulfils, Answers};
+ghost use Rattle.ev_peers.specs.Control.{event_of, Obeys, ShowsPage, ShowsPort, ShowsServed, ShowsView, Shows, Looked, Fulfils, Answers};
 
 use crate::gate::Gate;
 use crate::giving::Carried;
@@ -18,7 +16,8 @@ use ev_edge::{Edge, Event, Reply};
 use ev_history::{LoggedBook, Naming, Placed, Told};
 use ev_mailboxes::{Answer, Command, PortView, Reading, Request, Served};
 use ev_view::EdgeQuestion;
-use route_wire::Update;
+use route_join::Page;
+use route_wire::Register;
 use rstp_run::bridge::Bridge;
 use std::alloc::{AllocError, Global};
 use std::mem;
@@ -68,15 +67,11 @@ fn obey<L: Placed, J: Naming, O: Outlet<Told<J>> + Drop, G: Gate, R: Wait>(
     answer
 }
 
-/// Returns the updates of all registers of an edge's table.
-fn updates_of(alloc: Global, edge: &Edge) -> Result<Vec<Update>, AllocError>
-    ensures { ShowsTable edge.now result }
+/// Returns the page of the report of an edge's table after this register, or the first page.
+fn page_of(alloc: Global, edge: &Edge, after: Option<Register>) -> Result<Page, AllocError>
+    ensures { ShowsPage edge.now after result }
 {
-    let mut updates = Vec::new(alloc);
-    for update in edge.table().updates() {
-        updates.push(update)?;
-    }
-    Ok(updates)
+    edge.table().page(alloc, after)
 }
 
 /// Returns a copy of these networks.
@@ -130,7 +125,7 @@ fn shown(edge: &Edge, reading: &Reading) -> Answer
     ensures { Shows edge.now reading.now result }
 {
     match reading {
-        Reading::Table(alloc) => Answer::Table(updates_of(*alloc, edge)),
+        Reading::Page(alloc, after) => Answer::Page(page_of(*alloc, edge, *after)),
         Reading::Port(port) => Answer::Port(view_of(edge.bridge(), *port)),
         Reading::Served(alloc) => Answer::Served(served_by(*alloc, edge)),
         Reading::View(alloc, number, question) => {

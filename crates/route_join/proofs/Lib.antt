@@ -21,3 +21,7 @@ pub mod Trees
 pub mod Abouts
 pub mod HexGroups
 pub mod Entries
+pub mod Afters
+pub mod Pages
+pub mod PageLaws
+pub mod RunningReports

@@ -180,7 +180,7 @@ all_counted s os gs done us rest held k view whole =
     omega (arith, k.counted, all, first, second)
 
 -- ---- a second merge completes the first
-below_front : (q : Register) (k : ℕ) (es : List (Register × Value)) → below_all register_cmp q es ≡ true
+pub below_front : (q : Register) (k : ℕ) (es : List (Register × Value)) → below_all register_cmp q es ≡ true
     → below_all register_cmp q (take k es) ≡ true
 below_front q zero es h = refl
 below_front q (suc k) [] h = refl
@@ -188,7 +188,7 @@ below_front q (suc k) (e ∷ es) h =
     let parts = both (is_lt (register_cmp q e.0)) (below_all register_cmp q es) h in
     ap (λ b. b && below_all register_cmp q (take k es)) parts.0 ∙ below_front q k es parts.1
 
-sorted_front : (k : ℕ) (es : List (Register × Value)) → is_sorted register_cmp es ≡ true
+pub sorted_front : (k : ℕ) (es : List (Register × Value)) → is_sorted register_cmp es ≡ true
     → is_sorted register_cmp (take k es) ≡ true
 sorted_front zero es h = refl
 sorted_front (suc k) [] h = refl

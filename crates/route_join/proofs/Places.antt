@@ -20,11 +20,11 @@ use Rattle.route_join.proofs.Orders.{less, both}
 -- ---- a register with an update at a place
 
 -- the result that `later_by 1` was applied to
-came_ok : (r : Result ℕ ℕ) (at : ℕ) → later_by 1 r ≡ Ok at → (n : ℕ) × (r ≡ Ok n) × (at ≡ 1 + n)
+pub came_ok : (r : Result ℕ ℕ) (at : ℕ) → later_by 1 r ≡ Ok at → (n : ℕ) × (r ≡ Ok n) × (at ≡ 1 + n)
 came_ok (Ok n) at h = (n, refl, cc)
 came_ok (Err n) at h = cc
 
-came_err : (r : Result ℕ ℕ) (at : ℕ) → later_by 1 r ≡ Err at → (n : ℕ) × (r ≡ Err n) × (at ≡ 1 + n)
+pub came_err : (r : Result ℕ ℕ) (at : ℕ) → later_by 1 r ≡ Err at → (n : ℕ) × (r ≡ Err n) × (at ≡ 1 + n)
 came_err (Ok n) at h = cc
 came_err (Err n) at h = (n, refl, cc)
 

@@ -6,8 +6,10 @@ ghost use Rattle.route_wire.specs.Order.{register_cmp};
 ghost use Rattle.route_join.specs.Table.{entries_of, IsOrdered};
 ghost use Rattle.route_join.specs.Subject.{subject_of};
 ghost use Rattle.route_join.specs.Group.{AreAbout};
+ghost use Rattle.route_join.specs.After.{updates_after};
 ghost use Rattle.route_join.specs.Inner.Group.{Takes, update_among, IsLeader, IsSilent};
 
+use crate::after::rest_after;
 use crate::entry::Entry;
 use crate::large_group::LargeGroup;
 use crate::place::place;
@@ -104,6 +106,19 @@ impl Group {
             Storage::One(own) => UpdatesOf::few(subject, slice::from_ref(own)),
             Storage::SmallGroup(few) => UpdatesOf::few(subject, few.updates()),
             Storage::LargeGroup(many) => UpdatesOf::many(subject, many.updates()),
+        }
+    }
+
+    /// Returns the updates of the registers after this one, in the order of their registers. The
+    /// updates before them aren't passed one by one, unless there are few.
+    pub(crate) fn updates_after(&self, register: &Register) -> UpdatesOf<'_>
+        requires { AreAbout (subject_of register.now.key) (entries_of self.now) }
+        ensures { result ≡ updates_after register.now self.now }
+    {
+        match &self.kept {
+            Storage::One(own) => UpdatesOf::few(rest_after(slice::from_ref(own), register)),
+            Storage::SmallGroup(few) => UpdatesOf::few(rest_after(few.updates(), register)),
+            Storage::LargeGroup(many) => UpdatesOf::many(many.updates_after(register)),
         }
     }
 

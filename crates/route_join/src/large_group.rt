@@ -7,6 +7,7 @@ ghost use Rattle.std.specs.Iterator.{YieldsFirstBy, item_count};
 ghost use Rattle.route_wire.specs.Order.{is_newer, register_cmp};
 ghost use Rattle.route_join.specs.Table.{entries_of, IsOrdered};
 ghost use Rattle.route_join.specs.Group.{AreAbout};
+ghost use Rattle.route_join.specs.After.{updates_after};
 ghost use Rattle.route_join.specs.Inner.Group.{Takes, update_among, IsLeader, IsSilent};
 ghost use Rattle.route_join.specs.Inner.WinnerTree.{owns};
 ghost use Rattle.route_join.specs.Inner.LargeGroup.{IsLargeGroup, place_at, large_updates};
@@ -21,6 +22,7 @@ use route_wire::{Register, Update};
 use std::alloc::{AllocError, Global};
 use std::collections::{BTreeMap, btree_map};
 use std::marker::Model;
+use std::ops::Bound;
 
 /// Returns the place of a register, if it has one.
 fn place_at(tree: &BTreeMap<RegisterKey, u32>, register: &Register) -> Option<u32>
@@ -133,7 +135,18 @@ impl LargeGroup {
         ensures ordered { IsOrdered self.now }
     {
         LargeUpdates {
-            places: self.tree.iter(),
+            places: self.tree.range(..),
+            nodes: &self.nodes,
+        }
+    }
+
+    /// Returns the updates of the registers after this one, in the order of their registers.
+    pub(crate) fn updates_after(&self, register: &Register) -> LargeUpdates<'_>
+        ensures { result ≡ updates_after register.now self.now }
+    {
+        let after = Bound::Excluded(RegisterKey::new(*register));
+        LargeUpdates {
+            places: self.tree.range((after, Bound::Unbounded)),
             nodes: &self.nodes,
         }
     }
@@ -172,7 +185,7 @@ impl LargeGroup {
 /// The updates in the order of their registers, seen as the list of those that are left.
 #[derive(Drop)]
 pub(crate) struct LargeUpdates<'a> {
-    places: btree_map::Iter<'a, RegisterKey, u32>,
+    places: btree_map::Range<'a, RegisterKey, u32>,
     nodes: &'a [WinnerNode],
 }
 

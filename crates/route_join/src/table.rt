@@ -12,6 +12,7 @@ ghost use Rattle.route_join.specs.Joins.{join, IsJoin, IsPartJoin};
 ghost use Rattle.route_join.specs.Flood.{flood_of, IsFloodList};
 ghost use Rattle.route_join.specs.Taken.{taken_of, number_of};
 ghost use Rattle.route_join.specs.Updates.{all_updates, updates_of, AreAllUpdates, AreUpdatesOf};
+ghost use Rattle.route_join.specs.After.{updates_after};
 ghost use Rattle.route_wire.specs.declared.update.Value.{Value};
 
 use crate::flood::put_flood;
@@ -266,6 +267,14 @@ impl Table {
         ensures exact { AreAllUpdates self.now result }
     {
         Updates::of(&self.groups)
+    }
+
+    /// Returns the updates of the registers after this one, in the order of a report. It takes no
+    /// memory, and finds the first one by a search.
+    pub fn updates_after(&self, register: &Register) -> Updates<'_>
+        ensures { result ≡ updates_after register.now (all_updates self.now) }
+    {
+        Updates::after(&self.groups, register)
     }
 
     /// Returns the originators that advertise a network's flood list (RFC 7432, section 7.3),

@@ -4,13 +4,14 @@ ghost use Rattle.std.specs.Iterator.{YieldsFirst, item_count};
 ghost use Rattle.route_join.specs.Table.{entries_of};
 ghost use Rattle.route_join.specs.Group.{AreAbout, AreGroups, updates_in};
 ghost use Rattle.route_join.specs.LargeGroup.{left_in_tree};
+ghost use Rattle.route_join.specs.After.{updates_after};
 
 use crate::entry::Entry;
 use crate::groups::{Groups, GroupsIter};
 use crate::large_group::LargeUpdates;
-use crate::subject::Subject;
+use crate::subject::{Subject, subject_of};
 use ether_wire::Vni;
-use route_wire::Update;
+use route_wire::{Register, Update};
 use std::marker::Model;
 
 /// The updates of a MAC address, seen as the list of those that are left.
@@ -119,6 +120,17 @@ impl<'a> Updates<'a> {
         Updates {
             first: UpdatesOf::none(),
             groups: groups.iter(),
+        }
+    }
+
+    /// Returns the updates of the registers after this one.
+    pub(crate) fn after(groups: &'a Groups, register: &Register) -> Self
+        requires { AreGroups groups.now }
+        ensures { result ≡ updates_after register.now (updates_in groups.now) }
+    {
+        Updates {
+            first: groups.rest_after(register),
+            groups: groups.after(&subject_of(&register.key)),
         }
     }
 }
