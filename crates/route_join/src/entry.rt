@@ -167,12 +167,23 @@ impl Entry {
         self.originator
     }
 
-    /// Returns the IP address of the key, if it has one.
+    /// Returns the IP address of the key, from its numbers.
+    #[inline(never)]
+    fn ip_by_numbers(&self) -> Option<Ip>
+        ensures { result ≡ ip_of self.now.register.key }
+    {
+        ip_by(self.word / 0x800_0000, joined(self.high, self.low))
+    }
+
+    /// Returns the IP address of the key, if it has one. Most keys have none.
     #[inline(always)]
     pub(crate) fn ip(&self) -> Option<Ip>
         ensures { result ≡ ip_of self.now.register.key }
     {
-        ip_by(self.word / 0x800_0000, joined(self.high, self.low))
+        if self.word / 0x800_0000 == 0 {
+            return None;
+        }
+        self.ip_by_numbers()
     }
 
     /// Returns the value.
