@@ -1,6 +1,7 @@
 //! The boards of all edges. The edges' workers share them with the worker that writes the
 //! operator's lines.
-ghost use Rattle.std.specs.Prelude.{◌≡◌, ◌-◌, IfOk, slice_get, option_copied, vec_len};
+ghost use Rattle.std.specs.Prelude.{◌≡◌, ◌-◌, IfOk, slice_get, option_copied, option_map, vec_len};
+ghost use Rattle.ev_mailboxes.specs.Boards.{GivesLinks};
 
 use ev_notices::{
     Alarm, Board, LINKS, LinkCounts, News, Reception, Receptions, Refusals, Refused, Sendings,
@@ -131,7 +132,10 @@ impl Boards {
     }
 
     /// Returns the numbers of the links of the edge with this number, the tunnel's first.
-    pub(crate) fn links(&self, edge: usize) -> Option<&[LinkCounts]> {
+    pub(crate) fn links(&self, edge: usize) -> Option<&[LinkCounts]>
+        ensures { GivesLinks self.now.all.items (edge - 1)
+            (option_map (λ links. links.now) result) }
+    {
         let of_edge = self.of(edge)?;
         let used = of_edge.used.load(Ordering::SeqCst);
         let links = of_edge.links.as_slice();

@@ -1,6 +1,7 @@
 //! Access to running edges: the caller that waits until they end can send each of them a step, or a
 //! query about its state.
-ghost use Rattle.std.specs.Prelude.{◌≡◌, IfSome, IfOk, vec_len};
+ghost use Rattle.std.specs.Prelude.{◌≡◌, ◌-◌, IfSome, IfOk, option_map, vec_len};
+ghost use Rattle.ev_mailboxes.specs.Boards.{GivesLinks};
 
 use crate::boards::Boards;
 use crate::outbox::Outbox;
@@ -70,7 +71,10 @@ impl<'x, J: Naming> Running<'x, J> {
 
     /// Returns the numbers of the links of the edge with this number, from 1: the tunnel's, then
     /// those of the ports. The call needs no answer of the edge.
-    pub fn links(&self, edge: usize) -> Option<&'x [LinkCounts]> {
+    pub fn links(&self, edge: usize) -> Option<&'x [LinkCounts]>
+        ensures { GivesLinks self.now.boards.now.all.items (edge - 1)
+            (option_map (λ links. links.now) result) }
+    {
         let boards = self.boards;
         boards.links(edge)
     }

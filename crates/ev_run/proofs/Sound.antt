@@ -1,6 +1,5 @@
 -- The edges that a run leaves are those of a sound fabric.
-use Rattle.std.proofs.Common.{◌≡◌, ℕ, ◌==◌, Bool, true, false, List, [], ◌∷◌, map, refl, ap, sym, ◌∙◌, subst}
-use Rattle.std.proofs.Common.{cond, arith}
+use Rattle.std.proofs.Common.{◌≡◌, ℕ, ◌==◌, Bool, true, false, List, [], ◌∷◌, map, refl, ap, ◌∙◌, subst, cond, arith}
 use Rattle.std.proofs.lemmas.Bool.Decides.{nat_tests}
 use Rattle.ev_edge.specs.declared.config.EdgeConfig.{EdgeConfig}
 use Rattle.ev_edge.specs.Edge.{Edge}

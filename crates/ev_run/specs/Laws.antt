@@ -1,5 +1,5 @@
 -- The edges that a run leaves are those of a sound fabric.
-use Rattle.std.specs.Prelude.{◌≡◌, ℕ, false, List}
+use Rattle.std.specs.Prelude.{ℕ, false, List}
 use Rattle.ev_edge.specs.declared.config.EdgeConfig.{EdgeConfig}
 use Rattle.ev_edge.specs.Edge.{Edge}
 use Rattle.ev_fabric.specs.Fabric.{fabric_of}

@@ -1,4 +1,4 @@
-use Rattle.std.proofs.Common.{rules, ◌≡◌, ◌++◌, ◌+◌, List, [], ◌∷◌, Option, ℕ, map, ap, ◌∙◌, arith}
+use Rattle.std.proofs.Common.{rules, ◌≡◌, ◌++◌, ◌+◌, [], ◌∷◌, Option, ℕ, map, ap, ◌∙◌, arith}
 use Rattle.std.proofs.lemmas.List.{map-append}
 use Rattle.ev_view.specs.declared.link_lines.LinkRow.{LinkRow}
 use Rattle.ev_view.proofs.Each.{gives_more}
