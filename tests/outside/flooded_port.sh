@@ -1,15 +1,16 @@
 #!/usr/bin/env bash
-# usage: tests/outside/flooded_port.sh [evpnd [storm]]     (the built program; by default the one that `rt run` leaves, with `storm = 1000`)
+# usage: tests/outside/flooded_port.sh [evpnd [storm]]     (the built program; by default the one that `rt run` leaves, with `storm = 100`)
 #
 # Runs two edges with two ports each, and floods port 1 of the first for ten seconds with broadcasts of 1,400 octets, as fast as one
 # process sends them. Meanwhile the host at port 2 of the first edge sends 600 frames to the host at port 2 of the second, one after the
 # other. Prints how many of these came, and how many broadcasts came out at the second edge. Fails if a frame of the host was lost, or
-# if more broadcasts came than `storm` allows in these seconds. With `storm` 0 the port has no limit, and nothing fails for the
-# broadcasts. It needs no root, UDP port 4789 of two loopback addresses, and python3. It is no part of the gate.
+# if more broadcasts came than `storm` allows in these seconds. With `storm` 0 the port has no limit, and some frames of the host are
+# lost. A limit of many hundreds fills the receive buffer of each host once a second. It needs no root, UDP port 4789 of two loopback
+# addresses, and python3. It is no part of the gate.
 set -u
 cd "$(dirname "$0")/../.."
 program=${1:-$PWD/crates/evpnd/out/evpnd}
-storm=${2:-1000}
+storm=${2:-100}
 [ -x "$program" ] || { echo "this needs the built program, as word or by rt run in crates/evpnd"; exit 2; }
 work=$(mktemp -d)
 trap 'rm -rf "$work"' EXIT
