@@ -187,7 +187,7 @@ module _ (e n : ℕ) (before middle : Option (List Asked)) (old mid : End) (is_t
         last = answer;
         is_last = last_answer answer none;
         asked_are = refl;
-        report = texts_of all ++ end_text (begun_after all);
+        lines = texts_of all ++ end_text (begun_after all);
         of = reported all (last_ordered answer behind_place shown);
         is = refl;
       };
@@ -274,7 +274,7 @@ shows_most e n before middle old mid is_told place report s most end is_told' r 
         are_full = s.are_full;
         many = s.many ∙ most;
         asked_are = refl;
-        report = texts_of us ++ end_text (begun_after us);
+        lines = texts_of us ++ end_text (begun_after us);
         of = reported us s.ordered;
         is = refl;
       };

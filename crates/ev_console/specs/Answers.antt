@@ -89,9 +89,9 @@ pub record ShowsPages (e : ℕ) (asked : List Asked) (text : List ℕ) : Type 0 
   pub last : PageSeen
   pub is_last : IsLast last
   pub asked_are : asked ≡ pages_seen e None full ++ page_seen e (end_of None full) last ∷ []
-  pub report : List ℕ
-  pub of : IsReportOf (updates_of full ++ last_updates last) report
-  pub is : text ≡ report ++ last_words e last
+  pub lines : List ℕ
+  pub of : IsReportOf (updates_of full ++ last_updates last) lines
+  pub is : text ≡ lines ++ last_words e last
 
 -- After 2^40 full pages the report stops.
 pub record StopsShowing (e : ℕ) (asked : List Asked) (text : List ℕ) : Type 0 where
@@ -99,9 +99,9 @@ pub record StopsShowing (e : ℕ) (asked : List Asked) (text : List ℕ) : Type 
   pub are_full : All IsFull full
   pub many : length full ≡ 2 ^ 40
   pub asked_are : asked ≡ pages_seen e None full
-  pub report : List ℕ
-  pub of : IsReportOf (updates_of full) report
-  pub is : text ≡ report ++ no_memory_text e
+  pub lines : List ℕ
+  pub of : IsReportOf (updates_of full) lines
+  pub is : text ≡ lines ++ no_memory_text e
 
 abbrev pub ShowsTable : ℕ → List Asked → List ℕ → Type 0
 ShowsTable e = λ asked text. ShowsPages e asked text ⊎ StopsShowing e asked text

@@ -1,5 +1,5 @@
 //! The operator's requests to a running edge, and the edge's answers.
-ghost use Rattle.std.specs.Prelude.{◌≡◌, ⊥, true, false, IfSome, IfNone, IfOk, MatchResult};
+ghost use Rattle.std.specs.Prelude.{◌≡◌, true, false, IfSome, IfNone, IfOk, MatchResult};
 ghost use Rattle.route_join.specs.After.{is_same_place};
 ghost use Rattle.ev_mailboxes.specs.Inner.Request.{entered_in, page_in, port_in, served_in, view_in};
 
