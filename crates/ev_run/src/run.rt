@@ -20,6 +20,7 @@ use crate::named::{Ends, Prepared, run_named};
 use crate::print::{Watched, put_notes, put_reports};
 use crate::socket_drops::SocketDrops;
 use crate::sockets::{StartError, bind_all, put_bind_error};
+use crate::system::System;
 use crate::system_drops::{UdpTable, rows_of_drops};
 use crate::thread_check::{ThreadPolicy, check_threads, stopped_by};
 use ether_wire::{Device, In, Out};
@@ -229,17 +230,6 @@ pub(crate) fn tell_meanwhile<R: Wait, N: Out>(
     notice_worker(rt, &mut notices, notes)
 }
 
-/// The system on which edges run.
-#[derive(Clone, Copy, Drop)]
-pub struct System<'x, R> {
-    /// The runtime, which waits, starts threads, and has sockets and a clock.
-    pub rt: &'x R,
-    /// The allocator.
-    pub alloc: Global,
-    /// What to do if the system refuses threads.
-    pub policy: ThreadPolicy,
-}
-
 /// The environment in which edges run.
 #[derive(Drop)]
 pub(crate) struct Host<'x, R> {
@@ -408,8 +398,8 @@ pub(crate) fn run_asked<
 /// a link or a socket that can't be bound; 3 if memory or a thread was refused; else 0. If a socket
 /// can't be bound, no edge begins, and a line on `notes` has the address and the reason. If the
 /// system doesn't start as many threads as the run needs, a line on `notes` has both numbers, and
-/// no edge begins unless the policy of `system` allows it. If a port lacks an address, no edge begins
-/// either, and nothing is written.
+/// no edge begins unless the policy of `system` allows it. If a port lacks an address, no edge
+/// begins either, and nothing is written.
 pub fn run_edges<
     R: Threads + Wait + Net + Files + UdpTable + Clock + Sync,
     E: In,

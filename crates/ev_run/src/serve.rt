@@ -8,7 +8,8 @@ ghost use Rattle.ev_run.specs.Inner.Serving.{listed_by};
 
 use crate::clients::Service;
 use crate::control_socket::{ControlSocket, ListenError, put_listen_error};
-use crate::run::{Host, System, run_asked};
+use crate::run::{Host, run_asked};
+use crate::system::System;
 use crate::system_drops::UdpTable;
 use ether_wire::{In, Out};
 use ev_config::{Config, Served};

@@ -1,4 +1,4 @@
--- Pages of tables, one after the other: their order, and which registers are on them.
+-- Pages of tables, one after the other: their order, and the registers on them.
 use Rattle.std.proofs.Common.{◌≡◌, ℕ, zero, suc, ◌<◌, ◌≤◌, Bool, true, false, cond, ◌⊎◌, inl, inr, Option, Some, None}
 use Rattle.std.proofs.Common.{is_some, List, [], ◌∷◌, ◌++◌, length, take, drop, Contains, refl, sym, ap, subst, ◌∙◌}
 use Rattle.std.proofs.Common.{append_assoc, append-nil, arith}
@@ -198,7 +198,8 @@ stays r after (t ∷ ts) (p ∷ ps) to all a w = go p ps a.0 a.1 w (λ q qs k b 
     ordered = from_ordered after t
 
     go : (x : List Fields) (ps : List (List Fields)) → x ≡ take page_len left → ArePages (last_from after p) ts ps
-        → IsWhole (x ∷ ps) → IsLater r ts → (v : Value) × Contains (joined (x ∷ ps)) (record { register = r; value = v })
+        → IsWhole (x ∷ ps) → IsLater r ts
+        → (v : Value) × Contains (joined (x ∷ ps)) (record { register = r; value = v })
     go x [] e a w next = (value.0, Contains-append_left x [] update
         (subst (λ y. Contains y update) (sym (e ∙ short left (subst (λ y. is_last y ≡ true) e w))) there))
     go [] (q ∷ ps) e a w next = let no = w.0 in cc
