@@ -71,7 +71,7 @@ short us h =
     take_all page_len us (omega (arith, l, few))
 
 -- ---- one table
--- the pages of these tables have what was left
+-- the pages of these tables have the updates that were left
 abbrev AreLeft : Table → List Table → Type 0
 AreLeft t ts = (r : Option Register) (ds us : List Fields) (qs : List (List Fields)) → all_updates t ≡ ds ++ us
     → AreUpTo r ds → AreAfter r us → IsOrdered us → ArePages r ts qs → IsWhole qs → joined qs ≡ us
