@@ -1,6 +1,6 @@
 -- The updates after a register: in a list, in a tree, and in groups; and the pages of a report.
-use Rattle.std.proofs.Common.{◌≡◌, ℕ, zero, suc, ◌+◌, ◌≤◌, Bool, true, false, cond, ◌&&◌, Option, Some, None}
-use Rattle.std.proofs.Common.{Result, Ok, Err, List, [], ◌∷◌, ◌++◌, length, take, drop, refl, sym, ap, subst, ◌∙◌}
+use Rattle.std.proofs.Common.{◌≡◌, ℕ, suc, ◌+◌, ◌≤◌, Bool, true, false, cond, ◌&&◌, Option, Some, None}
+use Rattle.std.proofs.Common.{Ok, Err, List, [], ◌∷◌, ◌++◌, length, take, drop, refl, sym, ap, subst, ◌∙◌}
 use Rattle.std.proofs.Common.{arith}
 use Rattle.std.specs.declared.cmp.Ordering.{Ordering}
 use Rattle.std.specs.declared.cmp.Ordering.TheVariants.{Less, Equal, Greater}
@@ -76,6 +76,20 @@ below_later r q (e ∷ es) l h =
     ∙ below_later r q es l parts.1
 
 -- ---- a list of one subject
+about_after : (r : Register) (s : Subject) (us : List Fields) → AreAbout s (entries_of us)
+    → AreAbout s (entries_of (updates_after r us))
+about_after r s [] k = tt
+about_after r s (u ∷ us) k = elim (comes_after r u) as (λ b.
+    AreAbout s (entries_of (cond b (u ∷ updates_after r us) (updates_after r us)))) [
+      | true ↦ (k.0, about_after r s us k.1)
+      | false ↦ about_after r s us k.1
+    ]
+
+pub about_rest : (r : Register) (s t : Subject) (us rest : List Fields) → s ≡ t → rest ≡ updates_after r us
+    → AreAbout t (entries_of us) → AreAbout s (entries_of rest)
+about_rest r s t us rest e f k = subst (λ x. AreAbout x (entries_of rest)) (sym e)
+    (subst (λ x. AreAbout t (entries_of x)) (sym f) (about_after r t us k))
+
 pub after_ok : (us : List Fields) (q : Register) (at : ℕ) → IsOrdered us → place_of us q ≡ Ok at
     → drop (at + 1) us ≡ updates_after q us
 after_ok [] q at s h = cc

@@ -1,5 +1,5 @@
 -- Pages of tables, one after the other: their order, and the registers on them.
-use Rattle.std.proofs.Common.{◌≡◌, ℕ, zero, suc, ◌<◌, ◌≤◌, Bool, true, false, cond, ◌⊎◌, inl, inr, Option, Some, None}
+use Rattle.std.proofs.Common.{◌≡◌, zero, suc, ◌<◌, true, false, cond, inl, inr, Option, Some, None}
 use Rattle.std.proofs.Common.{is_some, List, [], ◌∷◌, ◌++◌, length, take, drop, Contains, refl, sym, ap, subst, ◌∙◌}
 use Rattle.std.proofs.Common.{append_assoc, append-nil, arith}
 use Rattle.std.specs.declared.cmp.Ordering.TheVariants.{Less, Equal, Greater}
@@ -71,7 +71,7 @@ short us h =
     take_all page_len us (omega (arith, l, few))
 
 -- ---- one table
--- the pages of these tables have the updates that were left
+-- the pages of these tables have all the updates that were left
 abbrev AreLeft : Table → List Table → Type 0
 AreLeft t ts = (r : Option Register) (ds us : List Fields) (qs : List (List Fields)) → all_updates t ≡ ds ++ us
     → AreUpTo r ds → AreAfter r us → IsOrdered us → ArePages r ts qs → IsWhole qs → joined qs ≡ us
@@ -166,14 +166,18 @@ below_each r us u b c = less _ (passes us u (subst (λ y. Contains y u) (sym (ke
     passes xs u c = subst (λ (y : Fields). is_lt (register_cmp r y.register) ≡ true) c.2
         (filter_passes (comes_after r) xs c.0 u c.1)
 
+-- the pages have the register
+abbrev IsOn : Register → List (List Fields) → Type 0
+IsOn r ps = (v : Value) × Contains (joined ps) (record { register = r; value = v })
+
 -- the pages of these tables have the register
 abbrev IsLater : Register → List Table → Type 0
 IsLater r ts = (q : Option Register) (qs : List (List Fields)) → IsToCome q r → ArePages q ts qs → IsWhole qs
-    → (v : Value) × Contains (joined qs) (record { register = r; value = v })
+    → IsOn r qs
 
 stays : (r : Register) (after : Option Register) (ts : List Table) (ps : List (List Fields)) → IsToCome after r
     → AllByRecursion (λ t. is_some (value_at t r) ≡ true) ts → ArePages after ts ps → IsWhole ps
-    → (v : Value) × Contains (joined ps) (record { register = r; value = v })
+    → IsOn r ps
 stays r after [] [] to all a w = absurd w
 stays r after [] (p ∷ ps) to all a w = absurd a
 stays r after (t ∷ ts) [] to all a w = absurd a
@@ -198,25 +202,29 @@ stays r after (t ∷ ts) (p ∷ ps) to all a w = go p ps a.0 a.1 w (λ q qs k b 
     ordered = from_ordered after t
 
     go : (x : List Fields) (ps : List (List Fields)) → x ≡ take page_len left → ArePages (last_from after p) ts ps
-        → IsWhole (x ∷ ps) → IsLater r ts
-        → (v : Value) × Contains (joined (x ∷ ps)) (record { register = r; value = v })
-    go x [] e a w next = (value.0, Contains-append_left x [] update
-        (subst (λ y. Contains y update) (sym (e ∙ short left (subst (λ y. is_last y ≡ true) e w))) there))
+        → IsWhole (x ∷ ps) → IsLater r ts → IsOn r (x ∷ ps)
+    go x [] e a w next = (
+      value.0,
+      Contains-append_left x [] update
+          (subst (λ y. Contains y update) (sym (e ∙ short left (subst (λ y. is_last y ≡ true) e w))) there),
+    )
     go [] (q ∷ ps) e a w next = let no = w.0 in cc
     go (v ∷ vs) (q ∷ ps) e a w next =
         let end = drop page_len left in
         let whole : left ≡ v ∷ vs ++ end = sym (take-append-drop page_len left) ∙ ap (λ y. y ++ end) (sym e) in
         let same : p ≡ v ∷ vs = first_is ∙ sym e in
         elim (Contains-append_cases (v ∷ vs) end update (subst (λ y. Contains y update) whole there)) as (λ _.
-        (x : Value) × Contains (joined ((v ∷ vs) ∷ q ∷ ps)) (record { register = r; value = x })) [
+        IsOn r ((v ∷ vs) ∷ q ∷ ps)) [
           | inl c ↦ (value.0, Contains-append_left (v ∷ vs) (joined (q ∷ ps)) update c)
           | inr c ↦
               let later = next (last_from after (v ∷ vs)) (q ∷ ps)
               (subst (λ k. IsToCome k r) (sym (last_some after v vs))
               (below_each (last_of v vs).register end update (last_below v vs end (subst IsOrdered whole ordered)) c))
-              (subst (λ y. ArePages (last_from after y) ts (q ∷ ps)) same a) w.1 in
-              (later.0, Contains-append_right (v ∷ vs) (joined (q ∷ ps)) (record { register = r; value = later.0 })
-                  later.1)
+              (subst (λ y. ArePages (last_from after y) ts (q ∷ ps)) same a) w.1 in (
+                later.0,
+                Contains-append_right (v ∷ vs) (joined (q ∷ ps)) (record { register = r; value = later.0 })
+                    later.1,
+              )
         ]
 
 pub register_stays : RegisterStays

@@ -1,5 +1,5 @@
 -- Pages one after the other: their updates are in order, and are those of a table.
-use Rattle.std.proofs.Common.{◌≡◌, ℕ, suc, ◌+◌, ◌-◌, Bool, true, false, ◌&&◌, ◌⊎◌, inl, inr, Option, Some, None, List}
+use Rattle.std.proofs.Common.{◌≡◌, ℕ, suc, ◌-◌, true, false, ◌&&◌, ◌⊎◌, inl, inr, Option, Some, None, List}
 use Rattle.std.proofs.Common.{[], ◌∷◌, ◌++◌, length, refl, sym, ap, subst, ◌∙◌, append-nil, arith}
 use Rattle.std.specs.Prelude.{slice_get}
 use Rattle.std.specs.declared.cmp.Ordering.TheVariants.{Less}
@@ -7,12 +7,11 @@ use Rattle.std.specs.Cmp.{tied_itself}
 use Rattle.std.specs.Ordering.{is_lt}
 use Rattle.std.specs.FinMap.Entries.{below_all, is_sorted}
 use Rattle.route_wire.specs.declared.update.Register.{Register}
-use Rattle.route_wire.specs.declared.update.Value.{Value}
 use Rattle.route_wire.specs.Fields.{Fields}
 use Rattle.route_wire.specs.Order.{register_cmp}
 use Rattle.route_wire.specs.Inner.Totals.{register_total, value_total}
 use Rattle.route_join.specs.Table.{entries_of, IsOrdered, IsTableOf, table_from}
-use Rattle.route_join.specs.After.{AreAfter, IsPage, is_last, register_or, last_from}
+use Rattle.route_join.specs.After.{IsPage, is_last, register_or, last_from}
 use Rattle.route_join.proofs.Orders.{less, both}
 use Rattle.route_join.proofs.Edits.{found}
 use Rattle.route_join.proofs.Abouts.{found_contains, contains_found}

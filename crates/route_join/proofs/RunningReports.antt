@@ -13,7 +13,7 @@ use Rattle.route_wire.specs.declared.update.Value.{Value}
 use Rattle.route_wire.specs.Fields.{Fields}
 use Rattle.route_wire.specs.Order.{register_cmp}
 use Rattle.route_join.specs.Subject.{Subject, subject_cmp, subject_of}
-use Rattle.route_join.specs.Owner.{advert_in, is_about, said_of, better_of, best_among}
+use Rattle.route_join.specs.Owner.{advert_in, is_about, better_of, best_among}
 use Rattle.route_join.specs.Report.{register_line, owner_line, goes_on, after_register, lines_of, report_of}
 use Rattle.route_join.specs.Table.{entries_of, IsOrdered, table_from}
 use Rattle.route_join.specs.RunningReport.{Begun, nothing_begun, origin_of, owner_text, end_text, begun_with}

@@ -1,5 +1,5 @@
 -- Laws on a report that is read page by page, while the table may change between two pages.
-use Rattle.std.specs.Prelude.{◌≡◌, true, false, Some, None, Option, is_some, List, [], ◌∷◌, Contains}
+use Rattle.std.specs.Prelude.{◌≡◌, true, false, None, Option, is_some, List, [], ◌∷◌, Contains}
 use Rattle.std.specs.List.{flat_map, AllByRecursion}
 use Rattle.route_wire.specs.declared.update.Register.{Register}
 use Rattle.route_wire.specs.declared.update.Value.{Value}

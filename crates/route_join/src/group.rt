@@ -111,14 +111,20 @@ impl Group {
 
     /// Returns the updates of the registers after this one, in the order of their registers. The
     /// updates before them aren't passed one by one, unless there are few.
+    #[tactic(auto, using(crate::proofs::Afters::about_rest))]
     pub(crate) fn updates_after(&self, register: &Register) -> UpdatesOf<'_>
         requires { AreAbout (subject_of register.now.key) (entries_of self.now) }
         ensures { result ≡ updates_after register.now self.now }
     {
+        let subject = subject_of(&register.key);
         match &self.kept {
-            Storage::One(own) => UpdatesOf::few(rest_after(slice::from_ref(own), register)),
-            Storage::SmallGroup(few) => UpdatesOf::few(rest_after(few.updates(), register)),
-            Storage::LargeGroup(many) => UpdatesOf::many(many.updates_after(register)),
+            Storage::One(own) => {
+                UpdatesOf::few(&subject, rest_after(slice::from_ref(own), register))
+            }
+            Storage::SmallGroup(few) => {
+                UpdatesOf::few(&subject, rest_after(few.updates(), register))
+            }
+            Storage::LargeGroup(many) => UpdatesOf::many(&subject, many.updates_after(register)),
         }
     }
 

@@ -1,4 +1,4 @@
-use Rattle.std.proofs.Common.{◌≤◌, length, sym, ◌∙◌, arith}
+use Rattle.std.proofs.Common.{sym, ◌∙◌}
 use Rattle.route_join.proofs.Places.{placed, gapped}
 use Rattle.route_join.proofs.Afters.{after_ok, after_err}
 use Rattle.route_join.proofs.after.rest_after.Goals as goal
