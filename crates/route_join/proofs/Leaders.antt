@@ -22,7 +22,6 @@ use Rattle.route_wire.specs.Fields.{Fields}
 use Rattle.route_wire.specs.Order.{register_cmp, is_newer}
 use Rattle.route_wire.specs.declared.update.Key.TheVariants.{Flood}
 use Rattle.route_wire.specs.declared.update.Content.TheVariants.{Withdrawn}
-use Rattle.route_join.specs.declared.table.Taken.{Taken}
 use Rattle.route_join.specs.declared.table.Taken.TheVariants.{Newer, Known}
 use Rattle.route_wire.specs.Inner.Totals.{register_total}
 use Rattle.route_join.specs.Table.{entries_of, IsOrdered, is_news}
