@@ -6,7 +6,8 @@
 Needs no root. It takes the program of the variable EVPND, or builds one with tools/try --fast. `evpnd serve` runs one edge with two
 ports. A client brings in the registers of an edge elsewhere. Another process sends a frame from the station of one port to that of
 the other each millisecond, and notes when it comes out. Then a console requests `1 report` twice. The last line is `ok` if a report
-takes at most 2 MB more and each frame comes out within 5 ms, apart from as many slow ones as there are without a report.
+takes at most 2 MB more, and of the frames at most one in a hundred more takes longer than 5 ms than without a report. On a busy
+machine the frames say little: run it with a higher priority than the rest (nice -n -5).
 """
 
 import multiprocessing
@@ -189,7 +190,7 @@ def measured(served: subprocess.Popen, path: str, ends: List[Tuple[socket.socket
         slow.append(late / max(many, 1))
         print(f"{name}: {end - begin:.2f} s, {many} frames, {late} above 5 ms, slowest {most:.1f} ms")
     print(f"{lines} lines of stations; memory before {before} KiB, more in a report: {', '.join(f'{it} KiB' for it in grown)}")
-    is_good = max(grown) <= MORE and all(part <= slow[0] + 0.005 for part in slow[1:])
+    is_good = max(grown) <= MORE and all(part <= slow[0] + 0.01 for part in slow[1:])
     print("ok" if is_good else "not within the limits")
     return 0 if is_good else 1
 
