@@ -25,6 +25,7 @@ use mac_arena::Station;
 use route_join::Table;
 use route_wire::Update;
 use rstp_run::bridge::{Bridge, BridgeConfig};
+use rstp_run::event::Event as BridgeEvent;
 use std::alloc::{AllocError, Global};
 use std::marker::Model;
 
@@ -154,9 +155,9 @@ impl Edge {
                 self.second(reply);
                 Ok(())
             }
-            Event::PortUp(port) => self.port_up(*port, reply),
-            Event::PortDown(port) => self.port_down(*port, reply),
-            Event::Mcheck(port) => self.mcheck(*port, reply),
+            Event::PortUp(port) => self.port_event(*port, BridgeEvent::PortUp(*port), reply),
+            Event::PortDown(port) => self.port_event(*port, BridgeEvent::PortDown(*port), reply),
+            Event::Mcheck(port) => self.port_event(*port, BridgeEvent::Mcheck(*port), reply),
             Event::Announce => {
                 self.announce(reply);
                 Ok(())
