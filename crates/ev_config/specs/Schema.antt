@@ -1,15 +1,15 @@
 -- The keys of a configuration, a row each: the key and the kind of its value, in the order of the faults.
 use Rattle.std.specs.Prelude.{ℕ, ◌-◌, ◌^◌, true, false, List, [], ◌∷◌, codes}
 use Rattle.ev_config.specs.declared.schema.Range.{Range}
-use Rattle.ev_config.specs.declared.schema.Kind.{Kind}
-use Rattle.ev_config.specs.declared.schema.Kind.TheVariants as kind
+use Rattle.ev_config.specs.declared.schema.KeyKind.{KeyKind}
+use Rattle.ev_config.specs.declared.schema.KeyKind.TheVariants as kind
 
 -- a key's octets
 abbrev pub Key : Type 0
 Key = List ℕ
 
 abbrev pub Row : Type 0
-Row = Key × Kind
+Row = Key × KeyKind
 
 -- from low to high; the default, if the key is missing
 abbrev pub range : ℕ → ℕ → ℕ → Range

@@ -8,8 +8,8 @@ use Rattle.ev_fabric.specs.declared.refusal.FabricRefusal.TheVariants as fabric
 use Rattle.ev_book.specs.declared.refusal.BookRefusal.{BookRefusal}
 use Rattle.ev_book.specs.declared.refusal.BookRefusal.TheVariants.{PassStrange, PassSpent, NoRoom, Edge}
 use Rattle.ev_book.specs.Refusal.{refusal_number}
-use Rattle.ev_mailboxes.specs.declared.request.Command.{Command as Step}
-use Rattle.ev_mailboxes.specs.declared.request.Command.TheVariants as steps
+use Rattle.ev_mailboxes.specs.declared.request.OperatorCommand.{OperatorCommand as Step}
+use Rattle.ev_mailboxes.specs.declared.request.OperatorCommand.TheVariants as steps
 use Rattle.ev_script.specs.declared.script.question.Question.{Question}
 use Rattle.ev_script.specs.declared.script.question.Question.TheVariants.{Help, Edges, OfEdge}
 use Rattle.ev_script.specs.Script.{Command, up, down, mcheck, second, frame, tunnel, pin, unpin, thaw, announce}

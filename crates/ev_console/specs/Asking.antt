@@ -6,9 +6,9 @@ use Rattle.route_wire.specs.declared.update.Register.{Register}
 use Rattle.route_join.specs.After.{PageView}
 use Rattle.ev_edge.specs.declared.reply.Reply.{Reply}
 use Rattle.ev_book.specs.declared.refusal.BookRefusal.{BookRefusal}
-use Rattle.ev_mailboxes.specs.declared.request.Command.{Command as Step}
+use Rattle.ev_mailboxes.specs.declared.request.OperatorCommand.{OperatorCommand as Step}
 use Rattle.ev_mailboxes.specs.declared.request.PortView.{PortView}
-use Rattle.ev_mailboxes.specs.declared.request.Served.{Served}
+use Rattle.ev_mailboxes.specs.declared.request.EdgeNetworks.{EdgeNetworks}
 use Rattle.ev_view.specs.declared.view.EdgeQuestion.{EdgeQuestion}
 use Rattle.ev_console.specs.declared.operated.Unreached.{Unreached}
 
@@ -30,7 +30,7 @@ ViewSeen = Result (Result (Vec ℕ) AllocError) Unreached
 
 -- the address, ports and VNIs that an edge serves
 abbrev pub ServedSeen : Type 0
-ServedSeen = Result (Result Served AllocError) Unreached
+ServedSeen = Result (Result EdgeNetworks AllocError) Unreached
 
 -- a request to the edge with this number, and its answer
 pub data Asked : Type 0 where

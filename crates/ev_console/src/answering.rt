@@ -12,7 +12,7 @@ use crate::printing::{
 };
 use crate::table::show_table;
 use ether_wire::{Device, Flushing, Out};
-use ev_mailboxes::{Command as Step, Served};
+use ev_mailboxes::{EdgeNetworks, OperatorCommand as Step};
 use ev_script::{Command, Question, parse, port_number, question_of};
 use ev_view::EdgeQuestion;
 use std::alloc::{AllocError, Global};
@@ -72,7 +72,7 @@ fn tell_served<W: Out>(
     is_told: bool,
     out: &mut W,
     edge: u64,
-    answer: &Result<Result<Served, AllocError>, Unreached>,
+    answer: &Result<Result<EdgeNetworks, AllocError>, Unreached>,
 ) -> bool
     requires { is_told ≡ true → IsOpen (W.end out.old) }
     ensures { Tells (W.end out.old) (W.end out.new) is_told result

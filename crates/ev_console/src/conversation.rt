@@ -7,7 +7,7 @@ ghost use Rattle.ev_console.specs.Inner.Conversation.{TakesOctets, TakesEnd};
 use crate::answering::reply;
 use crate::edges::Edges;
 use crate::operated::Operated;
-use crate::reached::Host;
+use crate::reached::LocalEdges;
 use crate::system_drops::SystemDrops;
 use arrayvec::ArrayVec;
 use ether_wire::{Device, Flushing, In};
@@ -145,7 +145,7 @@ pub fn converse_with<O: Operated, I: In, W: Flushing>(
 /// is processed.
 pub fn converse<J: Naming, R: Wait, T: SystemDrops, I: In, W: Flushing>(
     alloc: Global,
-    host: Host<'_, J, R, T>,
+    host: LocalEdges<'_, J, R, T>,
     reader: &mut I,
     out: &mut W,
 ) -> Result<(), Device>

@@ -5,9 +5,9 @@ use crate::operated::{Operated, Unreached};
 use crate::reached::{ManyEdges, OneEdge};
 use ev_book::BookRefusal;
 use ev_edge::Reply;
-use ev_mailboxes::{Command, PortView, Served};
+use ev_mailboxes::{EdgeNetworks, OperatorCommand, PortView};
 use ev_view::EdgeQuestion;
-use route_join::Page;
+use route_join::UpdatePage;
 use route_wire::Register;
 use std::alloc::{AllocError, Global};
 
@@ -39,7 +39,7 @@ impl<M: ManyEdges> Operated for Edges<M> {
     fn enter(
         &mut self,
         edge: u64,
-        command: &Command,
+        command: &OperatorCommand,
     ) -> Result<Result<Reply, BookRefusal>, Unreached> {
         match self.many.reach(edge) {
             Some(one) => one.enter(command),
@@ -52,7 +52,7 @@ impl<M: ManyEdges> Operated for Edges<M> {
         alloc: Global,
         edge: u64,
         after: Option<Register>,
-    ) -> Result<Result<Page, AllocError>, Unreached> {
+    ) -> Result<Result<UpdatePage, AllocError>, Unreached> {
         match self.many.reach(edge) {
             Some(one) => one.page(alloc, after),
             None => Err(Unreached::NoEdge),
@@ -82,7 +82,7 @@ impl<M: ManyEdges> Operated for Edges<M> {
         &mut self,
         alloc: Global,
         edge: u64,
-    ) -> Result<Result<Served, AllocError>, Unreached> {
+    ) -> Result<Result<EdgeNetworks, AllocError>, Unreached> {
         match self.many.reach(edge) {
             Some(one) => one.served(alloc),
             None => Err(Unreached::NoEdge),

@@ -15,6 +15,6 @@ mod turns;
 
 pub use conversation::{converse, converse_with};
 pub use operated::{Operated, Unreached};
-pub use reached::Host;
+pub use reached::LocalEdges;
 pub use system_drops::{NoDrops, SystemDrops};
 pub use turns::{take_turn, take_turn_with};

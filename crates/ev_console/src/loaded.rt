@@ -3,7 +3,7 @@ ghost use Rattle.std.specs.Prelude.{◌≡◌, ◌+◌, ◌-◌, ◌^◌, min, m
 ghost use Rattle.ev_console.specs.Inner.LinksShown.{drops_at, drops_of};
 
 use ev_links::Flow;
-use ev_notices::{Cause, LinkCounts};
+use ev_notices::{DropReason, LinkCounts};
 use ev_view::LinkRow;
 use std::alloc::{AllocError, Global};
 
@@ -51,12 +51,12 @@ impl Loaded {
             queued: counts.queued.shown(),
             failed_sends: counts.queued.failures(),
             idle_out: counts.idle_out(),
-            too_long: counts.refused(Cause::TooLong),
-            malformed: counts.refused(Cause::Malformed),
-            unlisted: counts.refused(Cause::Unlisted),
-            other_network: counts.refused(Cause::OtherNetwork),
-            storm: counts.refused(Cause::Storm),
-            no_memory: counts.refused(Cause::NoMemory),
+            too_long: counts.refused(DropReason::TooLong),
+            malformed: counts.refused(DropReason::Malformed),
+            unlisted: counts.refused(DropReason::Unlisted),
+            other_network: counts.refused(DropReason::OtherNetwork),
+            storm: counts.refused(DropReason::Storm),
+            no_memory: counts.refused(DropReason::NoMemory),
             no_room: counts.no_room(),
         }
     }

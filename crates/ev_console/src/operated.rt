@@ -5,9 +5,9 @@ ghost use Rattle.ev_console.specs.Asking.{Asked, entered, page_seen, port_seen, 
 
 use ev_book::BookRefusal;
 use ev_edge::Reply;
-use ev_mailboxes::{Command, PortView, Served};
+use ev_mailboxes::{EdgeNetworks, OperatorCommand, PortView};
 use ev_view::EdgeQuestion;
-use route_join::Page;
+use route_join::UpdatePage;
 use route_wire::Register;
 use std::alloc::{AllocError, Global};
 
@@ -44,7 +44,7 @@ pub trait Operated {
     fn enter(
         &mut self,
         edge: u64,
-        command: &Command,
+        command: &OperatorCommand,
     ) -> Result<Result<Reply, BookRefusal>, Unreached>
         ensures asked { asked self.new
             ≡ behind (asked self.old) (entered edge command.now result ∷ []) }
@@ -57,7 +57,7 @@ pub trait Operated {
         alloc: Global,
         edge: u64,
         after: Option<Register>,
-    ) -> Result<Result<Page, AllocError>, Unreached>
+    ) -> Result<Result<UpdatePage, AllocError>, Unreached>
         ensures asked { asked self.new
             ≡ behind (asked self.old) (page_seen edge after result ∷ []) }
         ensures gave { gave self.old (page_seen edge after result) }
@@ -85,7 +85,11 @@ pub trait Operated {
         ensures count { count self.new ≡ count self.old };
 
     /// Returns the address, ports and VNIs that the edge serves.
-    fn served(&mut self, alloc: Global, edge: u64) -> Result<Result<Served, AllocError>, Unreached>
+    fn served(
+        &mut self,
+        alloc: Global,
+        edge: u64,
+    ) -> Result<Result<EdgeNetworks, AllocError>, Unreached>
         ensures asked { asked self.new
             ≡ behind (asked self.old) (served_seen edge result ∷ []) }
         ensures gave { gave self.old (served_seen edge result) }

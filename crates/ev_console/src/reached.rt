@@ -11,10 +11,10 @@ use ev_book::BookRefusal;
 use ev_edge::Reply;
 use ev_exchange::Known;
 use ev_history::Naming;
-use ev_mailboxes::{Command, Control, PortView, Running, Served};
+use ev_mailboxes::{Control, EdgeNetworks, OperatorCommand, PortView, Running};
 use ev_notices::LinkCounts;
 use ev_view::{EdgeQuestion, links_of, with_unlisted};
-use route_join::Page;
+use route_join::UpdatePage;
 use route_wire::Register;
 use std::alloc::{AllocError, Global};
 use std::sync::{Mutex, Wait};
@@ -33,7 +33,7 @@ pub(crate) trait OneEdge {
     ghost gave: { Self → Asked → Type 0 };
 
     /// Enters a step, and returns the answer of the edge's book.
-    fn enter(&self, command: &Command) -> Result<Result<Reply, BookRefusal>, Unreached>
+    fn enter(&self, command: &OperatorCommand) -> Result<Result<Reply, BookRefusal>, Unreached>
         ensures { gave self.now (entered (number self.now) command.now result) };
 
     /// Returns the page of the report of the edge's table after this register, or the first page.
@@ -41,7 +41,7 @@ pub(crate) trait OneEdge {
         &self,
         alloc: Global,
         after: Option<Register>,
-    ) -> Result<Result<Page, AllocError>, Unreached>
+    ) -> Result<Result<UpdatePage, AllocError>, Unreached>
         ensures gave { gave self.now (page_seen (number self.now) after result) }
         ensures after { IfOk result (λ answer. IfOk answer (λ page. page.after ≡ after)) };
 
@@ -59,7 +59,7 @@ pub(crate) trait OneEdge {
         ensures { gave self.now (view_seen (number self.now) question.now result) };
 
     /// Returns the address, ports and VNIs that the edge serves.
-    fn served(&self, alloc: Global) -> Result<Result<Served, AllocError>, Unreached>
+    fn served(&self, alloc: Global) -> Result<Result<EdgeNetworks, AllocError>, Unreached>
         ensures { gave self.now (served_seen (number self.now) result) };
 }
 
@@ -86,7 +86,7 @@ pub(crate) trait ManyEdges {
 
 /// The edges of this process, and the runtime on which a caller waits for their answers.
 #[derive(Drop)]
-pub struct Host<'x, J: Naming, R, T> {
+pub struct LocalEdges<'x, J: Naming, R, T> {
     /// The runtime.
     pub rt: &'x R,
     /// The edges.
@@ -109,7 +109,7 @@ pub(crate) struct HostedEdge<'x, J: Naming, R, T> {
     system: &'x T,
 }
 
-impl<'x, J: Naming, R: Wait, T: SystemDrops> ManyEdges for Host<'x, J, R, T> {
+impl<'x, J: Naming, R: Wait, T: SystemDrops> ManyEdges for LocalEdges<'x, J, R, T> {
     ghost use Rattle.std.specs.Prelude.{⊤, vec_len};
 
     type Edge = HostedEdge<'x, J, R, T>;
@@ -180,7 +180,7 @@ impl<J: Naming, R: Wait, T: SystemDrops> OneEdge for HostedEdge<'_, J, R, T> {
     ghost gave = { λ edge asked. GivesLinks (T.reported edge.system.now)
         (option_map (λ links. links.now) edge.links) asked };
 
-    fn enter(&self, command: &Command) -> Result<Result<Reply, BookRefusal>, Unreached> {
+    fn enter(&self, command: &OperatorCommand) -> Result<Result<Reply, BookRefusal>, Unreached> {
         match self.control.enter(self.rt, *command) {
             Some(answer) => Ok(answer),
             None => Err(Unreached::Ended),
@@ -191,7 +191,7 @@ impl<J: Naming, R: Wait, T: SystemDrops> OneEdge for HostedEdge<'_, J, R, T> {
         &self,
         alloc: Global,
         after: Option<Register>,
-    ) -> Result<Result<Page, AllocError>, Unreached> {
+    ) -> Result<Result<UpdatePage, AllocError>, Unreached> {
         match self.control.page(self.rt, alloc, after) {
             Some(page) => Ok(page),
             None => Err(Unreached::Ended),
@@ -220,7 +220,7 @@ impl<J: Naming, R: Wait, T: SystemDrops> OneEdge for HostedEdge<'_, J, R, T> {
         }
     }
 
-    fn served(&self, alloc: Global) -> Result<Result<Served, AllocError>, Unreached> {
+    fn served(&self, alloc: Global) -> Result<Result<EdgeNetworks, AllocError>, Unreached> {
         match self.control.served(self.rt, alloc) {
             Some(served) => Ok(served),
             None => Err(Unreached::Ended),

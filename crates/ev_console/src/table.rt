@@ -13,7 +13,7 @@ ghost use Rattle.ev_console.specs.Inner.Answers.{Does, IsShown, next_after};
 use crate::operated::{Operated, Unreached};
 use crate::printing::{put_no_memory, put_unreached};
 use ether_wire::{Device, Out};
-use route_join::{Page, RunningReport};
+use route_join::{RunningReport, UpdatePage};
 use route_wire::Register;
 use std::alloc::{AllocError, Global};
 
@@ -21,7 +21,7 @@ use std::alloc::{AllocError, Global};
 const MOST_PAGES: u64 = 0x100_0000_0000;
 
 /// An edge's answer to the request for a page.
-type PageSeen = Result<Result<Page, AllocError>, Unreached>;
+type PageSeen = Result<Result<UpdatePage, AllocError>, Unreached>;
 
 /// Writes the lines of the updates that an edge has shown, if nothing has failed. Returns `true` if
 /// nothing has failed then.
@@ -98,7 +98,7 @@ fn told(is_told: bool) -> Result<(), Device>
 }
 
 /// Returns the register after which the page after this one begins, or `None` if this is the last.
-fn after_page(page: &Page) -> Option<Register>
+fn after_page(page: &UpdatePage) -> Option<Register>
     ensures next { result ≡ next_after (Ok (Ok page.now)) }
     ensures page { IsPage page.now.after page.now.updates }
 {

@@ -12,7 +12,7 @@ use Rattle.std.proofs.lemmas.Option.{slice_get_within}
 use Rattle.std.proofs.lemmas.List.{length-append, length-take-le, length-drop, take_all, take-append-le, drop-append-le}
 use Rattle.ev_links.specs.Links.{packet}
 use Rattle.ev_links.specs.declared.line.Head.{Head}
-use Rattle.ev_links.specs.declared.parts.Part.{Part}
+use Rattle.ev_links.specs.declared.parts.SourceQueue.{SourceQueue}
 use Rattle.ev_links.specs.Line.{Sourced, sourced, octets_of, from_source, fits_part, waiting_of, after_frame}
 use Rattle.ev_links.specs.Line.{after_drop}
 use Rattle.ev_links.specs.Line.{cut, sizes, NoneTooLong, heads_of, AreCounted, IsLine}
@@ -97,28 +97,29 @@ own_octets s (h ∷ heads) xs e = go (eqb h.source s)
     go true rest = let one = length-take-le h.size xs (omega (arith, e)) in omega (arith, one, rest)
     go false rest = rest
 
-some_part : (xs : List Part) (k : ℕ) → k < length xs → slice_get xs k ≡ None → ⊥
+some_part : (xs : List SourceQueue) (k : ℕ) → k < length xs → slice_get xs k ≡ None → ⊥
 some_part [] k less none = omega (arith, less)
 some_part (x ∷ xs) zero less none = cc
 some_part (x ∷ xs) (suc k) less none = some_part xs k (omega (arith, less)) none
 
-get_past : (parts : List Part) (s : ℕ) → slice_get parts s ≡ None → nat_lt s (length parts) ≡ false
+get_past : (parts : List SourceQueue) (s : ℕ) → slice_get parts s ≡ None → nat_lt s (length parts) ≡ false
 get_past parts s is = go (nat_lt s (length parts)) refl
   where
     go : (b : Bool) → nat_lt s (length parts) ≡ b → b ≡ false
     go true lt = let less : s < length parts = grind (arith, nat_tests) in absurd (some_part parts s less is)
     go false lt = refl
 
-get_in : (parts : List Part) (s : ℕ) (p : Part) → slice_get parts s ≡ Some p → nat_lt s (length parts) ≡ true
+get_in : (parts : List SourceQueue) (s : ℕ) (p : SourceQueue) → slice_get parts s ≡ Some p
+    → nat_lt s (length parts) ≡ true
 get_in parts s p is = let less = slice_get_within parts s p is in grind (arith, nat_tests)
 
 -- the counts tell whether the part of a source has room
-own_room : (parts : List Part) (heads : List Head) (octets : List ℕ) (s size : ℕ) → AreCounted parts heads
+own_room : (parts : List SourceQueue) (heads : List Head) (octets : List ℕ) (s size : ℕ) → AreCounted parts heads
     → sizes heads ≡ length octets → fits_in (length parts) (slice_get parts s) size
     ≡ (nat_lt s (length parts) && fits_part (length parts) (from_source s (cut heads octets)) size)
 own_room parts heads octets s size counted all = go (slice_get parts s) refl
   where
-    go : (o : Option Part) → slice_get parts s ≡ o → fits_in (length parts) o size
+    go : (o : Option SourceQueue) → slice_get parts s ≡ o → fits_in (length parts) o size
         ≡ (nat_lt s (length parts) && fits_part (length parts) (from_source s (cut heads octets)) size)
     go None is = sym (ap (λ b. b && fits_part (length parts) (from_source s (cut heads octets)) size)
         (get_past parts s is))
@@ -154,13 +155,14 @@ own_few s (h ∷ heads) = go (eqb h.source s) (own_few s heads)
 
 -- ---- counts
 
-set_here : (parts : List Part) (k : ℕ) (p q : Part) → slice_get parts k ≡ Some q
+set_here : (parts : List SourceQueue) (k : ℕ) (p q : SourceQueue) → slice_get parts k ≡ Some q
     → slice_get (slice_set parts k p) k ≡ Some p
 set_here [] k p q is = cc
 set_here (x ∷ xs) zero p q is = refl
 set_here (x ∷ xs) (suc k) p q is = set_here xs k p q is
 
-set_apart : (parts : List Part) (k s : ℕ) (p : Part) → k ≢ s → slice_get (slice_set parts k p) s ≡ slice_get parts s
+set_apart : (parts : List SourceQueue) (k s : ℕ) (p : SourceQueue) → k ≢ s
+    → slice_get (slice_set parts k p) s ≡ slice_get parts s
 set_apart [] k s p ne = refl
 set_apart (x ∷ xs) zero zero p ne = absurd (ne refl)
 set_apart (x ∷ xs) zero (suc s) p ne = refl
@@ -168,14 +170,14 @@ set_apart (x ∷ xs) (suc k) zero p ne = refl
 set_apart (x ∷ xs) (suc k) (suc s) p ne = set_apart xs k s p (λ same. ne (ap suc same))
 
 -- the part at a place after one part was changed
-changed_at : (f : Part → Part) (parts : List Part) (k s : ℕ) (p : Part)
+changed_at : (f : SourceQueue → SourceQueue) (parts : List SourceQueue) (k s : ℕ) (p : SourceQueue)
     → slice_get (option_map_or (λ q. slice_set parts k (f q)) (slice_get parts k) parts) s ≡ Some p
-    → (k ≡ s → (q : Part) × (slice_get parts s ≡ Some q) × (p ≡ f q)) × (k ≢ s → slice_get parts s ≡ Some p)
+    → (k ≡ s → (q : SourceQueue) × (slice_get parts s ≡ Some q) × (p ≡ f q)) × (k ≢ s → slice_get parts s ≡ Some p)
 changed_at f parts k s p is = go (slice_get parts k) refl is
   where
-    go : (o : Option Part) → slice_get parts k ≡ o
+    go : (o : Option SourceQueue) → slice_get parts k ≡ o
         → slice_get (option_map_or (λ q. slice_set parts k (f q)) o parts) s ≡ Some p
-        → (k ≡ s → (q : Part) × (slice_get parts s ≡ Some q) × (p ≡ f q)) × (k ≢ s → slice_get parts s ≡ Some p)
+        → (k ≡ s → (q : SourceQueue) × (slice_get parts s ≡ Some q) × (p ≡ f q)) × (k ≢ s → slice_get parts s ≡ Some p)
     go None at is = (
       λ same. (let bad : None ≡ Some p = sym at ∙ ap (slice_get parts) same ∙ is in cc),
       λ ne. is,
@@ -191,12 +193,13 @@ changed_at f parts k s p is = go (slice_get parts k) refl is
     )
 
 -- one more frame is counted
-counted_put : (parts : List Part) (heads : List Head) (h : Head) → AreCounted parts heads
+counted_put : (parts : List SourceQueue) (heads : List Head) (h : Head) → AreCounted parts heads
     → AreCounted (with_one h.source h.size parts) (heads ++ h ∷ [])
 counted_put parts heads h counted = λ s p is. go s p (changed_at (one_more h.size) parts h.source s p is)
     (eqb h.source s) refl
   where
-    go : (s : ℕ) (p : Part) → (h.source ≡ s → (q : Part) × (slice_get parts s ≡ Some q) × (p ≡ one_more h.size q))
+    go : (s : ℕ) (p : SourceQueue) → (h.source ≡ s
+        → (q : SourceQueue) × (slice_get parts s ≡ Some q) × (p ≡ one_more h.size q))
         × (h.source ≢ s → slice_get parts s ≡ Some p) → (b : Bool) → eqb h.source s ≡ b
         → (p.frames ≡ length (heads_of s (heads ++ h ∷ []))) × (p.octets ≡ sizes (heads_of s (heads ++ h ∷ [])))
     go s p at true is =
@@ -205,7 +208,8 @@ counted_put parts heads h counted = λ s p is. go s p (changed_at (one_more h.si
         let put : heads_of s (heads ++ h ∷ []) ≡ heads_of s heads ++ h ∷ [] =
         heads_put s heads h ∙ ap (λ b. heads_of s heads ++ cond b (h ∷ []) []) is in
         let many = length-append (heads_of s heads) (h ∷ []) in let long = sizes_put (heads_of s heads) h in
-        let frames = ap (λ (x : Part). x.frames) there.2 in let octets = ap (λ (x : Part). x.octets) there.2 in
+        let frames = ap (λ (x : SourceQueue). x.frames) there.2 in let octets =
+            ap (λ (x : SourceQueue). x.octets) there.2 in
         let c0 = c.0 in let c1 = c.1 in let l = ap length put in let z = ap sizes put in
         (omega (arith, frames, c0, many, l), omega (arith, octets, c1, long, z))
     go s p at false is =
@@ -224,12 +228,13 @@ counted_put parts heads h counted = λ s p is. go s p (changed_at (one_more h.si
         sizes_none (x ∷ hs) = let rest = sizes_none hs in omega (arith, rest)
 
 -- and one less
-counted_left : (parts : List Part) (h : Head) (heads : List Head) → AreCounted parts (h ∷ heads)
+counted_left : (parts : List SourceQueue) (h : Head) (heads : List Head) → AreCounted parts (h ∷ heads)
     → AreCounted (without_one h.source h.size parts) heads
 counted_left parts h heads counted = λ s p is. go s p (changed_at (one_less h.size) parts h.source s p is)
     (eqb h.source s) refl
   where
-    go : (s : ℕ) (p : Part) → (h.source ≡ s → (q : Part) × (slice_get parts s ≡ Some q) × (p ≡ one_less h.size q))
+    go : (s : ℕ) (p : SourceQueue) → (h.source ≡ s
+        → (q : SourceQueue) × (slice_get parts s ≡ Some q) × (p ≡ one_less h.size q))
         × (h.source ≢ s → slice_get parts s ≡ Some p) → (b : Bool) → eqb h.source s ≡ b
         → (p.frames ≡ length (heads_of s heads)) × (p.octets ≡ sizes (heads_of s heads))
     go s p at true is =
@@ -237,7 +242,8 @@ counted_left parts h heads counted = λ s p is. go s p (changed_at (one_less h.s
         let c = counted s there.0 there.1 in
         let took : heads_of s (h ∷ heads) ≡ h ∷ heads_of s heads =
         ap (λ b. cond b (h ∷ heads_of s heads) (heads_of s heads)) is in
-        let frames = ap (λ (x : Part). x.frames) there.2 in let octets = ap (λ (x : Part). x.octets) there.2 in
+        let frames = ap (λ (x : SourceQueue). x.frames) there.2 in let octets =
+            ap (λ (x : SourceQueue). x.octets) there.2 in
         let c0 = c.0 in let c1 = c.1 in let l = ap length took in let z = ap sizes took in
         (omega (arith, frames, c0, l), omega (arith, octets, c1, z))
     go s p at false is =
@@ -251,19 +257,19 @@ pub counted_none : (n : ℕ) → AreCounted (replicate n no_part) []
 counted_none zero = λ s p is. cc
 counted_none (suc n) = λ s. at (counted_none n) s
   where
-    at : AreCounted (replicate n no_part) [] → (s : ℕ) (p : Part)
+    at : AreCounted (replicate n no_part) [] → (s : ℕ) (p : SourceQueue)
         → slice_get (no_part ∷ replicate n no_part) s ≡ Some p → (p.frames ≡ 0) × (p.octets ≡ 0)
     at rest zero p is = let same : no_part ≡ p = cc in
-        (sym (ap (λ (x : Part). x.frames) same), sym (ap (λ (x : Part). x.octets) same))
+        (sym (ap (λ (x : SourceQueue). x.frames) same), sym (ap (λ (x : SourceQueue). x.octets) same))
     at rest (suc s) p is = rest s p is
 
 -- the counts are small
-pub counted_few : (parts : List Part) (heads : List Head) (octets : List ℕ) (size s : ℕ) → AreCounted parts heads
+pub counted_few : (parts : List SourceQueue) (heads : List Head) (octets : List ℕ) (size s : ℕ) → AreCounted parts heads
     → sizes heads ≡ length octets → length heads < 2048 → length octets + size ≤ 524288
     → IfSome (slice_get parts s) (λ p. (p.frames + 1 < 2 ^ 64) × (p.octets + size < 2 ^ 64))
 counted_few parts heads octets size s counted all many long = go (slice_get parts s) refl
   where
-    go : (o : Option Part) → slice_get parts s ≡ o
+    go : (o : Option SourceQueue) → slice_get parts s ≡ o
         → IfSome o (λ p. (p.frames + 1 < 2 ^ 64) × (p.octets + size < 2 ^ 64))
     go None is = tt
     go (Some p) is =
@@ -272,11 +278,11 @@ counted_few parts heads octets size s counted all many long = go (slice_get part
         (omega (arith, c0, f0, many), omega (arith, c1, f1, all, long))
 
 -- the first head is among those of its source
-pub counted_first : (parts : List Part) (h : Head) (heads : List Head) → AreCounted parts (h ∷ heads)
+pub counted_first : (parts : List SourceQueue) (h : Head) (heads : List Head) → AreCounted parts (h ∷ heads)
     → IfSome (slice_get parts h.source) (λ p. (1 ≤ p.frames) × (h.size ≤ p.octets))
 counted_first parts h heads counted = go (slice_get parts h.source) refl
   where
-    go : (o : Option Part) → slice_get parts h.source ≡ o → IfSome o (λ p. (1 ≤ p.frames) × (h.size ≤ p.octets))
+    go : (o : Option SourceQueue) → slice_get parts h.source ≡ o → IfSome o (λ p. (1 ≤ p.frames) × (h.size ≤ p.octets))
     go None is = tt
     go (Some p) is =
         let c = counted h.source p is in
@@ -288,7 +294,7 @@ counted_first parts h heads counted = go (slice_get parts h.source) refl
 -- ---- the invariant
 
 -- the invariant holds with one more frame
-pub line_put : (heads : List Head) (octets : List ℕ) (places1 places2 : ℕ) (parts : List Part) (h : Head)
+pub line_put : (heads : List Head) (octets : List ℕ) (places1 places2 : ℕ) (parts : List SourceQueue) (h : Head)
     (more : List ℕ) → IsLine heads octets places1 places2 parts → h.size ≡ length more → h.size ≤ 9026
     → IsLine (heads ++ h ∷ []) (octets ++ more) places1 places2 (with_one h.source h.size parts)
 line_put heads octets p1 p2 parts h more line size fits =
@@ -304,7 +310,7 @@ line_put heads octets p1 p2 parts h more line size fits =
     }
 
 -- the invariant holds without the first frame
-pub line_left : (h : Head) (heads : List Head) (octets : List ℕ) (places1 places2 : ℕ) (parts : List Part)
+pub line_left : (h : Head) (heads : List Head) (octets : List ℕ) (places1 places2 : ℕ) (parts : List SourceQueue)
     → IsLine (h ∷ heads) octets places1 places2 parts
     → IsLine heads (drop h.size octets) places1 places2 (without_one h.source h.size parts)
 line_left h heads octets p1 p2 parts line =
@@ -325,7 +331,8 @@ by_counts frames waiting size own =
     && ((nat_lt frames 1024 && nat_le (waiting + size) 262144) || own))
 
 -- the line after a frame is put, if there is room for it
-pub put_view : (parts : List Part) (n : ℕ) (bpdus : List (List ℕ)) (heads : List Head) (octets : List ℕ) (dropped : ℕ)
+pub put_view : (parts : List SourceQueue) (n : ℕ) (bpdus : List (List ℕ)) (heads : List Head) (octets : List ℕ)
+    (dropped : ℕ)
     (ended : Bool) (source to : ℕ) (more : List ℕ) (h : Head) (frames waiting : ℕ) (own : Bool)
     → n ≡ length parts → AreCounted parts heads → sizes heads ≡ length octets → h.source ≡ source → h.to ≡ to
     → h.size ≡ length more
@@ -344,7 +351,7 @@ put_view parts n bpdus heads octets dropped ended source to more h frames waitin
     rw (count, octets_are, part, room, cut_put heads h octets more all size, to_is, from_is) refl
 
 -- the line after a frame is put, if there is no room for it
-pub dropped_view : (parts : List Part) (n : ℕ) (bpdus : List (List ℕ)) (heads : List Head) (octets : List ℕ)
+pub dropped_view : (parts : List SourceQueue) (n : ℕ) (bpdus : List (List ℕ)) (heads : List Head) (octets : List ℕ)
     (dropped dropped' : ℕ) (ended : Bool) (source to : ℕ) (more : List ℕ) (frames waiting : ℕ) (own : Bool)
     → n ≡ length parts → AreCounted parts heads → sizes heads ≡ length octets
     → dropped' ≡ min (dropped + 1) (2 ^ 64 - 1) → frames ≡ length heads → waiting ≡ length octets

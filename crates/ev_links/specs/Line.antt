@@ -4,7 +4,7 @@ use Rattle.std.specs.Prelude.{if◌then◌else◌}
 use Rattle.std.specs.Prelude.{List, [], ◌∷◌, ◌++◌, length, take, drop, slice_get, Option, Some, None}
 use Rattle.ev_links.specs.Links.{Packet, packet}
 use Rattle.ev_links.specs.declared.line.Head.{Head}
-use Rattle.ev_links.specs.declared.parts.Part.{Part}
+use Rattle.ev_links.specs.declared.parts.SourceQueue.{SourceQueue}
 
 -- a frame, and its source: the number of the link that it came from
 pub record Sourced : Type 0 where
@@ -151,13 +151,13 @@ heads_of source [] = []
 heads_of source (h ∷ heads) = if h.source == source then h ∷ heads_of source heads else heads_of source heads
 
 -- the part of each source counts the source's frames and their octets
-abbrev pub AreCounted : List Part → List Head → Type 0
-AreCounted parts heads = (s : ℕ) (p : Part) → slice_get parts s ≡ Some p
+abbrev pub AreCounted : List SourceQueue → List Head → Type 0
+AreCounted parts heads = (s : ℕ) (p : SourceQueue) → slice_get parts s ≡ Some p
     → (p.frames ≡ length (heads_of s heads)) × (p.octets ≡ sizes (heads_of s heads))
 
 -- The heads' sizes add up to the octets, no frame is too long, there is place for 2,048 heads and 16 BPDUs, and the
 -- frames of each source are counted.
-pub record IsLine (heads : List Head) (octets : List ℕ) (heads_place bpdus_place : ℕ) (parts : List Part)
+pub record IsLine (heads : List Head) (octets : List ℕ) (heads_place bpdus_place : ℕ) (parts : List SourceQueue)
     : Type 0 where
   pub all : sizes heads ≡ length octets
   pub fit : NoneTooLong heads

@@ -4,9 +4,9 @@
 
 mod backlog;
 mod channels;
-mod counted;
+mod counted_link;
 mod direct_line;
-mod fail_at;
+mod failing_link;
 mod flow;
 pub mod laws;
 mod line;
@@ -15,9 +15,9 @@ mod parts;
 mod udp;
 
 pub use channels::{ChannelIn, ChannelOut, Datagram};
-pub use counted::Counted;
+pub use counted_link::CountedLink;
 pub use direct_line::DirectLine;
-pub use fail_at::FailAt;
+pub use failing_link::FailingLink;
 pub use flow::{Flow, FlowCell};
 pub use line::{LONGEST, Line};
 pub use links::{LinkIn, LinkOut, PromptOut};

@@ -5,7 +5,7 @@ ghost use Rattle.ev_links.specs.Line.{sourced, nothing_waits, is_empty, after_fr
 
 use crate::backlog::{Backlog, OCTETS, put_front};
 use crate::parts::{
-    HALF_FRAMES, HALF_OCTETS, Part, count, discount, empty_all, empty_parts, fits_in,
+    HALF_FRAMES, HALF_OCTETS, SourceQueue, count, discount, empty_all, empty_parts, fits_in,
 };
 use ether_wire::Addr;
 use std::alloc::{AllocError, Global};
@@ -44,7 +44,7 @@ pub struct Line {
     /// The octets of the frames, one frame after the other.
     backlog: Backlog,
     /// What waits of each source.
-    parts: Vec<Part>,
+    parts: Vec<SourceQueue>,
     dropped: u64,
     has_ended: bool,
 }

@@ -15,19 +15,19 @@ pub(crate) const HALF_OCTETS: usize = 262_144;
 
 /// The frames of one source that wait, and their octets.
 #[derive(Clone, Copy)]
-pub(crate) struct Part {
+pub(crate) struct SourceQueue {
     /// The frames.
     frames: usize,
     /// Their octets.
     octets: usize,
 }
 
-impl Part {
+impl SourceQueue {
     /// Returns a part in which nothing waits.
     fn none() -> Self
         ensures { result ≡ no_part }
     {
-        Part {
+        SourceQueue {
             frames: 0,
             octets: 0,
         }
@@ -39,19 +39,19 @@ impl Part {
 /// # Errors
 ///
 /// `AllocError` if memory is refused.
-pub(crate) fn empty_parts(alloc: Global, parts: usize) -> Result<Vec<Part>, AllocError>
+pub(crate) fn empty_parts(alloc: Global, parts: usize) -> Result<Vec<SourceQueue>, AllocError>
     ensures items { IfOk result (λ v. v.items ≡ replicate parts no_part) }
     ensures many { IfOk result (λ v. vec_len v ≡ parts) }
 {
-    vec![in alloc; Part::none(); parts]
+    vec![in alloc; SourceQueue::none(); parts]
 }
 
 /// Empties all parts.
-pub(crate) fn empty_all(parts: &mut Vec<Part>)
+pub(crate) fn empty_all(parts: &mut Vec<SourceQueue>)
     ensures items { parts.new.items ≡ replicate (vec_len parts.old) no_part }
     ensures many { vec_len parts.new ≡ vec_len parts.old }
 {
-    parts.fill(Part::none());
+    parts.fill(SourceQueue::none());
 }
 
 /// Returns `true` if `size` octets more than these are at most `room`.
@@ -67,7 +67,7 @@ fn fits(octets: usize, size: usize, room: usize) -> bool
 
 /// Returns `true` if the part of a source has room for a frame of `size` octets. A source without a
 /// part has none.
-pub(crate) fn fits_in(parts: &[Part], source: usize, size: usize) -> bool
+pub(crate) fn fits_in(parts: &[SourceQueue], source: usize, size: usize) -> bool
     ensures { result ≡ fits_in (length parts.now) (slice_get parts.now source) size }
 {
     let Some(part) = parts.get(source) else {
@@ -77,7 +77,7 @@ pub(crate) fn fits_in(parts: &[Part], source: usize, size: usize) -> bool
 }
 
 /// Counts one more frame of a source, of `size` octets.
-pub(crate) fn count(parts: &mut Vec<Part>, source: usize, size: usize)
+pub(crate) fn count(parts: &mut Vec<SourceQueue>, source: usize, size: usize)
     requires { IfSome (slice_get parts.old.items source)
         (λ p. (p.frames + 1 < 2 ^ 64) × (p.octets + size < 2 ^ 64)) }
     ensures items { parts.new.items ≡ with_one source size parts.old.items }
@@ -85,7 +85,7 @@ pub(crate) fn count(parts: &mut Vec<Part>, source: usize, size: usize)
 {
     if source < parts.len() {
         let part = parts[source];
-        parts[source] = Part {
+        parts[source] = SourceQueue {
             frames: part.frames + 1,
             octets: part.octets + size,
         };
@@ -93,7 +93,7 @@ pub(crate) fn count(parts: &mut Vec<Part>, source: usize, size: usize)
 }
 
 /// Counts one frame of a source less, of `size` octets.
-pub(crate) fn discount(parts: &mut Vec<Part>, source: usize, size: usize)
+pub(crate) fn discount(parts: &mut Vec<SourceQueue>, source: usize, size: usize)
     requires { IfSome (slice_get parts.old.items source)
         (λ p. (1 ≤ p.frames) × (size ≤ p.octets)) }
     ensures items { parts.new.items ≡ without_one source size parts.old.items }
@@ -101,7 +101,7 @@ pub(crate) fn discount(parts: &mut Vec<Part>, source: usize, size: usize)
 {
     if source < parts.len() {
         let part = parts[source];
-        parts[source] = Part {
+        parts[source] = SourceQueue {
             frames: part.frames - 1,
             octets: part.octets - size,
         };

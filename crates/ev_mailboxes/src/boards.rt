@@ -21,7 +21,7 @@ struct Bell {
 
 /// The waiting news of one edge, each kind under a lock of its own.
 #[derive(Drop)]
-struct OfEdge {
+struct EdgeNotices {
     /// Its alerts.
     board: Mutex<Board>,
     /// Changes of its links: receiving failed, or works again.
@@ -46,7 +46,7 @@ fn unused_links(alloc: Global) -> Result<Vec<LinkCounts>, AllocError>
     Ok(links)
 }
 
-impl OfEdge {
+impl EdgeNotices {
     /// Looks at what came and was sent over each link, when a second passes. Returns `true` if a
     /// change of the sends waits to be reported since then.
     fn look<R: Wait>(&self, rt: &R) -> bool {
@@ -66,7 +66,7 @@ impl OfEdge {
 /// a lock never waits for another lock.
 #[derive(Drop)]
 pub struct Boards {
-    all: Vec<OfEdge>,
+    all: Vec<EdgeNotices>,
     /// Refused input from other processes.
     refusals: Mutex<Refusals>,
     bell: Mutex<Bell>,
@@ -86,7 +86,7 @@ impl Boards {
         let mut all = Vec::with_capacity(alloc, edges)?;
         for place in 0..edges {
             let _ = place;
-            all.push_reserved(OfEdge {
+            all.push_reserved(EdgeNotices {
                 board: Mutex::new(Board::new()),
                 receptions: Mutex::new(Receptions::new()),
                 sendings: Mutex::new(Sendings::new()),
@@ -106,7 +106,7 @@ impl Boards {
     }
 
     /// Returns the waiting news of the edge with this number, counted from 1.
-    fn of(&self, edge: usize) -> Option<&OfEdge>
+    fn of(&self, edge: usize) -> Option<&EdgeNotices>
         ensures { option_copied result ≡ slice_get self.now.all.items (edge - 1) }
     {
         self.all.get(edge.saturating_sub(1))

@@ -7,14 +7,14 @@ use crate::boards::Boards;
 use crate::outbox::Outbox;
 use crate::outboxes::Joined;
 use crate::peers::Mailboxes;
-use crate::request::{Command, PortView, Reading, Request, Served, begun_after};
+use crate::request::{EdgeNetworks, OperatorCommand, PortView, Reading, Request, begun_after};
 use crate::shared_mailbox::SharedMailbox;
 use ev_book::BookRefusal;
 use ev_edge::Reply;
 use ev_history::{Naming, Outside, Told};
 use ev_notices::{LinkCounts, Refused};
 use ev_view::EdgeQuestion;
-use route_join::Page;
+use route_join::UpdatePage;
 use route_wire::{Register, Update};
 use std::alloc::{AllocError, Global};
 use std::sync::Wait;
@@ -135,7 +135,11 @@ impl<J: Naming> Control<'_, J> {
     }
 
     /// Enters a step, and returns the book's answer. Returns `None` if the edge has ended.
-    pub fn enter<R: Wait>(&self, rt: &R, command: Command) -> Option<Result<Reply, BookRefusal>> {
+    pub fn enter<R: Wait>(
+        &self,
+        rt: &R,
+        command: OperatorCommand,
+    ) -> Option<Result<Reply, BookRefusal>> {
         let mut answer = self.mailbox.ask(rt, &Request::Enter(command))?;
         answer.take_entered()
     }
@@ -147,7 +151,7 @@ impl<J: Naming> Control<'_, J> {
         rt: &R,
         alloc: Global,
         after: Option<Register>,
-    ) -> Option<Result<Page, AllocError>>
+    ) -> Option<Result<UpdatePage, AllocError>>
         ensures { IfSome result (λ answer. IfOk answer (λ page. page.after ≡ after)) }
     {
         let reading = Reading::Page(alloc, after);
@@ -163,7 +167,11 @@ impl<J: Naming> Control<'_, J> {
     }
 
     /// Returns the edge's address and the networks that it serves.
-    pub fn served<R: Wait>(&self, rt: &R, alloc: Global) -> Option<Result<Served, AllocError>> {
+    pub fn served<R: Wait>(
+        &self,
+        rt: &R,
+        alloc: Global,
+    ) -> Option<Result<EdgeNetworks, AllocError>> {
         self.mailbox
             .ask(rt, &Request::Read(Reading::Served(alloc)))?
             .served()

@@ -8,7 +8,7 @@ use ev_book::BookRefusal;
 use ev_edge::Reply;
 use ev_view::EdgeQuestion;
 use mac_arena::Station;
-use route_join::Page;
+use route_join::UpdatePage;
 use route_wire::Register;
 use rstp_state::port::PortState;
 use std::alloc::{AllocError, Global};
@@ -16,7 +16,7 @@ use std::mem;
 
 /// A step that the operator requests from an edge. Ports are numbered from 1.
 #[derive(Clone, Copy, Debug, PartialEq, Eq)]
-pub enum Command {
+pub enum OperatorCommand {
     /// Pins the station on the port.
     Pin(Station, u8),
     /// Unpins the station.
@@ -53,7 +53,7 @@ pub enum Reading {
 #[derive(Clone, Copy)]
 pub enum Request {
     /// Enters a step.
-    Enter(Command),
+    Enter(OperatorCommand),
     /// Reads its state.
     Read(Reading),
 }
@@ -69,7 +69,7 @@ pub struct PortView {
 
 /// An edge's address and the networks that it serves.
 #[derive(Drop)]
-pub struct Served {
+pub struct EdgeNetworks {
     /// Its address, the originator of its updates.
     pub address: Addr,
     /// The VNI of each port, port 1 first.
@@ -80,15 +80,15 @@ pub struct Served {
 
 /// An edge's answer to a request.
 #[derive(Drop)]
-pub enum Answer {
+pub enum Response {
     /// The book's answer to the step.
     Entered(Result<Reply, BookRefusal>),
     /// The page of its table's report, or `AllocError` if memory was refused for it.
-    Page(Result<Page, AllocError>),
+    Page(Result<UpdatePage, AllocError>),
     /// The state of the port in its spanning tree. `None` if no port has that number.
     Port(Option<PortView>),
     /// Its address and networks, or `AllocError` if memory was refused for them.
-    Served(Result<Served, AllocError>),
+    Served(Result<EdgeNetworks, AllocError>),
     /// The answer to a query, or `AllocError` if memory was refused for it.
     View(Result<Vec<u8>, AllocError>),
 }
@@ -96,9 +96,9 @@ pub enum Answer {
 /// Returns an answer unless it is another page than the one after this register. The clauses of a
 /// mailbox don't tell which request an answer belongs to, so that this is compared.
 pub(crate) fn begun_after(
-    answer: Result<Page, AllocError>,
+    answer: Result<UpdatePage, AllocError>,
     after: &Option<Register>,
-) -> Option<Result<Page, AllocError>>
+) -> Option<Result<UpdatePage, AllocError>>
     ensures none { IfNone result (MatchResult answer
         (λ page. is_same_place page.after after.now ≡ false) (λ refused. ⊥)) }
     ensures same { IfSome result (λ it. it ≡ answer) }
@@ -112,7 +112,7 @@ pub(crate) fn begun_after(
 }
 
 /// Returns `true` unless the answer is another page than the one after this register.
-fn is_after(answer: &Result<Page, AllocError>, after: &Option<Register>) -> bool
+fn is_after(answer: &Result<UpdatePage, AllocError>, after: &Option<Register>) -> bool
     ensures { MatchResult answer.now (λ page. result ≡ is_same_place page.after after.now)
         (λ refused. result ≡ true) }
 {
@@ -122,25 +122,26 @@ fn is_after(answer: &Result<Page, AllocError>, after: &Option<Register>) -> bool
     }
 }
 
-impl Answer {
+impl Response {
     /// Takes the book's answer to a step, if this is the answer to a step.
     pub(crate) fn take_entered(&mut self) -> Option<Result<Reply, BookRefusal>>
         ensures { result ≡ entered_in self.old }
     {
         match self {
-            Answer::Entered(Ok(reply)) => Some(Ok(mem::replace(reply, Reply::nothing()))),
-            Answer::Entered(Err(refusal)) => Some(Err(*refusal)),
-            Answer::Page(_) | Answer::Port(_) | Answer::Served(_) | Answer::View(_) => None,
+            Response::Entered(Ok(reply)) => Some(Ok(mem::replace(reply, Reply::nothing()))),
+            Response::Entered(Err(refusal)) => Some(Err(*refusal)),
+            Response::Page(_) | Response::Port(_) | Response::Served(_) | Response::View(_) => None,
         }
     }
 
     /// Returns the page of the report, if this is the answer to that query.
-    pub(crate) fn page(self) -> Option<Result<Page, AllocError>>
+    pub(crate) fn page(self) -> Option<Result<UpdatePage, AllocError>>
         ensures { result ≡ page_in self }
     {
         match self {
-            Answer::Page(page) => Some(page),
-            Answer::Entered(_) | Answer::Port(_) | Answer::Served(_) | Answer::View(_) => None,
+            Response::Page(page) => Some(page),
+            Response::Entered(_) | Response::Port(_) | Response::Served(_) | Response::View(_) =>
+                None,
         }
     }
 
@@ -149,18 +150,20 @@ impl Answer {
         ensures { result ≡ port_in self.now }
     {
         match self {
-            Answer::Port(view) => Some(*view),
-            Answer::Entered(_) | Answer::Page(_) | Answer::Served(_) | Answer::View(_) => None,
+            Response::Port(view) => Some(*view),
+            Response::Entered(_) | Response::Page(_) | Response::Served(_) | Response::View(_) =>
+                None,
         }
     }
 
     /// Returns the edge's address and networks, if this is the answer to that query.
-    pub(crate) fn served(self) -> Option<Result<Served, AllocError>>
+    pub(crate) fn served(self) -> Option<Result<EdgeNetworks, AllocError>>
         ensures { result ≡ served_in self }
     {
         match self {
-            Answer::Served(served) => Some(served),
-            Answer::Entered(_) | Answer::Page(_) | Answer::Port(_) | Answer::View(_) => None,
+            Response::Served(served) => Some(served),
+            Response::Entered(_) | Response::Page(_) | Response::Port(_) | Response::View(_) =>
+                None,
         }
     }
 
@@ -169,8 +172,9 @@ impl Answer {
         ensures { result ≡ view_in self }
     {
         match self {
-            Answer::View(text) => Some(text),
-            Answer::Entered(_) | Answer::Page(_) | Answer::Port(_) | Answer::Served(_) => None,
+            Response::View(text) => Some(text),
+            Response::Entered(_) | Response::Page(_) | Response::Port(_) | Response::Served(_) =>
+                None,
         }
     }
 }

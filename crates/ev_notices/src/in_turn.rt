@@ -6,7 +6,7 @@ ghost use Rattle.ev_notices.specs.InTurn.{after_sign, told_by, some_text, told_t
 
 use crate::alarm::Alarm;
 use crate::board::{Board, Notice};
-use crate::telling::put_notice;
+use crate::notices::put_notice;
 use ether_wire::{Device, Out};
 
 /// Writes a notice, if there is one.

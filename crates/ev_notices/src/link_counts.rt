@@ -2,7 +2,7 @@
 ghost use Rattle.std.specs.Prelude.{◌≡◌, ◌+◌, ◌-◌, ◌^◌, min};
 ghost use Rattle.ev_notices.specs.IdleWatch.{after_idle};
 
-use crate::cause::Cause;
+use crate::drop_reason::DropReason;
 use crate::idle_watch::IdleWatch;
 use ev_links::{Flow, FlowCell};
 use std::sync::atomic::{AtomicU64, Ordering};
@@ -114,24 +114,24 @@ impl LinkCounts {
     }
 
     /// Returns the number of datagrams that were dropped for this cause.
-    fn of(&self, cause: Cause) -> &AtomicU64 {
+    fn of(&self, cause: DropReason) -> &AtomicU64 {
         match cause {
-            Cause::TooLong => &self.too_long,
-            Cause::Malformed => &self.malformed,
-            Cause::Unlisted => &self.unlisted,
-            Cause::OtherNetwork => &self.other_network,
-            Cause::Storm => &self.storm,
-            Cause::NoMemory => &self.no_memory,
+            DropReason::TooLong => &self.too_long,
+            DropReason::Malformed => &self.malformed,
+            DropReason::Unlisted => &self.unlisted,
+            DropReason::OtherNetwork => &self.other_network,
+            DropReason::Storm => &self.storm,
+            DropReason::NoMemory => &self.no_memory,
         }
     }
 
     /// Counts a datagram that was dropped for this cause.
-    pub fn refuse(&self, cause: Cause) {
+    pub fn refuse(&self, cause: DropReason) {
         self.of(cause).fetch_add(1, Ordering::Relaxed);
     }
 
     /// Returns the number of datagrams that were dropped for this cause.
-    pub fn refused(&self, cause: Cause) -> u64 {
+    pub fn refused(&self, cause: DropReason) -> u64 {
         self.of(cause).load(Ordering::Relaxed)
     }
 

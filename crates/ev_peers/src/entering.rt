@@ -2,8 +2,8 @@
 //! the clock, and that of the edge's mailbox.
 ghost use Rattle.std.specs.Prelude.{◌≡◌, ◌+◌, ◌≤◌, vec_len, vec_capacity};
 
+use crate::edge_outcome::Faults;
 use crate::gate::Gate;
-use crate::outcome::Faults;
 use crate::outlet::{Senders, WorkerOutlet};
 use crate::plan::{Entered, Entering, Shared, Task, source_of};
 use crate::shared_edge::{Ended, SharedEdge};
@@ -11,7 +11,7 @@ use crate::worker::Worker;
 use crate::workers::{clock_worker, peer_worker, port_worker, tunnel_worker};
 use ev_book::Pass;
 use ev_history::{Naming, Placed};
-use ev_links::{Counted, LinkIn, PromptOut};
+use ev_links::{CountedLink, LinkIn, PromptOut};
 use ev_mailboxes::UpdateBox;
 use std::sync::Wait;
 use std::sync::atomic::{AtomicBool, Ordering};
@@ -21,7 +21,7 @@ use std::thread::{JoinHandle, Scope, Threads};
 /// The workplace of the workers of an edge that enter events: the edge, their outlet, and the
 /// values that they share.
 #[derive(Drop)]
-pub(crate) struct Workplace<'x, L: Placed, J: Naming, K, G, R> {
+pub(crate) struct WorkerContext<'x, L: Placed, J: Naming, K, G, R> {
     /// The edge.
     pub(crate) shared_edge: SharedEdge<'x, L, J, G, R>,
     /// The outlet for the answers of the edge's book.
@@ -49,18 +49,18 @@ fn counted<'x, J: Naming, I: LinkIn, K, R>(
     senders: Senders<'x, J, K, R>,
     place: usize,
     link: I,
-) -> Counted<'x, I> {
+) -> CountedLink<'x, I> {
     let cell = match senders.peers.link(place) {
         Some(counts) => Some(&counts.received),
         None => None,
     };
-    Counted::new(link, cell)
+    CountedLink::new(link, cell)
 }
 
 /// Runs the worker of a task until it ends. Returns at once with `Ended::NoMemory` if the task's
 /// thread was refused.
 fn enter_task<'x, L: Placed, J: Naming, I: LinkIn + Drop, K: PromptOut, G: Gate, R: Wait>(
-    workplace: &'x Workplace<'x, L, J, K, G, R>,
+    workplace: &'x WorkerContext<'x, L, J, K, G, R>,
     pass: Pass<L>,
     task: Task<I>,
     is_refused: &AtomicBool,
@@ -100,7 +100,7 @@ fn start_task<
     R: Wait + Sync + 'x,
 >(
     scope: &Scope<'s, &'x ()>,
-    workplace: &'x Workplace<'x, L, J, K, G, R>,
+    workplace: &'x WorkerContext<'x, L, J, K, G, R>,
     pass: Pass<L>,
     task: Task<I>,
     is_refused: &'x AtomicBool,
@@ -126,7 +126,7 @@ pub(crate) fn start_entering<
     R: Wait + Sync + 'x,
 >(
     scope: &Scope<'s, &'x ()>,
-    workplace: &'x Workplace<'x, L, J, K, G, R>,
+    workplace: &'x WorkerContext<'x, L, J, K, G, R>,
     tasks: Vec<Task<I>>,
     fresh: Vec<Pass<L>>,
     entering: Entering<L>,
@@ -195,7 +195,7 @@ pub(crate) fn start_peer<
     R: Wait + Sync + 'x,
 >(
     scope: &Scope<'s, &'x ()>,
-    workplace: &'x Workplace<'x, L, J, K, G, R>,
+    workplace: &'x WorkerContext<'x, L, J, K, G, R>,
     pass: Pass<L>,
 ) -> Result<JoinHandle<Entered<L>>, Entered<L>> {
     let task: Task<I> = Task::Peer;

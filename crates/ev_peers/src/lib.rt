@@ -5,15 +5,15 @@
 
 mod answering;
 mod edge_links;
+mod edge_outcome;
 mod edge_threads;
 mod entering;
+mod forwarding;
 mod gate;
-mod giving;
 mod history;
 mod job;
 mod joining;
 pub mod laws;
-mod outcome;
 mod outlet;
 mod packets;
 mod plan;
@@ -25,14 +25,14 @@ mod worker;
 mod workers;
 
 pub use edge_links::{EdgeLinks, Link};
-pub use edge_threads::{Host, edge_worker};
+pub use edge_outcome::{EdgeOutcome, Faults};
+pub use edge_threads::{EdgeContext, edge_worker};
+pub use forwarding::{CarriedFrame, give_out};
 pub use gate::{Gate, OpenGate, Point};
-pub use giving::{Carried, give_out};
 pub use history::new_history;
-pub use outcome::{Faults, Outcome};
 pub use outlet::{Outlet, Target};
 pub use packets::PacketsIn;
-pub use run::{Mailroom, Setup, Start, run_all};
+pub use run::{Mailroom, PreparedEdges, Setup, run_all};
 pub use shared_edge::{Ended, SharedEdge};
 pub use worker::Worker;
 pub use workers::{clock_worker, out_worker, peer_worker, port_worker, tunnel_worker};

@@ -6,7 +6,7 @@ ghost use Rattle.ev_peers.specs.Inner.Plan.{source_of, vni_at, port_tasks, tasks
 ghost use Rattle.ev_peers.specs.declared.plan.Task.TheVariants.{Port, Tunnel, Clock};
 
 use crate::edge_links::{EdgeLinks, Link};
-use crate::outcome::Sent;
+use crate::edge_outcome::Sent;
 use crate::shared_edge::Ended;
 use crate::shared_line::SharedLine;
 use ether_wire::Vni;

@@ -51,13 +51,7 @@ fn is_over<R: Clock>(rt: &R, ended: Option<Instant>) -> bool
 
 impl<K: PromptOut> TimedLine<K> {
     /// Passes a frame on, as `DirectLine::pass` does, and shows the numbers of the link.
-    fn pass(
-        &mut self,
-        counts: Option<&LinkCounts>,
-        source: usize,
-        to: Addr,
-        octets: &[u8],
-    ) -> bool
+    fn pass(&mut self, counts: Option<&LinkCounts>, source: usize, to: Addr, octets: &[u8]) -> bool
         ensures passes { Passes result (sourced source (packet to octets.now))
             (direct_of K.tried self.old.line) (direct_of K.tried self.new.line) }
         ensures counted { self.new.at_once ≡ (if result

@@ -3,11 +3,11 @@ ghost use Rattle.std.specs.Prelude.{◌≡◌, ◌≤◌, length};
 ghost use Rattle.ev_book.specs.Entering.{answered};
 ghost use Rattle.ev_history.specs.Booking.{IsCovered};
 ghost use Rattle.ev_links.specs.Coming.{behind};
-ghost use Rattle.ev_notices.specs.Cause.{cause_of};
+ghost use Rattle.ev_notices.specs.DropReason.{cause_of};
 ghost use Rattle.ev_peers.specs.Passing.{Leaves, Announces, AnnouncesIf, PassesOn, says, given_by, link_of, drops_of, alarms_of, signs_of};
 
+use crate::forwarding::{CarriedFrame, give_out};
 use crate::gate::Gate;
-use crate::giving::{Carried, give_out};
 use crate::outlet::Outlet;
 use crate::shared_edge::SharedEdge;
 use ether_wire::{Mac, Vni};
@@ -101,7 +101,7 @@ impl<L: Placed, J: Naming, O: Outlet<Told<J>> + Drop, G: Gate, R: Wait> Worker<'
         &mut self,
         event: &Event<'_>,
         told: &Option<Told<J>>,
-        carried: &Carried<'_>,
+        carried: &CarriedFrame<'_>,
     ) -> (Result<(), BookRefusal>, bool)
         requires fits { length carried.now.frame.now ≤ 9018 }
         requires covered { IsCovered event.now told.now }
@@ -136,7 +136,12 @@ impl<L: Placed, J: Naming, O: Outlet<Told<J>> + Drop, G: Gate, R: Wait> Worker<'
     /// Enters an event with the frame that it carries, and passes on the answer: frames to the
     /// links, messages for the operator to the board. If an announcement is pending then, sends
     /// the announcements to the other edges. So a frame of a known station enters the book once.
-    pub(crate) fn act(&mut self, event: &Event<'_>, told: &Option<Told<J>>, carried: &Carried<'_>)
+    pub(crate) fn act(
+        &mut self,
+        event: &Event<'_>,
+        told: &Option<Told<J>>,
+        carried: &CarriedFrame<'_>,
+    )
         requires fits { length carried.now.frame.now ≤ 9018 }
         requires covered { IsCovered event.now told.now }
         ensures passes { PassesOn self.old.shared_edge.now.bridge
@@ -183,7 +188,7 @@ fn give_answer<U: Drop, O: Outlet<U>>(
     outlet: &mut O,
     scratch: &mut Scratch,
     bridge: Mac,
-    carried: &Carried<'_>,
+    carried: &CarriedFrame<'_>,
     answer: &Result<(), BookRefusal>,
 )
     requires { length carried.now.frame.now ≤ 9018 }

@@ -13,9 +13,9 @@ use Rattle.ev_edge.specs.declared.config.EdgeConfig.{EdgeConfig}
 use Rattle.ev_peers.specs.EdgeThreads.{EdgeSetup, AreRanFrom}
 use Rattle.ev_peers.specs.History.{configs_of, IsHistoryOf}
 use Rattle.ev_runs.specs.Laws.{IsRunOf}
-use Rattle.ev_peers.specs.declared.outcome.Outcome.{Outcome}
+use Rattle.ev_peers.specs.declared.edge_outcome.EdgeOutcome.{EdgeOutcome}
 use Rattle.ev_links.specs.declared.udp.UdpOut.{UdpOut}
-use Rattle.ev_notices.specs.Telling.{Told, lines_of}
+use Rattle.ev_notices.specs.Notices.{Told, lines_of}
 use Rattle.route_join.specs.Report.{report_of}
 use Rattle.ev_config.specs.declared.whole.Config.{Config}
 use Rattle.ev_config.specs.declared.endpoint.Endpoint.{Endpoint}
@@ -75,7 +75,7 @@ ReadsOut old new false = ReadsWhole old new (Err Device)
 
 -- the outcome of an edge, or that the memory with which it begins was refused
 abbrev pub Ended : Type 0
-Ended = Result Outcome AllocError
+Ended = Result EdgeOutcome AllocError
 
 -- `edge N`, and then the report of the edge's table
 abbrev pub edge_text : ℕ → Edge → Text

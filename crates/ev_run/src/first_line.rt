@@ -9,7 +9,7 @@ use std::os::unix::net::UnixStream;
 const OPENING: usize = 16;
 
 /// A client's request, by its first line.
-pub(crate) enum Wanted {
+pub(crate) enum ClientRequest {
     /// A conversation, line after line.
     Console,
     /// An exchange of records.
@@ -47,11 +47,11 @@ fn first_line(stream: &UnixStream) -> Option<ArrayVec<u8, OPENING>> {
 }
 
 /// Reads a client's first line, and returns its request.
-pub(crate) fn wanted_by(stream: &UnixStream) -> Wanted {
+pub(crate) fn wanted_by(stream: &UnixStream) -> ClientRequest {
     match first_line(stream) {
-        Some(line) if line.as_slice() == b"console".as_slice() => Wanted::Console,
-        Some(line) if line.as_slice() == b"records".as_slice() => Wanted::Records,
-        Some(_) => Wanted::Unknown,
-        None => Wanted::Nothing,
+        Some(line) if line.as_slice() == b"console".as_slice() => ClientRequest::Console,
+        Some(line) if line.as_slice() == b"records".as_slice() => ClientRequest::Records,
+        Some(_) => ClientRequest::Unknown,
+        None => ClientRequest::Nothing,
     }
 }

@@ -28,7 +28,7 @@ mod watching;
 pub use control_socket::ListenError;
 pub use laws::ran_is_sound;
 pub use needs::{Needs, needs_of};
-pub use obstacles::{Cause, End, Limits, Obstacle, Seat, obstacles_of};
+pub use obstacles::{Cause, EdgePort, End, Obstacle, ProcessLimits, obstacles_of};
 pub use print_needs::{put_asked_needs, put_obstacles};
 pub use run::{run_buffered, run_edges};
 pub use serve::{serve_buffered, serve_edges};

@@ -1,7 +1,7 @@
 //! Edges that run under a name of their history. Each run picks the name.
 ghost use Rattle.std.specs.Prelude.{◌≡◌, ◌∷◌, [], ◌^◌, length, vec_len, IfOk, OnErr};
 ghost use Rattle.ether_wire.specs.Ends.{IsOpen, Allows};
-ghost use Rattle.ev_history.specs.declared.entry.Entry.TheVariants.{Begins};
+ghost use Rattle.ev_history.specs.declared.log_entry.LogEntry.TheVariants.{Begins};
 ghost use Rattle.ev_peers.specs.EdgeThreads.{AreRanFrom};
 ghost use Rattle.ev_peers.specs.History.{configs_of, IsHistoryOf};
 ghost use Rattle.ev_run.specs.RunEdges.{ReadsOut};
@@ -9,13 +9,13 @@ ghost use Rattle.ev_run.specs.Inner.RunEdges.{TellsMeanwhile};
 
 use crate::bound::{Sockets, end_all_reads};
 use crate::clients::read_out;
-use crate::run::{Host, Ready, tell_meanwhile};
+use crate::run::{Ready, RunContext, tell_meanwhile};
 use ether_wire::{Device, In, Out};
 use ev_console::SystemDrops;
 use ev_history::{Naming, NewHistory};
 use ev_links::{UdpOut, Wire};
 use ev_mailboxes::Boards;
-use ev_peers::{Mailroom, OpenGate, Outcome, Start, run_all};
+use ev_peers::{EdgeOutcome, Mailroom, OpenGate, PreparedEdges, run_all};
 use std::alloc::AllocError;
 use std::sync::Wait;
 use std::sync::atomic::{AtomicBool, Ordering};
@@ -23,7 +23,7 @@ use std::thread::{Threads, join};
 use std::time::Clock;
 
 /// The result of a run: that of each edge, and `true` if the input was read up to its end.
-pub(crate) type Reached = (Vec<Result<Outcome, AllocError>>, bool);
+pub(crate) type Reached = (Vec<Result<EdgeOutcome, AllocError>>, bool);
 
 /// The sockets of edges, and the means to stop them.
 #[derive(Drop)]
@@ -45,8 +45,8 @@ fn run_reading<
     T: SystemDrops + Sync,
     E: In,
 >(
-    host: &Host<'x, R>,
-    start: Start<J, Wire<'x, R>, UdpOut<'x>>,
+    host: &RunContext<'x, R>,
+    start: PreparedEdges<J, Wire<'x, R>, UdpOut<'x>>,
     mailroom: &Mailroom<J>,
     boards: &Boards,
     ends: Ends<'x, T>,
@@ -111,7 +111,7 @@ pub(crate) fn run_named<
     E: In,
     N: Out + Send,
 >(
-    host: &Host<'x, R>,
+    host: &RunContext<'x, R>,
     prepared: Prepared<'x, R, T>,
     reader: &mut E,
     notes: &mut N,
@@ -136,7 +136,9 @@ pub(crate) fn run_named<
         ends,
     } = prepared;
     let boards = Boards::new(alloc, setups.len())?;
-    let (start, mailroom) = Start::<J, Wire<'x, R>, UdpOut<'x>>::new(alloc, setups, history)?;
+    let (start, mailroom) = PreparedEdges::<J, Wire<'x, R>, UdpOut<'x>>::new(
+        alloc, setups, history,
+    )?;
     // The closures return `reader` and `notes`; their ghost names show that they are these.
     let (first, second) = join(
         rt,

@@ -12,7 +12,7 @@ use crate::system_drops::dropped_at;
 use ether_wire::{Device, Out, put_decimal};
 use ev_config::Endpoint;
 use ev_edge::Edge;
-use ev_peers::Outcome;
+use ev_peers::EdgeOutcome;
 use std::alloc::AllocError;
 
 /// Writes `edge E`, and then the edge's report.
@@ -32,7 +32,7 @@ fn put_report<W: Out>(out: &mut W, number: u64, edge: &Edge) -> Result<(), Devic
 fn put_ended<W: Out>(
     out: &mut W,
     number: u64,
-    ended: &Result<Outcome, AllocError>,
+    ended: &Result<EdgeOutcome, AllocError>,
 ) -> Result<(), Device>
     requires { IsOpen (W.end out.old) }
     ensures { Puts (W.end out.old) (W.end out.new) (ended_text number ended.now) result }
@@ -50,7 +50,7 @@ fn put_ended<W: Out>(
 /// `Device` exactly if a call of the writer failed; then no further call is made.
 pub(crate) fn put_reports<W: Out>(
     out: &mut W,
-    ended: &[Result<Outcome, AllocError>],
+    ended: &[Result<EdgeOutcome, AllocError>],
 ) -> Result<(), Device>
     requires { IsOpen (W.end out.old) }
     ensures { Puts (W.end out.old) (W.end out.new) (reports_from 1 ended.now) result }
@@ -157,7 +157,7 @@ fn put_lines<N: Out>(notes: &mut N, number: u64, dropped: &[u64]) -> Result<(), 
 fn put_drops<N: Out>(
     notes: &mut N,
     number: u64,
-    ended: &Result<Outcome, AllocError>,
+    ended: &Result<EdgeOutcome, AllocError>,
 ) -> Result<(), Device>
     requires { IsOpen (N.end notes.old) }
     ensures { Puts (N.end notes.old) (N.end notes.new) (drops_text number ended.now) result }
@@ -169,7 +169,10 @@ fn put_drops<N: Out>(
 }
 
 /// Writes how many frames each line of the edges that ran had no room for.
-fn put_all_drops<N: Out>(notes: &mut N, ended: &[Result<Outcome, AllocError>]) -> Result<(), Device>
+fn put_all_drops<N: Out>(
+    notes: &mut N,
+    ended: &[Result<EdgeOutcome, AllocError>],
+) -> Result<(), Device>
     requires { IsOpen (N.end notes.old) }
     ensures { Puts (N.end notes.old) (N.end notes.new) (each_from drops_text 1 ended.now) result }
 {
@@ -263,7 +266,7 @@ fn put_all_sockets<N: Out>(notes: &mut N, table: &[u8], sockets: &[Sockets]) -> 
 /// `Device` exactly if a call of the writer failed; then no further call is made.
 pub(crate) fn put_notes<N: Out>(
     notes: &mut N,
-    ended: &[Result<Outcome, AllocError>],
+    ended: &[Result<EdgeOutcome, AllocError>],
     watched: Watched<'_>,
     lost: u64,
 ) -> Result<(), Device>

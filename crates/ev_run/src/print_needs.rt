@@ -6,7 +6,7 @@ ghost use Rattle.ev_run.specs.Needs.{threads_text, sockets_text, memory_text, ne
 ghost use Rattle.ev_run.specs.Obstacles.{lead_text, cause_text, port_text, seat_text, end_text, most_text, most_threads_text, obstacle_text, told_of, obstacles_text};
 
 use crate::needs::Needs;
-use crate::obstacles::{Cause, End, Obstacle, Seat};
+use crate::obstacles::{Cause, EdgePort, End, Obstacle};
 use crate::sockets::put_endpoint;
 use ether_wire::{Device, Out, put_decimal};
 use ev_config::Endpoint;
@@ -98,7 +98,7 @@ fn put_port<N: Out>(notes: &mut N, port: u64) -> Result<(), Device>
 
 /// Writes `edge E, port P: `.
 #[tactic(auto, using(ether_wire::proofs::Appending::with_text_twice))]
-fn put_seat<N: Out>(notes: &mut N, seat: Seat) -> Result<(), Device>
+fn put_seat<N: Out>(notes: &mut N, seat: EdgePort) -> Result<(), Device>
     requires { IsOpen (N.end notes.old) }
     ensures { Puts (N.end notes.old) (N.end notes.new) (seat_text seat) result }
 {
@@ -157,7 +157,7 @@ fn put_unheard<N: Out>(notes: &mut N, edge: u64) -> Result<(), Device>
 #[tactic(auto, using(ether_wire::proofs::Appending::with_text_twice))]
 fn put_useless<N: Out>(
     notes: &mut N,
-    seat: Seat,
+    seat: EdgePort,
     end: End,
     at: Endpoint,
     cause: Cause,

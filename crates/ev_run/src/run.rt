@@ -29,7 +29,7 @@ use ev_edge::EdgeConfig;
 use ev_links::{UdpOut, Wire};
 use ev_mailboxes::{Boards, NoticeBox};
 use ev_notices::notice_worker;
-use ev_peers::{Outcome, Setup, new_history};
+use ev_peers::{EdgeOutcome, Setup, new_history};
 use ev_report::{Buffers, DEVICE, Devices, MEMORY, MOST_READS, status_of};
 use std::alloc::{AllocError, Global};
 use std::fs::Files;
@@ -129,7 +129,7 @@ struct Sum {
 
 impl Sum {
     /// Returns this sum with the faults of one more edge.
-    fn with(self, ended: &Result<Outcome, AllocError>) -> Self
+    fn with(self, ended: &Result<EdgeOutcome, AllocError>) -> Self
         ensures lost { result.lost ≡ min (self.lost + sends_failed ended.now) (2 ^ 64 - 1) }
         ensures device { result.is_device ≡ (self.is_device || link_failed ended.now) }
         ensures out_of_memory { result.is_out_of_memory
@@ -151,7 +151,7 @@ impl Sum {
 }
 
 /// Returns the sum of the faults of these edges.
-fn sum_of(ended: &[Result<Outcome, AllocError>]) -> Sum
+fn sum_of(ended: &[Result<EdgeOutcome, AllocError>]) -> Sum
     ensures lost { result.lost ≡ all_lost ended.now }
     ensures device { result.is_device ≡ list_any link_failed ended.now }
     ensures out_of_memory { result.is_out_of_memory ≡ list_any was_out_of_memory ended.now }
@@ -179,7 +179,7 @@ fn has_failed(sum: Sum, is_read: bool, is_told: bool, is_noted: bool) -> bool
 fn put_rest<N: Out>(
     notes: &mut N,
     told: Result<(), Device>,
-    ended: &[Result<Outcome, AllocError>],
+    ended: &[Result<EdgeOutcome, AllocError>],
     watched: Watched<'_>,
     lost: u64,
 ) -> Result<(), Device>
@@ -198,7 +198,7 @@ fn put_rest<N: Out>(
 /// which were written while the edges ran.
 fn tell_ended<W: Out, N: Out>(
     told: Result<(), Device>,
-    ended: &[Result<Outcome, AllocError>],
+    ended: &[Result<EdgeOutcome, AllocError>],
     watched: Watched<'_>,
     is_read: bool,
     out: &mut W,
@@ -232,7 +232,7 @@ pub(crate) fn tell_meanwhile<R: Wait, N: Out>(
 
 /// The environment in which edges run.
 #[derive(Drop)]
-pub(crate) struct Host<'x, R> {
+pub(crate) struct RunContext<'x, R> {
     /// The runtime, which waits, starts threads, and has sockets and a clock.
     pub(crate) rt: &'x R,
     /// The allocator.
@@ -241,12 +241,12 @@ pub(crate) struct Host<'x, R> {
     pub(crate) service: Option<&'x Service>,
 }
 
-impl<'x, R> Host<'x, R> {
+impl<'x, R> RunContext<'x, R> {
     /// Returns these as one value.
     pub(crate) fn new(rt: &'x R, alloc: Global, service: Option<&'x Service>) -> Self
         ensures { is_some result.service ≡ is_some service.entry }
     {
-        Host { rt, alloc, service }
+        RunContext { rt, alloc, service }
     }
 }
 
@@ -257,7 +257,7 @@ impl<'x, R> Host<'x, R> {
 ///
 /// `AllocError` if memory is refused before an edge has begun.
 fn run_bound<'x, 'h: 'x, R: Threads + Wait + UdpTable + Clock + Sync, E: In, W: Out, N: Out + Send>(
-    host: &Host<'h, R>,
+    host: &RunContext<'h, R>,
     configs: Vec<EdgeConfig>,
     sockets: &'x [Sockets],
     reader: &mut E,
@@ -324,7 +324,7 @@ fn tell_start_error<N: Out>(start_error: StartError, notes: &mut N) -> u8
 /// Runs the edges of a configuration over these sockets, or returns the status if memory is refused
 /// before an edge has begun.
 fn begin<'h, R: Threads + Wait + UdpTable + Clock + Sync, E: In, W: Out, N: Out + Send>(
-    host: &Host<'h, R>,
+    host: &RunContext<'h, R>,
     config: Config,
     sockets: &[Sockets],
     reader: &mut E,
@@ -358,7 +358,7 @@ pub(crate) fn run_asked<
     W: Out,
     N: Out + Send,
 >(
-    host: &Host<'_, R>,
+    host: &RunContext<'_, R>,
     policy: ThreadPolicy,
     config: Config,
     reader: &mut E,
@@ -414,7 +414,7 @@ pub fn run_edges<
         (devices (E.end reader.old) (W.end out.old) (N.end notes.old))
         (devices (E.end reader.new) (W.end out.new) (N.end notes.new)) result }
 {
-    let host = Host::new(system.rt, system.alloc, None);
+    let host = RunContext::new(system.rt, system.alloc, None);
     run_asked(&host, system.policy, config, reader, out, notes)
 }
 

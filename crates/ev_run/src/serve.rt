@@ -8,11 +8,11 @@ ghost use Rattle.ev_run.specs.Inner.Serving.{listed_by};
 
 use crate::clients::Service;
 use crate::control_socket::{ControlSocket, ListenError, put_listen_error};
-use crate::run::{Host, run_asked};
+use crate::run::{RunContext, run_asked};
 use crate::system::System;
 use crate::system_drops::UdpTable;
 use ether_wire::{In, Out};
-use ev_config::{Config, Served};
+use ev_config::{Config, ServedConfig};
 use ev_exchange::Known;
 use ev_report::{Buffers, DEVICE, Devices};
 use std::fs::Files;
@@ -51,7 +51,7 @@ pub fn serve_edges<
     E: In,
     W: Out,
     N: Out + Send,
->(system: &System<'_, R>, served: Served, reader: &mut E, out: &mut W, notes: &mut N) -> u8
+>(system: &System<'_, R>, served: ServedConfig, reader: &mut E, out: &mut W, notes: &mut N) -> u8
     requires config { AreConfigs served.config.edges.items }
     requires reader { Allows (2 ^ 40) (E.end reader.old) }
     requires out { IsOpen (W.end out.old) }
@@ -60,7 +60,7 @@ pub fn serve_edges<
         (devices (E.end reader.old) (W.end out.old) (N.end notes.old))
         (devices (E.end reader.new) (W.end out.new) (N.end notes.new)) result }
 {
-    let Served {
+    let ServedConfig {
         config,
         control,
         idle,
@@ -79,7 +79,7 @@ pub fn serve_edges<
         idle,
         hold,
     };
-    let host = Host::new(rt, system.alloc, Some(&service));
+    let host = RunContext::new(rt, system.alloc, Some(&service));
     let status = run_asked(&host, system.policy, config, reader, out, notes);
     service.socket.remove(rt, path);
     status
@@ -91,7 +91,7 @@ pub fn serve_buffered<
     R: In,
     W: Out,
     N: Out + Send,
->(system: &System<'_, H>, served: Served, devices: Devices<R, W, N>) -> (u8, Devices<R, W, N>)
+>(system: &System<'_, H>, served: ServedConfig, devices: Devices<R, W, N>) -> (u8, Devices<R, W, N>)
     requires config { AreConfigs served.config.edges.items }
     requires devices { AreOpen devices }
     ensures { ServesEdges system.now.policy (string_bytes served.control) served.config

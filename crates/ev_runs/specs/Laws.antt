@@ -8,8 +8,8 @@ use Rattle.ev_fabric.specs.Fabric.{fabric_of}
 use Rattle.ev_fabric.specs.Opening.{AreConfigs, AreOpened}
 use Rattle.ev_fabric.specs.Runs.{Runs}
 use Rattle.ev_fabric.specs.Sound.{IsSound}
-use Rattle.ev_history.specs.declared.entry.Entry.{Entry}
-use Rattle.ev_history.specs.declared.entry.Entry.TheVariants.{Begins}
+use Rattle.ev_history.specs.declared.log_entry.LogEntry.{LogEntry}
+use Rattle.ev_history.specs.declared.log_entry.LogEntry.TheVariants.{Begins}
 use Rattle.ev_history.specs.Log.{IsHistory}
 use Rattle.ev_history.specs.Standing.{AllStand}
 
@@ -25,7 +25,8 @@ pub record IsRunOf (configs : List EdgeConfig) (edges : List Edge) : Type 0 wher
 -- of a history to which no updates of other processes come in
 abbrev pub HistoryIsARun : Type 0
 HistoryIsARun =
-    (configs : List EdgeConfig) (entries : List Entry) (edges : List Edge) → IsHistory (Begins false configs ∷ entries)
+    (configs : List EdgeConfig) (entries : List LogEntry) (edges : List Edge)
+        → IsHistory (Begins false configs ∷ entries)
     → length edges ≡ length configs → AllStand (Begins false configs ∷ entries) 0 edges → IsRunOf configs edges
 
 -- If these configurations can be opened as a fabric, the edges are those of a sound fabric, in which the updates of the

@@ -5,7 +5,7 @@ mod checking;
 mod script;
 mod simulate;
 
-pub use checking::{Found, check_lines};
+pub use checking::{CheckedLines, check_lines};
 pub use script::{
     Command, Hex, MOST_OCTETS, Mode, Question, edge_question_of, parse, question_of, why_text,
 };

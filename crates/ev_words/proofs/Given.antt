@@ -36,9 +36,9 @@ use Rattle.clap.proofs.WalkLemmas.{both}
 use Rattle.ev_words.specs.declared.subcommand.Subcommand.{Subcommand}
 use Rattle.ev_words.specs.declared.subcommand.Subcommand.TheVariants.{Report, Migrate, Check, Simulate, Play}
 use Rattle.ev_words.specs.declared.subcommand.Subcommand.TheVariants.{Run, Serve, Version}
-use Rattle.ev_words.specs.declared.subcommand.Given.{Given}
-use Rattle.ev_words.specs.declared.subcommand.Given.TheVariants.{Originators, Config, Script, ForRun, ForServe}
-use Rattle.ev_words.specs.declared.subcommand.Given.TheVariants.{Degraded}
+use Rattle.ev_words.specs.declared.subcommand.ParsedOptions.{ParsedOptions}
+use Rattle.ev_words.specs.declared.subcommand.ParsedOptions.TheVariants.{Originators, Config, Script, ForRun, ForServe}
+use Rattle.ev_words.specs.declared.subcommand.ParsedOptions.TheVariants.{Degraded}
 use Rattle.ev_words.specs.declared.subcommand.Aim.{Aim}
 use Rattle.ev_words.specs.Args.{Parts, subcommands, name_of, option_name, needs_of, takes_of, with_option, with_flag}
 use Rattle.ev_words.specs.Args.{aim_in, subcommand_app, program, named, needed_in, given_in, invocation_in}
@@ -451,13 +451,13 @@ abbrev help_leaf : Shape
 help_leaf = built_leaf (inherited (record above { disable_help_subcommand = false }) help_shape)
 
 -- a subcommand of this name, with an option that has to be given, and perhaps one and two flags that may be
-abbrev leaf_of : Text → Given → Option Given → Option Given → Option Given → Shape
+abbrev leaf_of : Text → ParsedOptions → Option ParsedOptions → Option ParsedOptions → Option ParsedOptions → Shape
 leaf_of name needs takes flag other =
     built_leaf (inherited above (with_flag other (with_flag flag
     (with_option false takes (with_option true (Some needs) (new_app name))))).top)
 
 -- if its level passes, the required option has a value
-one_given : (name : Text) (needs : Given) (words : List Text)
+one_given : (name : Text) (needs : ParsedOptions) (words : List Text)
     → level_fault (leaf_of name needs None None None) [] nothing_held words false [] ≡ []
     → is_some (first_of (option_name needs) (rows_after (leaf_of name needs None None None).rules [] words)) ≡ true
 one_given name needs words f =
@@ -475,7 +475,7 @@ one_given name needs words f =
     go false b f = cc
 
 -- the result for a subcommand with an optional flag
-one_of_two : (name : Text) (needs flag : Given) (words : List Text)
+one_of_two : (name : Text) (needs flag : ParsedOptions) (words : List Text)
     → level_fault (leaf_of name needs None (Some flag) None) [] nothing_held words false [] ≡ []
     → is_some (first_of (option_name needs)
     (rows_after (leaf_of name needs None (Some flag) None).rules [] words)) ≡ true
@@ -497,7 +497,7 @@ one_of_two name needs flag words f =
     go false c b f = cc
 
 -- the result for a subcommand with one and two optional flags
-one_of_four : (name : Text) (needs takes flag other : Given) (words : List Text)
+one_of_four : (name : Text) (needs takes flag other : ParsedOptions) (words : List Text)
     → level_fault (leaf_of name needs (Some takes) (Some flag) (Some other)) [] nothing_held words false [] ≡ []
     → is_some (first_of (option_name needs)
     (rows_after (leaf_of name needs (Some takes) (Some flag) (Some other)).rules [] words)) ≡ true

@@ -4,7 +4,7 @@ ghost use Rattle.clap.specs.Words.{app_of, found_of, kind_of, rows_of, rule_of, 
 ghost use Rattle.clap.specs.declared.builder.command.Command.TheViews.{out-Command};
 ghost use Rattle.ev_words.specs.Args.{option_name, needed_in, given_in, is_flagged, aim_of, aim_in, invocation_in, parts_of, IsAnswer, Parses, Invokes, parser_refusals, program, subcommand_app, option_rule, with_option, flag_rule, with_flag};
 
-use crate::subcommand::{Aim, Given, Subcommand, named};
+use crate::subcommand::{Aim, ParsedOptions, Subcommand, named};
 use clap::error::ErrorKind;
 use clap::{Arg, ArgAction, ArgMatches, Command, Error};
 use std::alloc::{AllocError, Global};
@@ -31,7 +31,7 @@ pub enum ArgsError {
 }
 
 /// Returns an option, required or optional.
-fn option_arg<'a>(alloc: Global, option: Given, is_required: bool) -> Arg<'a>
+fn option_arg<'a>(alloc: Global, option: ParsedOptions, is_required: bool) -> Arg<'a>
     ensures rule { rule_of result ≡ option_rule is_required (option_name option) }
     ensures local { result.global ≡ false }
 {
@@ -47,7 +47,7 @@ fn option_arg<'a>(alloc: Global, option: Given, is_required: bool) -> Arg<'a>
 fn with_option<'a>(
     alloc: Global,
     command: Command<'a>,
-    option: Option<Given>,
+    option: Option<ParsedOptions>,
     is_required: bool,
 ) -> Result<Command<'a>, AllocError>
     requires { (out-Command command).has_globals ≡ false }
@@ -65,7 +65,7 @@ fn with_option<'a>(
 fn with_flag<'a>(
     alloc: Global,
     command: Command<'a>,
-    flag: Option<Given>,
+    flag: Option<ParsedOptions>,
 ) -> Result<Command<'a>, AllocError>
     requires { (out-Command command).has_globals ≡ false }
     ensures app { IfOk result (λ c. app_of c ≡ with_flag flag (app_of command.entry)) }
@@ -78,7 +78,7 @@ fn with_flag<'a>(
 }
 
 /// Returns a flag.
-fn flag_arg<'a>(alloc: Global, flag: Given) -> Arg<'a>
+fn flag_arg<'a>(alloc: Global, flag: ParsedOptions) -> Arg<'a>
     ensures rule { rule_of result ≡ flag_rule (option_name flag) }
     ensures local { result.global ≡ false }
 {
@@ -241,7 +241,7 @@ fn args_error_of(error: Error) -> ArgsError
 }
 
 /// Returns the value of the required option, or an empty text if there is none.
-fn needed_in<'a>(option: Option<Given>, matches: &ArgMatches<'a>) -> Option<&'a str>
+fn needed_in<'a>(option: Option<ParsedOptions>, matches: &ArgMatches<'a>) -> Option<&'a str>
     ensures { option_map (λ s. s.now) result
         ≡ needed_in option (rows_of (found_of matches.now)) }
 {
@@ -252,7 +252,7 @@ fn needed_in<'a>(option: Option<Given>, matches: &ArgMatches<'a>) -> Option<&'a 
 }
 
 /// Returns the value of the optional option, if it was given.
-fn given_in<'a>(option: Option<Given>, matches: &ArgMatches<'a>) -> Option<&'a str>
+fn given_in<'a>(option: Option<ParsedOptions>, matches: &ArgMatches<'a>) -> Option<&'a str>
     ensures { option_map (λ s. s.now) result
         ≡ given_in option (rows_of (found_of matches.now)) }
 {
@@ -263,7 +263,7 @@ fn given_in<'a>(option: Option<Given>, matches: &ArgMatches<'a>) -> Option<&'a s
 }
 
 /// Returns `true` if the optional flag was given.
-fn is_flagged<'a>(flag: Option<Given>, matches: &ArgMatches<'a>) -> bool
+fn is_flagged<'a>(flag: Option<ParsedOptions>, matches: &ArgMatches<'a>) -> bool
     ensures { result ≡ is_flagged flag (rows_of (found_of matches.now)) }
 {
     match given_in(flag, matches) {
@@ -273,13 +273,13 @@ fn is_flagged<'a>(flag: Option<Given>, matches: &ArgMatches<'a>) -> bool
 }
 
 /// Returns the aim of a flag.
-fn aim_of(flag: Option<Given>) -> Aim
+fn aim_of(flag: Option<ParsedOptions>) -> Aim
     ensures { result ≡ aim_of flag }
 {
     match flag {
-        Some(Given::ForRun) => Aim::Run,
-        Some(Given::ForServe) => Aim::Serve,
-        Some(Given::Degraded) => Aim::Degraded,
+        Some(ParsedOptions::ForRun) => Aim::Run,
+        Some(ParsedOptions::ForServe) => Aim::Serve,
+        Some(ParsedOptions::Degraded) => Aim::Degraded,
         _ => Aim::Any,
     }
 }

@@ -25,7 +25,7 @@ pub enum Subcommand {
 
 /// The options of a subcommand.
 #[derive(Clone, Copy, Debug, PartialEq, Eq)]
-pub(crate) enum Given {
+pub(crate) enum ParsedOptions {
     /// `--originators LIST`
     Originators,
     /// `--config FILE`
@@ -71,47 +71,47 @@ impl Subcommand {
     }
 
     /// Returns the option that it requires, if there is one.
-    pub(crate) fn needs(self) -> Option<Given>
+    pub(crate) fn needs(self) -> Option<ParsedOptions>
         ensures { result ≡ needs_of self }
     {
         match self {
-            Subcommand::Report | Subcommand::Migrate => Some(Given::Originators),
+            Subcommand::Report | Subcommand::Migrate => Some(ParsedOptions::Originators),
             Subcommand::Check
             | Subcommand::Simulate
             | Subcommand::Play
             | Subcommand::Run
-            | Subcommand::Serve => Some(Given::Config),
+            | Subcommand::Serve => Some(ParsedOptions::Config),
             Subcommand::Version => None,
         }
     }
 
     /// Returns the option that it allows besides, if there is one.
-    pub(crate) fn takes(self) -> Option<Given>
+    pub(crate) fn takes(self) -> Option<ParsedOptions>
         ensures { result ≡ takes_of self }
     {
         match self {
-            Subcommand::Check => Some(Given::Script),
+            Subcommand::Check => Some(ParsedOptions::Script),
             _ => None,
         }
     }
 
     /// Returns the flag that it allows, if there is one.
-    pub(crate) fn flag(self) -> Option<Given>
+    pub(crate) fn flag(self) -> Option<ParsedOptions>
         ensures { result ≡ flag_of self }
     {
         match self {
-            Subcommand::Check => Some(Given::ForRun),
-            Subcommand::Run | Subcommand::Serve => Some(Given::Degraded),
+            Subcommand::Check => Some(ParsedOptions::ForRun),
+            Subcommand::Run | Subcommand::Serve => Some(ParsedOptions::Degraded),
             _ => None,
         }
     }
 
     /// Returns the other flag that it allows, if there is one.
-    pub(crate) fn other_flag(self) -> Option<Given>
+    pub(crate) fn other_flag(self) -> Option<ParsedOptions>
         ensures { result ≡ other_flag_of self }
     {
         match self {
-            Subcommand::Check => Some(Given::ForServe),
+            Subcommand::Check => Some(ParsedOptions::ForServe),
             _ => None,
         }
     }
@@ -289,39 +289,41 @@ Example:
     }
 }
 
-impl Given {
+impl ParsedOptions {
     /// Returns the option's name.
     pub(crate) fn name<'a>(self) -> &'a str
         ensures { result.now ≡ option_name self }
     {
         match self {
-            Given::Originators => "originators",
-            Given::Config => "config",
-            Given::Script => "script",
-            Given::ForRun => "run",
-            Given::ForServe => "serve",
-            Given::Degraded => "degraded",
+            ParsedOptions::Originators => "originators",
+            ParsedOptions::Config => "config",
+            ParsedOptions::Script => "script",
+            ParsedOptions::ForRun => "run",
+            ParsedOptions::ForServe => "serve",
+            ParsedOptions::Degraded => "degraded",
         }
     }
 
     /// Returns the name of its value in the help text.
     pub(crate) fn value_name<'a>(self) -> &'a str {
         match self {
-            Given::Originators => "LIST",
-            Given::Config | Given::Script => "FILE",
-            Given::ForRun | Given::ForServe | Given::Degraded => "",
+            ParsedOptions::Originators => "LIST",
+            ParsedOptions::Config | ParsedOptions::Script => "FILE",
+            ParsedOptions::ForRun | ParsedOptions::ForServe | ParsedOptions::Degraded => "",
         }
     }
 
     /// Returns the description of its value.
     pub(crate) fn value_help<'a>(self) -> &'a str {
         match self {
-            Given::Originators => "1 to 64 different IPv4 addresses with commas between them",
-            Given::Config => "The path of a configuration, a TOML document",
-            Given::Script => "The path of a script, whose lines are checked too",
-            Given::ForRun => "Check what `run` needs too, and tell what it takes at its beginning",
-            Given::ForServe => "So of `serve`, with its keys `control` and `peer`",
-            Given::Degraded => "Begin even if the system starts too few threads",
+            ParsedOptions::Originators =>
+                "1 to 64 different IPv4 addresses with commas between them",
+            ParsedOptions::Config => "The path of a configuration, a TOML document",
+            ParsedOptions::Script => "The path of a script, whose lines are checked too",
+            ParsedOptions::ForRun =>
+                "Check what `run` needs too, and tell what it takes at its beginning",
+            ParsedOptions::ForServe => "So of `serve`, with its keys `control` and `peer`",
+            ParsedOptions::Degraded => "Begin even if the system starts too few threads",
         }
     }
 }

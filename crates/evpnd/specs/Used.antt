@@ -1,7 +1,7 @@
 -- The uses of a configuration: a script on its edges, or a run of them.
 use Rattle.std.specs.Prelude.{ℕ, false, string_bytes}
 use Rattle.ev_config.specs.declared.whole.Config.{Config}
-use Rattle.ev_config.specs.declared.whole.Served.{Served}
+use Rattle.ev_config.specs.declared.whole.ServedConfig.{ServedConfig}
 use Rattle.ev_config.specs.declared.whole.Use.TheVariants.{Any, Run, Serve}
 use Rattle.ev_report.specs.Ends.{Devices}
 use Rattle.evpnd.specs.Checks.{Uses}
@@ -20,11 +20,11 @@ abbrev pub SimulatesFound : Mode → Uses Config
 SimulatesFound mode = OfFound Any (SimulatesEdges mode)
 
 -- the edges of a configuration run, and answer queries at its socket meanwhile
-abbrev pub ServesConfig : ThreadPolicy → Served → Devices → Devices → ℕ → Type 0
+abbrev pub ServesConfig : ThreadPolicy → ServedConfig → Devices → Devices → ℕ → Type 0
 ServesConfig policy served = ServesEdges policy (string_bytes served.control) served.config
 
 abbrev pub RunsFound : ThreadPolicy → Uses Config
 RunsFound policy = OfFound Run (RunsEdges false policy)
 
-abbrev pub ServesFound : ThreadPolicy → Uses Served
+abbrev pub ServesFound : ThreadPolicy → Uses ServedConfig
 ServesFound policy = OfFound Serve (ServesConfig policy)

@@ -16,7 +16,7 @@ use crate::files::{Files, Named, text_at};
 use ether_wire::{Device, Out};
 use ev_config::{Config, ConfigRefusal, Use, config_for, put_refusal, put_summary};
 use ev_report::{DEVICE, DONE, MEMORY, usage_status};
-use ev_run::{Limits, Obstacle, needs_of, obstacles_of, put_asked_needs, put_obstacles};
+use ev_run::{Obstacle, ProcessLimits, needs_of, obstacles_of, put_asked_needs, put_obstacles};
 use std::alloc::Global;
 
 /// The purpose of a check.
@@ -25,12 +25,12 @@ pub(crate) struct Purpose {
     /// The use of the configuration.
     pub(crate) wanted: Use,
     /// The limits of a run, as far as they are known.
-    pub(crate) limits: Limits,
+    pub(crate) limits: ProcessLimits,
 }
 
 /// The subject of a check.
 #[derive(Clone, Copy, Debug)]
-pub(crate) struct Wanted<'a> {
+pub(crate) struct CheckTarget<'a> {
     /// The path of a configuration.
     pub(crate) path: &'a str,
     /// The path of a script, if there is one.
@@ -112,7 +112,7 @@ struct Run {
     /// Whether clients may query the edges meanwhile.
     is_asked: bool,
     /// The limits, as far as they are known.
-    limits: Limits,
+    limits: ProcessLimits,
 }
 
 /// Writes the resources of a configuration's run, or reports its obstacles.
@@ -202,7 +202,7 @@ fn check_text<W: Out, N: Out>(
 fn check<F: Files, W: Out, N: Out>(
     alloc: Global,
     files: &mut F,
-    wanted: Wanted<'_>,
+    wanted: CheckTarget<'_>,
     out: &mut W,
     notes: &mut N,
 ) -> u8
@@ -225,7 +225,7 @@ fn check<F: Files, W: Out, N: Out>(
 pub(crate) fn check_all<F: Files, W: Out, N: Out>(
     alloc: Global,
     files: &mut F,
-    wanted: Wanted<'_>,
+    wanted: CheckTarget<'_>,
     out: &mut W,
     notes: &mut N,
 ) -> u8

@@ -12,7 +12,7 @@ ghost use Rattle.ev_report.specs.Failures.{failures_of};
 ghost use Rattle.evpnd.specs.Program.{world, use_of, policy_of, purpose_of, not_text, RunsOpen, FollowsAs, Follows, FollowsTelling, RunsWords, RunsProgram};
 ghost use Rattle.evpnd.specs.Inner.Program.{TellsFault};
 
-use crate::check::{Purpose, Wanted, check_all};
+use crate::check::{CheckTarget, Purpose, check_all};
 use crate::files::Files;
 use crate::host::{Descriptors, Host};
 use crate::records::{migrate, report};
@@ -63,7 +63,7 @@ fn tell_fault<P: Parser, N: Out>(parser: &mut P, error: &Error, notes: &mut N) -
 fn check_on<F: Files, R: In, W: Out, N: Out>(
     alloc: Global,
     files: &mut F,
-    wanted: Wanted<'_>,
+    wanted: CheckTarget<'_>,
     devices: Devices<R, W, N>,
 ) -> (u8, Devices<R, W, N>)
     requires files { HasRoom (F.shelf files.old) }
@@ -99,12 +99,12 @@ fn policy_of(aim: Aim) -> ThreadPolicy
 }
 
 /// Returns the subject of an invocation's check.
-fn wanted_of<'a>(descriptors: Descriptors, invocation: &Invocation<'a>) -> Wanted<'a>
+fn wanted_of<'a>(descriptors: Descriptors, invocation: &Invocation<'a>) -> CheckTarget<'a>
     ensures path { result.path ≡ invocation.now.value }
     ensures script { result.script ≡ invocation.now.more }
     ensures purpose { result.purpose ≡ purpose_of invocation.now.aim descriptors }
 {
-    Wanted {
+    CheckTarget {
         path: invocation.value,
         script: invocation.more,
         purpose: Purpose {

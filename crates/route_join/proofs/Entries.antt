@@ -12,7 +12,7 @@ use Rattle.route_wire.specs.declared.update.Value.{Value}
 use Rattle.route_wire.specs.Fields.{Fields, IsUpdate}
 use Rattle.route_wire.specs.Order.{ip_of}
 use Rattle.route_join.specs.Subject.{Subject, subject_of}
-use Rattle.route_join.specs.Inner.Entry.{ip_by, content_by, IsEntry}
+use Rattle.route_join.specs.Inner.PackedUpdate.{ip_by, content_by, IsEntry}
 
 pub v4_back : (n : ℕ) → n < 2 ^ 32 → n % 2 ^ 32 ≡ n
 v4_back n h = mod-eq_of_lt h

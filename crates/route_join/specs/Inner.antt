@@ -1,4 +1,4 @@
-pub mod Entry
+pub mod PackedUpdate
 pub mod Equals
 pub mod Group
 pub mod Groups

@@ -5,12 +5,12 @@ ghost use Rattle.route_join.specs.Group.{AreAbout};
 ghost use Rattle.route_join.specs.Subject.{subject_of};
 ghost use Rattle.route_join.specs.Table.{entries_of, IsOrdered};
 
-use crate::entry::Entry;
+use crate::packed_update::PackedUpdate;
 use crate::place::place;
 use route_wire::Register;
 
 /// Returns the updates of a list from this place on.
-fn from(updates: &[Entry], at: usize) -> &[Entry]
+fn from(updates: &[PackedUpdate], at: usize) -> &[PackedUpdate]
     requires { at ≤ length updates.now }
     ensures { result.now ≡ drop at updates.now }
 {
@@ -18,7 +18,7 @@ fn from(updates: &[Entry], at: usize) -> &[Entry]
 }
 
 /// Returns the updates of a list after this place.
-fn behind(updates: &[Entry], at: usize) -> &[Entry]
+fn behind(updates: &[PackedUpdate], at: usize) -> &[PackedUpdate]
     requires { at < length updates.now }
     ensures { result.now ≡ drop (at + 1) updates.now }
 {
@@ -30,7 +30,7 @@ fn behind(updates: &[Entry], at: usize) -> &[Entry]
 }
 
 /// Returns the updates of a list whose registers come after this one of the same subject.
-pub(crate) fn rest_after<'a>(updates: &'a [Entry], register: &Register) -> &'a [Entry]
+pub(crate) fn rest_after<'a>(updates: &'a [PackedUpdate], register: &Register) -> &'a [PackedUpdate]
     requires about { AreAbout (subject_of register.now.key) (entries_of updates.now) }
     requires ordered { IsOrdered updates.now }
     ensures { result.now ≡ updates_after register.now updates.now }

@@ -10,8 +10,8 @@ ghost use Rattle.route_join.specs.After.{updates_after};
 ghost use Rattle.route_join.specs.Inner.Group.{Takes, update_among, IsLeader, IsSilent};
 
 use crate::after::rest_after;
-use crate::entry::Entry;
 use crate::large_group::LargeGroup;
+use crate::packed_update::PackedUpdate;
 use crate::place::place;
 use crate::small_group::{SmallGroup, best_place, owner_at};
 use crate::subject::{Subject, subject_of};
@@ -27,7 +27,7 @@ use std::slice;
 #[derive(Drop)]
 enum Storage {
     /// A single update, without memory of its own.
-    One(Entry),
+    One(PackedUpdate),
     /// In one list.
     SmallGroup(SmallGroup),
     /// In a tree. The box keeps small groups small.
@@ -48,7 +48,7 @@ fn spread(alloc: Global, subject: &Subject, few: &SmallGroup) -> Result<Box<Larg
 
 /// Takes an update of the only register, which then has the newer one. Returns `None` if the update
 /// is of another register.
-fn take_one(own: &mut Entry, update: &Update) -> Option<Taken>
+fn take_one(own: &mut PackedUpdate, update: &Update) -> Option<Taken>
     requires { AreAbout (subject_of update.now.register.key) (entries_of (own.old ∷ [])) }
     ensures some { (held : ℕ) → IfSome result (λ taken. Takes (entries_of (own.old ∷ []))
         update.now held (Ok taken) (entries_of (own.new ∷ [])) held) }
@@ -62,7 +62,7 @@ fn take_one(own: &mut Entry, update: &Update) -> Option<Taken>
     if !own.is_older(update) {
         return Some(Taken::Known);
     }
-    *own = Entry::of(update);
+    *own = PackedUpdate::of(update);
     Some(Taken::Newer)
 }
 
@@ -92,7 +92,7 @@ impl Group {
         ensures { result ≡ update.now ∷ [] }
     {
         Group {
-            kept: Storage::One(Entry::of(update)),
+            kept: Storage::One(PackedUpdate::of(update)),
         }
     }
 

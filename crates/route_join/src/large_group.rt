@@ -12,7 +12,7 @@ ghost use Rattle.route_join.specs.Inner.Group.{Takes, update_among, IsLeader, Is
 ghost use Rattle.route_join.specs.Inner.WinnerTree.{owns};
 ghost use Rattle.route_join.specs.Inner.LargeGroup.{IsLargeGroup, place_at, large_updates};
 
-use crate::entry::Entry;
+use crate::packed_update::PackedUpdate;
 use crate::register_key::RegisterKey;
 use crate::subject::Subject;
 use crate::table::Taken;
@@ -114,7 +114,7 @@ impl LargeGroup {
     pub(crate) fn of(
         alloc: Global,
         subject: &Subject,
-        updates: &[Entry],
+        updates: &[PackedUpdate],
     ) -> Result<Self, AllocError>
         requires ordered { IsOrdered updates.now }
         requires about { AreAbout subject.now (entries_of updates.now) }

@@ -2,7 +2,6 @@
 #![tactic(auto)]
 
 mod after;
-mod entry;
 mod flood;
 mod group;
 mod groups;
@@ -10,6 +9,7 @@ mod large_group;
 mod laws;
 mod names;
 mod owner;
+mod packed_update;
 mod page;
 mod page_laws;
 mod place;
@@ -31,7 +31,7 @@ pub use laws::{
     one_table, one_taken, others_stay, owner_along, owner_is, same_owner, updates_of_are,
 };
 pub use owner::{advert_in, is_better};
-pub use page::Page;
+pub use page::UpdatePage;
 pub use page_laws::{pages_ascend, pages_of_one, register_stays};
 pub use register_key::RegisterKey;
 pub use running_report::RunningReport;

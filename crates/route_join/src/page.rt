@@ -17,12 +17,12 @@ const PAGE: usize = 256;
 /// Updates in the order of a report that follow one after the other in a table: at most 256, each
 /// after the register at which the page before ended.
 #[derive(Drop)]
-pub struct Page {
+pub struct UpdatePage {
     after: Option<Register>,
     updates: Vec<Update>,
 }
 
-impl Model for Page {
+impl Model for UpdatePage {
     ghost use Rattle.route_join.specs.After.{PageView, IsPage};
 
     ghost Value = { PageView };
@@ -32,7 +32,7 @@ impl Model for Page {
     ghost invariant = { λ p. IsPage p.after p.updates.items };
 }
 
-impl Page {
+impl UpdatePage {
     /// Returns the register after which the page begins, `None` for the first page.
     pub fn after(&self) -> Option<Register>
         ensures { result ≡ self.now.after }
@@ -115,11 +115,11 @@ impl Table {
     /// # Errors
     ///
     /// `AllocError` if memory for 256 updates is refused.
-    pub fn page(&self, alloc: Global, after: Option<Register>) -> Result<Page, AllocError>
+    pub fn page(&self, alloc: Global, after: Option<Register>) -> Result<UpdatePage, AllocError>
         ensures { IfOk result (λ page. page
             ≡ record { after = after; updates = page_at after self.now }) }
     {
         let updates = first_of(alloc, self.updates_from(&after))?;
-        Ok(Page { after, updates })
+        Ok(UpdatePage { after, updates })
     }
 }

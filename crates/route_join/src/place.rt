@@ -6,7 +6,7 @@ ghost use Rattle.route_join.specs.Inner.Place.{place_of};
 ghost use Rattle.route_join.specs.Subject.{subject_of};
 ghost use Rattle.route_join.specs.Table.{entries_of, IsOrdered};
 
-use crate::entry::Entry;
+use crate::packed_update::PackedUpdate;
 use route_wire::{Ip, Register};
 use std::cmp::Ordering;
 
@@ -59,7 +59,7 @@ pub(crate) fn cmp_within(one: &Register, other: &Register) -> Ordering
 /// Returns the order of a register and that of an entry about its subject, as `cmp_within` does.
 #[inline(always)]
 #[tactic(auto, using(crate::proofs::Within::within, crate::proofs::Within::behind_lower))]
-fn cmp_entry(one: &Register, other: &Entry) -> Ordering
+fn cmp_entry(one: &Register, other: &PackedUpdate) -> Ordering
     requires { subject_of one.now.key ≡ subject_of other.now.register.key }
     ensures { result ≡ register_cmp one.now other.now.register }
 {
@@ -75,7 +75,7 @@ fn cmp_entry(one: &Register, other: &Entry) -> Ordering
 /// Returns the place of a register among updates of its subject in the order of their registers, or
 /// as `Err` the place at which it would be inserted.
 #[inline(always)]
-pub(crate) fn place(updates: &[Entry], register: &Register) -> Result<usize, usize>
+pub(crate) fn place(updates: &[PackedUpdate], register: &Register) -> Result<usize, usize>
     requires { AreAbout (subject_of register.now.key) (entries_of updates.now) }
     ensures { result ≡ place_of updates.now register.now }
 {
@@ -94,7 +94,7 @@ pub(crate) fn place(updates: &[Entry], register: &Register) -> Result<usize, usi
 #[inline(always)]
 #[tactic(auto, using(crate::proofs::Within::found_near))]
 pub(crate) fn place_near(
-    updates: &[Entry],
+    updates: &[PackedUpdate],
     register: &Register,
     guess: usize,
 ) -> Result<usize, usize>

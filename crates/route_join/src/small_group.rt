@@ -10,8 +10,8 @@ ghost use Rattle.route_join.specs.Subject.{subject_of};
 ghost use Rattle.route_join.specs.Group.{AreAbout};
 ghost use Rattle.route_join.specs.Inner.Group.{told, Takes, update_among, said_at, wins_by, better_place, stays_best, moved, HasWinner, IsLeader, IsSilent};
 
-use crate::entry::Entry;
 use crate::owner::{advert_in, is_better};
+use crate::packed_update::PackedUpdate;
 use crate::place::{place, place_near};
 use crate::subject::subject_of;
 use crate::table::Taken;
@@ -22,7 +22,7 @@ use std::cmp::Ordering;
 use std::marker::Model;
 
 /// Returns the advert of the update at a place.
-fn said_at(updates: &[Entry], at: usize) -> Option<Advert>
+fn said_at(updates: &[PackedUpdate], at: usize) -> Option<Advert>
     ensures { result ≡ said_at updates.now at }
 {
     let update = updates.get(at)?;
@@ -44,7 +44,7 @@ pub(crate) fn wins(one: &Option<Advert>, other: &Option<Advert>, order: Ordering
 /// Returns the winner's place, once the update at a place may win too. The order of registers is
 /// that of their places.
 #[tactic(auto, using(crate::proofs::Within::wins_alone, crate::proofs::Within::wins_at))]
-fn better_place(updates: &[Entry], at: usize, winner: Option<usize>) -> Option<usize>
+fn better_place(updates: &[PackedUpdate], at: usize, winner: Option<usize>) -> Option<usize>
     requires { IsOrdered updates.now }
     ensures { result ≡ better_place updates.now at winner }
 {
@@ -60,7 +60,7 @@ fn better_place(updates: &[Entry], at: usize, winner: Option<usize>) -> Option<u
 }
 
 /// Returns the place of the best advert among updates in the order of their registers.
-pub(crate) fn best_place(updates: &[Entry]) -> Option<usize>
+pub(crate) fn best_place(updates: &[PackedUpdate]) -> Option<usize>
     requires { IsOrdered updates.now }
     ensures { HasWinner updates.now (told updates.now) result }
 {
@@ -72,7 +72,7 @@ pub(crate) fn best_place(updates: &[Entry]) -> Option<usize>
 }
 
 /// Returns the originator of the winner, if there is one.
-pub(crate) fn owner_at(updates: &[Entry], winner: Option<usize>) -> Option<Addr>
+pub(crate) fn owner_at(updates: &[PackedUpdate], winner: Option<usize>) -> Option<Addr>
     requires { HasWinner updates.now (told updates.now) winner }
     ensures { MatchOption result (IsSilent updates.now) (IsLeader updates.now) }
 {
@@ -96,7 +96,7 @@ fn stays_best(was: &Option<Advert>, now: &Option<Advert>) -> bool
 /// Returns `true` if the advert of this update is no worse than that of the update which it
 /// replaces.
 #[inline(never)]
-fn stays_there(updates: &[Entry], at: usize, update: &Update) -> bool
+fn stays_there(updates: &[PackedUpdate], at: usize, update: &Update) -> bool
     ensures { result ≡ stays_best (said_at updates.now at) (advert_in update.now.value.content) }
 {
     stays_best(&said_at(updates, at), &advert_in(&update.value().content))
@@ -105,7 +105,7 @@ fn stays_there(updates: &[Entry], at: usize, update: &Update) -> bool
 /// Returns `true` only if the winner stays the best one where this update replaces it. Nothing is
 /// compared if the winner is at another place.
 #[inline(always)]
-fn stays_winner(updates: &[Entry], at: usize, winner: Option<usize>, update: &Update) -> bool
+fn stays_winner(updates: &[PackedUpdate], at: usize, winner: Option<usize>, update: &Update) -> bool
     ensures { result ≡ true
         → stays_best (said_at updates.now at) (advert_in update.now.value.content) ≡ true }
 {
@@ -115,7 +115,12 @@ fn stays_winner(updates: &[Entry], at: usize, winner: Option<usize>, update: &Up
 /// Returns the winner's place after the update at a place was replaced. It searches for the winner
 /// again only if the winner's update was replaced and the new one is worse.
 #[inline(always)]
-fn winner_after(updates: &[Entry], at: usize, winner: Option<usize>, stays: bool) -> Option<usize>
+fn winner_after(
+    updates: &[PackedUpdate],
+    at: usize,
+    winner: Option<usize>,
+    stays: bool,
+) -> Option<usize>
     requires ordered { IsOrdered updates.now }
     requires other { winner ≢ Some at
         → HasWinner updates.now (told updates.now) (better_place updates.now at winner) }
@@ -147,7 +152,11 @@ fn moved(at: usize, winner: Option<usize>) -> Option<usize>
 /// doubling each would leave a third of a large table's memory unused. At the end, where more than
 /// half of the updates come, `insert` would copy the update three times more.
 #[tactic(auto, using(crate::proofs::Places::at_end))]
-fn insert_at(updates: &mut Vec<Entry>, at: usize, update: Entry) -> Result<(), AllocError>
+fn insert_at(
+    updates: &mut Vec<PackedUpdate>,
+    at: usize,
+    update: PackedUpdate,
+) -> Result<(), AllocError>
     requires { at ≤ vec_len updates.old }
     ensures { updates.new.items
         ≡ (if is_ok result then insert updates.old.items at update else updates.old.items) }
@@ -174,7 +183,7 @@ const SMALL_GROUP: usize = 32;
 /// among them, if anything is advertised.
 #[derive(Drop)]
 pub(crate) struct SmallGroup {
-    updates: Vec<Entry>,
+    updates: Vec<PackedUpdate>,
     winner: Option<usize>,
 }
 
@@ -195,7 +204,7 @@ impl Model for SmallGroup {
 
 impl SmallGroup {
     /// Returns a group of this update only, with room for a second one.
-    pub(crate) fn new(alloc: Global, update: Entry) -> Result<Self, AllocError>
+    pub(crate) fn new(alloc: Global, update: PackedUpdate) -> Result<Self, AllocError>
         ensures { IfOk result (λ g. g ≡ update ∷ []) }
     {
         let mut updates = Vec::new(alloc);
@@ -206,7 +215,7 @@ impl SmallGroup {
     }
 
     /// Returns the updates, in the order of their registers.
-    pub(crate) fn updates(&self) -> &[Entry]
+    pub(crate) fn updates(&self) -> &[PackedUpdate]
         ensures value { result.now ≡ self.now }
         ensures ordered { IsOrdered self.now }
     {
@@ -244,7 +253,7 @@ impl SmallGroup {
             (entries_of self.old) }
     {
         let stays = stays_winner(&self.updates, at, self.winner, update);
-        self.updates[at] = Entry::of(update);
+        self.updates[at] = PackedUpdate::of(update);
         self.winner = winner_after(&self.updates, at, self.winner, stays);
     }
 
@@ -256,7 +265,7 @@ impl SmallGroup {
             (entries_of self.old)) }
         ensures err { OnErr result (self.new ≡ self.old) }
     {
-        if insert_at(&mut self.updates, at, Entry::of(update)).is_err() {
+        if insert_at(&mut self.updates, at, PackedUpdate::of(update)).is_err() {
             return Err(AllocError);
         }
         self.winner = better_place(&self.updates, at, moved(at, self.winner));

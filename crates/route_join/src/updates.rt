@@ -6,9 +6,9 @@ ghost use Rattle.route_join.specs.Group.{AreAbout, AreGroups, updates_in};
 ghost use Rattle.route_join.specs.LargeGroup.{left_in_tree};
 ghost use Rattle.route_join.specs.After.{updates_after};
 
-use crate::entry::Entry;
 use crate::groups::{Groups, GroupsIter};
 use crate::large_group::LargeUpdates;
+use crate::packed_update::PackedUpdate;
 use crate::subject::{Subject, subject_of};
 use ether_wire::Vni;
 use route_wire::{Register, Update};
@@ -18,7 +18,7 @@ use std::marker::Model;
 #[derive(Drop)]
 pub struct UpdatesOf<'a> {
     subject: Subject,
-    few: &'a [Entry],
+    few: &'a [PackedUpdate],
     many: Option<LargeUpdates<'a>>,
 }
 
@@ -45,7 +45,7 @@ impl<'a> UpdatesOf<'a> {
     }
 
     /// Returns the updates of a list, which are about this subject.
-    pub(crate) fn few(subject: &Subject, updates: &'a [Entry]) -> Self
+    pub(crate) fn few(subject: &Subject, updates: &'a [PackedUpdate]) -> Self
         requires { AreAbout subject.now (entries_of updates.now) }
         ensures { result ≡ updates.now }
     {
