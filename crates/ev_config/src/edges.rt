@@ -19,7 +19,7 @@ use arrayvec::ArrayVec;
 use bpdu_wire::BridgeId;
 use ether_wire::{Addr, Mac, Vni};
 use ev_edge::{EdgeConfig, Limits, PortConfig};
-use rstp_state::start::{PortSettings, Settings};
+use rstp_state::{PortSettings, Settings};
 use std::alloc::{AllocError, Global};
 use toml::Table;
 use toml::value::Array;

@@ -14,8 +14,7 @@ use arrayvec::ArrayVec;
 use bpdu_wire::Bpdu;
 use ether_wire::{NO_PORTS, with_port};
 use ev_claims::LocalRoutes;
-use rstp_run::bridge::Bridge;
-use rstp_run::event::Event;
+use rstp_run::{Bridge, Event};
 
 /// The last second: the clock stays there.
 const LAST_SECOND: u64 = 0x8000_0000_0000_0000;

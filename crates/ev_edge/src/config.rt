@@ -5,7 +5,7 @@ ghost use Rattle.ev_edge.specs.Config.{vnis_of, settings_of};
 use crate::limits::Limits;
 use arrayvec::ArrayVec;
 use ether_wire::{Addr, Vni};
-use rstp_state::start::{PortSettings, Settings};
+use rstp_state::{PortSettings, Settings};
 
 /// An access port.
 #[derive(Clone, Copy, Debug, PartialEq, Eq)]

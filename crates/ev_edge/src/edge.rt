@@ -24,8 +24,7 @@ use ev_mobility::Moves;
 use mac_arena::Station;
 use route_join::Table;
 use route_wire::Update;
-use rstp_run::bridge::{Bridge, BridgeConfig};
-use rstp_run::event::Event as BridgeEvent;
+use rstp_run::{Bridge, BridgeConfig, Event as BridgeEvent};
 use std::alloc::{AllocError, Global};
 use std::marker::Model;
 

@@ -21,7 +21,7 @@ use crate::event::Event;
 use crate::refusal::Refusal;
 use crate::reply::Reply;
 use ether_wire::Addr;
-use rstp_run::laws::one_outcome;
+use rstp_run::one_outcome;
 
 /// A good edge is good after each event, whatever the answer: it follows from the definition of a
 /// step, and needs nothing that only this code does.

@@ -17,7 +17,7 @@ use ether_wire::{Addr, Mac, NO_PORTS, Vni};
 use ev_mobility::Alert;
 use ev_tunnel::{Decision, Forwarding, Source, decide_into, unwrap_datagram};
 use mac_arena::Station;
-use rstp_run::event::Event;
+use rstp_run::Event;
 
 /// Creates an empty decision if there is none.
 fn make_room(decision: &mut Option<Decision>)

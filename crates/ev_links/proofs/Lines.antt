@@ -209,7 +209,7 @@ counted_put parts heads h counted = λ s p is. go s p (changed_at (one_more h.si
         heads_put s heads h ∙ ap (λ b. heads_of s heads ++ cond b (h ∷ []) []) is in
         let many = length-append (heads_of s heads) (h ∷ []) in let long = sizes_put (heads_of s heads) h in
         let frames = ap (λ (x : SourceQueue). x.frames) there.2 in let octets =
-            ap (λ (x : SourceQueue). x.octets) there.2 in
+        ap (λ (x : SourceQueue). x.octets) there.2 in
         let c0 = c.0 in let c1 = c.1 in let l = ap length put in let z = ap sizes put in
         (omega (arith, frames, c0, many, l), omega (arith, octets, c1, long, z))
     go s p at false is =
@@ -243,7 +243,7 @@ counted_left parts h heads counted = λ s p is. go s p (changed_at (one_less h.s
         let took : heads_of s (h ∷ heads) ≡ h ∷ heads_of s heads =
         ap (λ b. cond b (h ∷ heads_of s heads) (heads_of s heads)) is in
         let frames = ap (λ (x : SourceQueue). x.frames) there.2 in let octets =
-            ap (λ (x : SourceQueue). x.octets) there.2 in
+        ap (λ (x : SourceQueue). x.octets) there.2 in
         let c0 = c.0 in let c1 = c.1 in let l = ap length took in let z = ap sizes took in
         (omega (arith, frames, c0, l), omega (arith, octets, c1, z))
     go s p at false is =

@@ -10,7 +10,7 @@ use ev_view::EdgeQuestion;
 use mac_arena::Station;
 use route_join::UpdatePage;
 use route_wire::Register;
-use rstp_state::port::PortState;
+use rstp_state::PortState;
 use std::alloc::{AllocError, Global};
 use std::mem;
 

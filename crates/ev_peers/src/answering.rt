@@ -18,7 +18,7 @@ use ev_mailboxes::{EdgeNetworks, OperatorCommand, PortView, Reading, Request, Re
 use ev_view::EdgeQuestion;
 use route_join::UpdatePage;
 use route_wire::Register;
-use rstp_run::bridge::Bridge;
+use rstp_run::Bridge;
 use std::alloc::{AllocError, Global};
 use std::mem;
 use std::sync::Wait;

@@ -26,7 +26,7 @@ pub record IsRunOf (configs : List EdgeConfig) (edges : List Edge) : Type 0 wher
 abbrev pub HistoryIsARun : Type 0
 HistoryIsARun =
     (configs : List EdgeConfig) (entries : List LogEntry) (edges : List Edge)
-        → IsHistory (Begins false configs ∷ entries)
+    → IsHistory (Begins false configs ∷ entries)
     → length edges ≡ length configs → AllStand (Begins false configs ∷ entries) 0 edges → IsRunOf configs edges
 
 -- If these configurations can be opened as a fabric, the edges are those of a sound fabric, in which the updates of the

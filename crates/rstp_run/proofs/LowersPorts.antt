@@ -12,7 +12,7 @@ use Rattle.rstp_state.specs.declared.port.Migration.{Migration}
 use Rattle.rstp_state.specs.declared.port.Migration.TheVariants as migration
 use Rattle.rstp_state.specs.declared.port.Timing.{Timing}
 use Rattle.rstp_state.specs.Port.{is_checking, is_selecting, is_sensing, is_out}
-use Rattle.rstp_machines.specs.Receive.{discard_guard, discard_effect, receive_guard, receive_effect, is_rst}
+use Rattle.rstp_machines.specs.PortReceive.{discard_guard, discard_effect, receive_guard, receive_effect, is_rst}
 use Rattle.rstp_machines.specs.Migration as moves
 use Rattle.rstp_machines.specs.BridgeDetection.{edge_guard, edge_effect, not_edge_guard, not_edge_effect}
 use Rattle.rstp_machines.specs.BridgeDetection.{finds_no_bridge}

@@ -9,7 +9,7 @@ use Rattle.rstp_state.specs.declared.port.Timing.{Timing}
 use Rattle.rstp_state.specs.declared.port.Topology.TheVariants as topology
 use Rattle.rstp_machines.specs.BridgeDetection as detection
 use Rattle.rstp_machines.specs.Information as info
-use Rattle.rstp_machines.specs.Receive as receiving
+use Rattle.rstp_machines.specs.PortReceive as receiving
 use Rattle.rstp_machines.specs.TopologyChange.{notified_at}
 use Rattle.rstp_run.specs.declared.rule.DetectionRule.TheVariants as detection_rule
 use Rattle.rstp_run.specs.declared.rule.InformationRule.{InformationRule}

@@ -15,7 +15,7 @@ use Rattle.rstp_roles.specs.declared.rule.RoleRule.TheVariants as role_rule
 use Rattle.rstp_roles.specs.declared.rule.StateRule.TheVariants as state_rule
 use Rattle.rstp_machines.specs.BridgeDetection as detection
 use Rattle.rstp_machines.specs.Migration as moves
-use Rattle.rstp_machines.specs.Receive as receiving
+use Rattle.rstp_machines.specs.PortReceive as receiving
 use Rattle.rstp_machines.specs.TopologyChange as change
 use Rattle.rstp_machines.specs.TopologyChange.{telling_others, with_propagation}
 use Rattle.rstp_machines.specs.Transmit as sends

@@ -12,7 +12,7 @@ use Rattle.rstp_run.specs.declared.rule.InformationRule.TheVariants as informati
 use Rattle.rstp_run.specs.Machines.{information_asks, information_does, receive_asks, receive_does}
 use Rattle.rstp_run.specs.Sweep.{Going, main_order, tries, tries_all}
 use Rattle.rstp_machines.specs.Information as info
-use Rattle.rstp_machines.specs.Receive.{discard_effect}
+use Rattle.rstp_machines.specs.PortReceive.{discard_effect}
 use Rattle.rstp_run.proofs.Informed.{no}
 use Rattle.rstp_run.proofs.Levels as levels
 use Rattle.rstp_run.proofs.Levels.{IsCalm, IsCalmOf, IsChosen, IsChosenOf, IsDown, IsFaced, IsFacedOf, IsFirst}

@@ -14,7 +14,7 @@ use ev_fabric::FabricRefusal;
 use ev_mobility::Alert;
 use ev_tunnel::Decision;
 use route_join::{Table, Taken};
-use rstp_state::port::{PortState, Role};
+use rstp_state::{PortState, Role};
 
 /// The lower case hexadecimal digits.
 const DIGITS: &[u8; 16] = b"0123456789abcdef";

@@ -1,10 +1,10 @@
 //! The receive rules (17.23): a stored message goes to the other machines.
 
 ghost use Rattle.std.specs.Prelude.{◌≡◌};
-ghost use Rattle.rstp_machines.specs.Receive.{discard_guard, discard_effect, receive_guard, receive_effect};
+ghost use Rattle.rstp_machines.specs.PortReceive.{discard_guard, discard_effect, receive_guard, receive_effect};
 
 use bpdu_wire::Bpdu;
-use rstp_state::port::PortState;
+use rstp_state::PortState;
 
 /// Returns `true` if a port that isn't enabled has a message to drop, or an edge delay to restart.
 pub fn discard_guard(port: &PortState) -> bool
