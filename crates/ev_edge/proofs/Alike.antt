@@ -2,7 +2,7 @@
 use Rattle.std.proofs.Common.{◌≡◌, ◌⊎◌, inl, inr, ℕ, Bool, true, false, cond, eqb, Option, Some, None, Result, Ok, Err}
 use Rattle.std.proofs.Common.{not, List, [], ◌∷◌, refl, sym, ap, subst, ◌∙◌}
 use Rattle.std.specs.Prelude.{filter}
-use Rattle.std.proofs.lemmas.Bool.{true≢false, false≢true}
+use Rattle.std.proofs.lemmas.Bool.{true≢false, false≢true, not-true as up_not_away}
 use Rattle.route_wire.specs.Fields.{Fields}
 use Rattle.route_join.specs.Table.{is_listed}
 use Rattle.mac_arena.specs.declared.station.Station.{Station}
@@ -49,7 +49,7 @@ use Rattle.ev_edge.specs.AwayLaws.{with_all_up, SameButDecision, is_mark, ComesB
 use Rattle.ev_edge.specs.AwayLaws.{Entered, EdgeRuns, without_marks, AreAlike, AsIfNeverAway}
 use Rattle.ev_edge.proofs.Cases.{learnt_by}
 use Rattle.ev_edge.proofs.Giving.{learnt_away}
-use Rattle.ev_edge.proofs.Marking.{back_again, up_not_away}
+use Rattle.ev_edge.proofs.Marking.{back_again}
 
 -- the edge with all others up has an answer with this property that is alike, and who is away stays
 abbrev Like : (Result Reply Refusal → Type 0) → Edge → Result Reply Refusal → Edge → Type 0

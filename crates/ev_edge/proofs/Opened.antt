@@ -6,7 +6,6 @@ use Rattle.std.proofs.lemmas.List.{length-replicate}
 use Rattle.std.proofs.lemmas.List.Sorted.{Contains-permutation}
 use Rattle.std.specs.FinMap.{get-empty}
 use Rattle.route_wire.specs.declared.update.Key.TheVariants.{Flood, Mac}
-use Rattle.route_wire.specs.declared.update.Advert.{Advert}
 use Rattle.route_wire.specs.declared.update.Value.{Value}
 use Rattle.route_wire.specs.declared.update.Content.TheVariants.{Advert as Advertised}
 use Rattle.route_wire.specs.Order.{register_cmp}
@@ -35,7 +34,8 @@ use Rattle.ev_edge.specs.declared.storms.Storm.{Storm}
 use Rattle.ev_edge.specs.Limits.{AreKept}
 use Rattle.ev_edge.specs.Edge.{ArePassing, AreIndividual, IsEdge, edge_of}
 use Rattle.ev_edge.proofs.Marking.{none_listed}
-use Rattle.ev_edge.proofs.Owning.{said_other}
+use Rattle.ev_claims.proofs.Numbers.{key_stays as said_other}
+use Rattle.ev_edge.proofs.Owning.{never_some}
 
 -- ---- nothing is advertised but flood lists
 floods_address : (e : Speaker) (vs : List ℕ) → (after_floods e vs).address ≡ e.address
@@ -55,10 +55,6 @@ nothing_said : (address incarnation : ℕ) (originators vs : List ℕ) (s : Stat
 nothing_said address incarnation originators vs s =
     floods_silent (silent address incarnation originators) vs s
     ∙ ap advert_of (get-empty {X = Value} register_cmp (register_of address (key_of s)))
-
-never_some : (o : Option Advert) → o ≡ None → IsSome o → ⊥
-never_some None is some = cc
-never_some (Some a) is some = cc
 
 -- ---- no port is up
 down : (settings : Settings) (ports : List PortSettings) (n k : ℕ)

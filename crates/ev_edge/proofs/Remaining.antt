@@ -1,6 +1,6 @@
 -- An edge stays good at each event: a consequence of the relation of edge, event, answer and next edge.
 use Rattle.std.proofs.Common.{◌≡◌, ℕ, ◌<◌, ◌^◌, Bool, true, false, cond, eqb, not, ◌&&◌}
-use Rattle.std.proofs.Common.{Option, Some, None, Result, Ok, Err, List, [], ◌∷◌, drop, length, refl, sym, ap}
+use Rattle.std.proofs.Common.{Option, Some, None, Result, Ok, Err, List, drop, length, refl, sym, ap}
 use Rattle.std.proofs.Common.{subst, ◌∙◌, arith}
 use Rattle.std.specs.Prelude.{IsSome}
 use Rattle.std.specs.FinMap.{FinMap}
@@ -26,7 +26,7 @@ use Rattle.rstp_run.specs.declared.event.Event.TheVariants as tree_events
 use Rattle.rstp_run.specs.Events.{direct, ports_at}
 use Rattle.rstp_run.specs.Rules.{Tree}
 use Rattle.rstp_run.specs.Runs.{Firing, Run}
-use Rattle.rstp_run.proofs.Steps.{length-change_at, length-ports_after}
+use Rattle.rstp_run.proofs.Steps.{length-change_at}
 use Rattle.ev_mobility.specs.declared.alert.Alert.{Alert}
 use Rattle.ev_mobility.specs.declared.alert.Alert.TheVariants.{StaticElsewhere, CounterSpent, TableFull}
 use Rattle.ev_mobility.specs.declared.window.Window.{Window}
@@ -67,6 +67,7 @@ use Rattle.ev_edge.proofs.Winning.{pin_fits, pinned_alone}
 use Rattle.ev_edge.proofs.Staying.{Keeps, keeps_of, good_by, advert_keeps, refresh_keeps, pin_keeps, shift_keeps}
 use Rattle.ev_edge.proofs.Staying.{removal_keeps, flush_keeps, aged_keeps, later_keeps, other_keeps, own_keeps}
 use Rattle.ev_edge.proofs.Staying.{announced_keeps}
+use Rattle.rstp_run.proofs.Within.{run_length}
 
 same_good : (e e' : Edge) → e' ≡ e → IsGoodEdge e → IsGoodEdge e'
 same_good e e' is h = subst IsGoodEdge (sym is) h
@@ -124,11 +125,6 @@ learns_good e s port told e' h behind true true single d = same_good e e' d.1 h
 learns_good e s port told e' h behind false group single d = same_good e e' d.1 h
 
 -- ---- the bridge
-
-run_length : (firings : List Firing) (s t : Tree) → Run firings s t → length t.ports ≡ length s.ports
-run_length [] s t same = ap (λ (v : Tree). length v.ports) same
-run_length (f ∷ earlier) s t run = ap (λ (v : Tree). length v.ports) run.2.1 ∙ length-ports_after f.rule run.0 f.place
-    ∙ run_length earlier s run.0 run.1
 
 direct_length : (event : tree.Event) (ports : List PortState) → length (ports_at event ports) ≡ length ports
 direct_length (tree_events.Bpdu p message) ports = length-change_at (place_of_port p) _ ports

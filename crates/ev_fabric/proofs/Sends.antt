@@ -45,13 +45,14 @@ use Rattle.ev_edge.specs.Sending.{port_of, IsDecision}
 use Rattle.ev_edge.specs.Storms.{taking_on}
 use Rattle.ev_edge.specs.Steps.{LearnsIf, SendsIf, DataSteps, FrameSteps, TunnelSteps, Steps}
 use Rattle.ev_edge.proofs.Cases.{learnt_by}
-use Rattle.ev_edge.proofs.Owning.{other_key, said_other}
+use Rattle.ev_edge.proofs.Owning.{other_key}
 use Rattle.ev_fabric.specs.Agreed.{Advertises}
 use Rattle.ev_fabric.specs.Laws.{IsBehindPort, frame_in, tunnel_frame_in, IsFrameFor, IsTunnelFrameFor, FramesGo}
 use Rattle.ev_fabric.specs.Laws.{FramesComeOut, TunnelFramesComeOut}
 use Rattle.ev_fabric.specs.Station.{StationFramesGo}
 use Rattle.ev_fabric.proofs.Agreements.{learnt, individual}
 use Rattle.ev_fabric.proofs.Stations.{agree_on_each, station_one, station_owner}
+use Rattle.ev_claims.proofs.Numbers.{key_stays as said_other}
 
 -- ---- learning a station leaves the others
 

@@ -27,12 +27,13 @@ use Rattle.route_join.specs.Inner.Groups.{group_at, group_in, groups_along, AreT
 use Rattle.route_join.specs.Inner.LargeGroup.{updates_along, update_at}
 use Rattle.route_join.specs.Inner.Place.{place_of, later_by}
 use Rattle.route_join.specs.Inner.Ranks.{subject_exact}
-use Rattle.route_join.proofs.Orders.{less, both, to_T, from_T}
+use Rattle.route_join.proofs.Orders.{less, to_T, from_T}
 use Rattle.route_join.proofs.Subjects.{less_by_subject, greater_by_subject}
 use Rattle.route_join.proofs.Places.{came_ok, came_err}
 use Rattle.route_join.proofs.Groupings.{Groups, group_none, before_later}
 use Rattle.route_join.proofs.Merging.{sorted_front, below_front}
 use Rattle.route_join.proofs.Abouts.{all_updates_are}
+use Rattle.std.proofs.lemmas.Bool.{and_parts as both}
 
 -- ---- a filter that keeps all
 pub all_kept : {X : Type 0} (p : X → Bool) (xs : List X) → ((x : X) → p x ≡ true) → filter p xs ≡ xs

@@ -1,3 +1,4 @@
+pub mod Basics
 pub mod Stations
 pub mod Orders
 pub mod Numbers

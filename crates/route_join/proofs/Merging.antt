@@ -27,13 +27,14 @@ use Rattle.route_join.specs.Table.{Table, IsOrdered, is_listed, is_news, value_a
 use Rattle.route_join.specs.Table.{with_updates, entries_of, table_from}
 use Rattle.route_join.specs.Updates.{update_from, all_updates}
 use Rattle.route_join.specs.Joins.{newer_of, with_entries, join, IsPartJoin}
-use Rattle.route_join.proofs.Orders.{both, from_T}
+use Rattle.route_join.proofs.Orders.{from_T}
 use Rattle.route_join.proofs.Tables.{itself_register, other_register}
 use Rattle.route_join.proofs.Edits.{found, listed_as}
 use Rattle.route_join.proofs.Within.{below_at}
 use Rattle.route_join.proofs.Owners.{not_less_itself}
 use Rattle.route_join.proofs.Groupings.{Groups}
 use Rattle.route_join.proofs.Joins.{newer_of-same, newer_of-assoc, entries_at, join_is}
+use Rattle.std.proofs.lemmas.Bool.{and_parts as both}
 
 -- the first k updates were taken, and the register of the next one is new
 pub record StopsAt (t : Table) (us : List Fields) (k : ℕ) (new : Table) : Type 0 where

@@ -22,10 +22,11 @@ use Rattle.route_join.specs.After.{comes_after, updates_after, updates_from, pag
 use Rattle.route_join.specs.After.{AreAfter}
 use Rattle.route_join.specs.After.{IsPage}
 use Rattle.route_join.specs.PageLaws.{ArePages, IsWhole, joined, PagesAscend, PagesOfOne, RegisterStays}
-use Rattle.route_join.proofs.Orders.{less, both}
+use Rattle.route_join.proofs.Orders.{less}
 use Rattle.route_join.proofs.Abouts.{all_updates_are}
 use Rattle.route_join.proofs.Afters.{page_is, from_ordered, first_kept, first_left, kept_below}
 use Rattle.route_join.proofs.Pages.{last_of, last_some, AreUpTo, AllUpTo, page_ordered, page_up_to}
+use Rattle.std.proofs.lemmas.Bool.{and_parts as both}
 
 -- ---- the order
 ascend : (after : Option Register) (us : List Fields) (ts : List Table) (ps : List (List Fields)) → IsOrdered us

@@ -12,10 +12,11 @@ use Rattle.route_wire.specs.Order.{register_cmp}
 use Rattle.route_wire.specs.Inner.Totals.{register_total, value_total}
 use Rattle.route_join.specs.Table.{entries_of, IsOrdered, IsTableOf, table_from}
 use Rattle.route_join.specs.After.{IsPage, is_last, register_or, last_from}
-use Rattle.route_join.proofs.Orders.{less, both}
+use Rattle.route_join.proofs.Orders.{less}
 use Rattle.route_join.proofs.Edits.{found}
 use Rattle.route_join.proofs.Abouts.{found_contains, contains_found}
 use Rattle.route_join.proofs.Afters.{below_later}
+use Rattle.std.proofs.lemmas.Bool.{and_parts as both}
 
 -- ---- the last update
 abbrev pub last_of : Fields → List Fields → Fields

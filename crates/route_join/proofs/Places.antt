@@ -15,7 +15,8 @@ use Rattle.route_join.specs.Table.{entries_of, IsOrdered}
 use Rattle.route_join.specs.Subject.{Subject, subject_of}
 use Rattle.route_join.specs.Group.{AreAbout}
 use Rattle.route_join.specs.Inner.Place.{place_of, later_by}
-use Rattle.route_join.proofs.Orders.{less, both}
+use Rattle.route_join.proofs.Orders.{less}
+use Rattle.std.proofs.lemmas.Bool.{and_parts as both}
 
 -- ---- a register with an update at a place
 

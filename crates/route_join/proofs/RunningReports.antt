@@ -21,12 +21,13 @@ use Rattle.route_join.specs.RunningReport.{texts_with}
 use Rattle.route_join.specs.RunningReport.{begun_by, text_with}
 use Rattle.route_join.specs.Inner.Report.{owner_among, report_lines}
 use Rattle.route_join.specs.Inner.Ranks.{subject_total, subject_exact}
-use Rattle.route_join.proofs.Orders.{less, both}
+use Rattle.route_join.proofs.Orders.{less}
 use Rattle.route_join.proofs.Edits.{listed_as}
 use Rattle.route_join.proofs.Groupings.{Entries}
 use Rattle.route_join.proofs.Holding.{differs}
 use Rattle.route_join.proofs.Stations.{NoneAbout, none_append, best_skip, best_append}
 use Rattle.route_join.proofs.Subjects.{address, about_address, about_itself, by_subject}
+use Rattle.std.proofs.lemmas.Bool.{and_parts as both}
 
 -- ---- the order of subjects
 not_greater : (o p : Ordering) → ordering_then o p ≡ Less → (o ≡ Less) ⊎ (o ≡ Equal)

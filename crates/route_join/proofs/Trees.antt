@@ -28,12 +28,13 @@ use Rattle.route_join.specs.Inner.WinnerTree.{owns, AreSettled, said_at, Wins, I
 use Rattle.route_join.specs.Inner.LargeGroup.{place_at, value_in, update_at, updates_along, large_updates}
 use Rattle.route_join.specs.Inner.LargeGroup.{register_at, ArePlaced}
 use Rattle.route_join.specs.Inner.LargeGroup.{IsLargeGroup}
-use Rattle.route_join.proofs.Orders.{less, both, to_T}
+use Rattle.route_join.proofs.Orders.{less, to_T}
 use Rattle.route_join.proofs.Tables.{itself_register, other_register, same_or_other}
 use Rattle.route_join.proofs.Owners.{not_better_is}
 use Rattle.route_join.proofs.Leaders.{first_more, split}
 use Rattle.route_join.proofs.WinnerTrees.{last, either, nat_same, set_here, set_there}
 use Rattle.route_join.proofs.Merging.{updates_back, get_before}
+use Rattle.std.proofs.lemmas.Bool.{and_parts as both}
 
 abbrev Entries : Type 0
 Entries = List (Register × Value)

@@ -13,12 +13,12 @@ use Rattle.rstp_machines.specs.TopologyChange as change
 use Rattle.rstp_run.proofs.Dues.{late}
 use Rattle.rstp_run.proofs.Flags.{every, holds, imply}
 use Rattle.rstp_run.proofs.Heard.{timed}
-use Rattle.rstp_run.proofs.Informed.{no}
 use Rattle.rstp_run.proofs.Inputs.{inputs, wait}
 use Rattle.rstp_run.proofs.LowersPorts as of_port
 use Rattle.rstp_run.proofs.Measure.{may_turn_edge}
 use Rattle.rstp_run.proofs.RoleParts.{on_both}
 use Rattle.rstp_run.proofs.Totals.{if_so, if_so-le, if_so-off, if_so-on}
+use Rattle.rstp_state.proofs.Basics.{no}
 
 -- ---- the parts
 

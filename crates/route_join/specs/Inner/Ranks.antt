@@ -1,6 +1,6 @@
 -- The order of subjects is total, two subjects are equal in it only if they are the same, and it is the order of their
 -- numbers.
-use Rattle.std.proofs.Common.{◌≡◌, ℕ, zero, suc, ◌==◌, ◌&&◌, Bool, true, false, Option}
+use Rattle.std.proofs.Common.{◌≡◌, ℕ, zero, suc, ◌==◌, true, Option}
 use Rattle.std.proofs.Common.{Some, None, refl, sym, ap, ◌∙◌, add-one, eq-eqb}
 use Rattle.std.specs.Cmp.{IsTotalOrder, nat_cmp_total, both_ways, tied_itself, tied_then}
 use Rattle.std.specs.Cmp.Derive.{both_true}
@@ -15,6 +15,7 @@ use Rattle.std.proofs.lemmas.Map.Views.{exact_unsigned_eq}
 use Rattle.route_wire.specs.Inner.Ties.{equal_from}
 use Rattle.route_join.specs.Subject.{Subject, subject_cmp}
 use Rattle.route_join.specs.Inner.Subject.{subject_eq, mac_place, mac_at}
+use Rattle.std.proofs.lemmas.Bool.{and_parts as each}
 
 pub place_back : (p : ℕ) → mac_place (mac_at p) ≡ p
 place_back zero = refl
@@ -29,10 +30,6 @@ same_mac None None h = refl
 same_mac None (Some y) h = cc
 same_mac (Some x) None h = cc
 same_mac (Some x) (Some y) h = ap Some (exact_unsigned x y h)
-
-each : (a b : Bool) → a && b ≡ true → (a ≡ true) × (b ≡ true)
-each true b e = (refl, e)
-each false b e = cc
 
 pub subject_exact : IsAntisymmetric subject_cmp
 subject_exact a b h =

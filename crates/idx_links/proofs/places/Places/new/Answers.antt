@@ -8,13 +8,13 @@ use Rattle.idx_links.proofs.places.Places.new.Goals as goal
 pub returns-clause-owner : goal.returns-clause-owner
 returns-clause-owner c =
     let marks : map (λ (x : PlaceLinks). x.mark) c.add_lone.new.links.items
-        ≡ replicate (c.args.lists + c.args.nodes) 0 =
+    ≡ replicate (c.args.lists + c.args.nodes) 0 =
     search rules in
     ap (owners c.args.lists) marks ∙ owners-none c.args.lists c.args.nodes
 
 pub returns-clause-lens : goal.returns-clause-lens
 returns-clause-lens c =
     let marks : map (λ (x : PlaceLinks). x.mark) c.add_lone.new.links.items
-        ≡ replicate (c.args.lists + c.args.nodes) 0 =
+    ≡ replicate (c.args.lists + c.args.nodes) 0 =
     search rules in
     ap (take c.args.lists) marks ∙ take-replicate c.args.lists (c.args.lists + c.args.nodes) 0 (omega arith)
