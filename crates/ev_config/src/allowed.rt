@@ -25,7 +25,6 @@ pub(crate) fn rows_of(wanted: Use, place: DocumentTable<'_>) -> &'static [Row]
 }
 
 /// Writes a name and a number: `edge 2`.
-#[tactic(auto, using(ether_wire::proofs::Appending::with_text_twice))]
 pub(crate) fn put_number<N: Out>(notes: &mut N, name: &[u8], number: usize) -> Result<(), Device>
     requires { IsOpen (N.end notes.old) }
     ensures { Puts (N.end notes.old) (N.end notes.new) (numbered name.now number) result }
@@ -35,7 +34,6 @@ pub(crate) fn put_number<N: Out>(notes: &mut N, name: &[u8], number: usize) -> R
 }
 
 /// Writes the steps of a range, if it has any: ` in steps of 16`.
-#[tactic(auto, using(ether_wire::proofs::Appending::with_text_none))]
 fn put_steps<N: Out>(notes: &mut N, step: u64) -> Result<(), Device>
     requires { IsOpen (N.end notes.old) }
     ensures { Puts (N.end notes.old) (N.end notes.new) (steps_text step) result }
@@ -47,7 +45,6 @@ fn put_steps<N: Out>(notes: &mut N, step: u64) -> Result<(), Device>
 }
 
 /// Writes a range: `0 to 240 in steps of 16`.
-#[tactic(auto, using(ether_wire::proofs::Appending::with_text_twice))]
 fn put_span<N: Out>(notes: &mut N, range: Range) -> Result<(), Device>
     requires { IsOpen (N.end notes.old) }
     ensures { Puts (N.end notes.old) (N.end notes.new) (span_text range) result }
@@ -59,7 +56,6 @@ fn put_span<N: Out>(notes: &mut N, range: Range) -> Result<(), Device>
 }
 
 /// Writes words and a range.
-#[tactic(auto, using(ether_wire::proofs::Appending::with_text_twice))]
 fn put_lead<N: Out>(notes: &mut N, words: &[u8], range: Range) -> Result<(), Device>
     requires { IsOpen (N.end notes.old) }
     ensures { Puts (N.end notes.old) (N.end notes.new) (words.now ++ span_text range) result }
@@ -69,7 +65,6 @@ fn put_lead<N: Out>(notes: &mut N, words: &[u8], range: Range) -> Result<(), Dev
 }
 
 /// Writes the values that a kind allows, if that is a range.
-#[tactic(auto, using(ether_wire::proofs::Appending::with_text_none))]
 fn put_kind<N: Out>(notes: &mut N, kind: KeyKind) -> Result<(), Device>
     requires { IsOpen (N.end notes.old) }
     ensures { Puts (N.end notes.old) (N.end notes.new) (kind_text kind) result }
@@ -82,7 +77,6 @@ fn put_kind<N: Out>(notes: &mut N, kind: KeyKind) -> Result<(), Device>
 }
 
 /// Writes the range that a row allows, if it has one.
-#[tactic(auto, using(ether_wire::proofs::Appending::with_text_none))]
 pub(crate) fn put_range<N: Out>(notes: &mut N, row: Option<Row>) -> Result<(), Device>
     requires { IsOpen (N.end notes.old) }
     ensures { Puts (N.end notes.old) (N.end notes.new) (row_text (option_map row_of row)) result }

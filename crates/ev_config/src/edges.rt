@@ -62,7 +62,6 @@ fn link_of(table: &Table) -> PortEndpoints
 }
 
 /// Returns the ports of these tables.
-#[tactic(auto, using(crate::proofs::Walking::items_more))]
 fn ports_of(tables: &Array) -> ArrayVec<PortConfig, 64>
     requires { length tables.now.items ≤ 64 }
     ensures { result.items ≡ map port_of (tables_of (array_view tables.now)) }
@@ -88,7 +87,6 @@ fn ports_at(table: &Table) -> ArrayVec<PortConfig, 64>
 }
 
 /// Returns the endpoints of these tables of ports.
-#[tactic(auto, using(crate::proofs::Walking::items_more))]
 fn links_of(tables: &Array) -> ArrayVec<PortEndpoints, 64>
     requires { length tables.now.items ≤ 64 }
     ensures { result.items ≡ map link_of (tables_of (array_view tables.now)) }
@@ -157,7 +155,6 @@ fn edge_of(listed: &ArrayVec<Addr, 64>, table: &Table) -> EdgeConfig
 }
 
 /// Returns the configuration of these tables, each edge of which lists these addresses.
-#[tactic(auto, using(crate::proofs::Walking::items_more))]
 pub(crate) fn edges_of(
     alloc: Global,
     listed: &ArrayVec<Addr, 64>,

@@ -62,7 +62,6 @@ fn plain_line(key: Option<&str>) -> MessageBuffer {
 }
 
 /// Writes a line.
-#[tactic(auto, using(ether_wire::proofs::Appending::with_text_twice))]
 fn put_line<N: Out>(notes: &mut N, line: &MessageBuffer) -> Result<(), Device>
     requires { IsOpen (N.end notes.old) }
     ensures { Puts (N.end notes.old) (N.end notes.new) (line_text line.now.octets.items) result }
@@ -72,7 +71,6 @@ fn put_line<N: Out>(notes: &mut N, line: &MessageBuffer) -> Result<(), Device>
 }
 
 /// Writes the place of a port: `edge 2, port 3: `.
-#[tactic(auto, using(ether_wire::proofs::Appending::with_text_twice))]
 fn put_port<N: Out>(notes: &mut N, edge: usize, port: usize) -> Result<(), Device>
     requires { IsOpen (N.end notes.old) }
     ensures { Puts (N.end notes.old) (N.end notes.new) (spot_text (Port edge port)) result }
@@ -83,7 +81,6 @@ fn put_port<N: Out>(notes: &mut N, edge: usize, port: usize) -> Result<(), Devic
 }
 
 /// Writes where a table is: `edge 2: `.
-#[tactic(auto, using(ether_wire::proofs::Appending::with_text_twice, ether_wire::proofs::Appending::with_text_none))]
 fn put_place<N: Out>(notes: &mut N, place: DocumentTable<'_>) -> Result<(), Device>
     requires { IsOpen (N.end notes.old) }
     ensures { Puts (N.end notes.old) (N.end notes.new) (spot_text (spot_of place.entry)) result }
@@ -149,7 +146,6 @@ fn put_key<N: Out>(notes: &mut N, key: &str) -> Result<(), Device>
 }
 
 /// Writes what was found, the range that a row allows, and advice.
-#[tactic(auto, using(ether_wire::proofs::Appending::with_text_twice))]
 fn put_advice<N: Out>(
     notes: &mut N,
     found: &MessageBuffer,
@@ -205,7 +201,6 @@ fn put_lines<N: Out>(
 }
 
 /// Prints each fault of a document, one per line; if memory is refused, only the first key.
-#[tactic(auto, using(crate::proofs::Lines::faults_told))]
 fn put_faults<N: Out>(
     notes: &mut N,
     alloc: Global,
@@ -229,7 +224,6 @@ fn put_faults<N: Out>(
 /// # Errors
 ///
 /// `Device` exactly if a note fails.
-#[tactic(auto, using(crate::proofs::Lines::text_told))]
 pub fn put_refusal<N: Out>(
     notes: &mut N,
     alloc: Global,

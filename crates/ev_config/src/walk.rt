@@ -65,7 +65,6 @@ fn add_port<'a>(
 }
 
 /// Collects the faults of these ports of an edge.
-#[tactic(auto, using(crate::proofs::Walking::items_more))]
 fn add_ports<'a>(
     faults: &mut Vec<FaultyKey<'a>>,
     context: &Context<'_>,
@@ -140,7 +139,6 @@ fn add_edge<'a>(
 }
 
 /// Returns the number of tables.
-#[tactic(auto, using(crate::proofs::Walking::count_of_view))]
 fn count_of(tables: Option<&Array>) -> usize
     requires { IfSome tables (λ a. length a.now.items ≤ 64) }
     ensures value { result ≡ count_of (items_at tables.entry) }
@@ -153,7 +151,6 @@ fn count_of(tables: Option<&Array>) -> usize
 }
 
 /// Collects the faults of these edges, and adds the names that they spell.
-#[tactic(auto, using(crate::proofs::Walking::items_more))]
 fn add_edges<'a>(
     faults: &mut Vec<FaultyKey<'a>>,
     for_run: bool,
@@ -183,7 +180,6 @@ fn add_edges<'a>(
 }
 
 /// Collects the faults of these edges, if there are any, and adds the names that they spell.
-#[tactic(auto, using(crate::proofs::Walking::count_of_view))]
 fn add_edges_at<'a>(
     faults: &mut Vec<FaultyKey<'a>>,
     for_run: bool,
@@ -233,7 +229,6 @@ fn add_peer<'a>(
 }
 
 /// Collects the faults of these peers, and adds the names that they spell.
-#[tactic(auto, using(crate::proofs::Walking::items_more))]
 fn add_peers<'a>(
     faults: &mut Vec<FaultyKey<'a>>,
     names: &mut SeenNames,
@@ -258,7 +253,6 @@ fn add_peers<'a>(
 }
 
 /// Collects the faults of these peers, if there are any, and adds the names that they spell.
-#[tactic(auto, using(crate::proofs::Walking::count_of_view))]
 fn add_peers_at<'a>(
     faults: &mut Vec<FaultyKey<'a>>,
     names: &mut SeenNames,
@@ -324,7 +318,6 @@ fn add_own<'a>(
 }
 
 /// Returns the tables of the peers, given the number of edges, if there are any for this use.
-#[tactic(auto, using(crate::proofs::Walking::count_of_view))]
 fn peers_at<'a>(wanted: Use, document: &'a Table, edges: usize) -> Option<&'a Array>
     requires { edges ≤ 64 }
     ensures value { items_at result ≡ peers_beside wanted edges (table_view document.now) }

@@ -102,7 +102,6 @@ fn show_edges<O: Operated, W: Out>(
 }
 
 /// Writes that a line belongs to a simulation.
-#[tactic(auto, using(crate::proofs::Doing::says_put))]
 fn refuse<O: Operated, W: Out>(operated: &mut O, out: &mut W) -> Result<(), Device>
     requires { IsOpen (W.end out.old) }
     ensures does { Does (Says simulated_text) (O.asked operated.old) (O.asked operated.new)
@@ -153,7 +152,6 @@ fn perform<O: Operated, W: Out>(
 }
 
 /// Answers a line that is no question.
-#[tactic(auto, using(crate::proofs::Doing::says_put))]
 fn answer_words<O: Operated, W: Out>(
     alloc: Global,
     operated: &mut O,
@@ -172,7 +170,6 @@ fn answer_words<O: Operated, W: Out>(
 }
 
 /// Answers a question.
-#[tactic(auto, using(crate::proofs::Doing::says_put))]
 fn answer_question<O: Operated, W: Out>(
     alloc: Global,
     operated: &mut O,

@@ -1,6 +1,6 @@
 //! The operator's console over edges that run: lines of the script language, answered in its
 //! words.
-#![tactic(auto)]
+#![tactic(auto, using(ether_wire::proofs::Appending::with_text_twice, crate::proofs::Doing::says_put, crate::proofs::Doing::puts_refused, crate::proofs::Doing::puts_unreached))]
 
 mod answering;
 mod conversation;

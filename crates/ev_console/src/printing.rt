@@ -122,7 +122,6 @@ pub(crate) fn put_view_seen<W: Out>(
 }
 
 /// Writes why a line is a bad one.
-#[tactic(auto, using(ether_wire::proofs::Appending::with_text_twice))]
 pub(crate) fn put_bad<W: Out>(out: &mut W, line: &[u8]) -> Result<(), Device>
     requires { IsOpen (W.end out.old) }
     ensures { Puts (W.end out.old) (W.end out.new) (bad_text line.now) result }

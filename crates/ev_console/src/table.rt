@@ -60,7 +60,6 @@ fn put_last<W: Out>(out: &mut W, edge: u64, answer: &PageSeen) -> Result<(), Dev
 
 /// Writes the end of a report: the last owner's line, and then why the report ends, unless its last
 /// page was shown.
-#[tactic(auto, using(ether_wire::proofs::Appending::with_text_twice))]
 fn put_end<W: Out>(
     out: &mut W,
     report: &mut RunningReport,

@@ -131,7 +131,6 @@ impl Edge {
     ///
     /// `PortStorm` exactly if the limit allows no further frame in this second. Nothing changed
     /// then.
-    #[tactic(auto, using(crate::proofs::Places::some_port))]
     pub(crate) fn take_on(&mut self, port: u8, vni: Vni, destination: Mac) -> Result<(), Refusal>
         requires { vni_at self.old.routes.ports port ≡ Some vni }
         ensures { TakesOn port vni destination self.old result self.new }

@@ -10,7 +10,6 @@ use crate::notices::put_notice;
 use ether_wire::{Device, Out};
 
 /// Writes a notice, if there is one.
-#[tactic(auto, using(ether_wire::proofs::Appending::with_text_none))]
 fn put_some<N: Out>(notes: &mut N, edge: u64, notice: &Option<Notice>) -> Result<(), Device>
     requires { IsOpen (N.end notes.old) }
     ensures { Puts (N.end notes.old) (N.end notes.new) (some_text edge notice.now) result }

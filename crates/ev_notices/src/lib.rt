@@ -1,6 +1,6 @@
 //! News of running edges for an operator: alerts, links that fail and work again, refused records,
 //! and the lines that are written for them.
-#![tactic(auto)]
+#![tactic(auto, using(ether_wire::proofs::Appending::with_text_twice, ether_wire::proofs::Appending::with_text_none))]
 
 mod alarm;
 mod board;

@@ -60,7 +60,6 @@ fn alert_words(alert: Alert) -> &'static str
 }
 
 /// Writes `edge E: `.
-#[tactic(auto, using(ether_wire::proofs::Appending::with_text_twice))]
 fn put_edge<N: Out>(notes: &mut N, edge: u64) -> Result<(), Device>
     requires { IsOpen (N.end notes.old) }
     ensures { Puts (N.end notes.old) (N.end notes.new) (edge_text edge) result }
@@ -71,7 +70,6 @@ fn put_edge<N: Out>(notes: &mut N, edge: u64) -> Result<(), Device>
 }
 
 /// Writes `N more alerts were held back`.
-#[tactic(auto, using(ether_wire::proofs::Appending::with_text_twice))]
 fn put_count<N: Out>(notes: &mut N, held: u64) -> Result<(), Device>
     requires { IsOpen (N.end notes.old) }
     ensures { Puts (N.end notes.old) (N.end notes.new) (count_text held) result }
@@ -81,7 +79,6 @@ fn put_count<N: Out>(notes: &mut N, held: u64) -> Result<(), Device>
 }
 
 /// Writes the number of suppressed alerts, if it isn't 0.
-#[tactic(auto, using(ether_wire::proofs::Appending::with_text_twice, ether_wire::proofs::Appending::with_text_none))]
 fn put_held<N: Out>(notes: &mut N, edge: u64, held: u64) -> Result<(), Device>
     requires { IsOpen (N.end notes.old) }
     ensures { Puts (N.end notes.old) (N.end notes.new) (held_text edge held) result }
@@ -94,7 +91,6 @@ fn put_held<N: Out>(notes: &mut N, edge: u64, held: u64) -> Result<(), Device>
 }
 
 /// Writes ` VNI MAC`, if there is a station.
-#[tactic(auto, using(ether_wire::proofs::Appending::with_text_twice, ether_wire::proofs::Appending::with_text_none))]
 fn put_station<N: Out>(notes: &mut N, station: &Option<Station>) -> Result<(), Device>
     requires { IsOpen (N.end notes.old) }
     ensures { Puts (N.end notes.old) (N.end notes.new) (station_text station.now) result }
@@ -109,7 +105,6 @@ fn put_station<N: Out>(notes: &mut N, station: &Option<Station>) -> Result<(), D
 }
 
 /// Writes ` on port P`, if there is a port, and the end of the line.
-#[tactic(auto, using(ether_wire::proofs::Appending::with_text_twice, ether_wire::proofs::Appending::with_text_none))]
 fn put_place<N: Out>(notes: &mut N, port: Option<u8>) -> Result<(), Device>
     requires { IsOpen (N.end notes.old) }
     ensures { Puts (N.end notes.old) (N.end notes.new) (place_text port) result }
@@ -124,7 +119,6 @@ fn put_place<N: Out>(notes: &mut N, port: Option<u8>) -> Result<(), Device>
 
 /// Writes `edge E: WORDS VNI MAC on port P`, without the parts for a station or port that the alert
 /// doesn't have.
-#[tactic(auto, using(ether_wire::proofs::Appending::with_text_twice))]
 fn put_alarm<N: Out>(notes: &mut N, edge: u64, alarm: &Alarm) -> Result<(), Device>
     requires { IsOpen (N.end notes.old) }
     ensures { Puts (N.end notes.old) (N.end notes.new) (alarm_text edge alarm.now) result }
@@ -136,7 +130,6 @@ fn put_alarm<N: Out>(notes: &mut N, edge: u64, alarm: &Alarm) -> Result<(), Devi
 }
 
 /// Writes the alert of a notice, if it has one.
-#[tactic(auto, using(ether_wire::proofs::Appending::with_text_none))]
 fn put_about<N: Out>(notes: &mut N, edge: u64, alarm: &Option<Alarm>) -> Result<(), Device>
     requires { IsOpen (N.end notes.old) }
     ensures { Puts (N.end notes.old) (N.end notes.new) (about_text edge alarm.now) result }
@@ -152,7 +145,6 @@ fn put_about<N: Out>(notes: &mut N, edge: u64, alarm: &Option<Alarm>) -> Result<
 /// # Errors
 ///
 /// `Device` exactly if a call of the writer failed; then no further call is made.
-#[tactic(auto, using(ether_wire::proofs::Appending::with_text_twice, ether_wire::proofs::Appending::with_text_none))]
 pub fn put_notice<N: Out>(notes: &mut N, edge: u64, notice: &Notice) -> Result<(), Device>
     requires { IsOpen (N.end notes.old) }
     ensures { Puts (N.end notes.old) (N.end notes.new) (notice_text edge notice.now) result }
@@ -163,7 +155,6 @@ pub fn put_notice<N: Out>(notes: &mut N, edge: u64, notice: &Notice) -> Result<(
 }
 
 /// Writes `port P`, `tunnel` or `clock`.
-#[tactic(auto, using(ether_wire::proofs::Appending::with_text_twice))]
 fn put_input<N: Out>(notes: &mut N, input: Input) -> Result<(), Device>
     requires { IsOpen (N.end notes.old) }
     ensures { Puts (N.end notes.old) (N.end notes.new) (input_text input) result }
@@ -191,7 +182,6 @@ fn put_state<N: Out>(notes: &mut N, works: bool) -> Result<(), Device>
 }
 
 /// Writes `edge E INPUT: receiving failed`, or that it works again.
-#[tactic(auto, using(ether_wire::proofs::Appending::with_text_twice))]
 fn put_reception<N: Out>(notes: &mut N, edge: u64, reception: Reception) -> Result<(), Device>
     requires { IsOpen (N.end notes.old) }
     ensures { Puts (N.end notes.old) (N.end notes.new) (reception_text edge reception) result }
@@ -216,7 +206,6 @@ fn put_sending_state<N: Out>(notes: &mut N, works: bool) -> Result<(), Device>
 }
 
 /// Writes `edge E OUTPUT: sending failed`, or that it works again.
-#[tactic(auto, using(ether_wire::proofs::Appending::with_text_twice))]
 fn put_sending<N: Out>(notes: &mut N, edge: u64, sending: Sending) -> Result<(), Device>
     requires { IsOpen (N.end notes.old) }
     ensures { Puts (N.end notes.old) (N.end notes.new) (sending_text edge sending) result }
@@ -229,7 +218,6 @@ fn put_sending<N: Out>(notes: &mut N, edge: u64, sending: Sending) -> Result<(),
 }
 
 /// Writes `edge E: receiving failed or was there again N more times`.
-#[tactic(auto, using(ether_wire::proofs::Appending::with_text_twice))]
 fn put_untold<N: Out>(notes: &mut N, edge: u64, count: u64) -> Result<(), Device>
     requires { IsOpen (N.end notes.old) }
     ensures { Puts (N.end notes.old) (N.end notes.new) (untold_text edge count) result }
@@ -241,7 +229,6 @@ fn put_untold<N: Out>(notes: &mut N, edge: u64, count: u64) -> Result<(), Device
 }
 
 /// Writes `records of ORIGINATOR: WORDS`.
-#[tactic(auto, using(ether_wire::proofs::Appending::with_text_twice))]
 fn put_records_of<N: Out>(notes: &mut N, originator: Addr, words: &[u8]) -> Result<(), Device>
     requires { IsOpen (N.end notes.old) }
     ensures { Puts (N.end notes.old) (N.end notes.new) (records_text originator words.now) result }
@@ -253,7 +240,6 @@ fn put_records_of<N: Out>(notes: &mut N, originator: Addr, words: &[u8]) -> Resu
 }
 
 /// Writes `records: refused NUMBER`.
-#[tactic(auto, using(ether_wire::proofs::Appending::with_text_twice))]
 fn put_number<N: Out>(notes: &mut N, number: u64) -> Result<(), Device>
     requires { IsOpen (N.end notes.old) }
     ensures { Puts (N.end notes.old) (N.end notes.new) (number_text number) result }
@@ -293,7 +279,6 @@ fn put_refused<N: Out>(notes: &mut N, refused: Refused) -> Result<(), Device>
 /// # Errors
 ///
 /// `Device` exactly if a call of the writer failed; then no further call is made.
-#[tactic(auto, using(ether_wire::proofs::Appending::with_text_twice, ether_wire::proofs::Appending::with_text_none))]
 fn put_news<N: Out>(notes: &mut N, edge: u64, news: &News) -> Result<(), Device>
     requires { IsOpen (N.end notes.old) }
     ensures { Puts (N.end notes.old) (N.end notes.new) (news_text edge news.now) result }

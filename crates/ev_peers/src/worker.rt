@@ -168,7 +168,6 @@ fn link_of(event: &Event<'_>) -> Option<usize>
 }
 
 /// Counts an event's datagram, if it is dropped for this refusal.
-#[tactic(auto, using(crate::proofs::PassingOn::says_none))]
 fn count_drop<U: Drop, O: Outlet<U>>(outlet: &mut O, event: &Event<'_>, refusal: &BookRefusal)
     ensures records { O.records outlet.new
         ≡ says (O.records outlet.old) (drops_of (link_of event.now) (cause_of refusal.now)) }
@@ -183,7 +182,6 @@ fn count_drop<U: Drop, O: Outlet<U>>(outlet: &mut O, event: &Event<'_>, refusal:
 }
 
 /// Passes the frames of an answer to the links of its edge. Does nothing for a refusal.
-#[tactic(auto, using(ev_links::proofs::Behind::behind_none))]
 fn give_answer<U: Drop, O: Outlet<U>>(
     outlet: &mut O,
     scratch: &mut Scratch,
@@ -205,7 +203,6 @@ fn give_answer<U: Drop, O: Outlet<U>>(
 }
 
 /// Counts an event's datagram if the answer drops it, and reports the event's second and alarm.
-#[tactic(auto, using(crate::proofs::PassingOn::says_twice))]
 fn give_signs<U: Drop, O: Outlet<U>>(
     outlet: &mut O,
     vni: Vni,
@@ -225,7 +222,6 @@ fn give_signs<U: Drop, O: Outlet<U>>(
 
 /// Reports a second to the operator's board if the event is one, and then the alarm of the answer
 /// if there is one.
-#[tactic(auto, using(crate::proofs::PassingOn::says_none, crate::proofs::PassingOn::says_twice))]
 fn give_alarms<U: Drop, O: Outlet<U>>(
     outlet: &mut O,
     vni: Vni,

@@ -76,7 +76,6 @@ impl ListenError {
 }
 
 /// Writes at which path nothing can listen, and why.
-#[tactic(auto, using(ether_wire::proofs::Appending::with_text_twice))]
 pub(crate) fn put_listen_error<N: Out>(
     notes: &mut N,
     path: &[u8],

@@ -121,7 +121,6 @@ pub(crate) fn check_threads<R: Threads + Wait + Files + Clock + Sync>(
 }
 
 /// Writes how many threads the system allowed, and what to do.
-#[tactic(auto, using(ether_wire::proofs::Appending::with_text_twice))]
 fn put_allowed<N: Out>(notes: &mut N, allowed: u64) -> Result<(), Device>
     requires { IsOpen (N.end notes.old) }
     ensures { Puts (N.end notes.old) (N.end notes.new) (allowed_text allowed) result }
@@ -132,7 +131,6 @@ fn put_allowed<N: Out>(notes: &mut N, allowed: u64) -> Result<(), Device>
 }
 
 /// Writes that the system allows too few threads.
-#[tactic(auto, using(ether_wire::proofs::Appending::with_text_twice))]
 fn put_too_few<N: Out>(notes: &mut N, lack: TooFewThreads) -> Result<(), Device>
     requires { IsOpen (N.end notes.old) }
     ensures { Puts (N.end notes.old) (N.end notes.new) (too_few_text lack) result }

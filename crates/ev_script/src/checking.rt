@@ -19,7 +19,6 @@ pub struct CheckedLines {
 }
 
 /// Writes `NAME:N: WHY`.
-#[tactic(auto, using(ether_wire::proofs::Appending::with_text_twice))]
 pub(crate) fn put_fault<N: Out>(
     notes: &mut N,
     name: &[u8],
@@ -36,7 +35,6 @@ pub(crate) fn put_fault<N: Out>(
 }
 
 /// Writes why the line of this number is bad, if it is.
-#[tactic(auto, using(ether_wire::proofs::Appending::with_text_none))]
 fn put_told<N: Out>(notes: &mut N, name: &[u8], number: u64, line: &[u8]) -> Result<(), Device>
     requires { IsOpen (N.end notes.old) }
     ensures { Puts (N.end notes.old) (N.end notes.new) (told_text name.now number line.now) result }

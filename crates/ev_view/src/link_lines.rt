@@ -46,7 +46,6 @@ pub struct LinkRow {
 }
 
 /// Writes a word and its number.
-#[tactic(auto, using(ether_wire::proofs::Appending::with_text_twice))]
 fn put_amount<W: Out>(out: &mut W, word: &[u8], amount: u64) -> Result<(), Device>
     requires { IsOpen (W.end out.old) }
     ensures { Puts (W.end out.old) (W.end out.new) (amount_words word.now amount) result }
@@ -56,7 +55,6 @@ fn put_amount<W: Out>(out: &mut W, word: &[u8], amount: u64) -> Result<(), Devic
 }
 
 /// Writes which link a line is about: the tunnel's, or that of the port with this number.
-#[tactic(auto, using(ether_wire::proofs::Appending::with_text_twice))]
 fn put_place<W: Out>(out: &mut W, place: u64) -> Result<(), Device>
     requires { IsOpen (W.end out.old) }
     ensures { Puts (W.end out.old) (W.end out.new) (place_words place) result }
@@ -69,7 +67,6 @@ fn put_place<W: Out>(out: &mut W, place: u64) -> Result<(), Device>
 }
 
 /// Writes what came over a link.
-#[tactic(auto, using(ether_wire::proofs::Appending::with_text_twice))]
 fn put_in<W: Out>(out: &mut W, row: &LinkRow) -> Result<(), Device>
     requires { IsOpen (W.end out.old) }
     ensures { Puts (W.end out.old) (W.end out.new) (in_words row.now) result }
@@ -81,7 +78,6 @@ fn put_in<W: Out>(out: &mut W, row: &LinkRow) -> Result<(), Device>
 }
 
 /// Writes how many datagrams the edge dropped, by cause.
-#[tactic(auto, using(ether_wire::proofs::Appending::with_text_twice))]
 fn put_refused<W: Out>(out: &mut W, row: &LinkRow) -> Result<(), Device>
     requires { IsOpen (W.end out.old) }
     ensures { Puts (W.end out.old) (W.end out.new) (refused_words row.now) result }
@@ -95,7 +91,6 @@ fn put_refused<W: Out>(out: &mut W, row: &LinkRow) -> Result<(), Device>
 }
 
 /// Writes how many datagrams the system dropped, if that is known.
-#[tactic(auto, using(ether_wire::proofs::Appending::with_text_none))]
 fn put_system<W: Out>(out: &mut W, drops: Option<u64>) -> Result<(), Device>
     requires { IsOpen (W.end out.old) }
     ensures { Puts (W.end out.old) (W.end out.new) (system_words drops) result }
@@ -107,7 +102,6 @@ fn put_system<W: Out>(out: &mut W, drops: Option<u64>) -> Result<(), Device>
 }
 
 /// Writes how many datagrams the edge and the system dropped.
-#[tactic(auto, using(ether_wire::proofs::Appending::with_text_twice))]
 fn put_dropped<W: Out>(out: &mut W, row: &LinkRow) -> Result<(), Device>
     requires { IsOpen (W.end out.old) }
     ensures { Puts (W.end out.old) (W.end out.new) (dropped_words row.now) result }
@@ -117,7 +111,6 @@ fn put_dropped<W: Out>(out: &mut W, row: &LinkRow) -> Result<(), Device>
 }
 
 /// Writes what went over a link, and ends the line.
-#[tactic(auto, using(ether_wire::proofs::Appending::with_text_twice))]
 fn put_out<W: Out>(out: &mut W, row: &LinkRow) -> Result<(), Device>
     requires { IsOpen (W.end out.old) }
     ensures { Puts (W.end out.old) (W.end out.new) (out_words row.now) result }
@@ -131,7 +124,6 @@ fn put_out<W: Out>(out: &mut W, row: &LinkRow) -> Result<(), Device>
 }
 
 /// Writes the line of a link.
-#[tactic(auto, using(ether_wire::proofs::Appending::with_text_twice))]
 fn put_line<W: Out>(out: &mut W, number: u64, place: u64, row: &LinkRow) -> Result<(), Device>
     requires { IsOpen (W.end out.old) }
     ensures { Puts (W.end out.old) (W.end out.new) (link_line number place row.now) result }

@@ -50,7 +50,6 @@ pub(crate) fn done_status(written: Result<(), Device>) -> u8
 }
 
 /// Writes the summary of a configuration.
-#[tactic(auto, using(crate::proofs::Telling::sums_put))]
 fn sum_up<W: Out>(config: &Config, out: &mut W) -> u8
     requires { IsOpen (W.end out.old) }
     ensures { Sums (summary_text config.now.edges.items) (W.end out.old) (W.end out.new) result }
@@ -59,7 +58,6 @@ fn sum_up<W: Out>(config: &Config, out: &mut W) -> u8
 }
 
 /// Writes the summary of a configuration, and the resources of its run.
-#[tactic(auto, using(ether_wire::proofs::Appending::with_text_twice))]
 fn put_sums<W: Out>(config: &Config, is_asked: bool, out: &mut W) -> Result<(), Device>
     requires { IsOpen (W.end out.old) }
     ensures { Puts (W.end out.old) (W.end out.new)
@@ -70,7 +68,6 @@ fn put_sums<W: Out>(config: &Config, is_asked: bool, out: &mut W) -> Result<(), 
 }
 
 /// Writes the summary of a configuration, and the resources of its run, and returns the status.
-#[tactic(auto, using(crate::proofs::Telling::sums_put))]
 fn sum_up_run<W: Out>(config: &Config, is_asked: bool, out: &mut W) -> u8
     requires { IsOpen (W.end out.old) }
     ensures { Sums (run_text is_asked config.now.edges.items) (W.end out.old) (W.end out.new)

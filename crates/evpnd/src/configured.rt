@@ -20,7 +20,6 @@ use ev_report::{MEMORY, usage_status};
 use std::alloc::Global;
 
 /// Writes `config KEY`.
-#[tactic(auto, using(ether_wire::proofs::Appending::with_text_twice))]
 fn put_key<N: Out>(notes: &mut N, key: &[u8]) -> Result<(), Device>
     requires { IsOpen (N.end notes.old) }
     ensures { Puts (N.end notes.old) (N.end notes.new) (config_text key.now) result }

@@ -79,7 +79,6 @@ fn put_answer<W: Out>(
 
 /// Prints the result of a second, the first one (0) or a later one. Prints a refusal only for the
 /// first one.
-#[tactic(auto, using(ether_wire::proofs::Appending::with_text_none))]
 fn put_second<W: Out>(
     out: &mut W,
     edge: u64,
