@@ -6,7 +6,7 @@ usage: tests/planted.py --mutants [--apart] [CRATE | NAME]..      (default: all)
 tests/mutants/CRATE.edits has the wrong bodies of a crate: blocks as in more-edits/all.edits, each with a line `test:` that names the
 test which has to fail. `why:` says why no clause can refuse the body, and nothing reads it.
 
-  test: tests::running::each_line_comes_to_its_edge    one of the crate's own, by `rt try --test`: half a minute
+  test: tests::loaded::each_number_is_printed_at_its_place    one of the crate's own, by `rt try --test`: half a minute
   test: test_serve.Asked.test_edges                    one in a folder of tests/, on a program with the wrong body: some minutes
   test: statuses: two edges run                        one of the statuses of the program, on such a program
 

@@ -25,7 +25,7 @@ RANGES = {  # of the keys with numbers: the least, the greatest, the step
     "incarnation": (0, (1 << 32) - 1, 1),
 }
 PORT_RANGES = {"cost": (1, 200000000, 1), "priority": (0, 240, 16)}
-LIMIT_RANGES = {"stations": (1, 65536, 1), "new_stations": (1, (1 << 32) - 1, 1)}
+LIMIT_RANGES = {"stations": (1, 65536, 1), "new_stations": (1, (1 << 32) - 1, 1), "storm": (0, (1 << 32) - 1, 1)}
 SERVED_RANGES = {"idle": (1, 86400, 1), "peer_hold": (0, 86400, 1)}
 FLAGS = ("admin_edge", "auto_edge", "point_to_point")
 PLACES = ("local", "remote")

@@ -1,6 +1,7 @@
 """Two edges over loopback sockets: frames from port to port, garbage, refused memory, the report at the end."""
 
 import tests_path  # noqa: F401
+import contextlib
 import os
 import random
 import re
@@ -99,6 +100,15 @@ class Cable:
             if octets[:6] != BRIDGES:
                 return octets
         return b""
+
+    def waiting(self) -> List[bytes]:
+        """The frames that have come, BPDUs among them."""
+        self.here.setblocking(False)
+        came = []
+        with contextlib.suppress(BlockingIOError):
+            while True:
+                came.append(self.here.recv(65535))
+        return came
 
 
 def carry(source: Cable, to: Cable, octets: bytes) -> bool:
@@ -391,6 +401,27 @@ class FullSockets(TwoCables):
                 status, _, notes = self.running.end()
                 self.assertEqual((status, notes), (0, lines))
 
+    def test_a_console_shows_it(self) -> None:
+        """While the edge runs, in the line of each link; where no file can be opened any more the lines have no such number."""
+        with tempfile.TemporaryDirectory() as folder:
+            path = f"{folder}/control"
+            self.filled(f'control = "{path}"\n', "serve")
+            with socket.socket(socket.AF_UNIX, socket.SOCK_STREAM) as console:
+                console.settimeout(PATIENCE)
+                console.connect(path)
+                console.sendall(b"console\n")
+                shown = system_drops(console)
+                self.assertEqual(shown, {link: row_of(ONE, port).dropped for link, port in self.links().items()})
+                self.assertTrue(shown["tunnel"] > 0 and shown["1"] > 0 and shown["2"] == 0, shown)
+                most = resource.getrlimit(resource.RLIMIT_NOFILE)[1]
+                resource.prlimit(self.running.program.pid, resource.RLIMIT_NOFILE, (3, most))
+                self.assertEqual(system_drops(console), dict.fromkeys(shown))
+            self.assertEqual(self.running.end()[0], 0)
+
+    def links(self) -> Dict[str, int]:
+        """The UDP port of each link, by the link's word in a console's line."""
+        return {"tunnel": TUNNELS, "1": self.one.port, "2": self.two.port}
+
     def test_where_that_cannot_be_read(self) -> None:
         """Where no file can be opened any more nothing is told of it, and the status is 0."""
         self.filled("", "run")
@@ -398,6 +429,16 @@ class FullSockets(TwoCables):
         resource.prlimit(self.running.program.pid, resource.RLIMIT_NOFILE, (3, most))
         status, _, notes = self.running.end()
         self.assertEqual((status, notes), (0, ""))
+
+
+def system_drops(console: socket.socket) -> Dict[str, Optional[int]]:
+    """What each link's line says that the system has dropped, where it says it."""
+    console.sendall(b"1 links\n")
+    came = b""
+    while not came.endswith(b"\n\n"):
+        came += console.recv(65535)
+    found = (re.match(r"1 link (\S+) in .* memory [0-9]+(?: system ([0-9]+))? out ", line) for line in came.decode().splitlines() if line)
+    return {each[1]: each[2] and int(each[2]) for each in found}
 
 
 @needs_program
@@ -491,6 +532,25 @@ class LimitedPort(TwoCables):
     def test_new_stations(self) -> None:
         """Two new stations in 60 seconds."""
         self.flood("new_stations = 2\n", "too many new stations")
+
+    def test_storm(self) -> None:
+        """Of 200 broadcasts at once at most 20 a second are carried, one line names the port, and other frames go on."""
+        self.begin(edge(ONE, 1, self.one, self.two).replace(self.one.keys(), "storm = 20\n" + self.one.keys()))
+        self.is_carried(self.two, self.one, frame(BROADCAST, station(9), b"known from now on"))
+        start, known = time.monotonic(), frame(station(9), station(1), b"for a known station")
+        for number in range(200):
+            self.one.send(frame(BROADCAST, station(1), b"storm %d" % number))
+        self.one.send(known)
+        carried = 0
+        while (came := self.two.receive()) not in (known, b""):
+            carried += 1
+        self.assertEqual(came, known)
+        seconds = int(time.monotonic() - start) + 2
+        self.assertTrue(20 <= carried <= 20 * seconds, (carried, seconds))
+        self.assertEqual(self.running.note(), "edge 1: too many group or unknown frames on port 1\n")
+        status, report, _ = self.running.end()
+        self.assertEqual(status, 0)
+        self.assertEqual(report, f"edge 1\nflood {VNI} {ONE} 1 up\n" + learnt(1, ONE, 3) + learnt(9, ONE, 2))
 
     def test_each_port_is_named(self) -> None:
         """Where both ports are full each has a line of its own."""
@@ -627,6 +687,50 @@ class Beginning(unittest.TestCase):
                 with self.subTest(subcommand=subcommand, turn=turn), self.limited(needed, [subcommand], text) as program:
                     time.sleep(0.3)
                     self.assertEqual((program.communicate(timeout=PATIENCE)[1], program.returncode), ("", 0))
+        one.here.close()
+        two.here.close()
+
+    @unittest.skipIf(os.getuid(), "only root can give a user a limit of its own")
+    def test_degraded(self) -> None:
+        """A lack of threads is told at once, and the edges begin. With enough threads nothing is told."""
+        one, two = Cable(), Cable(TWO)
+        text = edge(ONE, 1, one) + edge(TWO, 2, two)
+        for allowed in (8, 15):
+            told = f"can't start 16 threads: the system allows {allowed}; raise ulimit -u or TasksMax, or free memory\n"
+            with self.subTest(allowed=allowed), self.limited(allowed, ["run", "--degraded"], text) as program:
+                try:
+                    self.assertEqual(program.stderr.readline(), told)
+                    time.sleep(0.5)
+                    self.assertIsNone(program.poll())
+                    program.stdin.close()
+                    self.assertEqual((program.wait(PATIENCE), program.stdout.read().count("edge ")), (3, 2))
+                    self.assertRegex(program.stderr.read(), r"^(edge [12]: no memory\n)+$")
+                finally:
+                    program.kill()
+        with self.limited(16, ["run", "--degraded"], text) as program:
+            time.sleep(0.3)
+            self.assertEqual((program.communicate(timeout=PATIENCE)[1], program.returncode), ("", 0))
+        one.here.close()
+        two.here.close()
+
+    @unittest.skipIf(os.getuid(), "only root can give a user a limit of its own")
+    def test_degraded_edge_that_forwards_has_a_clock(self) -> None:
+        """Whatever thread is missing: an edge that forwards frames out of its port also sends a BPDU there every two seconds."""
+        one, two = Cable(), Cable(TWO)
+        text = edge(ONE, 1, one) + edge(TWO, 2, two)
+        for allowed in (13, 14, 15):
+            with self.subTest(allowed=allowed), self.limited(allowed, ["run", "--degraded"], text) as program:
+                program.stderr.readline()
+                for turn in range(10):
+                    one.send(frame(BROADCAST, station(1), b"from one, %d" % turn))
+                    two.send(frame(BROADCAST, station(2), b"from two, %d" % turn))
+                    time.sleep(0.1)
+                time.sleep(5)
+                for cable in (one, two):
+                    came = cable.waiting()
+                    bpdus = sum(octets[:6] == BRIDGES for octets in came)
+                    self.assertTrue(bpdus == len(came) or bpdus > 2, f"{bpdus} of {len(came)} at {cable.address}")
+                program.communicate(timeout=PATIENCE)
         one.here.close()
         two.here.close()
 

@@ -149,6 +149,13 @@ class Served(unittest.TestCase):
             time.sleep(0.05)
         raise AssertionError("busy all the time")
 
+    def stop_and_continue(self) -> None:
+        """Stops the process and continues it, three times: Linux interrupts each read that has a time limit."""
+        for number in (signal.SIGSTOP, signal.SIGCONT) * 3:
+            time.sleep(0.1)
+            self.running.program.send_signal(number)
+        time.sleep(0.1)
+
     def hears_station(self) -> None:
         """Station 1 speaks at edge 1, and is heard at edge 2's cable."""
         self.assertTrue(carry(self.one, self.two, frame(BROADCAST, station(1), b"who is there")))
@@ -192,6 +199,33 @@ def udp_socket(process: int, place: Tuple[str, int]) -> socket.socket:
     finally:
         os.close(pidfd)
     raise AssertionError(f"no socket at {place}")
+
+
+@needs_program
+class Stormy(Served):
+    """Edges whose ports have a storm limit."""
+
+    def text(self) -> str:
+        """The configuration, with two group or unknown frames a second at each port."""
+        return super().text().replace("[[edge.port]]\n", "[[edge.port]]\nstorm = 2\n")
+
+    def test_storm_is_counted(self) -> None:
+        """Broadcasts beyond the limit of a port are counted at its link."""
+        self.begin()
+        console, begun = self.console(), time.monotonic()
+        for number in range(100):
+            self.one.send(frame(BROADCAST, station(1), b"storm %d" % number))
+
+        def is_counted() -> bool:
+            """Whether all came, and all were dropped that no second of the edge allowed."""
+            row, most = self.links(console, 1)["1"], 2 * (int(time.monotonic() - begun) + 2)
+            return row["in in"] == 100 and 100 - most <= row["in storm"] <= 98
+
+        self.assertTrue(is_reached(is_counted))
+        self.assertEqual([row["in memory"] for row in self.links(console, 1).values()], [0, 0])
+        self.assertEqual(self.links(console, 1)["tunnel"]["in storm"], 0)
+        status, _, notes = self.running.end()
+        self.assertEqual((status, notes.splitlines()[0]), (0, "edge 1: too many group or unknown frames on port 1"))
 
 
 @needs_program
@@ -343,7 +377,7 @@ class Asked(Served):
         self.assertEqual((done.returncode, done.stderr), (0, ""))
         found = [line.split(" ")[0] for line in done.stdout.splitlines() if not line.startswith("#")]
         ways = [f"{name}{{LINK,way=\"{way}\"}}" for name in ("datagrams_total", "octets_total", "failures_total", "idle_seconds") for way in ("in", "out")]
-        causes = ("no_room", "too_long", "malformed", "unlisted", "other_network", "no_memory")
+        causes = ("no_room", "too_long", "malformed", "unlisted", "other_network", "storm", "no_memory", "by_system")
         wanted = ways + [f"drops_total{{LINK,cause=\"{cause}\"}}" for cause in causes]
         links = [f'edge="{number}",link="{link}"' for number in (1, 2) for link in ("tunnel", "port1")]
         self.assertEqual(sorted(found), sorted(f"evpnd_link_{line.replace('LINK', link)}" for line in wanted for link in links))
@@ -436,6 +470,14 @@ class Clients(Served):
         self.assertEqual(self.seated().ask("1 report"), FLOODS)
         for client in held[:3] + held[4:]:
             self.assertEqual(client.ask("1 report"), FLOODS)
+        self.ends_well()
+
+    def test_stopped_process_keeps_its_clients(self) -> None:
+        """A stopped process that continues answers the consoles that it had, also one whose first line was incomplete."""
+        console, halfway = self.seated(), self.client().send(b"cons")
+        self.stop_and_continue()
+        self.assertEqual(console.ask("1 report"), FLOODS)
+        self.assertEqual(halfway.send(b"ole\n").ask("1 report"), FLOODS)
         self.ends_well()
 
     def test_end_with_clients(self) -> None:
@@ -602,6 +644,14 @@ class Records(Joined):
         console = self.console()
         is_reached(lambda: console.ask("1 report") != FLOODS)
         self.assertNotIn(f"flood {VNI} {TWO} 1 up\n", console.ask("1 report"))
+
+    def test_stopped_process_keeps_its_peers(self) -> None:
+        """A stopped process that continues takes the records of the connections that it had."""
+        client = self.joined()
+        self.stop_and_continue()
+        client.send(record_of(update_of_line(f"withdraw {TWO} {VNI} flood counter 9 incarnation 1")))
+        console = self.console()
+        self.assertTrue(is_reached(lambda: f"flood {VNI} {TWO} 9 withdrawn\n" in console.ask("1 report")))
 
     def test_refused_records_are_told_once_a_kind(self) -> None:
         """Behind them records are taken; a fault ends the connection alone, and is told, too."""

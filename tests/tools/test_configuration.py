@@ -10,7 +10,7 @@ SCHEMA = text_of("crates/ev_config/src/schema.rt")
 PAGE = text_of("docs/configuration.md")
 RANGE = re.compile(r"const (\w+): Range = Range\(([^)]*)\);")
 TABLE = re.compile(r"const (\w+): \[Row; (\d+)\] = \[(.*?)\n?\];", re.DOTALL)
-ROW = re.compile(r'Row\(\s*"(\w+)",\s*Kind::(\w+)(?:\((\w+)\))?,\s*("[^"]*"|\w+),?\s*\)')
+ROW = re.compile(r'Row\(\s*"(\w+)",\s*KeyKind::(\w+)(?:\((\w+)\))?,\s*("[^"]*"|\w+),?\s*\)')
 
 
 class Range(NamedTuple):

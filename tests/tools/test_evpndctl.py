@@ -38,11 +38,13 @@ owner 5002 {STATION} none
 """
 
 NUMBERS_OF_LINK = (
-    "in 1 octets 2 failed 3 idle 13 long 4 malformed 5 unlisted 6 network 7 memory 8 out 9 octets 10 dropped 11 failed 12 idle 14"
+    "in 1 octets 2 failed 3 idle 13 long 4 malformed 5 unlisted 6 network 7 storm 16 memory 8 system 15 "
+    "out 9 octets 10 dropped 11 failed 12 idle 14"
 )
 OBJECT_OF_LINK = {
     **{"received": 1, "received_octets": 2, "failed_reads": 3, "idle_in": 13, "too_long": 4, "malformed": 5, "unlisted": 6},
-    **{"other_network": 7, "no_memory": 8, "sent": 9, "sent_octets": 10, "dropped": 11, "failed_sends": 12, "idle_out": 14},
+    **{"other_network": 7, "storm": 16, "no_memory": 8, "by_system": 15, "sent": 9, "sent_octets": 10, "dropped": 11, "failed_sends": 12},
+    "idle_out": 14,
 }
 
 # each command of a console: a line, its answer, and the answer's objects
@@ -121,10 +123,10 @@ OBJECTS = {
     ),
     "E links": (
         "1 links",
-        f"1 link tunnel {NUMBERS_OF_LINK}\n1 link 2 {NUMBERS_OF_LINK}\n",
+        f"1 link tunnel {NUMBERS_OF_LINK}\n1 link 2 {NUMBERS_OF_LINK.replace(' system 15', '')}\n",
         [
             {"line": "link", "edge": 1, "link": "tunnel", **OBJECT_OF_LINK},
-            {"line": "link", "edge": 1, "link": "2", **OBJECT_OF_LINK},
+            {"line": "link", "edge": 1, "link": "2", **OBJECT_OF_LINK, "by_system": None},
         ],
     ),
     "edges": (
@@ -447,9 +449,13 @@ class Evpndctl(unittest.TestCase):
             edge,
             {"1 links": line, **rest},
             {"1 links": line.replace("dropped 11", "dropped 20").replace("unlisted 6", "unlisted 7"), **rest},
-            lines=2,
+            {"1 links": line.replace(" system 15", ""), **rest},
+            {"1 links": line.replace("system 15", "system 16"), **rest},
+            {"1 links": line.replace("system 15", "system 18"), **rest},
+            lines=3,
         )
-        self.assertEqual(told, ["edge 1 port 2: 9 dropped: no room", "edge 1 port 2: 1 dropped: from an unlisted edge"])
+        wanted = ["9 dropped: no room", "1 dropped: from an unlisted edge", "2 dropped by the system"]
+        self.assertEqual(told, [f"edge 1 port 2: {each}" for each in wanted])
 
     def test_metrics(self) -> None:
         """Each number is a line with its labels, printed or in a file."""
@@ -470,7 +476,9 @@ class Evpndctl(unittest.TestCase):
                 'evpnd_link_drops_total{edge="1",link="tunnel",cause="malformed"} 5',
                 'evpnd_link_drops_total{edge="1",link="tunnel",cause="unlisted"} 6',
                 'evpnd_link_drops_total{edge="1",link="tunnel",cause="other_network"} 7',
+                'evpnd_link_drops_total{edge="1",link="tunnel",cause="storm"} 16',
                 'evpnd_link_drops_total{edge="1",link="tunnel",cause="no_memory"} 8',
+                'evpnd_link_drops_total{edge="1",link="tunnel",cause="by_system"} 15',
                 'evpnd_link_idle_seconds{edge="1",link="tunnel",way="in"} 13',
                 'evpnd_link_idle_seconds{edge="1",link="tunnel",way="out"} 14',
             ],

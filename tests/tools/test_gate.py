@@ -96,6 +96,14 @@ class Sources(unittest.TestCase):
         self.assertEqual(found, [("area", 'let text = "fn no() { }";'), ("twice", "u64::from(number) * 2"), ("pair", "[[0; 2]; 2]")])
 
 
+    def test_names_are_those_that_a_check_prints(self):
+        heads = ("impl Square {", "impl Shape for Square {", "impl<T: Side> Shape for Square<T> {", "impl<T: Side> Shape for T {", "trait Shape {")
+        heads += ("unsafe impl<'x, T: Side, U> Shape for U {", "impl<T: Shape> Square<T> {", "pub trait Shape {")
+        names = [sources.name_of("src/low.rt", "area", f"{head}\n    ") for head in heads]
+        wanted = ["Square", "SquareShape", "SquareShape", "AnyShape", "Shape", "AnyShape", "Square", "Shape"]
+        self.assertEqual(names, [f"{it}::area" for it in wanted])
+
+
 class Unproved(unittest.TestCase):
     """Which functions of the sources no check has called proved."""
 

@@ -61,7 +61,7 @@ def bare_items(lines: List[str]) -> Iterator[Tuple[int, str]]:
 def can_be_broken(line: str) -> bool:
     """Whether a long line of .rt could be shorter: `ghost use`, attributes and literals of a line can't be broken."""
     text = line.strip()
-    return not text.startswith(("ghost use ", "pub ghost use ", "#[")) and '"' not in text
+    return not text.startswith(("ghost use ", "pub ghost use ", "#[", "#![")) and '"' not in text
 
 
 def behind_brackets(text: str, start: int) -> int:

@@ -63,13 +63,20 @@ def bodies(shape):
     return found
 
 
+def type_in(head):
+    """Returns the name that a check prints for the type of an impl, or for a trait, by the match of its head."""
+    of_trait, kind, trait = (it or "" for it in head.groups())
+    is_parameter = kind and re.match(rf"(?:unsafe )?impl<(?:[^{{]*, )?{kind}\b[:,>]?", head[0])
+    return ("Any" if is_parameter else kind) + of_trait or trait
+
+
 def name_of(path, name, before):
     """Returns the end of a function's name, as a check prints it: with its type if it is a method, else with its module.
 
-    `before` is the shape of the source before the function. Of `impl Tr for Ty` a check prints TyTr, of `impl Ty` Ty; and a type's
-    module can be another than that of its impl.
+    `before` is the shape of the source before the function. Of `impl Tr for Ty` a check prints TyTr, of `impl<T> Tr for T` AnyTr, of
+    `impl Ty` Ty; and a type's module can be another than that of its impl.
     """
-    types = [kind + of_trait or trait for of_trait, kind, trait in IMPL.findall(before)]
+    types = [type_in(it) for it in IMPL.finditer(before)]
     if before.rpartition("\n")[2].startswith(" ") and types:
         return f"{types[-1]}::{name}"
     module = [it for it in os.path.splitext(path)[0].split("/")[1:] if it not in ("lib", "main", "mod")]

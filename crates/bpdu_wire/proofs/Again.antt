@@ -1,7 +1,6 @@
 -- A reader reads written octets as the same BPDU.
-use Rattle.std.proofs.Common.{◌≡◌, ℕ, ◌≤◌, Bool, true, false, nat_lt, cond, List, [], ◌∷◌, ◌++◌, length, Some, None, Ok}
+use Rattle.std.proofs.Common.{◌≡◌, ℕ, Bool, true, false, nat_lt, cond, List, [], ◌∷◌, ◌++◌, length, Some, None, Ok}
 use Rattle.std.proofs.Common.{Err, refl, ap, ◌∙◌, arith}
-use Rattle.std.proofs.lemmas.Bool.Decides.{nat_tests}
 use Rattle.byteorder.specs.Endian.{big_bytes}
 use Rattle.byteorder.specs.Numbers.{big_number-reads_back}
 use Rattle.bpdu_wire.specs.declared.bpdu.Message.{Message}
@@ -12,6 +11,7 @@ use Rattle.bpdu_wire.specs.Bpdu.{is_aged}
 use Rattle.bpdu_wire.specs.Reading.{message_of, unless_refused, reading}
 use Rattle.bpdu_wire.specs.Writing.{message_octets, octets_of, read_again}
 use Rattle.bpdu_wire.specs.Inner.Writing.{HasVector, HasTimes}
+use Rattle.std.proofs.lemmas.Bool.{le-ltb as not_less}
 
 message_again : (version type : ℕ) (m : Message) (after rest : List ℕ) → HasVector m → HasTimes m
     → message_of (message_octets version type m after ++ rest) ≡ m
@@ -42,9 +42,6 @@ message_again version type m after rest vector times =
       hello = hello i;
       forward_delay = delay i;
     }
-
-not_less : (a b : ℕ) → b ≤ a → nat_lt a b ≡ false
-not_less a b h = grind (arith, nat_tests)
 
 -- the result, if at most the last of the tests is met
 last_test : (a b f : Bool) (bpdu : Bpdu) → a ≡ false → b ≡ false

@@ -4,7 +4,7 @@
 mod bpdu;
 mod flags;
 mod id;
-pub mod laws;
+mod laws;
 mod reading;
 mod refusal;
 #[cfg(test)]
@@ -17,6 +17,7 @@ pub use flags::{
     LEARNING, PROPOSAL, ROLE_BITS, ROOT_ROLE, TOPOLOGY_CHANGE, UNKNOWN_ROLE,
 };
 pub use id::{BridgeId, PortId};
+pub use laws::numbers_are_standard;
 pub use reading::read;
 pub use refusal::{BAD_PROTOCOL, BAD_TYPE, BAD_VERSION, BpduRefusal, OVER_AGE, TOO_SHORT};
 pub use writing::write;

@@ -51,7 +51,6 @@ impl<W: Out> Buffered<W> {
         inner
     }
 
-    #[tactic(auto, using(crate::proofs::Appending::with_text_none))]
     /// Passes the octets in the buffer on. The buffer is empty afterwards, even if that failed.
     fn pass_on(&mut self) -> Result<(), Device>
         requires { IsOpen (W.end self.old.inner) }
@@ -67,7 +66,6 @@ impl<W: Out> Buffered<W> {
         result
     }
 
-    #[tactic(auto, using(crate::proofs::Appending::with_text_twice, crate::proofs::Appending::with_text_none))]
     /// Passes the octets in the buffer on. Then it buffers the new octets, or passes them on too if
     /// they are more than the buffer can hold.
     // Separate from `put`, so that calls that only buffer a few more octets are inlined.
@@ -94,7 +92,6 @@ impl<W: Out> Out for Buffered<W> {
         self.inner.failures()
     }
 
-    #[tactic(auto, using(crate::proofs::Appending::with_text_twice, crate::proofs::Appending::with_text_none))]
     #[inline(always)]
     fn put(&mut self, octets: &[u8]) -> Result<(), Device> {
         if self.held.try_put(octets) {
@@ -103,7 +100,6 @@ impl<W: Out> Out for Buffered<W> {
         self.put_anew(octets)
     }
 
-    #[tactic(auto, using(crate::proofs::Appending::with_text_none))]
     /// Passes the octets in the buffer on. The buffer is empty afterwards, even if that failed.
     fn flush(&mut self) -> Result<(), Device>
         requires { IsOpen (buffered_end W.end self.old) }

@@ -19,7 +19,6 @@ pub struct FailAt<E> {
 impl<R: In> FailAt<R> {
     ghost use Rattle.ether_wire.specs.FailAt.{inner_end, calls_of, fails_at, failing_reader};
 
-    #[tactic(auto, using(crate::proofs::Failing::allows_new))]
     /// Returns a reader that hasn't been called yet, and whose read with this number will fail.
     pub fn reader(inner: R, at: u64) -> Self
         ensures inner { inner_end result ≡ inner }
@@ -40,7 +39,6 @@ impl<R: In> FailAt<R> {
 impl<W: Out> FailAt<W> {
     ghost use Rattle.ether_wire.specs.FailAt.{inner_end, calls_of, fails_at, failing_writer};
 
-    #[tactic(auto, using(crate::proofs::Failing::open_new))]
     /// Returns a writer that hasn't been called yet, and whose call with this number will fail.
     pub fn writer(inner: W, at: u64) -> Self
         ensures inner { inner_end result ≡ inner }
@@ -94,7 +92,6 @@ impl<R: In> In for FailAt<R> {
         self.inner.failures().saturating_add(self.failures)
     }
 
-    #[tactic(auto, using(crate::proofs::Failing::allows_inner, crate::proofs::Failing::gets_beside, crate::proofs::Failing::gets_own))]
     fn read(&mut self, buffer: &mut [u8]) -> Result<usize, Device>
         requires { Allows 1 (failing_reader R.end self.old) }
         ensures gets { Gets (failing_reader R.end self.old)
@@ -120,7 +117,6 @@ impl<W: Out> Out for FailAt<W> {
         self.inner.failures().saturating_add(self.failures)
     }
 
-    #[tactic(auto, using(crate::proofs::Failing::open_inner, crate::proofs::Failing::puts_beside, crate::proofs::Failing::one_more))]
     fn put(&mut self, octets: &[u8]) -> Result<(), Device>
         requires { IsOpen (failing_writer W.end self.old) }
         ensures puts { Puts (failing_writer W.end self.old)
@@ -136,7 +132,6 @@ impl<W: Out> Out for FailAt<W> {
         self.inner.put(octets)
     }
 
-    #[tactic(auto, using(crate::proofs::Failing::open_inner, crate::proofs::Failing::puts_beside, crate::proofs::Failing::one_more))]
     fn flush(&mut self) -> Result<(), Device>
         requires { IsOpen (failing_writer W.end self.old) }
         ensures puts { Puts (failing_writer W.end self.old)
@@ -159,7 +154,6 @@ impl<W: Flushing> Flushing for FailAt<W> {
 
     ghost held = { λ end. W.held (inner_end end) };
 
-    #[tactic(auto, using(crate::proofs::Failing::open_inner, crate::proofs::Failing::puts_beside, crate::proofs::Failing::one_more))]
     fn flush_held(&mut self) -> Result<(), Device> {
         if is_due(&mut self.calls, self.at) {
             self.failures += 1;

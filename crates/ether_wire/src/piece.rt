@@ -81,7 +81,6 @@ impl<const N: usize> Piece<N> {
 
     /// Writes the octets into a line from a place on, and returns the place after them. It copies
     /// the whole array, because its length is known at compile time.
-    #[tactic(auto, using(crate::proofs::Appending::part_behind))]
     #[inline(always)]
     pub fn write_at(&self, line: &mut [u8], at: usize) -> usize
         requires { at + N ≤ length line.old }

@@ -96,7 +96,6 @@ fn put_later<O: Out>(out: &mut O, set: u64, first: u8) -> Result<(), Device>
 }
 
 /// Writes a comma, and the number of a port.
-#[tactic(auto, using(crate::proofs::Appending::with_text_twice))]
 fn put_behind_comma<O: Out>(out: &mut O, port: u8) -> Result<(), Device>
     requires { IsOpen (O.end out.old) }
     ensures { Puts (O.end out.old) (O.end out.new) (codes "," ++ decimal port) result }

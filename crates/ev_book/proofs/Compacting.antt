@@ -9,7 +9,7 @@ use Rattle.std.specs.declared.cmp.Ordering.TheVariants.{Less}
 use Rattle.std.specs.Ordering.{eq_by_cmp, is_lt}
 use Rattle.std.specs.FinMap.{entries, entries_sorted, get-entries}
 use Rattle.std.specs.FinMap.Entries.{find, below_all, is_sorted, is_some-find}
-use Rattle.std.proofs.lemmas.Bool.{false≢true, or_right}
+use Rattle.std.proofs.lemmas.Bool.{false≢true, or_right, and_parts as both}
 use Rattle.std.proofs.lemmas.Cmp.{eq_by_cmp_equiv}
 use Rattle.std.proofs.lemmas.List.{length-map}
 use Rattle.std.proofs.lemmas.List.Elements.{Contains-append_left}
@@ -22,7 +22,7 @@ use Rattle.route_wire.specs.Order.{register_cmp}
 use Rattle.route_wire.specs.Inner.Totals.{register_total}
 use Rattle.route_join.specs.Table.{Table, value_at, IsTableOf}
 use Rattle.route_join.specs.Updates.{all_updates, update_from}
-use Rattle.route_join.proofs.Orders.{less, both, from_T}
+use Rattle.route_join.proofs.Orders.{less, from_T}
 use Rattle.route_join.proofs.Tables.{itself_register, not_newer_itself}
 use Rattle.route_join.proofs.Abouts.{all_updates_are}
 use Rattle.ev_book.specs.Journal.{Compacts, register_count}

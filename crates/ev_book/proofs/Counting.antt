@@ -1,13 +1,12 @@
 -- The counts and marks that a book keeps of its passes.
 use Rattle.std.proofs.Common.{ℕ, zero, suc, replicate, ◌+◌, ◌<◌, ◌≡◌, inl, inr, true, Option, Some, None, IfSome, List}
 use Rattle.std.proofs.Common.{length, get_or, set, slice_get, refl, ap, sym, subst, ◌∙◌, arith, eqb}
-use Rattle.std.proofs.lemmas.Bool.{cases_eq, false≢true, eqb-true}
+use Rattle.std.proofs.lemmas.Bool.{cases_eq, false≢true, eqb-true, and_parts as both}
 use Rattle.std.proofs.lemmas.Option.{slice_get_within, get_or_from_slice_get}
 use Rattle.std.proofs.lemmas.List.{get_or-set_same, get_or-set_other, length-set}
 use Rattle.std.proofs.lemmas.List.Sums.{sum_by-set}
 use Rattle.route_wire.specs.Fields.{Fields}
 use Rattle.route_join.specs.Table.{Table, IsTableOf}
-use Rattle.route_join.proofs.Orders.{both}
 use Rattle.ev_edge.specs.Edge.{Edge, table_of}
 use Rattle.ev_book.specs.declared.mark.Mark.{Mark}
 use Rattle.ev_book.specs.declared.pass.Kept.{Kept}

@@ -1,6 +1,6 @@
 -- Marks, and values that aren't older than theirs.
 use Rattle.std.proofs.Common.{◌≡◌, Bool, true, false, not, ◌||◌, Option, Some, None, List, ◌++◌, Contains, refl, ap}
-use Rattle.std.proofs.lemmas.Bool.{false≢true}
+use Rattle.std.proofs.lemmas.Bool.{false≢true, and_parts as both}
 use Rattle.std.proofs.lemmas.List.Elements.{Contains-append_left}
 use Rattle.std.specs.Ordering.{eq_by_cmp}
 use Rattle.route_wire.specs.Fields.{Fields}
@@ -8,7 +8,6 @@ use Rattle.route_wire.specs.Order.{register_cmp, is_newer}
 use Rattle.route_wire.specs.Inner.Totals.{neither_newer}
 use Rattle.route_join.specs.Table.{Table, value_at, IsTableOf}
 use Rattle.route_join.proofs.Joins.{not_newer_trans}
-use Rattle.route_join.proofs.Orders.{both}
 use Rattle.route_join.proofs.Tables.{not_newer_itself, same_register}
 use Rattle.ev_book.specs.declared.mark.Mark.{Mark}
 use Rattle.ev_book.specs.Mark.{Holds, HoldsAt, is_same, same_mark, mark_of}

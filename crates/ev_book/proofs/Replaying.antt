@@ -11,8 +11,8 @@ use Rattle.route_join.proofs.Edits.{new_table}
 use Rattle.route_join.proofs.Joins.{none_taken, all_taken}
 use Rattle.ev_edge.specs.Edge.{table_of}
 use Rattle.ev_book.specs.Book.{BookState, IsGoodBook}
-use Rattle.ev_book.specs.Journal.{records_of, all_ok}
 use Rattle.ev_book.specs.Laws.{Replays, ReportsAs, listening}
+use Rattle.route_wire.specs.Records.{records_of, all_ok}
 
 replay : (us : List Fields) (t : Table) → IsTableOf us t
     → IsTableOf us (with_updates (record { originators = t.originators; registers = empty }) us)

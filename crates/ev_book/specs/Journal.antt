@@ -1,26 +1,15 @@
 -- The journal of an edge: its additions, and its octets.
-use Rattle.std.specs.Prelude.{◌≡◌, ◌⊎◌, ℕ, ◌+◌, ◌*◌, ◌≤◌, Some, List, slice_get, length, map, Contains, false}
-use Rattle.std.specs.Prelude.{Result, Ok}
-use Rattle.std.specs.List.{concat}
+use Rattle.std.specs.Prelude.{◌≡◌, ◌⊎◌, ℕ, ◌+◌, ◌*◌, ◌≤◌, Some, List, slice_get, length, Contains, false}
 use Rattle.route_wire.specs.Order.{is_newer}
 use Rattle.route_join.specs.Table.{Table, IsOrdered}
 use Rattle.route_join.specs.Updates.{all_updates}
 use Rattle.route_wire.specs.Fields.{Fields}
-use Rattle.route_wire.specs.Encode.{spelling_of}
 use Rattle.ev_claims.specs.Speaker.{Speaker, IsOwnAt}
 
 -- The own updates that the edge numbered after this number, up to its counter and in their order.
 pub record AreOwnSince (e : Speaker) (before : ℕ) (own : List Fields) : Type 0 where
   pub numbered : (i : ℕ) (u : Fields) → slice_get own i ≡ Some u → IsOwnAt e (before + (i + 1)) u
   pub all : before + length own ≡ e.counter
-
--- the records of updates, one after the other
-abbrev pub records_of : List Fields → List ℕ
-records_of us = concat (map spelling_of us)
-
--- these updates, as a stream's answers
-abbrev pub all_ok : List Fields → List (Result Fields ℕ)
-all_ok us = map (λ u. Ok u) us
 
 -- The journal has one update of each register, in a report's order; it was in it, and no newer one of the register.
 pub record Compacts (old new : List Fields) : Type 0 where

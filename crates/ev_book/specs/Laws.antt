@@ -7,7 +7,7 @@ use Rattle.route_join.specs.Table.{Table, is_listed, with_updates}
 use Rattle.route_join.specs.Report.{report_of}
 use Rattle.ev_edge.specs.Edge.{table_of}
 use Rattle.ev_book.specs.Book.{BookState}
-use Rattle.ev_book.specs.Journal.{all_ok}
+use Rattle.route_wire.specs.Records.{all_ok}
 
 -- a table that listens to the same originators as the edge and has heard nothing
 abbrev pub listening : BookState → Table

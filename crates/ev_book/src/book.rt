@@ -9,12 +9,13 @@ ghost use Rattle.ev_edge.specs.Config.{IsConfig};
 ghost use Rattle.ev_edge.specs.Edge.{IsGoodEdge, table_of};
 ghost use Rattle.ev_book.specs.Mark.{HoldsAt};
 ghost use Rattle.ev_book.specs.Book.{fits, count_sum};
-ghost use Rattle.ev_book.specs.Journal.{Compacts, records_of, all_ok};
+ghost use Rattle.ev_book.specs.Journal.{Compacts};
 ghost use Rattle.ev_book.specs.Inner.Journal.{HasOwnSince, AppendsOwn};
 ghost use Rattle.ev_book.specs.Entering.{CallsBook, Enters, answered, is_spent, calls_counted, mark_then, touched_by};
 ghost use Rattle.ev_book.specs.Opening.{IsOpened, opened_passes};
 ghost use Rattle.ev_book.specs.Closing.{counts_of, sum_of, AreNumbered, TellsEach};
 ghost use Rattle.ev_book.specs.Laws.{Replays, ReportsAs, listening};
+ghost use Rattle.route_wire.specs.Records.{records_of, all_ok};
 
 use crate::journal::{Journal, append_own, put_records, step, touched};
 use crate::mark::{Mark, mark_of, same_mark};

@@ -12,10 +12,11 @@ ghost use Rattle.ev_edge.specs.Steps.{answered as stepped};
 ghost use Rattle.ev_edge.specs.Changes.{accepted, brought};
 ghost use Rattle.ev_book.specs.declared.mark.Mark.{Mark as Marked};
 ghost use Rattle.ev_book.specs.Mark.{Holds, mark_of};
-ghost use Rattle.ev_book.specs.Journal.{Compacts, register_count, IsLeft, IsKept, IsFull, records_of, all_ok};
+ghost use Rattle.ev_book.specs.Journal.{Compacts, register_count, IsLeft, IsKept, IsFull};
 ghost use Rattle.ev_book.specs.Inner.Journal.{HasOwnSince, AppendsOwn};
 ghost use Rattle.ev_book.specs.Entering.{Grows, WritesOrNot, answered, may_write, touched, touched_by};
 ghost use Rattle.ev_book.specs.Inner.Entering.{most_written};
+ghost use Rattle.route_wire.specs.Records.{records_of, all_ok};
 
 use crate::refusal::BookRefusal;
 use ether_wire::{Device, Out};

@@ -9,7 +9,7 @@ use ether_wire::{Addr, Mac, Out, Page, Vni};
 use ev_edge::{EdgeConfig, Event, Limits, PortConfig};
 use route_join::Taken;
 use route_wire::{Advert, Content, Key, Register, Update, Value};
-use rstp_state::start::{PortSettings, Settings};
+use rstp_state::{PortSettings, Settings};
 use std::sync::ledger::Ledger;
 
 mod journals;

@@ -6,7 +6,7 @@
 
 mod channel;
 mod ends;
-pub mod laws;
+mod laws;
 mod posting;
 mod rule;
 #[cfg(test)]
@@ -14,4 +14,5 @@ mod tests;
 mod view;
 
 pub use ends::{Inbox, Post};
+pub use laws::{received_and_waiting_are_sent, received_was_sent};
 pub use posting::mailbox;

@@ -328,7 +328,7 @@ impl LocalRoutes {
             → value_at self.old.speaker.table update.now.register ≡ None }
         ensures err { OnErr result (self.new ≡ self.old) }
     {
-        let taken = self.learn_of(update)?;
+        let taken = self.speaker.import(update)?;
         let lost_pinned = match station_of(update.register().key) {
             None => false,
             Some(station) => self.lose(&station),
@@ -382,20 +382,6 @@ impl LocalRoutes {
         ensures none { IfNone result (self.old.speaker.pending ≡ []) }
     {
         self.speaker.announce()
-    }
-
-    /// Takes another edge's update into the table only.
-    fn learn_of(&mut self, update: &Update) -> Result<Taken, TakeError>
-        requires { update.now.register.originator ≢ self.old.speaker.address }
-        ensures taken { IfOk result (λ taken. taken ≡ taken_of self.old.speaker.table update.now) }
-        ensures ok { OnOk result (self.new ≡ after_update self.old update.now) }
-        ensures unknown { (result ≡ Err TakeError.UnknownOriginator)
-            ↔ (is_listed self.old.speaker.table update.now.register.originator ≡ false) }
-        ensures no_memory { result ≡ Err TakeError.NoMemory
-            → value_at self.old.speaker.table update.now.register ≡ None }
-        ensures err { OnErr result (self.new ≡ self.old) }
-    {
-        self.speaker.import(update)
     }
 
     /// Removes and withdraws a station if the edge advertises it and is not its owner. Returns

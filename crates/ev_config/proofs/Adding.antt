@@ -5,7 +5,7 @@ use Rattle.toml.specs.Data.{Items, Members}
 use Rattle.ev_config.specs.declared.faults.FaultyKey.{FaultyKey}
 use Rattle.ev_config.specs.declared.whole.Use.{Use}
 use Rattle.ev_config.specs.Keys.{count_of}
-use Rattle.ev_config.specs.Faults.{Faulty, Names, no_names, after_all, edges_faults, peers_faults, own_faults}
+use Rattle.ev_config.specs.Faults.{Faulty, SeenNames, no_names, after_all, edges_faults, peers_faults, own_faults}
 use Rattle.ev_config.specs.Faults.{edge_items, is_run, peers_beside, peer_items, edge_names, faults_in}
 use Rattle.ev_config.specs.Inner.Faults.{faults_view, Adds}
 
@@ -17,9 +17,9 @@ adds_then some rest v0 v1 vn (Ok y) e more =
 adds_then some rest v0 v1 vn (Err any) e more = tt
 
 -- the names of all edges
-pub names_of_edges : (t : Members) (n0 n1 : Names) (es : Items) → n0 ≡ no_names → es ≡ edge_items t
+pub names_of_edges : (t : Members) (n0 n1 : SeenNames) (es : Items) → n0 ≡ no_names → es ≡ edge_items t
     → n1 ≡ after_all n0 es → n1 ≡ edge_names t
-names_of_edges t n0 n1 es zn ze k = k ∙ ap (λ (n : Names). after_all n es) zn ∙ ap (after_all no_names) ze
+names_of_edges t n0 n1 es zn ze k = k ∙ ap (λ (n : SeenNames). after_all n es) zn ∙ ap (after_all no_names) ze
 
 -- the tables of all peers
 pub tables_of_peers : (w : Use) (t : Members) (count : ℕ) (es ps : Items) → es ≡ edge_items t → count ≡ count_of es
@@ -27,7 +27,7 @@ pub tables_of_peers : (w : Use) (t : Members) (count : ℕ) (es ps : Items) → 
 tables_of_peers w t count es ps ze zc zp = zp ∙ ap (λ (n : ℕ). peers_beside w n t) (zc ∙ ap count_of ze)
 
 -- the faults of a document's own keys, of its edges and of its peers
-pub all_added : (w : Use) (t : Members) (v0 v1 v2 v3 : List FaultyKey) (n0 n1 : Names) (run : Bool) (count : ℕ)
+pub all_added : (w : Use) (t : Members) (v0 v1 v2 v3 : List FaultyKey) (n0 n1 : SeenNames) (run : Bool) (count : ℕ)
     (es ps : Items) → v0 ≡ [] → n0 ≡ no_names → run ≡ is_run w → es ≡ edge_items t → count ≡ count_of es
     → ps ≡ peers_beside w count t → faults_view v1 ≡ faults_view v0 ++ own_faults w count t
     → faults_view v2 ≡ faults_view v1 ++ edges_faults run n0 1 es → n1 ≡ after_all n0 es
@@ -40,9 +40,9 @@ all_added w t v0 v1 v2 v3 n0 n1 run count es ps z0 zn zr ze zc zp h1 h2 k1 h3 =
     ∙ ap (λ (n : ℕ). own_faults w n t) (zc ∙ ap count_of ze) in
     let e2 : faults_view v2 ≡ own ++ edges = h2 ∙ ap (λ (l : List Faulty). l ++ edges_faults run n0 1 es) e1
     ∙ ap (λ (b : Bool). own ++ edges_faults b n0 1 es) zr
-    ∙ ap (λ (n : Names). own ++ edges_faults (is_run w) n 1 es) zn
+    ∙ ap (λ (n : SeenNames). own ++ edges_faults (is_run w) n 1 es) zn
     ∙ ap (λ (ds : Items). own ++ edges_faults (is_run w) no_names 1 ds) ze in
     h3 ∙ ap (λ (l : List Faulty). l ++ peers_faults n1 1 ps) e2
-    ∙ ap (λ (n : Names). (own ++ edges) ++ peers_faults n 1 ps) (names_of_edges t n0 n1 es zn ze k1)
+    ∙ ap (λ (n : SeenNames). (own ++ edges) ++ peers_faults n 1 ps) (names_of_edges t n0 n1 es zn ze k1)
     ∙ ap (λ (ds : Items). (own ++ edges) ++ peers_faults (edge_names t) 1 ds) (tables_of_peers w t count es ps ze zc zp)
     ∙ append_assoc own edges peers

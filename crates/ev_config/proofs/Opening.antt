@@ -16,7 +16,7 @@ use Rattle.ev_edge.specs.Config.{IsConfig, vnis_of}
 use Rattle.ev_fabric.specs.Fabric.{addresses_of}
 use Rattle.ev_fabric.specs.Opening.{AreConfigs}
 use Rattle.ev_config.specs.declared.schema.Range.{Range}
-use Rattle.ev_config.specs.declared.schema.Kind.TheVariants as kind
+use Rattle.ev_config.specs.declared.schema.KeyKind.TheVariants as kind
 use Rattle.ev_config.specs.declared.whole.Use.{Use}
 use Rattle.ev_config.specs.declared.whole.Use.TheVariants.{Any, Run, Serve}
 use Rattle.ev_config.specs.Schema.{Key, Row, edge_rows, port_rows, peer_rows, capacity, buckets, hello}
@@ -26,7 +26,7 @@ use Rattle.ev_config.specs.Keys.{vnis_in, are_tables, tables_in, tables_beside, 
 use Rattle.ev_config.specs.Keys.{with_table, tables_of, addr_in}
 use Rattle.ev_config.specs.ConfigPort.{port_of}
 use Rattle.ev_config.specs.ConfigEdge.{edge_of}
-use Rattle.ev_config.specs.Faults.{Spot, File, Edge, Port, Peer, Faulty, Names, no_names, Context, is_known}
+use Rattle.ev_config.specs.Faults.{Spot, File, Edge, Port, Peer, Faulty, SeenNames, no_names, Context, is_known}
 use Rattle.ev_config.specs.Faults.{is_faulty_at, is_faulty}
 use Rattle.ev_config.specs.Faults.{fault_if, rows_faults, table_faults, unknown, times_in, is_odd, ports_faults}
 use Rattle.ev_config.specs.Faults.{port_faults}
@@ -88,35 +88,35 @@ new_at c (Some d) h = go (addr_in d) h
     go (Some n) e = pick (list_any (λ x. x == n) c.names.addresses) n e
 
 -- each table spells a new address
-abbrev NewIn : Names → Option Members → Type 0
+abbrev NewIn : SeenNames → Option Members → Type 0
 NewIn names None = Unit {0}
 NewIn names (Some t) = IsNew names.addresses (spelt (codes "address") addr_in t)
 
-abbrev AllNew : Names → Items → Type 0
+abbrev AllNew : SeenNames → Items → Type 0
 AllNew names no_items = Unit {0}
 AllNew names (item d ds) = NewIn names (as_table d) × AllNew (after names (as_table d)) ds
 
-abbrev edge_context : Bool → Names → Members → Context
+abbrev edge_context : Bool → SeenNames → Members → Context
 edge_context for_run names t =
     record { for_run = for_run; names = names; vnis = spelt (codes "vnis") vnis_in t; edges = 0 }
 
-abbrev later_faults : Bool → Names → ℕ → Members → List Faulty
+abbrev later_faults : Bool → SeenNames → ℕ → Members → List Faulty
 later_faults for_run names n t = fault_if (is_odd (times_in t)) (Edge n) (codes "max_age")
     ++ ports_faults (edge_context for_run names t) n 1 (tables_at (codes "port") t)
 
-own_right : (for_run : Bool) (names : Names) (n : ℕ) (t : Members) → edge_faults for_run names n (Some t) ≡ []
+own_right : (for_run : Bool) (names : SeenNames) (n : ℕ) (t : Members) → edge_faults for_run names n (Some t) ≡ []
     → table_faults (edge_context for_run names t) (Edge n) edge_rows t ≡ []
 own_right for_run names n t h =
     none_left (table_faults (edge_context for_run names t) (Edge n) edge_rows t) (later_faults for_run names n t) h
 
-ports_right : (for_run : Bool) (names : Names) (n : ℕ) (t : Members) → edge_faults for_run names n (Some t) ≡ []
+ports_right : (for_run : Bool) (names : SeenNames) (n : ℕ) (t : Members) → edge_faults for_run names n (Some t) ≡ []
     → ports_faults (edge_context for_run names t) n 1 (tables_at (codes "port") t) ≡ []
 ports_right for_run names n t h =
     none_right (fault_if (is_odd (times_in t)) (Edge n) (codes "max_age"))
     (ports_faults (edge_context for_run names t) n 1 (tables_at (codes "port") t))
     (none_right (table_faults (edge_context for_run names t) (Edge n) edge_rows t) (later_faults for_run names n t) h)
 
-edges_new : (for_run : Bool) (names : Names) (n : ℕ) (ds : Items) → edges_faults for_run names n ds ≡ []
+edges_new : (for_run : Bool) (names : SeenNames) (n : ℕ) (ds : Items) → edges_faults for_run names n ds ≡ []
     → AllNew names ds
 edges_new for_run names n no_items h = tt
 edges_new for_run names n (item d ds) h = (
@@ -134,7 +134,7 @@ edges_new for_run names n (item d ds) h = (
         (table_right (edge_context for_run names t) (Edge n) edge_rows t 0 (codes "address", kind.Address) refl
         (own_right for_run names n t e))
 
-peers_new : (names : Names) (n : ℕ) (ds : Items) → peers_faults names n ds ≡ [] → AllNew names ds
+peers_new : (names : SeenNames) (n : ℕ) (ds : Items) → peers_faults names n ds ≡ [] → AllNew names ds
 peers_new names n no_items h = tt
 peers_new names n (item d ds) h = (
   go (as_table d) (none_left (peer_faults names n (as_table d)) rest h),
@@ -157,7 +157,7 @@ joined_distinct : (before : List ℕ) (o : Option ℕ) → IsNew before o → Is
 joined_distinct before None new h = absurd new
 joined_distinct before (Some n) new h = distinct_more before n h new
 
-names_distinct : (names : Names) (ds : Items) → AllNew names ds → IsDistinct eqb names.addresses
+names_distinct : (names : SeenNames) (ds : Items) → AllNew names ds → IsDistinct eqb names.addresses
     → IsDistinct eqb (after_all names ds).addresses
 names_distinct names no_items new h = h
 names_distinct names (item d ds) new h = names_distinct (after names (as_table d)) ds new.1 (go (as_table d) new.0)
@@ -167,7 +167,7 @@ names_distinct names (item d ds) new h = names_distinct (after names (as_table d
     go (Some t) n = joined_distinct names.addresses (spelt (codes "address") addr_in t) n h
 
 -- those before are still there
-names_there : (names : Names) (ds : Items) (n : ℕ) → Contains names.addresses n
+names_there : (names : SeenNames) (ds : Items) (n : ℕ) → Contains names.addresses n
     → Contains (after_all names ds).addresses n
 names_there names no_items n h = h
 names_there names (item d ds) n h = names_there (after names (as_table d)) ds n (go (as_table d))
@@ -180,7 +180,8 @@ names_there names (item d ds) n h = names_there (after names (as_table d)) ds n 
     go None = h
     go (Some t) = more (spelt (codes "address") addr_in t)
 
-names_few : (names : Names) (ds : Items) → length (after_all names ds).addresses ≤ length names.addresses + count_of ds
+names_few : (names : SeenNames) (ds : Items)
+    → length (after_all names ds).addresses ≤ length names.addresses + count_of ds
 names_few names no_items = omega arith
 names_few names (item d ds) =
     let rest = names_few (after names (as_table d)) ds in
@@ -196,7 +197,7 @@ names_few names (item d ds) =
     go (Some t) = more (spelt (codes "address") addr_in t)
 
 -- the names of the edges are their addresses
-names_are : (listed : List ℕ) (names : Names) (ds : Items) → AllNew names ds
+names_are : (listed : List ℕ) (names : SeenNames) (ds : Items) → AllNew names ds
     → (after_all names ds).addresses ≡ names.addresses ++ addresses_of (map (edge_of listed) (tables_of ds))
 names_are listed names no_items new = sym (append-nil names.addresses)
 names_are listed names (item d ds) new = go (as_table d) new.0 (names_are listed (after names (as_table d)) ds new.1)
@@ -377,7 +378,7 @@ vnis_known c (Some d) h = go (vnis_in d) h
     go None e = cc
     go (Some vnis) e = tt
 
-fits : (for_run : Bool) (names : Names) (n : ℕ) (listed : List ℕ) (t : Members)
+fits : (for_run : Bool) (names : SeenNames) (n : ℕ) (listed : List ℕ) (t : Members)
     → edge_faults for_run names n (Some t) ≡ [] → Fits listed t
 fits for_run names n listed t h = record {
   some_port = subst (λ (k : ℕ). 1 ≤ k) (sym (length-map (tables_of (tables_at (codes "port") t)) port_of)) ports.some;
@@ -401,7 +402,7 @@ fits for_run names n listed t h = record {
         (ports_right for_run names n t h) v at)
 
 -- each edge of the tables fits
-all_fit : (for_run : Bool) (names : Names) (n : ℕ) (listed : List ℕ) (ds : Items)
+all_fit : (for_run : Bool) (names : SeenNames) (n : ℕ) (listed : List ℕ) (ds : Items)
     → edges_faults for_run names n ds ≡ [] → (x : EdgeConfig) → Contains (map (edge_of listed) (tables_of ds)) x
     → (t : Members) × Fits listed t × (edge_of listed t ≡ x)
 all_fit for_run names n listed no_items h x (i, l, e) = absurd (omega (arith, l))

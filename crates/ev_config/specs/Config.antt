@@ -9,7 +9,7 @@ use Rattle.arrayvec.specs.ArrayVec.{ArrayVec}
 use Rattle.ev_edge.specs.declared.config.EdgeConfig.{EdgeConfig}
 use Rattle.ev_config.specs.declared.endpoint.PortEndpoints.{PortEndpoints}
 use Rattle.ev_config.specs.declared.whole.Config.{Config}
-use Rattle.ev_config.specs.declared.whole.Served.{Served}
+use Rattle.ev_config.specs.declared.whole.ServedConfig.{ServedConfig}
 use Rattle.ev_config.specs.declared.whole.Use.{Use}
 use Rattle.ev_config.specs.declared.whole.Use.TheVariants.{Any, Run, Serve}
 use Rattle.ev_config.specs.declared.config.ConfigRefusal.{ConfigRefusal}
@@ -86,10 +86,10 @@ served_faults = faults_in Serve
 abbrev pub served_in : Members → Result ServedWhole Key
 served_in t = unless_faulty (served_faults t) (served_whole t)
 
-abbrev pub served_view : Served → ServedWhole
+abbrev pub served_view : ServedConfig → ServedWhole
 served_view s = (view_of s.config, (string_bytes s.control, (s.idle, s.hold)))
 
-abbrev pub ServedOf : List ℕ → Result Served ConfigRefusal → Type 0
+abbrev pub ServedOf : List ℕ → Result ServedConfig ConfigRefusal → Type 0
 ServedOf = TextGives served_view served_in
 
 -- the configuration of the edges alone

@@ -1,11 +1,15 @@
 -- The ports of an edge: the values of their tables.
-use Rattle.std.specs.Prelude.{true, false, Some, codes}
+use Rattle.std.specs.Prelude.{ℕ, ◌==◌, true, false, Option, Some, None, codes, if◌then◌else◌}
 use Rattle.std.specs.Option.{unwrap_or}
 use Rattle.toml.specs.Data.{Members}
 use Rattle.ev_edge.specs.declared.config.PortConfig.{PortConfig}
 use Rattle.ev_config.specs.declared.endpoint.PortEndpoints.{PortEndpoints}
-use Rattle.ev_config.specs.Schema.{cost, port_priority, stations, new_stations}
+use Rattle.ev_config.specs.Schema.{cost, port_priority, stations, new_stations, storm}
 use Rattle.ev_config.specs.Keys.{spelt, vni_in, endpoint_in, number_at, flag_at}
+
+-- 0 is no limit
+abbrev pub storm_limit : ℕ → Option ℕ
+storm_limit n = if n == 0 then None else Some n
 
 abbrev pub port_of : Members → PortConfig
 port_of t = record {
@@ -20,6 +24,7 @@ port_of t = record {
   limits = record {
     stations = Some (number_at (codes "stations") stations t);
     new_stations = Some (number_at (codes "new_stations") new_stations t);
+    storm = storm_limit (number_at (codes "storm") storm t);
   };
 }
 

@@ -6,8 +6,8 @@ use Rattle.ether_wire.specs.Parse.{◌>>=◌}
 use Rattle.std.specs.List.{list_any}
 use Rattle.std.specs.Str.{bytes_eq}
 use Rattle.toml.specs.Data.{Data, Items, no_items, item, Members, get_member, as_table}
-use Rattle.ev_config.specs.declared.schema.Kind.{Kind}
-use Rattle.ev_config.specs.declared.schema.Kind.TheVariants as kind
+use Rattle.ev_config.specs.declared.schema.KeyKind.{KeyKind}
+use Rattle.ev_config.specs.declared.schema.KeyKind.TheVariants as kind
 use Rattle.ev_config.specs.declared.whole.Use.{Use}
 use Rattle.ev_config.specs.declared.whole.Use.TheVariants.{Any, Run, Serve}
 use Rattle.ev_config.specs.Schema.{Key, Row, hello, max_age, forward_delay}
@@ -28,18 +28,18 @@ abbrev pub Faulty : Type 0
 Faulty = Spot × Key
 
 -- the addresses and the bridges that tables spell
-pub record Names : Type 0 where
+pub record SeenNames : Type 0 where
   pub addresses : List ℕ
   pub bridges : List ℕ
 
-abbrev pub no_names : Names
+abbrev pub no_names : SeenNames
 no_names = record { addresses = []; bridges = [] }
 
 -- the conditions on the values of a table: whether the document is for a run, the names of the tables before, the VNIs
 -- of the edge, if they are known, and the number of edges
 pub record Context : Type 0 where
   pub for_run : Bool
-  pub names : Names
+  pub names : SeenNames
   pub vnis : Option (List ℕ)
   pub edges : ℕ
 
@@ -52,7 +52,7 @@ is_known None (Some n) = true
 is_known (Some vnis) (Some n) = list_any (λ x. x == n) vnis
 
 -- the value is one of this kind
-abbrev pub is_right : Context → Kind → Data → Bool
+abbrev pub is_right : Context → KeyKind → Data → Bool
 is_right c kind.Address d = is_some (new_among c.names.addresses (addr_in d))
 is_right c kind.Bridge d = is_some (new_among c.names.bridges (bridge_in d))
 is_right c kind.Vnis d = is_some (vnis_in d)
@@ -65,7 +65,7 @@ is_right c kind.Tables d = is_some (tables_in d)
 is_right c kind.Peers d = is_some (tables_beside c.edges d)
 
 -- the key may not be missing
-abbrev pub is_needed : Context → Kind → Bool
+abbrev pub is_needed : Context → KeyKind → Bool
 is_needed c (kind.Number range) = false
 is_needed c (kind.Flag default) = false
 is_needed c kind.Peers = false
@@ -77,7 +77,7 @@ is_needed c kind.Vni = true
 is_needed c kind.Path = true
 is_needed c kind.Tables = true
 
-abbrev pub is_faulty_at : Context → Kind → Option Data → Bool
+abbrev pub is_faulty_at : Context → KeyKind → Option Data → Bool
 is_faulty_at c k None = is_needed c k
 is_faulty_at c k (Some d) = not (is_right c k d)
 
@@ -140,7 +140,7 @@ edge_faults_by c n t = table_faults c (Edge n) edge_rows t
     ++ ports_faults c n 1 (tables_at (codes "port") t))
 
 -- the faults of an edge with this number, given the names before it
-abbrev pub edge_faults : Bool → Names → ℕ → Option Members → List Faulty
+abbrev pub edge_faults : Bool → SeenNames → ℕ → Option Members → List Faulty
 edge_faults for_run names n None = []
 edge_faults for_run names n (Some t) =
     edge_faults_by (record { for_run = for_run; names = names; vnis = spelt (codes "vnis") vnis_in t; edges = 0 }) n t
@@ -153,7 +153,7 @@ joined before None = before
 joined before (Some n) = before ++ n ∷ []
 
 -- with the names that a table spells
-abbrev pub after : Names → Option Members → Names
+abbrev pub after : SeenNames → Option Members → SeenNames
 after names None = names
 after names (Some t) = record {
   addresses = joined names.addresses (spelt (codes "address") addr_in t);
@@ -161,23 +161,23 @@ after names (Some t) = record {
 }
 
 -- with those of all tables
-abbrev pub after_all : Names → Items → Names
+abbrev pub after_all : SeenNames → Items → SeenNames
 after_all names no_items = names
 after_all names (item d ds) = after_all (after names (as_table d)) ds
 
 -- the faults of the edges, the first of which has this number
-abbrev pub edges_faults : Bool → Names → ℕ → Items → List Faulty
+abbrev pub edges_faults : Bool → SeenNames → ℕ → Items → List Faulty
 edges_faults for_run names n no_items = []
 edges_faults for_run names n (item d ds) = edge_faults for_run names n (as_table d)
     ++ edges_faults for_run (after names (as_table d)) (n + 1) ds
 
-abbrev pub peer_faults : Names → ℕ → Option Members → List Faulty
+abbrev pub peer_faults : SeenNames → ℕ → Option Members → List Faulty
 peer_faults names n None = []
 peer_faults names n (Some t) =
     table_faults (record { for_run = true; names = names; vnis = None; edges = 0 }) (Peer n) peer_rows t
 
 -- the faults of the peers, the first of which has this number, given the names before it
-abbrev pub peers_faults : Names → ℕ → Items → List Faulty
+abbrev pub peers_faults : SeenNames → ℕ → Items → List Faulty
 peers_faults names n no_items = []
 peers_faults names n (item d ds) = peer_faults names n (as_table d)
     ++ peers_faults (after names (as_table d)) (n + 1) ds
@@ -220,11 +220,11 @@ abbrev pub peer_items : Use → Members → Items
 peer_items wanted t = peers_beside wanted (count_of (edge_items t)) t
 
 -- the names of all edges
-abbrev pub edge_names : Members → Names
+abbrev pub edge_names : Members → SeenNames
 edge_names t = after_all no_names (edge_items t)
 
 -- the names of all edges and all peers
-abbrev pub names_in : Use → Members → Names
+abbrev pub names_in : Use → Members → SeenNames
 names_in wanted t = after_all (edge_names t) (peer_items wanted t)
 
 -- the faults of a document for a use: of its own keys, of its edges, of its peers

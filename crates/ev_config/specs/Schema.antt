@@ -1,15 +1,15 @@
 -- The keys of a configuration, a row each: the key and the kind of its value, in the order of the faults.
 use Rattle.std.specs.Prelude.{ℕ, ◌-◌, ◌^◌, true, false, List, [], ◌∷◌, codes}
 use Rattle.ev_config.specs.declared.schema.Range.{Range}
-use Rattle.ev_config.specs.declared.schema.Kind.{Kind}
-use Rattle.ev_config.specs.declared.schema.Kind.TheVariants as kind
+use Rattle.ev_config.specs.declared.schema.KeyKind.{KeyKind}
+use Rattle.ev_config.specs.declared.schema.KeyKind.TheVariants as kind
 
 -- a key's octets
 abbrev pub Key : Type 0
 Key = List ℕ
 
 abbrev pub Row : Type 0
-Row = Key × Kind
+Row = Key × KeyKind
 
 -- from low to high; the default, if the key is missing
 abbrev pub range : ℕ → ℕ → ℕ → Range
@@ -77,6 +77,10 @@ stations = range 1 65536 512
 abbrev pub new_stations : Range
 new_stations = range 1 (2 ^ 32 - 1) 256
 
+-- of group and unknown frames in a second; 0 is no limit
+abbrev pub storm : Range
+storm = range 0 (2 ^ 32 - 1) 0
+
 -- ---- tables
 
 abbrev pub file_rows : List Row
@@ -118,6 +122,7 @@ port_rows =
     ∷ (codes "point_to_point", kind.Flag true)
     ∷ (codes "stations", kind.Number stations)
     ∷ (codes "new_stations", kind.Number new_stations)
+    ∷ (codes "storm", kind.Number storm)
     ∷ (codes "local", kind.Endpoint)
     ∷ (codes "remote", kind.Endpoint) ∷ []
 

@@ -9,8 +9,8 @@ use Rattle.ether_wire.specs.declared.ends.Device.{Device}
 use Rattle.ether_wire.specs.Ends.{End, with_text, Puts}
 use Rattle.ev_config.specs.declared.whole.Use.{Use}
 use Rattle.ev_config.specs.declared.schema.Range.{Range}
-use Rattle.ev_config.specs.declared.schema.Kind.{Kind}
-use Rattle.ev_config.specs.declared.schema.Kind.TheVariants as kind
+use Rattle.ev_config.specs.declared.schema.KeyKind.{KeyKind}
+use Rattle.ev_config.specs.declared.schema.KeyKind.TheVariants as kind
 use Rattle.ev_config.specs.Schema.{Key, Row, vni}
 use Rattle.ev_config.specs.Faults.{Spot, File, Edge, Port, Peer, Faulty, faults_in, find_row, rows_at}
 
@@ -56,7 +56,7 @@ abbrev pub span_text : Range → List ℕ
 span_text range = decimal range.0 ++ codes " to " ++ decimal range.1 ++ steps_text range.2
 
 -- the values that a kind allows, if that is a range
-abbrev pub kind_text : Kind → List ℕ
+abbrev pub kind_text : KeyKind → List ℕ
 kind_text (kind.Number range) = codes "allowed are " ++ span_text range
 kind_text kind.Vnis = codes "allowed are 1 to 64 different numbers, " ++ span_text vni
 kind_text any = []

@@ -1,9 +1,9 @@
 //! The advice about a faulty key: its value, why it is wrong, and which key was meant. Its text is
 //! tested, not proved.
 use crate::allowed::{rows_of, words_of};
+use crate::document_table::DocumentTable;
 use crate::hints::{meant, put_hint};
-use crate::line::Line;
-use crate::place::Place;
+use crate::message_buffer::MessageBuffer;
 use crate::schema::{MAX_AGE, Range};
 use crate::values::{addr_in, bridge_in, tables_at, vni_in};
 use crate::whole::Use;
@@ -13,7 +13,7 @@ use toml::value::Array;
 use toml::{Table, Value};
 
 /// Writes the value of a key.
-fn put_value(line: &mut Line, value: &Value) {
+fn put_value(line: &mut MessageBuffer, value: &Value) {
     match value {
         Value::String(text) => {
             line.put(b"'");
@@ -33,25 +33,25 @@ fn put_value(line: &mut Line, value: &Value) {
 }
 
 /// Writes the number of a table of this name: `edge 2`.
-fn put_place(line: &mut Line, name: &[u8], number: usize) {
+fn put_place(line: &mut MessageBuffer, name: &[u8], number: usize) {
     line.put(name);
     line.put(b" ");
     line.put_number(number as u64);
 }
 
 /// Returns the table of a place.
-fn table_of(place: Place<'_>) -> &Table {
+fn table_of(place: DocumentTable<'_>) -> &Table {
     match place {
-        Place::File(table)
-        | Place::Edge(_, table)
-        | Place::Port(_, _, table)
-        | Place::Peer(_, table) => table,
+        DocumentTable::File(table)
+        | DocumentTable::Edge(_, table)
+        | DocumentTable::Port(_, _, table)
+        | DocumentTable::Peer(_, table) => table,
     }
 }
 
 /// Writes the message for a missing key. Of the optional keys only `max_age` can be faulty when it
 /// is missing.
-fn put_absent(line: &mut Line, key: &str) {
+fn put_absent(line: &mut MessageBuffer, key: &str) {
     if key == "max_age" {
         let Range(_, _, _, default) = MAX_AGE;
         line.put(b" is ");
@@ -98,14 +98,14 @@ fn twin_among(
 /// array, and its number from 1.
 fn twin_of(
     document: &Table,
-    place: Place<'_>,
+    place: DocumentTable<'_>,
     key: &str,
     value: &Value,
 ) -> Option<(&'static [u8], usize)> {
     let (edges, peers) = match place {
-        Place::Edge(edge, _) => (edge.saturating_sub(1), 0),
-        Place::Peer(peer, _) => (usize::MAX, peer.saturating_sub(1)),
-        Place::File(_) | Place::Port(..) => return None,
+        DocumentTable::Edge(edge, _) => (edge.saturating_sub(1), 0),
+        DocumentTable::Peer(peer, _) => (usize::MAX, peer.saturating_sub(1)),
+        DocumentTable::File(_) | DocumentTable::Port(..) => return None,
     };
     match twin_among(document, "edge", edges, key, value) {
         Some(number) => Some((b"edge", number)),
@@ -114,11 +114,11 @@ fn twin_of(
 }
 
 /// Writes why a table is wrong, if that is known.
-fn put_table_reason(line: &mut Line, place: Place<'_>, key: &str) {
+fn put_table_reason(line: &mut MessageBuffer, place: DocumentTable<'_>, key: &str) {
     match (place, key) {
-        (Place::File(_), "edge") => line.put(b", as [edge] writes one"),
-        (Place::File(_), "peer") => line.put(b", as [peer] writes one"),
-        (Place::Edge(..), "port") => line.put(b", as [edge.port] writes one"),
+        (DocumentTable::File(_), "edge") => line.put(b", as [edge] writes one"),
+        (DocumentTable::File(_), "peer") => line.put(b", as [peer] writes one"),
+        (DocumentTable::Edge(..), "port") => line.put(b", as [edge.port] writes one"),
         _ => (),
     }
 }
@@ -145,7 +145,7 @@ fn odd_element(array: &Array) -> Option<(usize, &Value)> {
 }
 
 /// Writes which element of an array of VNIs is wrong: `, whose element 1 is '5001'`.
-fn put_array_reason(line: &mut Line, array: &Array) {
+fn put_array_reason(line: &mut MessageBuffer, array: &Array) {
     if let Some((number, value)) = odd_element(array) {
         put_place(line, b", whose element", number);
         line.put(b" is ");
@@ -154,7 +154,13 @@ fn put_array_reason(line: &mut Line, array: &Array) {
 }
 
 /// Writes why a value is wrong, if that is known.
-fn put_reason(line: &mut Line, document: &Table, place: Place<'_>, key: &str, value: &Value) {
+fn put_reason(
+    line: &mut MessageBuffer,
+    document: &Table,
+    place: DocumentTable<'_>,
+    key: &str,
+    value: &Value,
+) {
     match value {
         Value::String(text) => match twin_of(document, place, key, value) {
             Some((name, number)) => {
@@ -171,8 +177,8 @@ fn put_reason(line: &mut Line, document: &Table, place: Place<'_>, key: &str, va
 }
 
 /// Returns the value of a faulty key, and why that is wrong, if it is known.
-pub(crate) fn found_line(document: &Table, place: Place<'_>, key: &str) -> Line {
-    let mut line = Line::new();
+pub(crate) fn found_line(document: &Table, place: DocumentTable<'_>, key: &str) -> MessageBuffer {
+    let mut line = MessageBuffer::new();
     match table_of(place).get(key) {
         Some(value) => {
             line.put(b" is ");
@@ -186,8 +192,13 @@ pub(crate) fn found_line(document: &Table, place: Place<'_>, key: &str) -> Line 
 
 /// Returns the allowed values of a key, or what follows their range, and the key that was meant by
 /// an unknown one, if there is one.
-pub(crate) fn advice_line(alloc: Global, wanted: Use, place: Place<'_>, key: &str) -> Line {
-    let mut line = Line::new();
+pub(crate) fn advice_line(
+    alloc: Global,
+    wanted: Use,
+    place: DocumentTable<'_>,
+    key: &str,
+) -> MessageBuffer {
+    let mut line = MessageBuffer::new();
     line.put(words_of(wanted, place, key).as_bytes());
     match meant(alloc, rows_of(wanted, place), key) {
         Some(known) if known != key => {

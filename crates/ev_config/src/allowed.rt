@@ -5,27 +5,26 @@ ghost use Rattle.ev_config.specs.Faults.{rows_at};
 ghost use Rattle.ev_config.specs.Told.{numbered, steps_text, span_text, kind_text, row_text};
 ghost use Rattle.ev_config.specs.Inner.Faults.{spot_of, row_of};
 
+use crate::document_table::DocumentTable;
 use crate::faults::row_at;
-use crate::place::Place;
-use crate::schema::{EDGE, Kind, PEER, PORT, Range, Row, SERVED, VNI};
+use crate::schema::{EDGE, KeyKind, PEER, PORT, Range, Row, SERVED, VNI};
 use crate::walk::file_rows;
 use crate::whole::Use;
 use ether_wire::{Device, Out, put_decimal};
 
 /// Returns the rows of a table.
-pub(crate) fn rows_of(wanted: Use, place: Place<'_>) -> &'static [Row]
+pub(crate) fn rows_of(wanted: Use, place: DocumentTable<'_>) -> &'static [Row]
     ensures { map row_of result.now ≡ rows_at wanted (spot_of place.entry) }
 {
     match place {
-        Place::File(_) => file_rows(wanted),
-        Place::Edge(..) => &EDGE,
-        Place::Port(..) => &PORT,
-        Place::Peer(..) => &PEER,
+        DocumentTable::File(_) => file_rows(wanted),
+        DocumentTable::Edge(..) => &EDGE,
+        DocumentTable::Port(..) => &PORT,
+        DocumentTable::Peer(..) => &PEER,
     }
 }
 
 /// Writes a name and a number: `edge 2`.
-#[tactic(auto, using(ether_wire::proofs::Appending::with_text_twice))]
 pub(crate) fn put_number<N: Out>(notes: &mut N, name: &[u8], number: usize) -> Result<(), Device>
     requires { IsOpen (N.end notes.old) }
     ensures { Puts (N.end notes.old) (N.end notes.new) (numbered name.now number) result }
@@ -35,7 +34,6 @@ pub(crate) fn put_number<N: Out>(notes: &mut N, name: &[u8], number: usize) -> R
 }
 
 /// Writes the steps of a range, if it has any: ` in steps of 16`.
-#[tactic(auto, using(ether_wire::proofs::Appending::with_text_none))]
 fn put_steps<N: Out>(notes: &mut N, step: u64) -> Result<(), Device>
     requires { IsOpen (N.end notes.old) }
     ensures { Puts (N.end notes.old) (N.end notes.new) (steps_text step) result }
@@ -47,7 +45,6 @@ fn put_steps<N: Out>(notes: &mut N, step: u64) -> Result<(), Device>
 }
 
 /// Writes a range: `0 to 240 in steps of 16`.
-#[tactic(auto, using(ether_wire::proofs::Appending::with_text_twice))]
 fn put_span<N: Out>(notes: &mut N, range: Range) -> Result<(), Device>
     requires { IsOpen (N.end notes.old) }
     ensures { Puts (N.end notes.old) (N.end notes.new) (span_text range) result }
@@ -59,7 +56,6 @@ fn put_span<N: Out>(notes: &mut N, range: Range) -> Result<(), Device>
 }
 
 /// Writes words and a range.
-#[tactic(auto, using(ether_wire::proofs::Appending::with_text_twice))]
 fn put_lead<N: Out>(notes: &mut N, words: &[u8], range: Range) -> Result<(), Device>
     requires { IsOpen (N.end notes.old) }
     ensures { Puts (N.end notes.old) (N.end notes.new) (words.now ++ span_text range) result }
@@ -69,20 +65,18 @@ fn put_lead<N: Out>(notes: &mut N, words: &[u8], range: Range) -> Result<(), Dev
 }
 
 /// Writes the values that a kind allows, if that is a range.
-#[tactic(auto, using(ether_wire::proofs::Appending::with_text_none))]
-fn put_kind<N: Out>(notes: &mut N, kind: Kind) -> Result<(), Device>
+fn put_kind<N: Out>(notes: &mut N, kind: KeyKind) -> Result<(), Device>
     requires { IsOpen (N.end notes.old) }
     ensures { Puts (N.end notes.old) (N.end notes.new) (kind_text kind) result }
 {
     match kind {
-        Kind::Number(range) => put_lead(notes, b"allowed are ", range),
-        Kind::Vnis => put_lead(notes, b"allowed are 1 to 64 different numbers, ", VNI),
+        KeyKind::Number(range) => put_lead(notes, b"allowed are ", range),
+        KeyKind::Vnis => put_lead(notes, b"allowed are 1 to 64 different numbers, ", VNI),
         _ => Ok(()),
     }
 }
 
 /// Writes the range that a row allows, if it has one.
-#[tactic(auto, using(ether_wire::proofs::Appending::with_text_none))]
 pub(crate) fn put_range<N: Out>(notes: &mut N, row: Option<Row>) -> Result<(), Device>
     requires { IsOpen (N.end notes.old) }
     ensures { Puts (N.end notes.old) (N.end notes.new) (row_text (option_map row_of row)) result }
@@ -94,20 +88,20 @@ pub(crate) fn put_range<N: Out>(notes: &mut N, row: Option<Row>) -> Result<(), D
 }
 
 /// Returns the message for a key that no row of the table has.
-fn unknown(wanted: Use, place: Place<'_>, key: &str) -> &'static str {
+fn unknown(wanted: Use, place: DocumentTable<'_>, key: &str) -> &'static str {
     match place {
-        Place::File(_) if wanted != Use::Serve && row_at(&SERVED, key).is_some() => {
+        DocumentTable::File(_) if wanted != Use::Serve && row_at(&SERVED, key).is_some() => {
             "which is a key of what `serve` runs alone"
         }
-        Place::File(_) => "which is no key of the file",
-        Place::Edge(..) => "which is no key of an edge",
-        Place::Port(..) => "which is no key of a port",
-        Place::Peer(..) => "which is no key of a peer",
+        DocumentTable::File(_) => "which is no key of the file",
+        DocumentTable::Edge(..) => "which is no key of an edge",
+        DocumentTable::Port(..) => "which is no key of a port",
+        DocumentTable::Peer(..) => "which is no key of a peer",
     }
 }
 
 /// Returns the allowed values of a key, or what follows their range.
-pub(crate) fn words_of(wanted: Use, place: Place<'_>, key: &str) -> &'static str {
+pub(crate) fn words_of(wanted: Use, place: DocumentTable<'_>, key: &str) -> &'static str {
     match row_at(rows_of(wanted, place), key) {
         Some(Row(_, _, words)) => words,
         None => unknown(wanted, place, key),

@@ -13,7 +13,7 @@ use crate::faults::FaultyKey;
 use crate::schema::{IDLE, PEER_HOLD};
 use crate::values::{number, path_at, tables_at};
 use crate::walk::walk;
-use crate::whole::{Config, Served, Use};
+use crate::whole::{Config, ServedConfig, Use};
 use arrayvec::ArrayVec;
 use ether_wire::Addr;
 use std::alloc::{AllocError, Global};
@@ -88,13 +88,13 @@ fn whole_in(alloc: Global, wanted: Use, document: &Table) -> Result<Config, Conf
 }
 
 /// Returns the configuration of a document of edges that answer queries while they run.
-fn served_in(alloc: Global, document: &Table) -> Result<Served, ConfigRefusal>
+fn served_in(alloc: Global, document: &Table) -> Result<ServedConfig, ConfigRefusal>
     ensures value { Gives served_view (served_in (table_view document.now)) result }
     ensures opens { IfOk result (λ s. AreConfigs s.config.edges.items) }
 {
     let config = whole_in(alloc, Use::Serve, document)?;
     let control = String::from_str(alloc, path_at(document, "control").unwrap_or(""))?;
-    Ok(Served {
+    Ok(ServedConfig {
         config,
         control,
         idle: number(document, "idle", IDLE),
@@ -125,7 +125,7 @@ pub fn config_of(alloc: Global, text: &str, for_run: bool) -> Result<Config, Con
 /// # Errors
 ///
 /// As for `config_of`.
-pub fn served_config_of(alloc: Global, text: &str) -> Result<Served, ConfigRefusal>
+pub fn served_config_of(alloc: Global, text: &str) -> Result<ServedConfig, ConfigRefusal>
     ensures value { ServedOf text.now result }
     ensures opens { IfOk result (λ s. AreConfigs s.config.edges.items) }
 {
@@ -139,7 +139,7 @@ fn served_edges_of(alloc: Global, text: &str) -> Result<Config, ConfigRefusal>
 {
     match served_config_of(alloc, text) {
         Ok(served) => {
-            let Served {
+            let ServedConfig {
                 config,
                 control: _path,
                 idle: _seconds,

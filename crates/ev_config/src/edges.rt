@@ -2,14 +2,14 @@
 ghost use Rattle.std.specs.Prelude.{◌≡◌, ◌≤◌, length, map, codes, IfOk};
 ghost use Rattle.toml.specs.View.{table_view, array_view};
 ghost use Rattle.ev_config.specs.Keys.{tables_at, tables_of};
-ghost use Rattle.ev_config.specs.ConfigPort.{port_of, link_of};
+ghost use Rattle.ev_config.specs.ConfigPort.{storm_limit, port_of, link_of};
 ghost use Rattle.ev_config.specs.ConfigEdge.{tree_of, edge_of, links_of};
 ghost use Rattle.ev_config.specs.Config.{edges_of, view_of};
 
 use crate::endpoint::{Endpoint, PortEndpoints};
 use crate::schema::{
     AGEING, BUCKETS, CAPACITY, COST, FORWARD_DELAY, HELLO, HOLD, INCARNATION, MAX_AGE,
-    NEW_STATIONS, PORT_PRIORITY, PRIORITY, SALT, STATIONS,
+    NEW_STATIONS, PORT_PRIORITY, PRIORITY, SALT, STATIONS, STORM,
 };
 use crate::values::{
     address_at, bridge_at, endpoint_at, flag, number, number_or, tables_at, vni_at, vnis_at,
@@ -19,10 +19,17 @@ use arrayvec::ArrayVec;
 use bpdu_wire::BridgeId;
 use ether_wire::{Addr, Mac, Vni};
 use ev_edge::{EdgeConfig, Limits, PortConfig};
-use rstp_state::start::{PortSettings, Settings};
+use rstp_state::{PortSettings, Settings};
 use std::alloc::{AllocError, Global};
 use toml::Table;
 use toml::value::Array;
+
+/// Returns the storm limit of a value: none for 0.
+fn storm_limit(frames: u64) -> Option<u64>
+    ensures { result ≡ storm_limit frames }
+{
+    if frames == 0 { None } else { Some(frames) }
+}
 
 /// Returns the port of a table.
 fn port_of(table: &Table) -> PortConfig
@@ -40,6 +47,7 @@ fn port_of(table: &Table) -> PortConfig
         limits: Limits {
             stations: Some(number(table, "stations", STATIONS)),
             new_stations: Some(number(table, "new_stations", NEW_STATIONS)),
+            storm: storm_limit(number(table, "storm", STORM)),
         },
     }
 }
@@ -54,7 +62,6 @@ fn link_of(table: &Table) -> PortEndpoints
 }
 
 /// Returns the ports of these tables.
-#[tactic(auto, using(crate::proofs::Walking::items_more))]
 fn ports_of(tables: &Array) -> ArrayVec<PortConfig, 64>
     requires { length tables.now.items ≤ 64 }
     ensures { result.items ≡ map port_of (tables_of (array_view tables.now)) }
@@ -80,7 +87,6 @@ fn ports_at(table: &Table) -> ArrayVec<PortConfig, 64>
 }
 
 /// Returns the endpoints of these tables of ports.
-#[tactic(auto, using(crate::proofs::Walking::items_more))]
 fn links_of(tables: &Array) -> ArrayVec<PortEndpoints, 64>
     requires { length tables.now.items ≤ 64 }
     ensures { result.items ≡ map link_of (tables_of (array_view tables.now)) }
@@ -149,7 +155,6 @@ fn edge_of(listed: &ArrayVec<Addr, 64>, table: &Table) -> EdgeConfig
 }
 
 /// Returns the configuration of these tables, each edge of which lists these addresses.
-#[tactic(auto, using(crate::proofs::Walking::items_more))]
 pub(crate) fn edges_of(
     alloc: Global,
     listed: &ArrayVec<Addr, 64>,

@@ -5,8 +5,8 @@ ghost use Rattle.ev_config.specs.Keys.{vni_in, keys_of};
 ghost use Rattle.ev_config.specs.Faults.{is_known, is_right, is_needed, is_faulty, fault_if, rows_faults, find_row, unknown, table_faults};
 ghost use Rattle.ev_config.specs.Inner.Faults.{spot_of, Adds, row_of, context_view};
 
-use crate::place::{Context, Place};
-use crate::schema::{Kind, Row};
+use crate::document_table::{Context, DocumentTable};
+use crate::schema::{KeyKind, Row};
 use crate::values::{
     endpoint_in, has_vni, number_in, path_in, tables_beside, tables_in, value_at, vni_in, vnis_in,
 };
@@ -19,7 +19,7 @@ use toml::{Table, Value};
 #[derive(Clone, Copy, Drop)]
 pub(crate) struct FaultyKey<'a> {
     /// The place of its table.
-    pub(crate) place: Place<'a>,
+    pub(crate) place: DocumentTable<'a>,
     /// The key.
     pub(crate) key: &'a str,
 }
@@ -38,31 +38,36 @@ fn is_known(known: &Option<ArrayVec<Vni, 64>>, value: &Value) -> bool
 }
 
 /// Returns `true` if a value is one of this kind.
-fn is_right(context: &Context<'_>, kind: Kind, value: &Value) -> bool
+fn is_right(context: &Context<'_>, kind: KeyKind, value: &Value) -> bool
     ensures { result ≡ is_right (context_view context.now) kind (view value.now) }
 {
     match kind {
-        Kind::Address => context.names.is_new_address(value),
-        Kind::Bridge => context.names.is_new_bridge(value),
-        Kind::Vnis => vnis_in(value).is_some(),
-        Kind::Vni => is_known(&context.vnis, value),
-        Kind::Number(range) => number_in(value, range).is_some(),
-        Kind::Flag(_) => value.as_bool().is_some(),
-        Kind::Endpoint => endpoint_in(value).is_some(),
-        Kind::Path => path_in(value).is_some(),
-        Kind::Tables => tables_in(value).is_some(),
-        Kind::Peers => tables_beside(value, context.edges).is_some(),
+        KeyKind::Address => context.names.is_new_address(value),
+        KeyKind::Bridge => context.names.is_new_bridge(value),
+        KeyKind::Vnis => vnis_in(value).is_some(),
+        KeyKind::Vni => is_known(&context.vnis, value),
+        KeyKind::Number(range) => number_in(value, range).is_some(),
+        KeyKind::Flag(_) => value.as_bool().is_some(),
+        KeyKind::Endpoint => endpoint_in(value).is_some(),
+        KeyKind::Path => path_in(value).is_some(),
+        KeyKind::Tables => tables_in(value).is_some(),
+        KeyKind::Peers => tables_beside(value, context.edges).is_some(),
     }
 }
 
 /// Returns `true` if a key of this kind may not be missing.
-fn is_needed(context: &Context<'_>, kind: Kind) -> bool
+fn is_needed(context: &Context<'_>, kind: KeyKind) -> bool
     ensures { result ≡ is_needed (context_view context.now) kind }
 {
     match kind {
-        Kind::Number(_) | Kind::Flag(_) | Kind::Peers => false,
-        Kind::Endpoint => context.for_run,
-        Kind::Address | Kind::Bridge | Kind::Vnis | Kind::Vni | Kind::Path | Kind::Tables => true,
+        KeyKind::Number(_) | KeyKind::Flag(_) | KeyKind::Peers => false,
+        KeyKind::Endpoint => context.for_run,
+        KeyKind::Address
+        | KeyKind::Bridge
+        | KeyKind::Vnis
+        | KeyKind::Vni
+        | KeyKind::Path
+        | KeyKind::Tables => true,
     }
 }
 
@@ -81,7 +86,7 @@ fn is_faulty(context: &Context<'_>, row: Row, table: &Table) -> bool
 pub(crate) fn add_if<'a>(
     is_fault: bool,
     faults: &mut Vec<FaultyKey<'a>>,
-    place: Place<'a>,
+    place: DocumentTable<'a>,
     key: &'a str,
 ) -> Result<(), AllocError>
     ensures { Adds (fault_if is_fault (spot_of place.entry) key.now) faults.old.items
@@ -97,7 +102,7 @@ pub(crate) fn add_if<'a>(
 fn add_rows<'a>(
     faults: &mut Vec<FaultyKey<'a>>,
     context: &Context<'_>,
-    place: Place<'a>,
+    place: DocumentTable<'a>,
     rows: &[Row],
     table: &'a Table,
 ) -> Result<(), AllocError>
@@ -125,7 +130,7 @@ pub(crate) fn row_at(rows: &[Row], key: &str) -> Option<Row>
 /// Collects the keys of a table that no row has.
 fn add_unknown<'a>(
     faults: &mut Vec<FaultyKey<'a>>,
-    place: Place<'a>,
+    place: DocumentTable<'a>,
     rows: &[Row],
     table: &'a Table,
 ) -> Result<(), AllocError>
@@ -147,7 +152,7 @@ fn add_unknown<'a>(
 pub(crate) fn add_table<'a>(
     faults: &mut Vec<FaultyKey<'a>>,
     context: &Context<'_>,
-    place: Place<'a>,
+    place: DocumentTable<'a>,
     rows: &[Row],
     table: &'a Table,
 ) -> Result<(), AllocError>

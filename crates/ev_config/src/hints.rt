@@ -1,7 +1,7 @@
 //! Hints about the wrong part of a value, and about the key that was meant. Their texts are tested,
 //! not proved.
 
-use crate::line::Line;
+use crate::message_buffer::MessageBuffer;
 use crate::schema::Row;
 use ether_wire::{Mac, parted, read_decimal};
 use std::alloc::Global;
@@ -122,7 +122,7 @@ fn hint_of<'a>(key: &str, text: &'a [u8]) -> Option<Hint<'a>> {
 }
 
 /// Writes the fault of a part.
-fn put_flaw(line: &mut Line, flaw: Flaw) {
+fn put_flaw(line: &mut MessageBuffer, flaw: Flaw) {
     match flaw {
         Flaw::LeadingZero => line.put(b" has a leading zero"),
         Flaw::UpperCase => line.put(b" isn't in lower case"),
@@ -134,7 +134,7 @@ fn put_flaw(line: &mut Line, flaw: Flaw) {
 }
 
 /// Writes which part of a text is wrong: `, whose octet 02 has a leading zero`.
-fn put_part(line: &mut Line, hint: Hint<'_>) {
+fn put_part(line: &mut MessageBuffer, hint: Hint<'_>) {
     line.put(b", whose ");
     line.put(hint.name.as_bytes());
     line.put(b" ");
@@ -151,7 +151,7 @@ fn is_group(text: &[u8]) -> bool {
 }
 
 /// Writes the fault of a text at a key, if it is known.
-pub(crate) fn put_hint(line: &mut Line, key: &str, text: &str) {
+pub(crate) fn put_hint(line: &mut MessageBuffer, key: &str, text: &str) {
     if key == "bridge" && is_group(text.as_bytes()) {
         line.put(b", the address of a group");
     } else if let Some(hint) = hint_of(key, text.as_bytes()) {

@@ -1,19 +1,19 @@
 //! The configuration: the edges that a TOML text describes, or where it is wrong.
-#![tactic(auto)]
+#![tactic(auto, using(ether_wire::proofs::Appending::with_text_twice, ether_wire::proofs::Appending::with_text_none, crate::proofs::Walking::items_more, crate::proofs::Walking::count_of_view, crate::proofs::Lines::faults_told, crate::proofs::Lines::text_told, crate::proofs::Counting::served_more, crate::proofs::Counting::again, crate::proofs::Counting::vnis_more))]
 
 mod advice;
 mod allowed;
 mod config;
+mod document_table;
 mod edges;
 mod endpoint;
 mod faults;
 mod hints;
 mod laws;
-mod line;
-mod names;
-mod place;
+mod message_buffer;
 mod refusal;
 mod schema;
+mod seen_names;
 mod summary;
 mod values;
 mod walk;
@@ -24,4 +24,4 @@ pub use endpoint::{Endpoint, PortEndpoints};
 pub use laws::readings_agree;
 pub use refusal::put_refusal;
 pub use summary::put_summary;
-pub use whole::{Config, Served, Use};
+pub use whole::{Config, ServedConfig, Use};

@@ -11,9 +11,9 @@ ghost use Rattle.ev_config.specs.Inner.Told.{PutsKey, TellsFault, TellsFaults, l
 
 use crate::advice::{advice_line, found_line};
 use crate::allowed::{put_number, put_range, rows_of};
+use crate::document_table::DocumentTable;
 use crate::faults::{FaultyKey, row_at};
-use crate::line::Line;
-use crate::place::Place;
+use crate::message_buffer::MessageBuffer;
 use crate::schema::Row;
 use crate::walk::walk;
 use crate::whole::Use;
@@ -44,8 +44,8 @@ fn line_at(text: &[u8], place: usize) -> u64
 }
 
 /// Returns the message with the line in which a text is no TOML document, and why.
-fn syntax_line(text: &str, error: &Error) -> Line {
-    let mut line = Line::new();
+fn syntax_line(text: &str, error: &Error) -> MessageBuffer {
+    let mut line = MessageBuffer::new();
     line.put(b"line ");
     line.put_number(line_of(text, error));
     line.put(b": ");
@@ -54,16 +54,15 @@ fn syntax_line(text: &str, error: &Error) -> Line {
 }
 
 /// Returns the message if there is no memory for more: only the faulty key.
-fn plain_line(key: Option<&str>) -> Line {
-    let mut line = Line::new();
+fn plain_line(key: Option<&str>) -> MessageBuffer {
+    let mut line = MessageBuffer::new();
     line.put(b"config ");
     line.put_shown(key.unwrap_or("text"));
     line
 }
 
 /// Writes a line.
-#[tactic(auto, using(ether_wire::proofs::Appending::with_text_twice))]
-fn put_line<N: Out>(notes: &mut N, line: &Line) -> Result<(), Device>
+fn put_line<N: Out>(notes: &mut N, line: &MessageBuffer) -> Result<(), Device>
     requires { IsOpen (N.end notes.old) }
     ensures { Puts (N.end notes.old) (N.end notes.new) (line_text line.now.octets.items) result }
 {
@@ -72,7 +71,6 @@ fn put_line<N: Out>(notes: &mut N, line: &Line) -> Result<(), Device>
 }
 
 /// Writes the place of a port: `edge 2, port 3: `.
-#[tactic(auto, using(ether_wire::proofs::Appending::with_text_twice))]
 fn put_port<N: Out>(notes: &mut N, edge: usize, port: usize) -> Result<(), Device>
     requires { IsOpen (N.end notes.old) }
     ensures { Puts (N.end notes.old) (N.end notes.new) (spot_text (Port edge port)) result }
@@ -83,19 +81,18 @@ fn put_port<N: Out>(notes: &mut N, edge: usize, port: usize) -> Result<(), Devic
 }
 
 /// Writes where a table is: `edge 2: `.
-#[tactic(auto, using(ether_wire::proofs::Appending::with_text_twice, ether_wire::proofs::Appending::with_text_none))]
-fn put_place<N: Out>(notes: &mut N, place: Place<'_>) -> Result<(), Device>
+fn put_place<N: Out>(notes: &mut N, place: DocumentTable<'_>) -> Result<(), Device>
     requires { IsOpen (N.end notes.old) }
     ensures { Puts (N.end notes.old) (N.end notes.new) (spot_text (spot_of place.entry)) result }
 {
     match place {
-        Place::File(_) => Ok(()),
-        Place::Edge(edge, _) => {
+        DocumentTable::File(_) => Ok(()),
+        DocumentTable::Edge(edge, _) => {
             put_number(notes, b"edge ", edge)?;
             notes.put(b": ")
         }
-        Place::Port(edge, port, _) => put_port(notes, edge, port),
-        Place::Peer(peer, _) => {
+        DocumentTable::Port(edge, port, _) => put_port(notes, edge, port),
+        DocumentTable::Peer(peer, _) => {
             put_number(notes, b"peer ", peer)?;
             notes.put(b": ")
         }
@@ -130,8 +127,8 @@ fn is_plain(key: &[u8]) -> bool
 
 /// Returns the part of a key that fits into a line, with a question mark for each character that
 /// could control a terminal.
-fn shown_line(key: &str) -> Line {
-    let mut line = Line::new();
+fn shown_line(key: &str) -> MessageBuffer {
+    let mut line = MessageBuffer::new();
     line.put_shown(key);
     line
 }
@@ -149,12 +146,11 @@ fn put_key<N: Out>(notes: &mut N, key: &str) -> Result<(), Device>
 }
 
 /// Writes what was found, the range that a row allows, and advice.
-#[tactic(auto, using(ether_wire::proofs::Appending::with_text_twice))]
 fn put_advice<N: Out>(
     notes: &mut N,
-    found: &Line,
+    found: &MessageBuffer,
     row: Option<Row>,
-    advice: &Line,
+    advice: &MessageBuffer,
 ) -> Result<(), Device>
     requires { IsOpen (N.end notes.old) }
     ensures { Puts (N.end notes.old) (N.end notes.new)
@@ -205,7 +201,6 @@ fn put_lines<N: Out>(
 }
 
 /// Prints each fault of a document, one per line; if memory is refused, only the first key.
-#[tactic(auto, using(crate::proofs::Lines::faults_told))]
 fn put_faults<N: Out>(
     notes: &mut N,
     alloc: Global,
@@ -229,7 +224,6 @@ fn put_faults<N: Out>(
 /// # Errors
 ///
 /// `Device` exactly if a note fails.
-#[tactic(auto, using(crate::proofs::Lines::text_told))]
 pub fn put_refusal<N: Out>(
     notes: &mut N,
     alloc: Global,

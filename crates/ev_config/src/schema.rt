@@ -12,7 +12,7 @@ pub(crate) struct Range(
 
 /// The kind of a key's value.
 #[derive(Clone, Copy)]
-pub(crate) enum Kind {
+pub(crate) enum KeyKind {
     /// An IPv4 address that no table before has.
     Address,
     /// The MAC address of one station that no table before has.
@@ -39,7 +39,7 @@ pub(crate) enum Kind {
 #[derive(Clone, Copy)]
 pub(crate) struct Row(
     pub(crate) &'static str,
-    pub(crate) Kind,
+    pub(crate) KeyKind,
     pub(crate) &'static str,
 );
 
@@ -51,21 +51,21 @@ pub(crate) const SERVED: [Row; 5] = [
     EDGES,
     Row(
         "control",
-        Kind::Path,
+        KeyKind::Path,
         "allowed is the path of a socket, 1 to 107 octets, none of them 0",
     ),
-    Row("idle", Kind::Number(IDLE), " seconds"),
-    Row("peer_hold", Kind::Number(PEER_HOLD), " seconds"),
+    Row("idle", KeyKind::Number(IDLE), " seconds"),
+    Row("peer_hold", KeyKind::Number(PEER_HOLD), " seconds"),
     Row(
         "peer",
-        Kind::Peers,
+        KeyKind::Peers,
         "allowed are tables, each written as [[peer]], at most 64 with those of [[edge]]",
     ),
 ];
 
 const EDGES: Row = Row(
     "edge",
-    Kind::Tables,
+    KeyKind::Tables,
     "allowed are 1 to 64 tables, each written as [[edge]]",
 );
 
@@ -73,54 +73,55 @@ const EDGES: Row = Row(
 pub(crate) const EDGE: [Row; 14] = [
     Row(
         "address",
-        Kind::Address,
+        KeyKind::Address,
         "allowed is an IPv4 address that no edge before has, as '10.0.0.1'",
     ),
     Row(
         "bridge",
-        Kind::Bridge,
+        KeyKind::Bridge,
         "allowed is a MAC address of one station that no edge before has, as '02:aa:00:00:00:01'",
     ),
-    Row("vnis", Kind::Vnis, ""),
-    Row("priority", Kind::Number(PRIORITY), ""),
-    Row("hello", Kind::Number(HELLO), ""),
+    Row("vnis", KeyKind::Vnis, ""),
+    Row("priority", KeyKind::Number(PRIORITY), ""),
+    Row("hello", KeyKind::Number(HELLO), ""),
     Row(
         "max_age",
-        Kind::Number(MAX_AGE),
+        KeyKind::Number(MAX_AGE),
         ", at least 2 * (hello + 1), at most 2 * (forward_delay - 1)",
     ),
-    Row("forward_delay", Kind::Number(FORWARD_DELAY), ""),
-    Row("hold", Kind::Number(HOLD), ""),
-    Row("ageing", Kind::Number(AGEING), ""),
-    Row("capacity", Kind::Number(CAPACITY), ""),
-    Row("buckets", Kind::Number(BUCKETS), ""),
-    Row("salt", Kind::Number(SALT), ""),
-    Row("incarnation", Kind::Number(INCARNATION), ""),
+    Row("forward_delay", KeyKind::Number(FORWARD_DELAY), ""),
+    Row("hold", KeyKind::Number(HOLD), ""),
+    Row("ageing", KeyKind::Number(AGEING), ""),
+    Row("capacity", KeyKind::Number(CAPACITY), ""),
+    Row("buckets", KeyKind::Number(BUCKETS), ""),
+    Row("salt", KeyKind::Number(SALT), ""),
+    Row("incarnation", KeyKind::Number(INCARNATION), ""),
     Row(
         "port",
-        Kind::Tables,
+        KeyKind::Tables,
         "allowed are 1 to 64 tables, each written as [[edge.port]]",
     ),
 ];
 
 /// The keys of a port.
-pub(crate) const PORT: [Row; 10] = [
-    Row("vni", Kind::Vni, "allowed is one of the edge's vnis"),
-    Row("cost", Kind::Number(COST), ""),
-    Row("priority", Kind::Number(PORT_PRIORITY), ""),
-    Row("admin_edge", Kind::Flag(false), FLAG),
-    Row("auto_edge", Kind::Flag(true), FLAG),
-    Row("point_to_point", Kind::Flag(true), FLAG),
-    Row("stations", Kind::Number(STATIONS), ""),
-    Row("new_stations", Kind::Number(NEW_STATIONS), ""),
-    Row("local", Kind::Endpoint, PLACE),
-    Row("remote", Kind::Endpoint, PLACE),
+pub(crate) const PORT: [Row; 11] = [
+    Row("vni", KeyKind::Vni, "allowed is one of the edge's vnis"),
+    Row("cost", KeyKind::Number(COST), ""),
+    Row("priority", KeyKind::Number(PORT_PRIORITY), ""),
+    Row("admin_edge", KeyKind::Flag(false), FLAG),
+    Row("auto_edge", KeyKind::Flag(true), FLAG),
+    Row("point_to_point", KeyKind::Flag(true), FLAG),
+    Row("stations", KeyKind::Number(STATIONS), ""),
+    Row("new_stations", KeyKind::Number(NEW_STATIONS), ""),
+    Row("storm", KeyKind::Number(STORM), ""),
+    Row("local", KeyKind::Endpoint, PLACE),
+    Row("remote", KeyKind::Endpoint, PLACE),
 ];
 
 /// The key of a peer.
 pub(crate) const PEER: [Row; 1] = [Row(
     "address",
-    Kind::Address,
+    KeyKind::Address,
     "allowed is an IPv4 address that no edge and no peer before has, as '10.0.0.9'",
 )];
 
@@ -158,6 +159,8 @@ pub(crate) const PORT_PRIORITY: Range = Range(0, 240, 16, 128);
 pub(crate) const STATIONS: Range = Range(1, 65_536, 0, 512);
 /// The maximum number of new stations that a port brings in 60 seconds.
 pub(crate) const NEW_STATIONS: Range = Range(1, 0xffff_ffff, 0, 256);
+/// The maximum number of group and unknown frames of a port in a second; with 0 there is none.
+pub(crate) const STORM: Range = Range(0, 0xffff_ffff, 0, 0);
 
 const FLAG: &'static str = "allowed are true and false";
 

@@ -22,7 +22,6 @@ fn count_ports(edges: &[EdgeConfig]) -> u64
 }
 
 /// Returns `true` if one of the edges serves the VNI.
-#[tactic(auto, using(crate::proofs::Counting::served_more))]
 fn is_served(edges: &[EdgeConfig], vni: Vni) -> bool
     ensures { result ≡ list_any (λ x. eqb x vni) (all_vnis edges.now) }
 {
@@ -35,7 +34,6 @@ fn is_served(edges: &[EdgeConfig], vni: Vni) -> bool
 }
 
 /// Returns 0 if the VNI is one of the rest, or one of the later edges serves it, and otherwise 1.
-#[tactic(auto, using(crate::proofs::Counting::again))]
 fn count_last(vni: Vni, rest: &[Vni], later: &[EdgeConfig]) -> u64
     ensures value { result ≡ (if list_any (λ x. eqb x vni) (rest.now ++ all_vnis later.now)
         then 0 else 1) }
@@ -64,7 +62,6 @@ fn count_new(vnis: &[Vni], later: &[EdgeConfig]) -> u64
 }
 
 /// Returns the number of VNIs that the edges serve.
-#[tactic(auto, using(crate::proofs::Counting::vnis_more))]
 fn count_vnis(edges: &[EdgeConfig]) -> u64
     requires { length edges.now ≤ 64 }
     ensures { result ≡ vni_count edges.now }
@@ -88,7 +85,6 @@ fn count_peers(edges: &[EdgeConfig]) -> u64
 }
 
 /// Writes the plural's ending, unless the number is 1.
-#[tactic(auto, using(ether_wire::proofs::Appending::with_text_none))]
 fn put_ending<W: Out>(out: &mut W, count: u64) -> Result<(), Device>
     requires { IsOpen (W.end out.old) }
     ensures { Puts (W.end out.old) (W.end out.new)
@@ -101,7 +97,6 @@ fn put_ending<W: Out>(out: &mut W, count: u64) -> Result<(), Device>
 }
 
 /// Writes a number of things, and their word.
-#[tactic(auto, using(ether_wire::proofs::Appending::with_text_twice))]
 fn put_count<W: Out>(out: &mut W, count: u64, word: &[u8]) -> Result<(), Device>
     requires { IsOpen (W.end out.old) }
     ensures { Puts (W.end out.old) (W.end out.new) (counted count word.now) result }
@@ -112,7 +107,6 @@ fn put_count<W: Out>(out: &mut W, count: u64, word: &[u8]) -> Result<(), Device>
 }
 
 /// Writes the number of edges that run elsewhere, if there are any.
-#[tactic(auto, using(ether_wire::proofs::Appending::with_text_twice, ether_wire::proofs::Appending::with_text_none))]
 fn put_peers<W: Out>(out: &mut W, count: u64) -> Result<(), Device>
     requires { IsOpen (W.end out.old) }
     ensures { Puts (W.end out.old) (W.end out.new) (peers_text count) result }
@@ -125,7 +119,6 @@ fn put_peers<W: Out>(out: &mut W, count: u64) -> Result<(), Device>
 }
 
 /// Writes the numbers of edges and ports.
-#[tactic(auto, using(ether_wire::proofs::Appending::with_text_twice))]
 fn put_ports<W: Out>(out: &mut W, edges: &[EdgeConfig]) -> Result<(), Device>
     requires few { length edges.now ≤ 64 }
     requires out { IsOpen (W.end out.old) }
@@ -138,7 +131,6 @@ fn put_ports<W: Out>(out: &mut W, edges: &[EdgeConfig]) -> Result<(), Device>
 }
 
 /// Writes the numbers of VNIs and peers.
-#[tactic(auto, using(ether_wire::proofs::Appending::with_text_twice))]
 fn put_vnis<W: Out>(out: &mut W, edges: &[EdgeConfig]) -> Result<(), Device>
     requires few { length edges.now ≤ 64 }
     requires out { IsOpen (W.end out.old) }
@@ -155,7 +147,6 @@ fn put_vnis<W: Out>(out: &mut W, edges: &[EdgeConfig]) -> Result<(), Device>
 /// # Errors
 ///
 /// `Device` exactly if a call of the writer failed; then no further call is made.
-#[tactic(auto, using(ether_wire::proofs::Appending::with_text_twice))]
 pub fn put_summary<W: Out>(out: &mut W, config: &Config) -> Result<(), Device>
     requires { IsOpen (W.end out.old) }
     ensures { Puts (W.end out.old) (W.end out.new) (summary_text config.now.edges.items) result }

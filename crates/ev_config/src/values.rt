@@ -183,7 +183,6 @@ pub(crate) fn vni_at(table: &Table) -> Option<Vni>
 }
 
 /// Returns `true` if it has 1 to 64 items.
-#[tactic(auto, using(crate::proofs::Walking::count_of_view))]
 fn is_few(array: &Array) -> bool
     ensures value { result ≡ is_few (array_view array.now) }
     ensures some { result ≡ true → 0 < length array.now.items }
@@ -193,7 +192,6 @@ fn is_few(array: &Array) -> bool
 }
 
 /// Returns `true` if all items are tables.
-#[tactic(auto, using(crate::proofs::Walking::items_more))]
 fn are_tables(array: &Array) -> bool
     ensures { result ≡ are_tables (array_view array.now) }
 {
@@ -227,7 +225,6 @@ pub(crate) fn tables_at<'a>(table: &'a Table, key: &str) -> Option<&'a Array>
 }
 
 /// Reads an array of at most 64 tables, together with this number of others.
-#[tactic(auto, using(crate::proofs::Walking::count_of_view))]
 pub(crate) fn tables_beside(value: &Value, others: usize) -> Option<&Array>
     requires { others ≤ 64 }
     ensures value { option_map (λ v. array_view v.now) result
@@ -259,7 +256,6 @@ fn new_vni(before: &[Vni], value: &Value) -> Option<Vni>
 }
 
 /// Returns the distinct VNIs of an array.
-#[tactic(auto, using(crate::proofs::Walking::items_more))]
 fn distinct_vnis(array: &Array) -> Option<ArrayVec<Vni, 64>>
     requires { length array.now.items ≤ 64 }
     ensures { option_map (λ v. v.items) result

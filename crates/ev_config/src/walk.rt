@@ -5,10 +5,10 @@ ghost use Rattle.ev_config.specs.Keys.{times_fit, count_of};
 ghost use Rattle.ev_config.specs.Faults.{times_in, is_odd, port_faults, ports_faults, edge_faults_by, edge_faults, edges_faults, peer_faults, peers_faults, after_all, rows_for, is_run, own_faults, peers_beside, faults_in, names_in};
 ghost use Rattle.ev_config.specs.Inner.Faults.{faults_view, Adds, row_of, names_view, context_view, items_at};
 
+use crate::document_table::{Context, DocumentTable};
 use crate::faults::{FaultyKey, add_if, add_table};
-use crate::names::Names;
-use crate::place::{Context, Place};
 use crate::schema::{EDGE, FILE, FORWARD_DELAY, HELLO, MAX_AGE, PEER, PORT, Row, SERVED};
+use crate::seen_names::SeenNames;
 use crate::values::{known_number, tables_at, tables_beside, value_at, vnis_at};
 use crate::whole::Use;
 use std::alloc::{AllocError, Global};
@@ -58,14 +58,13 @@ fn add_port<'a>(
     add_table(
         faults,
         context,
-        Place::Port(edge, port, table),
+        DocumentTable::Port(edge, port, table),
         &PORT,
         table,
     )
 }
 
 /// Collects the faults of these ports of an edge.
-#[tactic(auto, using(crate::proofs::Walking::items_more))]
 fn add_ports<'a>(
     faults: &mut Vec<FaultyKey<'a>>,
     context: &Context<'_>,
@@ -113,7 +112,7 @@ fn add_edge_by<'a>(
     ensures { Adds (edge_faults_by (context_view context.now) edge (table_view table.now))
         faults.old.items faults.new.items result }
 {
-    let place = Place::Edge(edge, table);
+    let place = DocumentTable::Edge(edge, table);
     add_table(faults, context, place, &EDGE, table)?;
     add_if(has_odd_times(table), faults, place, "max_age")?;
     add_ports_at(faults, context, edge, tables_at(table, "port"))
@@ -123,7 +122,7 @@ fn add_edge_by<'a>(
 fn add_edge<'a>(
     faults: &mut Vec<FaultyKey<'a>>,
     for_run: bool,
-    names: &Names,
+    names: &SeenNames,
     edge: usize,
     table: &'a Table,
 ) -> Result<(), AllocError>
@@ -140,7 +139,6 @@ fn add_edge<'a>(
 }
 
 /// Returns the number of tables.
-#[tactic(auto, using(crate::proofs::Walking::count_of_view))]
 fn count_of(tables: Option<&Array>) -> usize
     requires { IfSome tables (λ a. length a.now.items ≤ 64) }
     ensures value { result ≡ count_of (items_at tables.entry) }
@@ -153,11 +151,10 @@ fn count_of(tables: Option<&Array>) -> usize
 }
 
 /// Collects the faults of these edges, and adds the names that they spell.
-#[tactic(auto, using(crate::proofs::Walking::items_more))]
 fn add_edges<'a>(
     faults: &mut Vec<FaultyKey<'a>>,
     for_run: bool,
-    names: &mut Names,
+    names: &mut SeenNames,
     tables: &'a Array,
 ) -> Result<(), AllocError>
     requires addresses { length names.old.addresses.items + length tables.now.items ≤ 64 }
@@ -183,11 +180,10 @@ fn add_edges<'a>(
 }
 
 /// Collects the faults of these edges, if there are any, and adds the names that they spell.
-#[tactic(auto, using(crate::proofs::Walking::count_of_view))]
 fn add_edges_at<'a>(
     faults: &mut Vec<FaultyKey<'a>>,
     for_run: bool,
-    names: &mut Names,
+    names: &mut SeenNames,
     tables: Option<&'a Array>,
 ) -> Result<(), AllocError>
     requires addresses { length names.old.addresses.items + count_of (items_at tables) ≤ 64 }
@@ -210,7 +206,7 @@ fn add_edges_at<'a>(
 /// Collects the faults of a peer, given the names of the tables before it.
 fn add_peer<'a>(
     faults: &mut Vec<FaultyKey<'a>>,
-    names: &Names,
+    names: &SeenNames,
     peer: usize,
     table: &'a Table,
 ) -> Result<(), AllocError>
@@ -223,14 +219,19 @@ fn add_peer<'a>(
         vnis: None,
         edges: 0,
     };
-    add_table(faults, &context, Place::Peer(peer, table), &PEER, table)
+    add_table(
+        faults,
+        &context,
+        DocumentTable::Peer(peer, table),
+        &PEER,
+        table,
+    )
 }
 
 /// Collects the faults of these peers, and adds the names that they spell.
-#[tactic(auto, using(crate::proofs::Walking::items_more))]
 fn add_peers<'a>(
     faults: &mut Vec<FaultyKey<'a>>,
-    names: &mut Names,
+    names: &mut SeenNames,
     tables: &'a Array,
 ) -> Result<(), AllocError>
     requires addresses { length names.old.addresses.items + length tables.now.items ≤ 64 }
@@ -252,10 +253,9 @@ fn add_peers<'a>(
 }
 
 /// Collects the faults of these peers, if there are any, and adds the names that they spell.
-#[tactic(auto, using(crate::proofs::Walking::count_of_view))]
 fn add_peers_at<'a>(
     faults: &mut Vec<FaultyKey<'a>>,
-    names: &mut Names,
+    names: &mut SeenNames,
     tables: Option<&'a Array>,
 ) -> Result<(), AllocError>
     requires addresses { length names.old.addresses.items + count_of (items_at tables) ≤ 64 }
@@ -304,21 +304,20 @@ fn add_own<'a>(
 {
     let context = Context {
         for_run: true,
-        names: &Names::new(),
+        names: &SeenNames::new(),
         vnis: None,
         edges,
     };
     add_table(
         faults,
         &context,
-        Place::File(document),
+        DocumentTable::File(document),
         file_rows(wanted),
         document,
     )
 }
 
 /// Returns the tables of the peers, given the number of edges, if there are any for this use.
-#[tactic(auto, using(crate::proofs::Walking::count_of_view))]
 fn peers_at<'a>(wanted: Use, document: &'a Table, edges: usize) -> Option<&'a Array>
     requires { edges ≤ 64 }
     ensures value { items_at result ≡ peers_beside wanted edges (table_view document.now) }
@@ -336,7 +335,7 @@ pub(crate) struct Findings<'a> {
     /// Its faults, in their order.
     pub(crate) faults: Vec<FaultyKey<'a>>,
     /// The names of its edges and peers.
-    pub(crate) names: Names,
+    pub(crate) names: SeenNames,
 }
 
 /// Returns all faults of a document for a use, in the order in which its keys are read, and the
@@ -356,7 +355,7 @@ pub(crate) fn walk<'a>(
         ≡ names_in wanted (table_view document.now)) }
 {
     let mut faults = Vec::new(alloc);
-    let mut names = Names::new();
+    let mut names = SeenNames::new();
     let edges = tables_at(document, "edge");
     let count = count_of(edges);
     let peers = peers_at(wanted, document, count);

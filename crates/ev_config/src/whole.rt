@@ -29,7 +29,7 @@ pub enum Use {
 
 /// The content of a document for edges that answer queries while they run.
 #[derive(Drop)]
-pub struct Served {
+pub struct ServedConfig {
     /// The edges.
     pub config: Config,
     /// The path of the Unix control socket.

@@ -3,15 +3,6 @@ use Rattle.std.proofs.Common.{◌≡◌, ℕ, ◌+◌, Bool, true, false, List, 
 use Rattle.std.proofs.Common.{Option, Result, Ok, Err, refl, sym, ap, subst, ◌∙◌, arith, append-nil}
 use Rattle.ether_wire.specs.declared.ends.Device.{Device}
 use Rattle.ether_wire.specs.Ends.{End, IsOpen, Puts}
-use Rattle.std.specs.FinMap.{empty, get-empty, entries-from_sorted}
-use Rattle.std.specs.declared.alloc.AllocError.{AllocError}
-use Rattle.route_wire.specs.declared.update.Value.{Value}
-use Rattle.route_wire.specs.Fields.{Fields}
-use Rattle.route_wire.specs.Order.{register_cmp}
-use Rattle.route_join.specs.Owner.{owner}
-use Rattle.route_join.specs.Report.{lines_of}
-use Rattle.route_join.specs.Table.{IsTableOf, table_from}
-use Rattle.route_join.proofs.Joins.{none_taken}
 use Rattle.ev_report.specs.Ends.{Tells}
 use Rattle.ev_report.proofs.Taking.{tells_more, tells_none}
 use Rattle.ev_links.specs.Coming.{behind}
@@ -19,11 +10,8 @@ use Rattle.ev_links.proofs.Behind.{behind_none, behind_twice}
 use Rattle.ev_view.specs.EdgeViews.{each_from}
 use Rattle.ev_view.proofs.Each.{each_both}
 use Rattle.ev_console.specs.Asking.{Asked, ServedSeen, served_seen, served_from}
-use Rattle.ev_console.specs.Table.{IsReportOf}
-use Rattle.ev_console.specs.declared.operated.Unreached.{Unreached}
-use Rattle.ev_console.specs.Answers.{Says, ShowsEdges, served_seen_text, no_memory_text, unreached_text}
+use Rattle.ev_console.specs.Answers.{Says, ShowsEdges, served_seen_text}
 use Rattle.ev_console.specs.Inner.Answers.{Does}
-use Rattle.ev_console.specs.Inner.Answers.{PutsShown, PutsTable}
 
 pub says_put : (words : List ℕ) (before : Option (List Asked)) (old new : End) (r : Result (Unit {0}) Device)
     → Puts old new words r → Does (Says words) before before old new r
@@ -108,33 +96,6 @@ module _ (n : ℕ) (before middle : Option (List Asked)) (old mid : End) (is_tol
     written = s.told.failed refl e;
   }
 
--- ---- a table that was shown
-
-pub none_known : (originators : List ℕ) → IsTableOf [] (record { originators = originators; registers = empty })
-none_known originators = record {
-  from = λ r v at. let none = get-empty {X = Value} register_cmp r in cc;
-  newest = λ u c. absurd (omega (arith, c.1));
-}
-
 pub none_of : {X : Type 0} (us : List X) → length us ≡ 0 → us ≡ []
 none_of [] h = refl
 none_of (u ∷ us) h = absurd (omega (arith, h))
-
--- the report of no update
-pub none_reported : (us : List Fields) → length us ≡ 0 → IsReportOf us []
-none_reported us e =
-    let t = table_from [] [] in
-    record {
-      table = t;
-      of = subst (λ (vs : List Fields). IsTableOf vs t) (sym (none_of us e)) (none_taken []);
-      is = sym (ap (lines_of (owner t)) (entries-from_sorted register_cmp [] tt));
-    }
-
-module _ (e : ℕ) (old new : End) (r : Result (Unit {0}) Device) where
-  pub puts_refused : (refused : AllocError) → Puts old new (no_memory_text e) r
-      → PutsShown e (Err refused) old new r
-  puts_refused refused put = record { text = no_memory_text e; told = refl; written = put }
-
-  pub puts_unreached : (unreached : Unreached) → Puts old new (unreached_text e unreached) r
-      → PutsTable e (Err unreached) old new r
-  puts_unreached unreached put = record { text = unreached_text e unreached; told = refl; written = put }

@@ -1,4 +1,5 @@
 pub mod Doing
+pub mod Paging
 pub mod Conversing
 pub mod Talking
 pub mod Turning

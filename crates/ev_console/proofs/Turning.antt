@@ -5,7 +5,7 @@ use Rattle.std.specs.List.{list_all}
 use Rattle.std.proofs.lemmas.List.Folds.{list_all-append}
 use Rattle.ev_links.specs.Coming.{behind}
 use Rattle.ev_links.proofs.Behind.{behind_none, behind_twice}
-use Rattle.ev_mailboxes.specs.declared.request.Command.{Command as Step}
+use Rattle.ev_mailboxes.specs.declared.request.OperatorCommand.{OperatorCommand as Step}
 use Rattle.ev_console.specs.Asking.{Asked, Entered, entered}
 use Rattle.ev_console.specs.Turns.{is_taken, entered_from, EntersAtEach}
 

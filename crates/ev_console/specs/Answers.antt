@@ -1,17 +1,15 @@
 -- The requests that a line of the console makes to edges that run, and its answer.
-use Rattle.std.specs.Prelude.{◌<◌}
-use Rattle.std.specs.Prelude.{◌≡◌, ◌⊎◌, ℕ, List, [], ◌∷◌, ◌++◌, length, codes, Option, Some, None, Result, Ok, Err}
-use Rattle.std.specs.Global.{Vec}
-use Rattle.std.specs.declared.alloc.AllocError.{AllocError}
-use Rattle.route_wire.specs.Fields.{Fields}
+use Rattle.std.specs.Prelude.{◌≡◌, ◌⊎◌, ℕ, ◌^◌, List, [], ◌∷◌, ◌++◌, length, codes, Option, Some, None, Ok, Err}
+use Rattle.std.specs.List.{All}
+use Rattle.route_join.specs.After.{PageView}
 use Rattle.ev_edge.specs.declared.refusal.EdgeRefusal.TheVariants as own
 use Rattle.ev_edge.specs.declared.refusal.Refusal.TheVariants as edges
 use Rattle.ev_fabric.specs.declared.refusal.FabricRefusal.TheVariants as fabric
 use Rattle.ev_book.specs.declared.refusal.BookRefusal.{BookRefusal}
 use Rattle.ev_book.specs.declared.refusal.BookRefusal.TheVariants.{PassStrange, PassSpent, NoRoom, Edge}
 use Rattle.ev_book.specs.Refusal.{refusal_number}
-use Rattle.ev_mailboxes.specs.declared.request.Command.{Command as Step}
-use Rattle.ev_mailboxes.specs.declared.request.Command.TheVariants as steps
+use Rattle.ev_mailboxes.specs.declared.request.OperatorCommand.{OperatorCommand as Step}
+use Rattle.ev_mailboxes.specs.declared.request.OperatorCommand.TheVariants as steps
 use Rattle.ev_script.specs.declared.script.question.Question.{Question}
 use Rattle.ev_script.specs.declared.script.question.Question.TheVariants.{Help, Edges, OfEdge}
 use Rattle.ev_script.specs.Script.{Command, up, down, mcheck, second, frame, tunnel, pin, unpin, thaw, announce}
@@ -22,10 +20,10 @@ use Rattle.ev_script.specs.Printing.{words_text, number_text, reply_text, refusa
 use Rattle.ev_view.specs.EdgeViews.{each_from, edge_words}
 use Rattle.ev_console.specs.declared.operated.Unreached.{Unreached}
 use Rattle.ev_console.specs.declared.operated.Unreached.TheVariants.{NoEdge, Ended}
-use Rattle.ev_console.specs.Asking.{Asked, Entered, TableSeen, PortSeen, ServedSeen, entered, table_seen, port_seen}
+use Rattle.ev_console.specs.Asking.{Asked, Entered, PageSeen, PortSeen, ServedSeen, entered, page_seen, port_seen}
 use Rattle.ev_console.specs.Asking.{ViewSeen, view_seen, served_from}
 use Rattle.ev_view.specs.declared.view.EdgeQuestion.{EdgeQuestion}
-use Rattle.ev_console.specs.Table.{IsReportOf}
+use Rattle.ev_console.specs.Table.{IsReportOf, IsFull, IsLast, pages_seen, end_of, updates_of, last_updates}
 
 -- ---- the text of an answer
 
@@ -65,18 +63,11 @@ served_seen_text e (Ok (Ok served)) = edge_words e served.address served.ports.i
 served_seen_text e (Ok (Err refused)) = no_memory_text e
 served_seen_text e (Err unreached) = unreached_text e unreached
 
--- the report of these updates; or, if there are any, that memory for the report was refused
-abbrev pub TellsUpdates : ℕ → List Fields → List ℕ → Type 0
-TellsUpdates e updates = λ text. IsReportOf updates text ⊎ (0 < length updates) × (text ≡ no_memory_text e)
-
--- the text for the updates that were shown
-abbrev pub TellsShown : ℕ → Result (Vec Fields) AllocError → List ℕ → Type 0
-TellsShown e (Ok updates) = TellsUpdates e updates.items
-TellsShown e (Err refused) = λ text. text ≡ no_memory_text e
-
-abbrev pub TellsTable : ℕ → TableSeen → List ℕ → Type 0
-TellsTable e (Ok shown) = TellsShown e shown
-TellsTable e (Err unreached) = λ text. text ≡ unreached_text e unreached
+-- the words after a report: none after its last page, or why the next page is missing
+abbrev pub last_words : ℕ → PageSeen → List ℕ
+last_words e (Ok (Ok page)) = []
+last_words e (Ok (Err refused)) = no_memory_text e
+last_words e (Err unreached) = unreached_text e unreached
 
 -- ---- a line
 
@@ -89,8 +80,31 @@ abbrev pub Steps : ℕ → Step → List Asked → List ℕ → Type 0
 Steps e step = λ asked text.
     (answer : Entered) × (asked ≡ entered e step answer ∷ []) × (text ≡ entered_text e answer)
 
+-- Full pages were requested one after the other, each after the last register of the page before, and then one that
+-- isn't full or that the edge didn't give. The text is the report of the updates of all pages, in their order, and the
+-- words after it.
+pub record ShowsPages (e : ℕ) (asked : List Asked) (text : List ℕ) : Type 0 where
+  pub full : List PageView
+  pub are_full : All IsFull full
+  pub last : PageSeen
+  pub is_last : IsLast last
+  pub asked_are : asked ≡ pages_seen e None full ++ page_seen e (end_of None full) last ∷ []
+  pub lines : List ℕ
+  pub of : IsReportOf (updates_of full ++ last_updates last) lines
+  pub is : text ≡ lines ++ last_words e last
+
+-- After 2^40 full pages the report stops.
+pub record StopsShowing (e : ℕ) (asked : List Asked) (text : List ℕ) : Type 0 where
+  pub full : List PageView
+  pub are_full : All IsFull full
+  pub many : length full ≡ 2 ^ 40
+  pub asked_are : asked ≡ pages_seen e None full
+  pub lines : List ℕ
+  pub of : IsReportOf (updates_of full) lines
+  pub is : text ≡ lines ++ no_memory_text e
+
 abbrev pub ShowsTable : ℕ → List Asked → List ℕ → Type 0
-ShowsTable e = λ asked text. (answer : TableSeen) × (asked ≡ table_seen e answer ∷ []) × TellsTable e answer text
+ShowsTable e = λ asked text. ShowsPages e asked text ⊎ StopsShowing e asked text
 
 abbrev pub ShowsPort : ℕ → ℕ → List Asked → List ℕ → Type 0
 ShowsPort e p = λ asked text.

@@ -2,12 +2,13 @@
 use Rattle.std.specs.Prelude.{ℕ, ◌+◌, List, [], ◌∷◌, Option, Result}
 use Rattle.std.specs.Global.{Vec}
 use Rattle.std.specs.declared.alloc.AllocError.{AllocError}
-use Rattle.route_wire.specs.Fields.{Fields}
+use Rattle.route_wire.specs.declared.update.Register.{Register}
+use Rattle.route_join.specs.After.{PageView}
 use Rattle.ev_edge.specs.declared.reply.Reply.{Reply}
 use Rattle.ev_book.specs.declared.refusal.BookRefusal.{BookRefusal}
-use Rattle.ev_mailboxes.specs.declared.request.Command.{Command as Step}
+use Rattle.ev_mailboxes.specs.declared.request.OperatorCommand.{OperatorCommand as Step}
 use Rattle.ev_mailboxes.specs.declared.request.PortView.{PortView}
-use Rattle.ev_mailboxes.specs.declared.request.Served.{Served}
+use Rattle.ev_mailboxes.specs.declared.request.EdgeNetworks.{EdgeNetworks}
 use Rattle.ev_view.specs.declared.view.EdgeQuestion.{EdgeQuestion}
 use Rattle.ev_console.specs.declared.operated.Unreached.{Unreached}
 
@@ -15,9 +16,9 @@ use Rattle.ev_console.specs.declared.operated.Unreached.{Unreached}
 abbrev pub Entered : Type 0
 Entered = Result (Result Reply BookRefusal) Unreached
 
--- the contents of a table
-abbrev pub TableSeen : Type 0
-TableSeen = Result (Result (Vec Fields) AllocError) Unreached
+-- a page of a table's report
+abbrev pub PageSeen : Type 0
+PageSeen = Result (Result PageView AllocError) Unreached
 
 -- the state of a port
 abbrev pub PortSeen : Type 0
@@ -29,12 +30,12 @@ ViewSeen = Result (Result (Vec ℕ) AllocError) Unreached
 
 -- the address, ports and VNIs that an edge serves
 abbrev pub ServedSeen : Type 0
-ServedSeen = Result (Result Served AllocError) Unreached
+ServedSeen = Result (Result EdgeNetworks AllocError) Unreached
 
 -- a request to the edge with this number, and its answer
 pub data Asked : Type 0 where
   entered : ℕ → Step → Entered → Asked
-  table_seen : ℕ → TableSeen → Asked
+  page_seen : ℕ → Option Register → PageSeen → Asked
   port_seen : ℕ → ℕ → PortSeen → Asked
   view_seen : ℕ → EdgeQuestion → ViewSeen → Asked
   served_seen : ℕ → ServedSeen → Asked

@@ -3,8 +3,8 @@ use Rattle.std.specs.Prelude.{◌≡◌, ℕ, ◌+◌, Bool, true, false, if◌t
 use Rattle.std.specs.Prelude.{Ok, Err}
 use Rattle.std.specs.List.{list_all}
 use Rattle.ev_links.specs.Coming.{behind}
-use Rattle.ev_mailboxes.specs.declared.request.Command.{Command as Step}
-use Rattle.ev_mailboxes.specs.declared.request.Command.TheVariants as steps
+use Rattle.ev_mailboxes.specs.declared.request.OperatorCommand.{OperatorCommand as Step}
+use Rattle.ev_mailboxes.specs.declared.request.OperatorCommand.TheVariants as steps
 use Rattle.ev_exchange.specs.declared.sessions.Session.{Session}
 use Rattle.ev_exchange.specs.declared.sessions.Turn.{Turn}
 use Rattle.ev_exchange.specs.Sessions.{first_turn, after_turn}

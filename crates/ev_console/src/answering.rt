@@ -3,16 +3,16 @@ ghost use Rattle.std.specs.Prelude.{◌≡◌, [], true, OnOk};
 ghost use Rattle.ether_wire.specs.Ends.{IsOpen};
 ghost use Rattle.ev_report.specs.Ends.{Tells};
 ghost use Rattle.ev_script.specs.Script.{command_of, line_of};
-ghost use Rattle.ev_console.specs.Answers.{Steps, ShowsTable, ShowsPort, ShowsView, ShowsEdges, Says, simulated_text, served_seen_text, AnswersCommand, AnswersWords, AnswersQuestion, AnswersLine};
+ghost use Rattle.ev_console.specs.Answers.{Steps, ShowsPort, ShowsView, ShowsEdges, Says, simulated_text, served_seen_text, AnswersCommand, AnswersWords, AnswersQuestion, AnswersLine};
 ghost use Rattle.ev_console.specs.Inner.Answers.{Does, Replies};
 
 use crate::operated::{Operated, Unreached};
 use crate::printing::{
     put_bad, put_entered, put_help, put_port_seen, put_served, put_simulated, put_view_seen,
 };
-use crate::table::put_table_seen;
+use crate::table::show_table;
 use ether_wire::{Device, Flushing, Out};
-use ev_mailboxes::{Command as Step, Served};
+use ev_mailboxes::{EdgeNetworks, OperatorCommand as Step};
 use ev_script::{Command, Question, parse, port_number, question_of};
 use ev_view::EdgeQuestion;
 use std::alloc::{AllocError, Global};
@@ -31,22 +31,6 @@ fn enter<O: Operated, W: Out>(
 {
     let answer = operated.enter(edge, step);
     put_entered(out, edge, &answer)
-}
-
-/// Writes the report of an edge's table.
-fn show_table<O: Operated, W: Out>(
-    alloc: Global,
-    operated: &mut O,
-    edge: u64,
-    out: &mut W,
-) -> Result<(), Device>
-    requires { IsOpen (W.end out.old) }
-    ensures does { Does (ShowsTable edge) (O.asked operated.old) (O.asked operated.new)
-        (W.end out.old) (W.end out.new) result }
-    ensures count { O.count operated.new ≡ O.count operated.old }
-{
-    let answer = operated.table(alloc, edge);
-    put_table_seen(alloc, out, edge, &answer)
 }
 
 /// Writes the state of a port.
@@ -88,7 +72,7 @@ fn tell_served<W: Out>(
     is_told: bool,
     out: &mut W,
     edge: u64,
-    answer: &Result<Result<Served, AllocError>, Unreached>,
+    answer: &Result<Result<EdgeNetworks, AllocError>, Unreached>,
 ) -> bool
     requires { is_told ≡ true → IsOpen (W.end out.old) }
     ensures { Tells (W.end out.old) (W.end out.new) is_told result
@@ -118,7 +102,6 @@ fn show_edges<O: Operated, W: Out>(
 }
 
 /// Writes that a line belongs to a simulation.
-#[tactic(auto, using(crate::proofs::Doing::says_put))]
 fn refuse<O: Operated, W: Out>(operated: &mut O, out: &mut W) -> Result<(), Device>
     requires { IsOpen (W.end out.old) }
     ensures does { Does (Says simulated_text) (O.asked operated.old) (O.asked operated.new)
@@ -169,7 +152,6 @@ fn perform<O: Operated, W: Out>(
 }
 
 /// Answers a line that is no question.
-#[tactic(auto, using(crate::proofs::Doing::says_put))]
 fn answer_words<O: Operated, W: Out>(
     alloc: Global,
     operated: &mut O,
@@ -188,7 +170,6 @@ fn answer_words<O: Operated, W: Out>(
 }
 
 /// Answers a question.
-#[tactic(auto, using(crate::proofs::Doing::says_put))]
 fn answer_question<O: Operated, W: Out>(
     alloc: Global,
     operated: &mut O,

@@ -7,15 +7,14 @@ ghost use Rattle.ev_console.specs.Inner.Conversation.{TakesOctets, TakesEnd};
 use crate::answering::reply;
 use crate::edges::Edges;
 use crate::operated::Operated;
-use crate::reached::Host;
+use crate::reached::LocalEdges;
+use crate::system_drops::SystemDrops;
 use arrayvec::ArrayVec;
 use ether_wire::{Device, Flushing, In};
-use ev_exchange::Known;
 use ev_history::Naming;
-use ev_mailboxes::Running;
 use ev_report::MOST_READS;
 use std::alloc::Global;
-use std::sync::{Mutex, Wait};
+use std::sync::Wait;
 
 /// The number of octets of a line that are kept: one more than a line may have, so that a longer
 /// line is recognized.
@@ -138,17 +137,15 @@ pub fn converse_with<O: Operated, I: In, W: Flushing>(
 /// Answers the lines that an operator writes, each once and in their order, up to the end of the
 /// input. After each answer it writes an empty line, and then flushes the writer. A line of more
 /// than 20,000 octets is a bad one; it takes no more memory than any other line. The answer about
-/// other edges shows the `unlisted` ones too, whose records are dropped.
+/// other edges shows the host's `unlisted` ones too, whose records are dropped.
 ///
 /// # Errors
 ///
 /// `Device` if a read or a write failed, or 2^40 reads didn't reach the end; then no further line
 /// is processed.
-pub fn converse<J: Naming, R: Wait, I: In, W: Flushing>(
-    rt: &R,
+pub fn converse<J: Naming, R: Wait, T: SystemDrops, I: In, W: Flushing>(
     alloc: Global,
-    running: &Running<'_, J>,
-    unlisted: &Mutex<Known>,
+    host: LocalEdges<'_, J, R, T>,
     reader: &mut I,
     out: &mut W,
 ) -> Result<(), Device>
@@ -156,12 +153,6 @@ pub fn converse<J: Naming, R: Wait, I: In, W: Flushing>(
     requires out { IsOpen (W.end out.old) }
     ensures { Talks (I.end reader.old) (I.end reader.new) (W.end out.old) (W.end out.new) result }
 {
-    let mut edges = Edges {
-        many: Host {
-            rt,
-            running: *running,
-            unlisted: Some(unlisted),
-        },
-    };
+    let mut edges = Edges { many: host };
     converse_with(alloc, &mut edges, reader, out)
 }

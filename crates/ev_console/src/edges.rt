@@ -5,9 +5,10 @@ use crate::operated::{Operated, Unreached};
 use crate::reached::{ManyEdges, OneEdge};
 use ev_book::BookRefusal;
 use ev_edge::Reply;
-use ev_mailboxes::{Command, PortView, Served};
+use ev_mailboxes::{EdgeNetworks, OperatorCommand, PortView};
 use ev_view::EdgeQuestion;
-use route_wire::Update;
+use route_join::UpdatePage;
+use route_wire::Register;
 use std::alloc::{AllocError, Global};
 
 /// Running edges that a console queries. The history of requests is `None`, since no clause
@@ -38,7 +39,7 @@ impl<M: ManyEdges> Operated for Edges<M> {
     fn enter(
         &mut self,
         edge: u64,
-        command: &Command,
+        command: &OperatorCommand,
     ) -> Result<Result<Reply, BookRefusal>, Unreached> {
         match self.many.reach(edge) {
             Some(one) => one.enter(command),
@@ -46,13 +47,14 @@ impl<M: ManyEdges> Operated for Edges<M> {
         }
     }
 
-    fn table(
+    fn page(
         &mut self,
         alloc: Global,
         edge: u64,
-    ) -> Result<Result<Vec<Update>, AllocError>, Unreached> {
+        after: Option<Register>,
+    ) -> Result<Result<UpdatePage, AllocError>, Unreached> {
         match self.many.reach(edge) {
-            Some(one) => one.table(alloc),
+            Some(one) => one.page(alloc, after),
             None => Err(Unreached::NoEdge),
         }
     }
@@ -80,7 +82,7 @@ impl<M: ManyEdges> Operated for Edges<M> {
         &mut self,
         alloc: Global,
         edge: u64,
-    ) -> Result<Result<Served, AllocError>, Unreached> {
+    ) -> Result<Result<EdgeNetworks, AllocError>, Unreached> {
         match self.many.reach(edge) {
             Some(one) => one.served(alloc),
             None => Err(Unreached::NoEdge),

@@ -1,6 +1,6 @@
 //! The operator's console over edges that run: lines of the script language, answered in its
 //! words.
-#![tactic(auto)]
+#![tactic(auto, using(ether_wire::proofs::Appending::with_text_twice, crate::proofs::Doing::says_put))]
 
 mod answering;
 mod conversation;
@@ -9,9 +9,12 @@ mod loaded;
 mod operated;
 mod printing;
 mod reached;
+mod system_drops;
 mod table;
 mod turns;
 
 pub use conversation::{converse, converse_with};
 pub use operated::{Operated, Unreached};
+pub use reached::LocalEdges;
+pub use system_drops::{NoDrops, SystemDrops};
 pub use turns::{take_turn, take_turn_with};

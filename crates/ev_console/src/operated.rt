@@ -1,13 +1,14 @@
 //! Edges that run, as a console queries them.
-ghost use Rattle.std.specs.Prelude.{◌≡◌, ℕ, Option, List, [], ◌∷◌};
+ghost use Rattle.std.specs.Prelude.{◌≡◌, ℕ, Option, List, [], ◌∷◌, IfOk};
 ghost use Rattle.ev_links.specs.Coming.{behind};
-ghost use Rattle.ev_console.specs.Asking.{Asked, entered, table_seen, port_seen, view_seen, served_seen};
+ghost use Rattle.ev_console.specs.Asking.{Asked, entered, page_seen, port_seen, view_seen, served_seen};
 
 use ev_book::BookRefusal;
 use ev_edge::Reply;
-use ev_mailboxes::{Command, PortView, Served};
+use ev_mailboxes::{EdgeNetworks, OperatorCommand, PortView};
 use ev_view::EdgeQuestion;
-use route_wire::Update;
+use route_join::UpdatePage;
+use route_wire::Register;
 use std::alloc::{AllocError, Global};
 
 /// The reason why an edge doesn't answer.
@@ -43,22 +44,24 @@ pub trait Operated {
     fn enter(
         &mut self,
         edge: u64,
-        command: &Command,
+        command: &OperatorCommand,
     ) -> Result<Result<Reply, BookRefusal>, Unreached>
         ensures asked { asked self.new
             ≡ behind (asked self.old) (entered edge command.now result ∷ []) }
         ensures gave { gave self.old (entered edge command.now result) }
         ensures count { count self.new ≡ count self.old };
 
-    /// Returns the contents of the edge's table, in the order of a report.
-    fn table(
+    /// Returns the page of the report of the edge's table after this register, or the first page.
+    fn page(
         &mut self,
         alloc: Global,
         edge: u64,
-    ) -> Result<Result<Vec<Update>, AllocError>, Unreached>
+        after: Option<Register>,
+    ) -> Result<Result<UpdatePage, AllocError>, Unreached>
         ensures asked { asked self.new
-            ≡ behind (asked self.old) (table_seen edge result ∷ []) }
-        ensures gave { gave self.old (table_seen edge result) }
+            ≡ behind (asked self.old) (page_seen edge after result ∷ []) }
+        ensures gave { gave self.old (page_seen edge after result) }
+        ensures after { IfOk result (λ answer. IfOk answer (λ page. page.after ≡ after)) }
         ensures count { count self.new ≡ count self.old };
 
     /// Returns the state of a port in the edge's spanning tree, or `None` if the edge has no port
@@ -82,7 +85,11 @@ pub trait Operated {
         ensures count { count self.new ≡ count self.old };
 
     /// Returns the address, ports and VNIs that the edge serves.
-    fn served(&mut self, alloc: Global, edge: u64) -> Result<Result<Served, AllocError>, Unreached>
+    fn served(
+        &mut self,
+        alloc: Global,
+        edge: u64,
+    ) -> Result<Result<EdgeNetworks, AllocError>, Unreached>
         ensures asked { asked self.new
             ≡ behind (asked self.old) (served_seen edge result ∷ []) }
         ensures gave { gave self.old (served_seen edge result) }

@@ -8,7 +8,7 @@ use ether_wire::{Device, Out};
 use ev_book::BookRefusal;
 use ev_edge::{EdgeRefusal, Refusal, Reply};
 use ev_fabric::FabricRefusal;
-use ev_mailboxes::{PortView, Served};
+use ev_mailboxes::{EdgeNetworks, PortView};
 use ev_script::{put_number, put_port, put_refusal, put_reply, put_words, why_text};
 use ev_view::put_edge_line;
 use std::alloc::AllocError;
@@ -90,7 +90,7 @@ pub(crate) fn put_no_memory<W: Out>(out: &mut W, edge: u64) -> Result<(), Device
 pub(crate) fn put_served<W: Out>(
     out: &mut W,
     edge: u64,
-    answer: &Result<Result<Served, AllocError>, Unreached>,
+    answer: &Result<Result<EdgeNetworks, AllocError>, Unreached>,
 ) -> Result<(), Device>
     requires { IsOpen (W.end out.old) }
     ensures { Puts (W.end out.old) (W.end out.new) (served_seen_text edge answer.now) result }
@@ -122,7 +122,6 @@ pub(crate) fn put_view_seen<W: Out>(
 }
 
 /// Writes why a line is a bad one.
-#[tactic(auto, using(ether_wire::proofs::Appending::with_text_twice))]
 pub(crate) fn put_bad<W: Out>(out: &mut W, line: &[u8]) -> Result<(), Device>
     requires { IsOpen (W.end out.old) }
     ensures { Puts (W.end out.old) (W.end out.new) (bad_text line.now) result }

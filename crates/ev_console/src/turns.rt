@@ -4,12 +4,13 @@ ghost use Rattle.ev_console.specs.Turns.{step_of, is_taken, EntersAtEach, TakesT
 
 use crate::edges::Edges;
 use crate::operated::{Operated, Unreached};
-use crate::reached::Host;
+use crate::reached::LocalEdges;
+use crate::system_drops::NoDrops;
 use ev_book::BookRefusal;
 use ev_edge::Reply;
 use ev_exchange::{Sessions, Turn};
 use ev_history::Naming;
-use ev_mailboxes::{Command as Step, Running};
+use ev_mailboxes::{OperatorCommand as Step, Running};
 use std::sync::Wait;
 
 /// Returns the step of an edge that runs.
@@ -85,10 +86,11 @@ pub fn take_turn<'x, J: Naming, R: Wait>(
     ensures { TakesTurnHere now hold sessions.old sessions.new result }
 {
     let mut edges = Edges {
-        many: Host {
+        many: LocalEdges {
             rt,
             running: *running,
             unlisted: None,
+            system: &NoDrops,
         },
     };
     take_turn_with(&mut edges, sessions, now, hold)

@@ -2,7 +2,7 @@
 use Rattle.std.proofs.Common.{◌≡◌, ◌⊎◌, inl, inr, ℕ, Bool, true, false, cond, eqb, Option, Some, None, Result, Ok, Err}
 use Rattle.std.proofs.Common.{not, List, [], ◌∷◌, refl, sym, ap, subst, ◌∙◌}
 use Rattle.std.specs.Prelude.{filter}
-use Rattle.std.proofs.lemmas.Bool.{true≢false, false≢true}
+use Rattle.std.proofs.lemmas.Bool.{true≢false, false≢true, not-true as up_not_away}
 use Rattle.route_wire.specs.Fields.{Fields}
 use Rattle.route_join.specs.Table.{is_listed}
 use Rattle.mac_arena.specs.declared.station.Station.{Station}
@@ -42,13 +42,14 @@ use Rattle.ev_edge.specs.Away.{with_away, with_back}
 use Rattle.ev_edge.specs.Learning.{case_of, case_at, numbered_case, limited, case_on, OrNoMemory, Does}
 use Rattle.ev_edge.specs.Pinning.{pin_case, pin_case_at, refused_pin, DoesPin, after_unpin}
 use Rattle.ev_edge.specs.Sending.{IsDecision, port_of}
+use Rattle.ev_edge.specs.Storms.{taking_on}
 use Rattle.ev_edge.specs.Steps.{Steps, LearnsIf, SendsIf, FrameSteps, TunnelSteps, Bridges, BridgesAt, Seconds, Takes}
 use Rattle.ev_edge.specs.Steps.{Pins, Marks, nothing}
 use Rattle.ev_edge.specs.AwayLaws.{with_all_up, SameButDecision, is_mark, ComesBack, DependsNotOnAway, MarksOnlyAway}
 use Rattle.ev_edge.specs.AwayLaws.{Entered, EdgeRuns, without_marks, AreAlike, AsIfNeverAway}
 use Rattle.ev_edge.proofs.Cases.{learnt_by}
 use Rattle.ev_edge.proofs.Giving.{learnt_away}
-use Rattle.ev_edge.proofs.Marking.{back_again, up_not_away}
+use Rattle.ev_edge.proofs.Marking.{back_again}
 
 -- the edge with all others up has an answer with this property that is alike, and who is away stays
 abbrev Like : (Result Reply Refusal → Type 0) → Edge → Result Reply Refusal → Edge → Type 0
@@ -178,14 +179,16 @@ frames_alike (Ok Dropped) e port result e' h = likewise _ e result e' (away_is _
 frames_alike (Ok (Message b)) e port result e' h = bridges_alike _ e result e' h
 frames_alike (Ok (Data vni destination source)) e port (Ok reply) e' h =
     let sent = sends_alike h.passes e' vni destination (Port port) reply.decision h.sending in (
-      learnt_away e (record { vni = vni; mac = source }) port reply.alert e' _ h.learning.learning,
+      learnt_away (taking_on e port vni destination) (record { vni = vni; mac = source }) port reply.alert e' _
+          h.learning.learning,
       Ok (record nothing { decision = sent.0; alert = reply.alert }),
       ap (λ (r : Reply). record r { decision = None }) h.reply_is,
       record {
         learning = record {
           learns = h.learning.learns;
           are_learnt = h.learning.are_learnt;
-          learning = learns_alike _ e (record { vni = vni; mac = source }) port reply.alert e' h.learning.learning;
+          learning = learns_alike _ (taking_on e port vni destination) (record { vni = vni; mac = source }) port
+              reply.alert e' h.learning.learning;
         };
         passes = h.passes;
         are_passed = h.are_passed;

@@ -45,6 +45,7 @@ use Rattle.ev_edge.specs.Opening.{IsOpening, start_of}
 use Rattle.ev_edge.specs.Pinning.{DoesPin, pin_case, refused_pin, after_unpin}
 use Rattle.ev_edge.specs.Bridging.{aged, next_second}
 use Rattle.ev_edge.specs.Arrival.{frame_arrival, tunnel_arrival}
+use Rattle.ev_edge.specs.Storms.{taking_on}
 use Rattle.ev_edge.specs.Steps.{Steps, LearnsIf, FrameSteps, TunnelSteps, Bridges, BridgesAt, Seconds, Takes}
 use Rattle.ev_edge.specs.Steps.{TakesOther, TakesOwn, Pins, Marks}
 use Rattle.ev_edge.specs.Changes.{Changes, accepted, heard, heard_in}
@@ -102,8 +103,11 @@ frame_says (Err r) e port result e' good h = same e e' h.1
 frame_says (Ok Dropped) e port result e' good h = same e e' h.1
 frame_says (Ok (Message b)) e port result e' good h = bridge_says _ e result e' good h
 frame_says (Ok (Data vni destination source)) e port (Ok reply) e' good h =
-    learnt_if e (record { vni = vni; mac = source }) port reply.alert e' (h.learning.learns && not (is_group source))
-    h.learning.learning
+    same_saying (learnt_if (taking_on e port vni destination) (record { vni = vni; mac = source }) port reply.alert e'
+    (h.learning.learns && not (is_group source)) h.learning.learning)
+  where
+    same_saying : Saying e.routes.speaker (taking_on e port vni destination) e' → Saying e.routes.speaker e e'
+    same_saying s = record { said = s.said; few = s.few; after = s.after; apart = s.apart }
 frame_says (Ok (Data vni destination source)) e port (Err r) e' good h = absurd h
 
 tunnel_says : (arrival : Result Arrival Refusal) (e : Edge) (result : Result Reply Refusal) (e' : Edge)

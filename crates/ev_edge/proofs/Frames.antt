@@ -1,5 +1,5 @@
 -- The destinations of frames, by the frames' kinds.
-use Rattle.std.proofs.Common.{◌≡◌, ℕ, Bool, true, false, cond, Option, Some, None, Result, Ok, Err, List}
+use Rattle.std.proofs.Common.{◌≡◌, inl, inr, ℕ, Bool, true, false, cond, Option, Some, None, Result, Ok, Err, List}
 use Rattle.std.proofs.Common.{drop, refl, sym, ap, subst, ◌∙◌, arith}
 use Rattle.std.specs.Option.{ForSome, option_map}
 use Rattle.std.proofs.lemmas.Bool.{eq-eqb}
@@ -36,11 +36,14 @@ use Rattle.ev_edge.specs.declared.reply.Reply.{Reply}
 use Rattle.ev_edge.specs.Edge.{Edge, table_of, address_of}
 use Rattle.ether_wire.specs.Addr.{is_reserved}
 use Rattle.ev_edge.specs.Arrival.{holds_bpdu, message_in, reserved_arrival, data_in, arrival_at}
-use Rattle.ev_edge.specs.Arrival.{arrival_on, frame_arrival, is_up, serves, inner_arrival, datagram_arrival, is_other}
+use Rattle.ev_edge.specs.Arrival.{arrival_on, port_arrival, frame_arrival, is_up, serves, inner_arrival}
+use Rattle.ev_edge.specs.Arrival.{datagram_arrival, is_other}
 use Rattle.ev_edge.specs.Arrival.{tunnel_arrival}
 use Rattle.ev_edge.specs.Sending.{IsDecision, port_of}
+use Rattle.ev_edge.specs.Storms.{taking_on}
 use Rattle.ev_edge.specs.Steps.{LearnsIf, SendsIf, DataSteps, FrameSteps, TunnelSteps, Bridges}
 use Rattle.ev_edge.specs.Laws.{decision_in, LeavesBy, LeavesTunnel, IsReserved, HoldsReserved}
+use Rattle.ev_edge.proofs.Admitting.{unadmitted}
 use Rattle.ev_edge.proofs.Cases.{learnt_by}
 use Rattle.ev_edge.proofs.Places.{set_port}
 
@@ -137,10 +140,12 @@ module _ (e : Edge) (port : ℕ) (result : Result Reply Refusal) (e' : Edge) (ke
       )
 
   data_leaves : (vni destination source : ℕ) (reply : Reply) → vni_at e.routes.ports port ≡ Some vni
-      → DataSteps e port vni destination source reply e' → ForSome reply.decision (LeavesBy e port)
+      → DataSteps (taking_on e port vni destination) port vni destination source reply e'
+      → ForSome reply.decision (LeavesBy e port)
   data_leaves vni destination source reply at h d is =
-      sent vni destination d at (learnt_stays e (record { vni = vni; mac = source }) port reply.alert e' _
-      h.learning.learning) h.passes (subst (SendsIf h.passes e' vni destination (Port port)) is h.sending)
+      sent vni destination d at (learnt_stays (taking_on e port vni destination) (record { vni = vni; mac = source })
+      port reply.alert e' _ h.learning.learning) h.passes
+      (subst (SendsIf h.passes e' vni destination (Port port)) is h.sending)
 
   in_frame : (vni : ℕ) (frame : List ℕ) → vni_at e.routes.ports port ≡ Some vni → (b : Bool)
       → (r : Result Reply Refusal) → FrameSteps (cond b (reserved_arrival frame) (Ok (data_in vni frame))) e port r e'
@@ -157,7 +162,10 @@ module _ (e : Edge) (port : ℕ) (result : Result Reply Refusal) (e' : Edge) (ke
 
   pub frame_leaves : (octets : List ℕ) → FrameSteps (frame_arrival e port octets) e port result e'
       → ForSome (decision_in result) (LeavesBy e port)
-  frame_leaves octets h = go (vni_at e.routes.ports port) refl h
+  frame_leaves octets h = elim (unadmitted (port_arrival e port octets) e port result e' h) [
+    | inl steps ↦ go (vni_at e.routes.ports port) refl steps
+    | inr refused ↦ none result (ap decision_in refused.0) (LeavesBy e port)
+  ]
     where
       go : (o : Option ℕ) → vni_at e.routes.ports port ≡ o
           → FrameSteps (arrival_on o (is_up e.tree port) octets) e port result e'
@@ -167,7 +175,11 @@ module _ (e : Edge) (port : ℕ) (result : Result Reply Refusal) (e' : Edge) (ke
 
 pub reserved_frame : (e : Edge) (port : ℕ) (octets : List ℕ) (result : Result Reply Refusal) (e' : Edge)
     → IsReserved octets → FrameSteps (frame_arrival e port octets) e port result e' → decision_in result ≡ None
-reserved_frame e port octets result e' (frame, is, reserved) h = go (vni_at e.routes.ports port) h
+reserved_frame e port octets result e' (frame, is, reserved) h =
+    elim (unadmitted (port_arrival e port octets) e port result e' h) [
+      | inl steps ↦ go (vni_at e.routes.ports port) steps
+      | inr refused ↦ ap decision_in refused.0
+    ]
   where
     up_or_down : (vni : ℕ) (up : Bool) → FrameSteps (arrival_at up vni (Ok frame)) e port result e'
         → decision_in result ≡ None

@@ -1,6 +1,6 @@
 -- No frame goes to an edge that is away, and a frame for its stations is flooded.
-use Rattle.std.proofs.Common.{◌≡◌, ℕ, Bool, true, false, cond, eqb, Option, Some, None, Result, Ok, Err, List, []}
-use Rattle.std.proofs.Common.{Contains, refl, sym, ap, subst, ◌∙◌, arith}
+use Rattle.std.proofs.Common.{◌≡◌, ℕ, Bool, true, false, cond, eqb, Option, Some, None, Result, Ok, Err, List}
+use Rattle.std.proofs.Common.{Contains, refl, sym, ap, subst, ◌∙◌}
 use Rattle.std.specs.Option.{ForSome}
 use Rattle.ether_wire.specs.Addr.{is_group}
 use Rattle.route_wire.specs.Fields.{Fields}
@@ -15,7 +15,7 @@ use Rattle.ev_tunnel.specs.declared.decision.Source.{Source}
 use Rattle.ev_tunnel.specs.declared.decision.Source.TheVariants.{Port, Tunnel}
 use Rattle.ev_tunnel.specs.Decision.{is_up, up_owner, up_edges, open_ports, others_of, local_of, remote_of}
 use Rattle.ev_tunnel.specs.Place.{place_of, learnt_place, owned_place}
-use Rattle.ev_tunnel.proofs.DecisionLemmas.{remote_is_up, owner_away}
+use Rattle.ev_tunnel.proofs.DecisionLemmas.{remote_is_up, owner_away, none_of as nothing_in}
 use Rattle.ev_claims.specs.LocalRoutes.{vni_at}
 use Rattle.ev_edge.specs.declared.arrival.Arrival.{Arrival}
 use Rattle.ev_edge.specs.declared.arrival.Arrival.TheVariants.{Dropped, Message, Data}
@@ -28,6 +28,7 @@ use Rattle.ev_edge.specs.Edge.{Edge, table_of, address_of}
 use Rattle.ev_edge.specs.Arrival.{frame_arrival, tunnel_arrival}
 use Rattle.ev_edge.specs.Pinning.{refused_pin}
 use Rattle.ev_edge.specs.Sending.{IsDecision, port_of}
+use Rattle.ev_edge.specs.Storms.{taking_on}
 use Rattle.ev_edge.specs.Steps.{Steps, LearnsIf, SendsIf, FrameSteps, TunnelSteps, BridgesAt, Seconds, Takes, Pins}
 use Rattle.ev_edge.specs.Steps.{Marks}
 use Rattle.ev_edge.specs.Laws.{decision_in}
@@ -37,9 +38,6 @@ use Rattle.ev_edge.proofs.Frames.{none, bridged}
 
 abbrev Up : Edge → Decision → Type 0
 Up e d = (o : ℕ) → Contains d.remote.items o → is_up e.away o ≡ true
-
-nothing_in : {P : Type 0} (o : ℕ) → Contains [] o → P
-nothing_in o (k, below, at) = absurd (omega arith)
 
 decided_up : (e : Edge) (vni destination : ℕ) (from : Source) (d : Decision) → IsDecision e vni destination from d
     → Up e d
@@ -64,7 +62,8 @@ by_frame (Ok Dropped) e port result e' h = none result (ap decision_in h.0) (Up 
 by_frame (Ok (Message b)) e port result e' h = none result (bridged _ e result e' h) (Up e)
 by_frame (Ok (Data vni destination source)) e port (Ok reply) e' h = λ d is o there.
     subst (λ (away : List ℕ). is_up away o ≡ true)
-    (learnt_away e (record { vni = vni; mac = source }) port reply.alert e' _ h.learning.learning)
+    (learnt_away (taking_on e port vni destination) (record { vni = vni; mac = source }) port reply.alert e' _
+    h.learning.learning)
     (sent_up h.passes e' vni destination (Port port) d
     (subst (SendsIf h.passes e' vni destination (Port port)) is h.sending) o there)
 by_frame (Ok (Data vni destination source)) e port (Err r) e' h = absurd h

@@ -18,6 +18,7 @@ use Rattle.ev_claims.specs.Speaker.{is_returning, after_originating, after_impor
 use Rattle.route_wire.specs.declared.update.Content.TheVariants.{Withdrawn}
 use Rattle.ev_tunnel.specs.Decision.{is_away}
 use Rattle.ev_claims.specs.LocalRoutes.{after_refresh, after_shift, after_announcement, is_lost}
+use Rattle.ev_edge.specs.declared.storms.Storm.{Storm}
 use Rattle.ev_edge.specs.Edge.{Edge, IsEdge, AreListed, table_of}
 use Rattle.std.specs.FinMap.{FinMap}
 use Rattle.mac_arena.specs.Station.{station_cmp}
@@ -187,6 +188,24 @@ other_quotas e passing quotas h kept = record {
     early = h.keeps.early;
     away = h.keeps.away;
     quotas = kept;
+  };
+  exact = h.exact;
+}
+
+-- other counts of storms
+pub other_storms : (e : Edge) (passing : ℕ) (storms : List Storm) → IsEdge e passing
+    → IsEdge (record e { storms = storms }) passing
+other_storms e passing storms h = record {
+  keeps = record {
+    owns = h.keeps.owns;
+    latest = h.keeps.latest;
+    individual = h.keeps.individual;
+    served = h.keeps.served;
+    buckets = h.keeps.buckets;
+    ports = h.keeps.ports;
+    early = h.keeps.early;
+    away = h.keeps.away;
+    quotas = h.keeps.quotas;
   };
   exact = h.exact;
 }

@@ -7,6 +7,8 @@ pub mod Owning
 pub mod Passing
 pub mod Keeping
 pub mod Places
+pub mod Admitting
+pub mod Counting
 pub mod Winning
 pub mod Returning
 pub mod Returned
@@ -22,3 +24,4 @@ pub mod Remaining
 pub mod Single
 pub mod Limiting
 pub mod Spending
+pub mod Storming

@@ -48,10 +48,12 @@ use Rattle.ev_edge.specs.Learning.{is_counted, quotas_with, refreshed, moved, le
 use Rattle.ev_edge.specs.Bridging.{aged, next_second}
 use Rattle.ev_edge.specs.Pinning.{DoesPin, pin_case, refused_pin, after_unpin, after_thawing}
 use Rattle.ev_edge.specs.Arrival.{frame_arrival, tunnel_arrival}
+use Rattle.ev_edge.specs.Storms.{taking_on}
 use Rattle.ev_edge.specs.Steps.{Steps, LearnsIf, FrameSteps, TunnelSteps, Bridges, BridgesAt, Seconds, Takes, Pins}
 use Rattle.ev_edge.specs.Steps.{Marks}
 use Rattle.ev_edge.specs.LimitLaws.{LimitsNothing, KeepsLimits, KeepsToStations, StationsAreFew, comes_at, is_pin}
 use Rattle.ev_edge.specs.LimitLaws.{has_pin}
+use Rattle.ev_edge.specs.StormLaws.{floods, taken_at}
 use Rattle.ev_edge.proofs.Cases.{learnt_by, or_refused}
 use Rattle.ev_edge.proofs.Quotas.{met_above}
 use Rattle.ev_edge.proofs.Places.{there_port}
@@ -290,15 +292,17 @@ taken_fewer c u p = go u.register.key
 
 -- ---- events by which nothing is learnt
 
--- the quotas stay, no time goes back, and no port has more stations than before
+-- the quotas and storms stay, no time goes back, and no port has more stations than before
 pub record Rests (e e' : Edge) : Type 0 where
   pub quotas : e'.quotas ≡ e.quotas
+  pub storms : e'.storms ≡ e.storms
   pub later : e.clock ≤ e'.clock
   pub fewer : Fewer e.routes e'.routes
 
 same_rests : (e e' : Edge) → e' ≡ e → Rests e e'
 same_rests e e' is = record {
   quotas = ap (λ (x : Edge). x.quotas) is;
+  storms = ap (λ (x : Edge). x.storms) is;
   later = let same = ap (λ (x : Edge). x.clock) is in omega (arith, same);
   fewer = λ p. let same = ap (λ (x : Edge). stations_on x.routes p) is in omega (arith, same);
 }
@@ -307,6 +311,7 @@ same_rests e e' is = record {
 routes_rest : (e e' : Edge) (c : LocalRoutes) → Fewer e.routes c → e' ≡ record e { routes = c } → Rests e e'
 routes_rest e e' c few is = subst (Rests e) (sym is) (record {
   quotas = refl;
+  storms = refl;
   later = no_more e.clock;
   fewer = few;
 })
@@ -315,6 +320,7 @@ pub bridge_rests : (event : tree.Event) (e : Edge) (result : Result Reply Refusa
     → Bridges event e result e' → Rests e e'
 bridge_rests event e (Ok reply) e' h = subst (Rests e) (sym h.after) (record {
   quotas = refl;
+  storms = refl;
   later = no_more e.clock;
   fewer = removals_fewer e.routes (flushed_in e.routes.learned h.flush);
 })
@@ -335,6 +341,7 @@ next_later clock = go (eqb clock (2 ^ 63))
 second_rests : (e : Edge) (result : Result Reply Refusal) (e' : Edge) → Seconds e result e' → Rests e e'
 second_rests e (Ok reply) e' h = subst (Rests e) (sym h.after) (record {
   quotas = refl;
+  storms = refl;
   later = next_later e.clock;
   fewer = λ p. let first = removals_fewer e.routes (flushed_in e.routes.learned h.flush) p in
       let rest = aged_fewer (after_flush e.routes h.flush) e.ageing (next_second e.clock) p in
@@ -367,30 +374,31 @@ unpin_rests e s e' is = go (is_pinned (entry_at e.routes.learned s)) is
 
 thaw_rests : (e : Edge) (s : Station) (e' : Edge) → e' ≡ after_thawing e s → Rests e e'
 thaw_rests e s e' is = subst (Rests e) (sym is)
-    (record { quotas = refl; later = no_more e.clock; fewer = λ p. no_more (stations_on e.routes p) })
+    (record { quotas = refl; storms = refl; later = no_more e.clock; fewer = λ p. no_more (stations_on e.routes p) })
 
 mark_rests : (b : Bool) (e : Edge) (away : List ℕ) (result : Result Reply Refusal) (e' : Edge)
     → Marks b e away result e' → Rests e e'
 mark_rests true e away result e' h = subst (Rests e) (sym h.1)
-    (record { quotas = refl; later = no_more e.clock; fewer = λ p. no_more (stations_on e.routes p) })
+    (record { quotas = refl; storms = refl; later = no_more e.clock; fewer = λ p. no_more (stations_on e.routes p) })
 mark_rests false e away result e' h = same_rests e e' h.1
 
 -- ---- pins
 
 abbrev CountsNone : Edge → Edge → Type 0
-CountsNone e x = (x.quotas ≡ e.quotas) × (e.clock ≤ x.clock)
+CountsNone e x = (x.quotas ≡ e.quotas) × (x.storms ≡ e.storms) × (e.clock ≤ x.clock)
 
 pin_does : (e : Edge) (s : Station) (port : ℕ) (told : Option Alert) (e' : Edge) (c : PinCase)
     → DoesPin c e s port told e' → CountsNone e e'
-pin_does e s port told e' Keep h = subst (CountsNone e) (sym h.1) (refl, no_more e.clock)
-pin_does e s port told e' Shift h = subst (CountsNone e) (sym h.1) (refl, no_more e.clock)
-pin_does e s port told e' (Deny alert) h = subst (CountsNone e) (sym h.1) (refl, no_more e.clock)
-pin_does e s port told e' Pin h = or_refused (CountsNone e) (refl, no_more e.clock) (refl, no_more e.clock) h
+pin_does e s port told e' Keep h = subst (CountsNone e) (sym h.1) (refl, refl, no_more e.clock)
+pin_does e s port told e' Shift h = subst (CountsNone e) (sym h.1) (refl, refl, no_more e.clock)
+pin_does e s port told e' (Deny alert) h = subst (CountsNone e) (sym h.1) (refl, refl, no_more e.clock)
+pin_does e s port told e' Pin h =
+    or_refused (CountsNone e) (refl, refl, no_more e.clock) (refl, refl, no_more e.clock) h
 
 -- a pin counts nothing, and takes no time
 pin_counts : (e : Edge) (s : Station) (port : ℕ) (result : Result Reply Refusal) (e' : Edge)
     (refused : Option EdgeRefusal) → Pins refused e s port result e' → CountsNone e e'
-pin_counts e s port result e' (Some r) h = subst (CountsNone e) (sym h.1) (refl, no_more e.clock)
+pin_counts e s port result e' (Some r) h = subst (CountsNone e) (sym h.1) (refl, refl, no_more e.clock)
 pin_counts e s port (Err r) e' None h = absurd h
 pin_counts e s port (Ok reply) e' None h = pin_does e s port reply.alert e' (pin_case e s port) h.0
 
@@ -410,8 +418,9 @@ frame_limits (Ok Dropped) e port result e' p h = (
 frame_limits (Ok (Message b)) e port result e' p h = let r = bridge_rests _ e result e' h in
     (ap (λ qs. (quota_at qs p).limits) r.quotas, r.later)
 frame_limits (Ok (Data vni destination source)) e port (Ok reply) e' p h =
-    learnt_by (λ x. (limits_at x p ≡ limits_at e p) × (e.clock ≤ x.clock)) e (record { vni = vni; mac = source }) port
-    reply.alert e' (refl, no_more e.clock) (λ heard. (refl, no_more e.clock)) (refl, no_more e.clock)
+    learnt_by (λ x. (limits_at x p ≡ limits_at e p) × (e.clock ≤ x.clock)) (taking_on e port vni destination)
+    (record { vni = vni; mac = source }) port reply.alert e' (refl, no_more e.clock)
+    (λ heard. (refl, no_more e.clock)) (refl, no_more e.clock)
     (λ new. (counted_limits e (record { vni = vni; mac = source }) port p, no_more e.clock))
     (λ n new. (counted_limits e (record { vni = vni; mac = source }) port p, no_more e.clock))
     (h.learning.learns && not (is_group source)) h.learning.learning
@@ -422,16 +431,21 @@ pub record FrameOf (e : Edge) (event : Event) (result : Result Reply Refusal) (e
   pub port : ℕ
   pub octets : List ℕ
   pub at : (p : ℕ) → comes_at p event ≡ eqb port p
+  pub taken : (p : ℕ) → taken_at p e event
+      ≡ cond (eqb port p) (cond (floods e (frame_arrival e port octets)) 1 0) 0
   pub steps : FrameSteps (frame_arrival e port octets) e port result e'
 
 pub record PinOf (e : Edge) (event : Event) (result : Result Reply Refusal) (e' : Edge) : Type 0 where
   pub none : (p : ℕ) → comes_at p event ≡ false
+  pub calm : (p : ℕ) → taken_at p e event ≡ 0
   pub pin : is_pin event ≡ true
   pub same : e'.quotas ≡ e.quotas
+  pub storms : e'.storms ≡ e.storms
   pub later : e.clock ≤ e'.clock
 
 pub record RestOf (event : Event) (e e' : Edge) : Type 0 where
   pub none : (p : ℕ) → comes_at p event ≡ false
+  pub calm : (p : ℕ) → taken_at p e event ≡ 0
   pub rests : Rests e e'
 
 abbrev pub KindOf : Edge → Event → Result Reply Refusal → Edge → Type 0
@@ -443,43 +457,64 @@ kind_of e (events.Frame port octets) result e' h = inr (inl (record {
   port = port;
   octets = octets.now;
   at = λ p. refl;
+  taken = λ p. refl;
   steps = h;
 }))
 kind_of e (events.TunnelFrame from octets) result e' h = inl (record {
   none = λ p. refl;
+  calm = λ p. refl;
   rests = tunnel_rests (tunnel_arrival e from octets.now) e result e' h;
 })
 kind_of e (events.Take u) result e' h = inl (record {
   none = λ p. refl;
+  calm = λ p. refl;
   rests = take_rests (eqb u.register.originator (address_of e)) e u result e' h;
 })
 kind_of e (events.Pin s port) result e' h = let c = pin_counts e s port result e' (refused_pin e s port) h in
-    inr (inr (record { none = λ p. refl; pin = refl; same = c.0; later = c.1 }))
-kind_of e (events.Unpin s) result e' h = inl (record { none = λ p. refl; rests = unpin_rests e s e' h.1 })
-kind_of e (events.Thaw s) result e' h = inl (record { none = λ p. refl; rests = thaw_rests e s e' h.1 })
-kind_of e events.Second result e' h = inl (record { none = λ p. refl; rests = second_rests e result e' h })
+    inr (inr (record { none = λ p. refl; calm = λ p. refl; pin = refl; same = c.0; storms = c.1; later = c.2 }))
+kind_of e (events.Unpin s) result e' h = inl (record {
+  none = λ p. refl;
+  calm = λ p. refl;
+  rests = unpin_rests e s e' h.1;
+})
+kind_of e (events.Thaw s) result e' h = inl (record {
+  none = λ p. refl;
+  calm = λ p. refl;
+  rests = thaw_rests e s e' h.1;
+})
+kind_of e events.Second result e' h = inl (record {
+  none = λ p. refl;
+  calm = λ p. refl;
+  rests = second_rests e result e' h;
+})
 kind_of e (events.PortUp port) result e' h = inl (record {
   none = λ p. refl;
+  calm = λ p. refl;
   rests = port_rests (vni_at e.routes.ports port) _ e result e' h;
 })
 kind_of e (events.PortDown port) result e' h = inl (record {
   none = λ p. refl;
+  calm = λ p. refl;
   rests = port_rests (vni_at e.routes.ports port) _ e result e' h;
 })
 kind_of e (events.Mcheck port) result e' h = inl (record {
   none = λ p. refl;
+  calm = λ p. refl;
   rests = port_rests (vni_at e.routes.ports port) _ e result e' h;
 })
 kind_of e events.Announce result e' h = inl (record {
   none = λ p. refl;
+  calm = λ p. refl;
   rests = routes_rest e e' (after_announcement e.routes) (λ p. no_more (stations_on e.routes p)) h.1;
 })
 kind_of e (events.Away a) result e' h = inl (record {
   none = λ p. refl;
+  calm = λ p. refl;
   rests = mark_rests (is_listed (table_of e) a) e _ result e' h;
 })
 kind_of e (events.Back a) result e' h = inl (record {
   none = λ p. refl;
+  calm = λ p. refl;
   rests = mark_rests (is_listed (table_of e) a) e _ result e' h;
 })
 
@@ -504,7 +539,8 @@ frame_few (Err r) e port result e' p some there h = inl ((same_rests e e' h.1).f
 frame_few (Ok Dropped) e port result e' p some there h = inl ((same_rests e e' h.1).fewer p)
 frame_few (Ok (Message b)) e port result e' p some there h = inl ((bridge_rests _ e result e' h).fewer p)
 frame_few (Ok (Data vni destination source)) e port (Ok reply) e' p some there h =
-    learnt_few e (record { vni = vni; mac = source }) port p reply.alert e' (h.learning.learns && not (is_group source))
+    learnt_few (taking_on e port vni destination) (record { vni = vni; mac = source }) port p reply.alert e'
+    (h.learning.learns && not (is_group source))
     (there vni destination source refl) some h.learning.learning
 frame_few (Ok (Data vni destination source)) e port (Err r) e' p some there h = absurd h
 

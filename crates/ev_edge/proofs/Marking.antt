@@ -13,10 +13,6 @@ and_true : (b : Bool) → (b && true) ≡ b
 and_true true = refl
 and_true false = refl
 
-pub up_not_away : (b : Bool) → not b ≡ true → b ≡ false
-up_not_away true h = absurd (true≢false (sym h))
-up_not_away false h = refl
-
 -- ---- lists that a test leaves
 
 kept_in : (p : ℕ → Bool) (os : List ℕ) (o : ℕ) → p o ≡ true → is_away (filter p os) o ≡ is_away os o

@@ -15,17 +15,21 @@ use Rattle.route_join.specs.Table.{value_at, is_listed}
 use Rattle.rstp_run.specs.declared.event.Event as tree
 use Rattle.ev_mobility.specs.declared.alert.Alert.TheVariants.{LostStatic, NoMemory as Unroomed}
 use Rattle.ev_claims.specs.LocalRoutes.{vni_at, loses_pinned}
-use Rattle.ev_edge.specs.declared.arrival.Arrival.TheVariants.{Dropped}
+use Rattle.ev_edge.specs.declared.arrival.Arrival.{Arrival}
+use Rattle.ev_edge.specs.declared.arrival.Arrival.TheVariants.{Dropped, Message, Data}
 use Rattle.ev_edge.specs.declared.event.Event.{Event}
 use Rattle.ev_edge.specs.declared.event.Event.TheVariants as events
 use Rattle.ev_edge.specs.declared.refusal.EdgeRefusal.TheVariants.{UnknownOriginator, NoMemory, NoSuchPort, NoSuchVni}
+use Rattle.ev_edge.specs.declared.refusal.EdgeRefusal.TheVariants.{PortStorm}
 use Rattle.ev_edge.specs.declared.refusal.Refusal.{Refusal}
 use Rattle.ev_edge.specs.declared.refusal.Refusal.TheVariants.{Edge as OfEdge}
 use Rattle.ev_edge.specs.declared.reply.Reply.{Reply}
 use Rattle.ev_edge.specs.Edge.{Edge, table_of, address_of}
 use Rattle.ether_wire.specs.Addr.{is_reserved}
 use Rattle.ev_edge.specs.Arrival.{holds_bpdu, message_in, reserved_arrival, data_in, arrival_at}
-use Rattle.ev_edge.specs.Arrival.{arrival_on, is_up, serves, inner_arrival, datagram_arrival, is_other}
+use Rattle.ev_edge.specs.Arrival.{arrival_on, port_arrival, admitted, is_up, serves, inner_arrival, datagram_arrival}
+use Rattle.ev_edge.specs.Arrival.{is_other}
+use Rattle.ev_edge.specs.Storms.{is_stormy}
 use Rattle.ev_edge.specs.Steps.{Steps, FrameSteps, TunnelSteps, Bridges, BridgesAt, Seconds, Takes, TakesOther}
 use Rattle.ev_edge.specs.Steps.{lost_alert, Marks}
 use Rattle.ev_edge.specs.Laws.{is_data, takes_none, TellsNoMemory}
@@ -92,6 +96,21 @@ module _ (e : Edge) (port : ℕ) (result : Result Reply Refusal) (e' : Edge) whe
   frames None octets idle h = refused result _ h.0 (λ same. cc)
   frames (Some vni) octets idle h = at_port vni (is_up e.tree port) (frame_of octets) idle h
 
+  -- within the storm limit or beyond it
+  limited : (a : Result Arrival Refusal) → not (is_data (admitted e port a)) ≡ true
+      → FrameSteps (admitted e port a) e port result e'
+      → (not (is_data a) ≡ true → FrameSteps a e port result e' → TellsNoMemory result → ⊥) → TellsNoMemory result → ⊥
+  limited (Err r) idle h rest = rest idle h
+  limited (Ok Dropped) idle h rest = rest idle h
+  limited (Ok (Message b)) idle h rest = rest idle h
+  limited (Ok (Data v d s)) idle h rest = go (is_stormy e port v d) idle h
+    where
+      go : (b : Bool) → not (is_data (cond b (Err (OfEdge (PortStorm port))) (Ok (Data v d s)))) ≡ true
+          → FrameSteps (cond b (Err (OfEdge (PortStorm port))) (Ok (Data v d s))) e port result e'
+          → TellsNoMemory result → ⊥
+      go true idle h = refused result _ h.0 (λ same. cc)
+      go false idle h = absurd (let bad : false ≡ true = idle in cc)
+
 module _ (e : Edge) (result : Result Reply Refusal) (e' : Edge) where
   in_tunnel : (vni : ℕ) (frame : List ℕ) (b : Bool) (r : Result Reply Refusal)
       → TunnelSteps (cond b (Ok Dropped) (Ok (data_in vni frame))) e r e' → TellsNoMemory r → ⊥
@@ -150,7 +169,8 @@ marked e away result e' false h = refused result _ h.0 (λ same. cc)
 pub tells_none : (e : Edge) (event : Event) (result : Result Reply Refusal) (e' : Edge) → takes_none e event ≡ true
     → Steps e event result e' → TellsNoMemory result → ⊥
 tells_none e (events.Frame port octets) result e' idle h =
-    frames e port result e' (vni_at e.routes.ports port) octets.now idle h
+    limited e port result e' (port_arrival e port octets.now) idle h
+    (frames e port result e' (vni_at e.routes.ports port) octets.now)
 tells_none e (events.TunnelFrame from octets) result e' idle h = tunnels e result e' octets.now (is_other e from) h
 tells_none e (events.Take u) result e' idle h = taken e u result e' (eqb u.register.originator (address_of e)) idle h
 tells_none e (events.Pin s port) result e' idle h = absurd (let bad : false ≡ true = idle in cc)

@@ -6,7 +6,6 @@ use Rattle.std.proofs.lemmas.List.{length-replicate}
 use Rattle.std.proofs.lemmas.List.Sorted.{Contains-permutation}
 use Rattle.std.specs.FinMap.{get-empty}
 use Rattle.route_wire.specs.declared.update.Key.TheVariants.{Flood, Mac}
-use Rattle.route_wire.specs.declared.update.Advert.{Advert}
 use Rattle.route_wire.specs.declared.update.Value.{Value}
 use Rattle.route_wire.specs.declared.update.Content.TheVariants.{Advert as Advertised}
 use Rattle.route_wire.specs.Order.{register_cmp}
@@ -31,10 +30,12 @@ use Rattle.ev_claims.specs.LocalRoutes.{LocalRoutes, key_of}
 use Rattle.ev_claims.specs.Opening.{IsOpening, after_floods}
 use Rattle.ev_mobility.specs.Moves.{Moves}
 use Rattle.ev_edge.specs.declared.limits.Quota.{Quota}
+use Rattle.ev_edge.specs.declared.storms.Storm.{Storm}
 use Rattle.ev_edge.specs.Limits.{AreKept}
 use Rattle.ev_edge.specs.Edge.{ArePassing, AreIndividual, IsEdge, edge_of}
 use Rattle.ev_edge.proofs.Marking.{none_listed}
-use Rattle.ev_edge.proofs.Owning.{said_other}
+use Rattle.ev_claims.proofs.Numbers.{key_stays as said_other}
+use Rattle.ev_edge.proofs.Owning.{never_some}
 
 -- ---- nothing is advertised but flood lists
 floods_address : (e : Speaker) (vs : List ℕ) → (after_floods e vs).address ≡ e.address
@@ -54,10 +55,6 @@ nothing_said : (address incarnation : ℕ) (originators vs : List ℕ) (s : Stat
 nothing_said address incarnation originators vs s =
     floods_silent (silent address incarnation originators) vs s
     ∙ ap advert_of (get-empty {X = Value} register_cmp (register_of address (key_of s)))
-
-never_some : (o : Option Advert) → o ≡ None → IsSome o → ⊥
-never_some None is some = cc
-never_some (Some a) is some = cc
 
 -- ---- no port is up
 down : (settings : Settings) (ports : List PortSettings) (n k : ℕ)
@@ -92,12 +89,12 @@ nobody_individual s c h = subst AreIndividual (sym h.learned)
     never_learnt (Some a) is some = cc
 
 pub opened : (s : Start) (c : LocalRoutes) (settings : Settings) (ports : List PortSettings) (ageing : ℕ) (tree : Tree)
-    (moves : Moves) (quotas : List Quota) → IsOpening s c → tree ≡ start settings ports
+    (moves : Moves) (quotas : List Quota) (storms : List Storm) → IsOpening s c → tree ≡ start settings ports
     → length s.ports.items ≡ length ports
     → ((v : ℕ) → Contains s.ports.items v → Contains s.vnis.items v) → 0 < s.buckets
-    → AreKept quotas 0 → IsEdge (edge_of c 0 ageing tree moves [] quotas) 0
-opened s c settings ports ageing tree moves quotas h is size serves some kept =
-    subst (λ t. IsEdge (edge_of c 0 ageing t moves [] quotas) 0) (sym is) (record {
+    → AreKept quotas 0 → IsEdge (edge_of c 0 ageing tree moves [] quotas storms) 0
+opened s c settings ports ageing tree moves quotas storms h is size serves some kept =
+    subst (λ t. IsEdge (edge_of c 0 ageing t moves [] quotas storms) 0) (sym is) (record {
       keeps = record {
         owns = λ r some. absurd (never_some (own_advert c.speaker (key_of r))
             (ap (λ v. own_advert v (key_of r)) h.speaker

@@ -17,7 +17,7 @@ use Rattle.route_join.specs.Table.{Table, register_of, with_update}
 use Rattle.route_join.specs.Owner.{advert_of, advert_at, owner, IsOwner, IsUnowned}
 use Rattle.route_join.proofs.Owners.{owner_is, owner_along}
 use Rattle.route_join.proofs.Joins.{others_stay}
-use Rattle.route_join.proofs.Tables.{at_same, at_other}
+use Rattle.route_join.proofs.Tables.{at_same}
 use Rattle.mac_arena.specs.declared.station.Station.{Station}
 use Rattle.mac_arena.specs.declared.station.Entry.{Entry}
 use Rattle.mac_arena.specs.Learning.{Learning, entry_at, IsLatest, after_removal as gone}
@@ -25,11 +25,12 @@ use Rattle.mac_arena.specs.Laws.{ChangesEntry}
 use Rattle.mac_arena.proofs.Entries.{same_or_other}
 use Rattle.mac_arena.proofs.Looking.{removal_entry}
 use Rattle.mac_arena.proofs.Values.{latest_removal, chains_removal}
-use Rattle.ev_claims.specs.Speaker.{Speaker, own_register, own_advert, is_at, next_value, after_originating}
+use Rattle.ev_claims.specs.Speaker.{own_register, own_advert, is_at, next_value, after_originating}
 use Rattle.ev_claims.specs.LocalRoutes.{LocalRoutes, key_of, after_removal, after_removals, after_update}
 use Rattle.ev_claims.specs.LocalRoutes.{after_losing_at}
 use Rattle.ev_claims.specs.LocalRoutes.{after_losing, after_take, is_lost}
 use Rattle.ev_edge.specs.Edge.{OwnsAt, AreIndividual, ServesPorts}
+use Rattle.ev_claims.proofs.Numbers.{key_stays as said_other}
 
 -- ---- an own update of another key
 pub other_key : (r s : Station) (i j : Option Ip) → r ≢ s → Mac r.vni r.mac i ≢ Mac s.vni s.mac j
@@ -37,11 +38,6 @@ other_key r s i j ne e =
     let vnis : r.vni ≡ s.vni = cc in
     let macs : r.mac ≡ s.mac = cc in
     ne (λ k. record { vni = vnis k; mac = macs k })
-
-pub said_other : (e : Speaker) (k : Key) (c : Content) (j : Key) (o : ℕ) → j ≢ k
-    → advert_at (after_originating e k c).table o j ≡ advert_at e.table o j
-said_other e k c j o ne = ap advert_of (at_other e.table (own_register e k) (next_value e c) (register_of o j)
-    (λ h. ne (ap (λ (q : Register). q.key) h)))
 
 -- a station whose key isn't said, by whatever IP address, is owned as it was
 pub saying_owns : (c : LocalRoutes) (k : Key) (content : Content) (r : Station)
@@ -53,7 +49,7 @@ saying_owns c k content r ne h some =
     (h (subst IsSome (said_other c.speaker k content (key_of r) c.speaker.address (ne None)) some))
 
 -- ---- a removal
-never_some : (o : Option Advert) → o ≡ None → IsSome o → ⊥
+pub never_some : (o : Option Advert) → o ≡ None → IsSome o → ⊥
 never_some None is some = cc
 never_some (Some a) is some = cc
 

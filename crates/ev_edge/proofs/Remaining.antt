@@ -1,6 +1,6 @@
 -- An edge stays good at each event: a consequence of the relation of edge, event, answer and next edge.
 use Rattle.std.proofs.Common.{◌≡◌, ℕ, ◌<◌, ◌^◌, Bool, true, false, cond, eqb, not, ◌&&◌}
-use Rattle.std.proofs.Common.{Option, Some, None, Result, Ok, Err, List, [], ◌∷◌, drop, length, refl, sym, ap}
+use Rattle.std.proofs.Common.{Option, Some, None, Result, Ok, Err, List, drop, length, refl, sym, ap}
 use Rattle.std.proofs.Common.{subst, ◌∙◌, arith}
 use Rattle.std.specs.Prelude.{IsSome}
 use Rattle.std.specs.FinMap.{FinMap}
@@ -26,7 +26,7 @@ use Rattle.rstp_run.specs.declared.event.Event.TheVariants as tree_events
 use Rattle.rstp_run.specs.Events.{direct, ports_at}
 use Rattle.rstp_run.specs.Rules.{Tree}
 use Rattle.rstp_run.specs.Runs.{Firing, Run}
-use Rattle.rstp_run.proofs.Steps.{length-change_at, length-ports_after}
+use Rattle.rstp_run.proofs.Steps.{length-change_at}
 use Rattle.ev_mobility.specs.declared.alert.Alert.{Alert}
 use Rattle.ev_mobility.specs.declared.alert.Alert.TheVariants.{StaticElsewhere, CounterSpent, TableFull}
 use Rattle.ev_mobility.specs.declared.window.Window.{Window}
@@ -44,19 +44,22 @@ use Rattle.ev_edge.specs.declared.pinning.PinCase.TheVariants.{Keep, Shift, Deny
 use Rattle.ev_edge.specs.declared.refusal.EdgeRefusal.{EdgeRefusal}
 use Rattle.ev_edge.specs.declared.refusal.Refusal.{Refusal}
 use Rattle.ev_edge.specs.declared.reply.Reply.{Reply}
-use Rattle.ev_edge.specs.Arrival.{frame_arrival, tunnel_arrival, arrival_on, arrival_at, reserved_arrival, message_in}
+use Rattle.ev_edge.specs.Arrival.{port_arrival, frame_arrival, tunnel_arrival, arrival_on, arrival_at, reserved_arrival}
 use Rattle.ether_wire.specs.Addr.{is_reserved}
-use Rattle.ev_edge.specs.Arrival.{data_in, holds_bpdu, is_up}
+use Rattle.ev_edge.specs.Arrival.{message_in, data_in, holds_bpdu, is_up}
 use Rattle.ev_edge.specs.Away.{with_away, with_back}
 use Rattle.ev_edge.specs.Bridging.{next_second, aged}
+use Rattle.ev_edge.specs.declared.storms.Storm.{Storm}
 use Rattle.ev_edge.specs.Edge.{Edge, IsGoodEdge, AreListed, table_of, address_of}
 use Rattle.ev_edge.specs.Learning.{is_spent}
 use Rattle.ev_edge.specs.Pinning.{is_static, unpinned_case, pin_case_at, pin_case, refused_pin, DoesPin, after_unpin}
+use Rattle.ev_edge.specs.Storms.{storms_with, taking_on}
 use Rattle.ev_edge.specs.Steps.{Steps, LearnsIf, FrameSteps, TunnelSteps, Bridges, BridgesAt, Seconds, Takes}
 use Rattle.ev_edge.specs.Steps.{Pins, Marks}
 use Rattle.ev_edge.proofs.Marking.{away_listed, back_listed}
 use Rattle.ev_edge.specs.Learning.{quotas_with}
 use Rattle.ev_edge.proofs.Cases.{IsNew, learnt_by, or_refused}
+use Rattle.ev_edge.proofs.Admitting.{of_admitted}
 use Rattle.ev_edge.proofs.Quotas.{later_kept, quotas_kept}
 use Rattle.ev_edge.proofs.Keeping.{removals_ports, taken_ports, second_early, aged_ports}
 use Rattle.ev_edge.proofs.Keeping.{ListsAs, removals_list, taken_list, own_list, aged_list, listed_still}
@@ -64,6 +67,7 @@ use Rattle.ev_edge.proofs.Winning.{pin_fits, pinned_alone}
 use Rattle.ev_edge.proofs.Staying.{Keeps, keeps_of, good_by, advert_keeps, refresh_keeps, pin_keeps, shift_keeps}
 use Rattle.ev_edge.proofs.Staying.{removal_keeps, flush_keeps, aged_keeps, later_keeps, other_keeps, own_keeps}
 use Rattle.ev_edge.proofs.Staying.{announced_keeps}
+use Rattle.rstp_run.proofs.Within.{run_length}
 
 same_good : (e e' : Edge) → e' ≡ e → IsGoodEdge e → IsGoodEdge e'
 same_good e e' is h = subst IsGoodEdge (sym is) h
@@ -79,6 +83,11 @@ windows_good : (e : Edge) (windows : FinMap station_cmp Window) → IsGoodEdge e
     → IsGoodEdge (record e { windows = windows })
 windows_good e windows h = good_by (record e { windows = windows }) (keeps_of e h) h.keeps.ports h.keeps.early
     h.keeps.away h.keeps.quotas
+
+-- other counts of storms
+storms_good : (e : Edge) (storms : List Storm) → IsGoodEdge e → IsGoodEdge (record e { storms = storms })
+storms_good e storms h = good_by (record e { storms = storms }) (keeps_of e h) h.keeps.ports h.keeps.early h.keeps.away
+    h.keeps.quotas
 
 -- other edges are away
 marks_good : (e : Edge) (away : List ℕ) (result : Result Reply Refusal) (e' : Edge) → IsGoodEdge e
@@ -116,11 +125,6 @@ learns_good e s port told e' h behind true true single d = same_good e e' d.1 h
 learns_good e s port told e' h behind false group single d = same_good e e' d.1 h
 
 -- ---- the bridge
-
-run_length : (firings : List Firing) (s t : Tree) → Run firings s t → length t.ports ≡ length s.ports
-run_length [] s t same = ap (λ (v : Tree). length v.ports) same
-run_length (f ∷ earlier) s t run = ap (λ (v : Tree). length v.ports) run.2.1 ∙ length-ports_after f.rule run.0 f.place
-    ∙ run_length earlier s run.0 run.1
 
 direct_length : (event : tree.Event) (ports : List PortState) → length (ports_at event ports) ≡ length ports
 direct_length (tree_events.Bpdu p message) ports = length-change_at (place_of_port p) _ ports
@@ -170,9 +174,9 @@ seconds_good e (Ok reply) e' h d =
 -- ---- frames
 
 -- a frame of a network came at a port of it
-pub data_port : (e : Edge) (port : ℕ) (octets : List ℕ) (vni destination source : ℕ)
-    → frame_arrival e port octets ≡ Ok (Data vni destination source) → vni_at e.routes.ports port ≡ Some vni
-data_port e port octets vni destination source is = go (vni_at e.routes.ports port) refl is
+pub data_port_of : (e : Edge) (port : ℕ) (octets : List ℕ) (vni destination source : ℕ)
+    → port_arrival e port octets ≡ Ok (Data vni destination source) → vni_at e.routes.ports port ≡ Some vni
+data_port_of e port octets vni destination source is = go (vni_at e.routes.ports port) refl is
   where
     reserved : (b : Bool) (r : Result Bpdu bpdu.BpduRefusal)
         → cond b (message_in r) (Ok Dropped) ≡ Ok (Data vni destination source) → ⊥
@@ -197,6 +201,13 @@ data_port e port octets vni destination source is = go (vni_at e.routes.ports po
     go None at q = cc
     go (Some v) at q = at ∙ ap Some (at_port v (is_up e.tree port) (frame_of octets) q)
 
+-- also within the storm limit of the port
+pub data_port : (e : Edge) (port : ℕ) (octets : List ℕ) (vni destination source : ℕ)
+    → frame_arrival e port octets ≡ Ok (Data vni destination source) → vni_at e.routes.ports port ≡ Some vni
+data_port e port octets vni destination source is =
+    data_port_of e port octets vni destination source
+    (of_admitted (port_arrival e port octets) e port vni destination source is)
+
 frame_good : (arrival : Result Arrival Refusal) (e : Edge) (port : ℕ) (result : Result Reply Refusal) (e' : Edge)
     → IsGoodEdge e → ((vni destination source : ℕ) → arrival ≡ Ok (Data vni destination source)
     → vni_at e.routes.ports port ≡ Some vni)
@@ -205,7 +216,8 @@ frame_good (Err r) e port result e' h at d = same_good e e' d.1 h
 frame_good (Ok Dropped) e port result e' h at d = same_good e e' d.1 h
 frame_good (Ok (Message b)) e port result e' h at d = bridges_good _ e result e' h d
 frame_good (Ok (Data vni destination source)) e port (Ok reply) e' h at d =
-    learns_good e (record { vni = vni; mac = source }) port reply.alert e' h (at vni destination source refl)
+    learns_good (taking_on e port vni destination) (record { vni = vni; mac = source }) port reply.alert e'
+    (storms_good e (storms_with e port vni destination) h) (at vni destination source refl)
     d.learning.learns (is_group source) refl d.learning.learning
 frame_good (Ok (Data vni destination source)) e port (Err r) e' h at d = absurd d
 

@@ -46,6 +46,7 @@ use Rattle.ev_edge.specs.Pinning.{DoesPin, pin_case, refused_pin, after_unpin}
 use Rattle.ev_edge.specs.Removed.{GoExactly, nobody, is_flushed, is_old, goes_in_second, is_of}
 use Rattle.ev_edge.specs.Removed.{goes_by_unpin, FlushRemoves, SecondRemoves}
 use Rattle.ev_edge.specs.Removed.{FrameRemoves, RemovesBy, Removed}
+use Rattle.ev_edge.specs.Storms.{taking_on}
 use Rattle.ev_edge.specs.Steps.{Steps, FrameSteps, TunnelSteps, Bridges, BridgesAt, Seconds}
 use Rattle.ev_edge.specs.Steps.{Takes, Pins, Marks, LearnsIf}
 use Rattle.ev_edge.proofs.Cases.{learnt_by, or_refused}
@@ -273,7 +274,7 @@ by_frame (Err r) e port reply e' good h = same e e' h.1
 by_frame (Ok Dropped) e port reply e' good h = same e e' h.1
 by_frame (Ok (Message b)) e port reply e' good h = bridged (tree_events.Bpdu port b) e reply e' good h
 by_frame (Ok (Data vni destination source)) e port reply e' good h =
-    learns _ e _ port reply.alert e' h.learning.learning
+    learns _ (taking_on e port vni destination) _ port reply.alert e' h.learning.learning
 
 no_frame : (a : Result Arrival Refusal) (e : Edge) (port : ℕ) (r : Refusal) (e' : Edge) → FrameSteps a e port (Err r) e'
     → GoExactly e e' nobody

@@ -44,6 +44,7 @@ use Rattle.ev_edge.specs.Limits.{quotas_of, quota_in, quota_at, IsKept, runs, co
 use Rattle.ev_edge.specs.Limits.{with_counted}
 use Rattle.ev_edge.specs.Learning.{needs_register, limits_at, is_counted, quotas_with}
 use Rattle.ev_edge.specs.Arrival.{frame_arrival}
+use Rattle.ev_edge.specs.Storms.{taking_on}
 use Rattle.ev_edge.specs.Steps.{Steps, FrameSteps}
 use Rattle.ev_edge.specs.AwayLaws.{Entered}
 use Rattle.ev_edge.specs.LimitLaws.{comes_at, registers, made_at, Makes, RegistersAreFew, RegistersAreFewFromTheOpening}
@@ -236,7 +237,8 @@ frame_counts (Ok (Message b)) e event port p limit (Ok reply) e' good some there
     (ap (λ qs. quota_at qs p) r.quotas) r.later
 frame_counts (Ok (Message b)) e event port p limit (Err r) e' good some there is at h = absurd h
 frame_counts (Ok (Data vni destination source)) e event port p limit (Ok reply) e' good some there is at h =
-    learnt_by (Counts p event e) e s port reply.alert e' (idle e e event p refl refl (no_more e.clock))
+    learnt_by (Counts p event e) (taking_on e port vni destination) s port reply.alert e'
+    (idle e _ event p refl refl (no_more e.clock))
     (λ heard. idle e _ event p refl refl (no_more e.clock)) (idle e _ event p refl refl (no_more e.clock))
     (λ new. learns_at e _ event s port p 0 limit some (there vni destination source refl) is at refl refl refl)
     (λ n new. learns_at e _ event s port p n limit some (there vni destination source refl) is at refl refl refl)

@@ -35,7 +35,8 @@ use Rattle.ev_edge.specs.Edge.{Edge, OwnsAt, table_of, address_of}
 use Rattle.ev_edge.specs.Learning.{is_spent}
 use Rattle.ev_edge.specs.declared.refusal.EdgeRefusal.TheVariants.{BadMac, NoSuchVni}
 use Rattle.ev_edge.specs.Pinning.{is_static, unpinned_case, pin_case_at, pin_refusal, refused_pin}
-use Rattle.ev_edge.proofs.Owning.{Holds, changed_individual, some_bucket, other_key, said_other, saying_owns}
+use Rattle.ev_edge.proofs.Owning.{Holds, changed_individual, some_bucket, other_key, saying_owns}
+use Rattle.ev_claims.proofs.Numbers.{key_stays as said_other}
 
 pub seq_exact : (t : Table) (own vni mac : ℕ) → IsSeqFor t own vni mac (seq_for t own vni mac)
 seq_exact t own vni mac = seq_is t own vni mac (updates_of t vni mac) (updates_of_are t vni mac)

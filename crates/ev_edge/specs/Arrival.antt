@@ -22,7 +22,9 @@ use Rattle.ev_edge.specs.declared.arrival.Arrival.TheVariants.{Dropped, Message,
 use Rattle.ev_edge.specs.declared.refusal.Refusal.{Refusal}
 use Rattle.ev_edge.specs.declared.refusal.Refusal.TheVariants.{Ether, Bpdu as OfBpdu, Vxlan, Edge as OfEdge}
 use Rattle.ev_edge.specs.declared.refusal.EdgeRefusal.TheVariants.{UnknownOriginator, NoSuchPort, NoSuchVni}
+use Rattle.ev_edge.specs.declared.refusal.EdgeRefusal.TheVariants.{PortStorm}
 use Rattle.ev_edge.specs.Edge.{Edge, table_of, address_of}
+use Rattle.ev_edge.specs.Storms.{is_stormy}
 
 -- the LLC header of the spanning tree in front of the payload (IEEE 802.1D-2004, section 9.2)
 abbrev pub has_llc : List ℕ → Bool
@@ -64,8 +66,20 @@ arrival_on None up octets = Err (OfEdge NoSuchPort)
 arrival_on (Some vni) up octets = arrival_at up vni (frame_of octets)
 
 -- these octets come at port p
+abbrev pub port_arrival : Edge → ℕ → List ℕ → Result Arrival Refusal
+port_arrival e p octets = arrival_on (vni_at e.routes.ports p) (is_up e.tree p) octets
+
+-- a group or unknown frame beyond the storm limit of port p is refused; a BPDU never is
+abbrev pub admitted : Edge → ℕ → Result Arrival Refusal → Result Arrival Refusal
+admitted e p (Err r) = Err r
+admitted e p (Ok Dropped) = Ok Dropped
+admitted e p (Ok (Message b)) = Ok (Message b)
+admitted e p (Ok (Data vni destination source)) =
+    if is_stormy e p vni destination then Err (OfEdge (PortStorm p)) else Ok (Data vni destination source)
+
+-- these octets come at port p, within its storm limit or beyond it
 abbrev pub frame_arrival : Edge → ℕ → List ℕ → Result Arrival Refusal
-frame_arrival e p octets = arrival_on (vni_at e.routes.ports p) (is_up e.tree p) octets
+frame_arrival e p octets = admitted e p (port_arrival e p octets)
 
 -- ---- from a tunnel
 

@@ -15,12 +15,13 @@ use Rattle.ev_mobility.specs.declared.window.Window.{Window}
 use Rattle.ev_mobility.specs.Moves.{Moves}
 use Rattle.ev_claims.specs.Speaker.{own_advert}
 use Rattle.ev_edge.specs.declared.limits.Quota.{Quota}
+use Rattle.ev_edge.specs.declared.storms.Storm.{Storm}
 use Rattle.ev_edge.specs.Limits.{AreKept}
 use Rattle.ev_claims.specs.LocalRoutes.{LocalRoutes, AreGood, key_of}
 
 -- The local routes, the second, how many seconds an entry lives, the bridge, the windows of the stations that have
--- moved, the other edges that are away: the edge gives them no frame; and the quota of each port, port 1 first. Ports
--- are numbered from 1.
+-- moved, the other edges that are away: the edge gives them no frame; the quota of each port, port 1 first; and the
+-- storm limit of each, with its count. Ports are numbered from 1.
 pub record Edge : Type 0 where
   pub routes : LocalRoutes
   pub clock : ℕ
@@ -29,9 +30,10 @@ pub record Edge : Type 0 where
   pub windows : FinMap station_cmp Window
   pub away : List ℕ
   pub quotas : List Quota
+  pub storms : List Storm
 
-abbrev pub edge_of : LocalRoutes → ℕ → ℕ → Tree → Moves → List ℕ → List Quota → Edge
-edge_of routes clock ageing tree moves away quotas = record {
+abbrev pub edge_of : LocalRoutes → ℕ → ℕ → Tree → Moves → List ℕ → List Quota → List Storm → Edge
+edge_of routes clock ageing tree moves away quotas storms = record {
   routes = routes;
   clock = clock;
   ageing = ageing;
@@ -39,6 +41,7 @@ edge_of routes clock ageing tree moves away quotas = record {
   windows = moves.windows;
   away = away;
   quotas = quotas;
+  storms = storms;
 }
 
 abbrev pub table_of : Edge → Table

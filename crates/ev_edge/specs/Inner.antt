@@ -1,2 +1,3 @@
 pub mod Bridging
 pub mod Steps
+pub mod Storms

@@ -2,6 +2,7 @@ pub mod Edge
 pub mod Away
 pub mod Config
 pub mod Limits
+pub mod Storms
 pub mod Arrival
 pub mod Learning
 pub mod Pinning
@@ -12,6 +13,7 @@ pub mod Changes
 pub mod Laws
 pub mod AwayLaws
 pub mod LimitLaws
+pub mod StormLaws
 pub mod Opening
 pub mod Refusal
 pub mod Removed

@@ -1,4 +1,5 @@
 -- The limits of a port: how many stations it may have at once, and how many new ones it may bring within 60 seconds.
+-- `Storms` has the third, of frames in a second.
 use Rattle.std.specs.Prelude.{ℕ, ◌+◌, ◌≤◌, ◌≡◌, nat_le, nat_lt, Bool, false, Option, Some, None, if◌then◌else◌, List}
 use Rattle.std.specs.Prelude.{map}
 use Rattle.std.specs.Prelude.{slice_get, slice_set}
@@ -11,7 +12,7 @@ use Rattle.ev_edge.specs.declared.limits.Quota.{Quota}
 -- ---- a limit
 
 abbrev pub no_limits : Limits
-no_limits = record { stations = None; new_stations = None }
+no_limits = record { stations = None; new_stations = None; storm = None }
 
 -- there are as many as the limit allows, or more
 abbrev pub is_met : Option ℕ → ℕ → Bool

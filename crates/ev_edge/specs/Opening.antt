@@ -7,6 +7,7 @@ use Rattle.ev_claims.specs.Opening as routes
 use Rattle.ev_edge.specs.declared.config.EdgeConfig.{EdgeConfig}
 use Rattle.ev_edge.specs.Config.{vnis_of, settings_of}
 use Rattle.ev_edge.specs.Limits.{quotas_of}
+use Rattle.ev_edge.specs.Storms.{storms_of}
 use Rattle.ev_edge.specs.Edge.{Edge}
 
 -- the configuration of the local routes
@@ -23,8 +24,8 @@ start_of c = record {
 }
 
 -- Nothing is learnt, and it is second 0. The edge advertises the flood list of each VNI, the lowest first, numbered
--- from 1 and pending in this order. No station has moved, the bridge is as it starts, no edge is away, and no new
--- station was counted.
+-- from 1 and pending in this order. No station has moved, the bridge is as it starts, no edge is away, no new
+-- station was counted, and no frame was.
 pub record IsOpening (c : EdgeConfig) (e : Edge) : Type 0 where
   pub routes : routes.IsOpening (start_of c) e.routes
   pub clock : e.clock ≡ 0
@@ -33,3 +34,4 @@ pub record IsOpening (c : EdgeConfig) (e : Edge) : Type 0 where
   pub windows : e.windows ≡ empty
   pub away : e.away ≡ []
   pub quotas : e.quotas ≡ quotas_of c.ports.items
+  pub storms : e.storms ≡ storms_of c.ports.items

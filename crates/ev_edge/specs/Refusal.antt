@@ -2,7 +2,7 @@
 use Rattle.std.specs.Prelude.{ℕ}
 use Rattle.ev_edge.specs.declared.refusal.EdgeRefusal.{EdgeRefusal}
 use Rattle.ev_edge.specs.declared.refusal.EdgeRefusal.TheVariants.{BadMac, UnknownOriginator, OwnNameAhead, NoMemory}
-use Rattle.ev_edge.specs.declared.refusal.EdgeRefusal.TheVariants.{NoSuchPort, NoSuchVni, OwnSpent}
+use Rattle.ev_edge.specs.declared.refusal.EdgeRefusal.TheVariants.{NoSuchPort, NoSuchVni, OwnSpent, PortStorm}
 use Rattle.ev_edge.specs.declared.refusal.Refusal.{Refusal}
 use Rattle.ev_edge.specs.declared.refusal.Refusal.TheVariants.{Ether, Bpdu, Vxlan, Edge}
 use Rattle.ether_wire.specs.Frame as frame
@@ -17,6 +17,7 @@ own_number NoMemory = 15
 own_number NoSuchPort = 16
 own_number NoSuchVni = 17
 own_number OwnSpent = 21
+own_number (PortStorm port) = 24
 
 -- each part has numbers of its own
 abbrev pub refusal_number : Refusal → ℕ

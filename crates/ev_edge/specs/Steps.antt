@@ -28,6 +28,7 @@ use Rattle.ev_edge.specs.declared.refusal.EdgeRefusal.TheVariants.{UnknownOrigin
 use Rattle.ev_edge.specs.declared.refusal.EdgeRefusal.TheVariants.{NoSuchPort, OwnSpent}
 use Rattle.ev_edge.specs.Edge.{Edge, table_of, address_of}
 use Rattle.ev_edge.specs.Away.{with_away, with_back}
+use Rattle.ev_edge.specs.Storms.{taking_on}
 use Rattle.ev_edge.specs.Arrival.{frame_arrival, tunnel_arrival}
 use Rattle.ev_edge.specs.Learning.{Learning}
 use Rattle.ev_edge.specs.Pinning.{Pinning, refused_pin, after_unpin, after_thawing}
@@ -107,11 +108,13 @@ Seconds e (Err r) e' = ⊥
 
 -- ---- frames, by their kinds
 
+-- a frame of a network is counted, if its port has a storm limit, and then learnt from and sent
 abbrev pub FrameSteps : Result Arrival Refusal → Edge → ℕ → Result Reply Refusal → Edge → Type 0
 FrameSteps (Err r) e port result e' = (result ≡ Err r) × (e' ≡ e)
 FrameSteps (Ok Dropped) e port result e' = (result ≡ Ok nothing) × (e' ≡ e)
 FrameSteps (Ok (Message b)) e port result e' = Bridges (tree_events.Bpdu port b) e result e'
-FrameSteps (Ok (Data vni destination source)) e port (Ok reply) e' = DataSteps e port vni destination source reply e'
+FrameSteps (Ok (Data vni destination source)) e port (Ok reply) e' =
+    DataSteps (taking_on e port vni destination) port vni destination source reply e'
 FrameSteps (Ok (Data vni destination source)) e port (Err r) e' = ⊥
 
 -- from a tunnel nothing is learnt, and nothing goes into a tunnel

@@ -14,8 +14,7 @@ use arrayvec::ArrayVec;
 use bpdu_wire::Bpdu;
 use ether_wire::{NO_PORTS, with_port};
 use ev_claims::LocalRoutes;
-use rstp_run::bridge::Bridge;
-use rstp_run::event::Event;
+use rstp_run::{Bridge, Event};
 
 /// The last second: the clock stays there.
 const LAST_SECOND: u64 = 0x8000_0000_0000_0000;
@@ -109,39 +108,23 @@ impl Edge {
         self.routes.vni_of(port).is_some()
     }
 
-    /// A port comes up.
-    pub(crate) fn port_up(&mut self, port: u8, reply: &mut Reply) -> Result<(), Refusal>
-        ensures { BridgesAt (vni_at self.old.routes.ports port) (Event.PortUp port) self.old
+    /// Gives the bridge an event at a port, if there is such a port: the port comes up or goes
+    /// down, or detects its neighbour's protocol again.
+    pub(crate) fn port_event(
+        &mut self,
+        port: u8,
+        event: Event,
+        reply: &mut Reply,
+    ) -> Result<(), Refusal>
+        requires { IsPort port (length self.old.tree.ports)
+            → IsAt event (length self.old.tree.ports) }
+        ensures { BridgesAt (vni_at self.old.routes.ports port) event self.old
             (answered result reply.new) self.new }
     {
         if !self.is_there(port) {
             return Err(Refusal::Edge(EdgeRefusal::NoSuchPort));
         }
-        self.bridge_event(Event::PortUp(port), reply);
-        Ok(())
-    }
-
-    /// A port goes down.
-    pub(crate) fn port_down(&mut self, port: u8, reply: &mut Reply) -> Result<(), Refusal>
-        ensures { BridgesAt (vni_at self.old.routes.ports port) (Event.PortDown port) self.old
-            (answered result reply.new) self.new }
-    {
-        if !self.is_there(port) {
-            return Err(Refusal::Edge(EdgeRefusal::NoSuchPort));
-        }
-        self.bridge_event(Event::PortDown(port), reply);
-        Ok(())
-    }
-
-    /// Lets a port detect its neighbour's protocol again.
-    pub(crate) fn mcheck(&mut self, port: u8, reply: &mut Reply) -> Result<(), Refusal>
-        ensures { BridgesAt (vni_at self.old.routes.ports port) (Event.Mcheck port) self.old
-            (answered result reply.new) self.new }
-    {
-        if !self.is_there(port) {
-            return Err(Refusal::Edge(EdgeRefusal::NoSuchPort));
-        }
-        self.bridge_event(Event::Mcheck(port), reply);
+        self.bridge_event(event, reply);
         Ok(())
     }
 }

@@ -5,7 +5,7 @@ ghost use Rattle.ev_edge.specs.Config.{vnis_of, settings_of};
 use crate::limits::Limits;
 use arrayvec::ArrayVec;
 use ether_wire::{Addr, Vni};
-use rstp_state::start::{PortSettings, Settings};
+use rstp_state::{PortSettings, Settings};
 
 /// An access port.
 #[derive(Clone, Copy, Debug, PartialEq, Eq)]
@@ -14,7 +14,7 @@ pub struct PortConfig {
     pub vni: Vni,
     /// How the spanning tree sees it.
     pub settings: PortSettings,
-    /// How many stations may be learnt on it.
+    /// How many stations may be learnt on it, and how many frames flooded.
     pub limits: Limits,
 }
 

@@ -16,6 +16,7 @@ use crate::event::Event;
 use crate::limits::{Quota, quotas_of};
 use crate::refusal::Refusal;
 use crate::reply::Reply;
+use crate::storms::{Storm, storms_of};
 use arrayvec::ArrayVec;
 use ether_wire::{Addr, Device, NO_PORTS, Out};
 use ev_claims::{LocalRoutes, Start};
@@ -23,12 +24,12 @@ use ev_mobility::Moves;
 use mac_arena::Station;
 use route_join::Table;
 use route_wire::Update;
-use rstp_run::bridge::{Bridge, BridgeConfig};
+use rstp_run::{Bridge, BridgeConfig, Event as BridgeEvent};
 use std::alloc::{AllocError, Global};
 use std::marker::Model;
 
 /// An edge: its routes and stations, its bridge, its clock, the windows of moved stations, and the
-/// quotas of its ports.
+/// quotas and storm limits of its ports.
 ///
 /// It advertises exactly the stations that it has learnt, as static exactly those that are pinned,
 /// and owns each of them.
@@ -45,6 +46,8 @@ pub struct Edge {
     pub(crate) away: ArrayVec<Addr, 64>,
     // The quota of each port.
     pub(crate) quotas: ArrayVec<Quota, 64>,
+    // The storm limit of each port.
+    pub(crate) storms: ArrayVec<Storm, 64>,
 }
 
 impl Model for Edge {
@@ -57,10 +60,11 @@ impl Model for Edge {
     ghost coded = { Prim.hlevel (codes, code) };
 
     ghost view = { λ e. edge_of e.routes e.clock e.ageing e.bridge e.moves
-        e.away.items e.quotas.items };
+        e.away.items e.quotas.items e.storms.items };
 
     ghost invariant = { λ e. IsEdge
-        (edge_of e.routes e.clock e.ageing e.bridge e.moves e.away.items e.quotas.items)
+        (edge_of e.routes e.clock e.ageing e.bridge e.moves e.away.items e.quotas.items
+        e.storms.items)
         e.passing };
 }
 
@@ -82,6 +86,7 @@ impl Edge {
             ports: &settings[..config.ports.len()],
         });
         let quotas = quotas_of(&config.ports);
+        let storms = storms_of(&config.ports);
         let start = Start {
             address: config.address,
             incarnation: config.incarnation,
@@ -102,6 +107,7 @@ impl Edge {
             passing: NO_PORTS,
             away: ArrayVec::new(),
             quotas,
+            storms,
         })
     }
 
@@ -148,9 +154,9 @@ impl Edge {
                 self.second(reply);
                 Ok(())
             }
-            Event::PortUp(port) => self.port_up(*port, reply),
-            Event::PortDown(port) => self.port_down(*port, reply),
-            Event::Mcheck(port) => self.mcheck(*port, reply),
+            Event::PortUp(port) => self.port_event(*port, BridgeEvent::PortUp(*port), reply),
+            Event::PortDown(port) => self.port_event(*port, BridgeEvent::PortDown(*port), reply),
+            Event::Mcheck(port) => self.port_event(*port, BridgeEvent::Mcheck(*port), reply),
             Event::Announce => {
                 self.announce(reply);
                 Ok(())

@@ -13,6 +13,7 @@ ghost use Rattle.ev_edge.specs.AwayLaws.{GivesNoneAway, FloodsForAway, ComesBack
 ghost use Rattle.ev_edge.specs.AwayLaws.{DependsNotOnAway, MarksOnlyAway, AsIfNeverAway};
 ghost use Rattle.ev_edge.specs.LimitLaws.{LimitsNothing, KeepsLimits, KeepsToStations, StationsAreFew};
 ghost use Rattle.ev_edge.specs.LimitLaws.{RegistersAreFew, RegistersAreFewFromTheOpening};
+ghost use Rattle.ev_edge.specs.StormLaws.{StormsSpare, StormsCountNone, KeepsStormLimits, StormsAreFew};
 
 use crate::config::EdgeConfig;
 use crate::edge::Edge;
@@ -20,7 +21,7 @@ use crate::event::Event;
 use crate::refusal::Refusal;
 use crate::reply::Reply;
 use ether_wire::Addr;
-use rstp_run::laws::one_outcome;
+use rstp_run::one_outcome;
 
 /// A good edge is good after each event, whatever the answer: it follows from the definition of a
 /// step, and needs nothing that only this code does.
@@ -179,4 +180,26 @@ pub fn registers_are_few()
 /// In the first `m` minutes since the opening they make at most `m * n` registers.
 pub fn registers_are_few_from_the_opening()
     ensures { RegistersAreFewFromTheOpening }
+{}
+
+/// At a port without a storm limit, and for octets that are no group and no unknown frame, storm
+/// limits change nothing: a BPDU and a frame for a known station are never dropped for them.
+pub fn storms_spare()
+    ensures { StormsSpare }
+{}
+
+/// Nor are such frames counted.
+pub fn storms_count_none()
+    ensures { StormsCountNone }
+{}
+
+/// No event changes the storm limit of a port.
+pub fn keeps_storm_limits()
+    ensures { KeepsStormLimits }
+{}
+
+/// In less than `s` seconds the edge takes on at most `s * n` group and unknown frames at a port
+/// whose storm limit is `n`.
+pub fn storms_are_few()
+    ensures { StormsAreFew }
 {}

@@ -86,7 +86,6 @@ impl Edge {
     }
 
     /// Returns the case of a station that would be learnt, by the limits of the port, too.
-    #[tactic(auto, using(crate::proofs::Places::some_port))]
     fn limited_new(&self, station: &Station, port: u8, case: Case) -> Case
         requires port { vni_at self.now.routes.ports port ≡ Some station.now.vni }
         requires elsewhere { is_there (entry_at self.now.routes.learned station.now) port ≡ false }
@@ -162,7 +161,6 @@ impl Edge {
 
     /// Learns a station that no other edge advertises. Only a register that has to be made can
     /// want memory.
-    #[tactic(auto, using(crate::proofs::Places::some_port))]
     fn learn_first(&mut self, station: &Station, port: u8) -> Option<Alert>
         requires individual { is_group station.now.mac ≡ false }
         requires port { vni_at self.old.routes.ports port ≡ Some station.now.vni }
@@ -188,7 +186,6 @@ impl Edge {
 
     /// Learns a station that another edge advertises: it moves here. Only a register or a window
     /// that has to be made can want memory.
-    #[tactic(auto, using(crate::proofs::Places::some_port))]
     fn learn_moved(&mut self, station: &Station, port: u8, number: u32) -> Option<Alert>
         requires individual { is_group station.now.mac ≡ false }
         requires port { vni_at self.old.routes.ports port ≡ Some station.now.vni }

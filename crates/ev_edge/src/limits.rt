@@ -17,7 +17,7 @@ use route_wire::{Ip, Key};
 /// The number of seconds in which new stations are counted.
 const LENGTH: u64 = 60;
 
-/// The limits of an access port. A limit that is `None` never holds a station back.
+/// The limits of an access port. A limit that is `None` never holds a station or a frame back.
 #[derive(Clone, Copy, Debug, PartialEq, Eq)]
 pub struct Limits {
     /// How many stations the port may have at once, learnt or pinned.
@@ -25,6 +25,8 @@ pub struct Limits {
     /// How many new stations the port may bring within 60 seconds: stations of which the edge has
     /// no register in this incarnation.
     pub new_stations: Option<u64>,
+    /// How many group and unknown frames of the port the edge takes on in a second.
+    pub storm: Option<u64>,
 }
 
 impl Limits {
@@ -35,6 +37,7 @@ impl Limits {
         Limits {
             stations: None,
             new_stations: None,
+            storm: None,
         }
     }
 }
@@ -71,7 +74,7 @@ impl Quota {
 }
 
 /// Returns `true` if there are as many as the limit allows, or more.
-fn is_met(limit: Option<u64>, count: u64) -> bool
+pub(crate) fn is_met(limit: Option<u64>, count: u64) -> bool
     ensures { result ≡ is_met limit count }
 {
     match limit {

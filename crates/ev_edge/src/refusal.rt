@@ -24,6 +24,9 @@ pub enum EdgeRefusal {
     /// It is an own advert of an earlier incarnation that would have to be withdrawn, and the edge
     /// has few numbers left.
     OwnSpent,
+    /// It is a group or unknown frame of this port, and the edge took on as many in this second as
+    /// the port's storm limit allows.
+    PortStorm(u8),
 }
 
 impl EdgeRefusal {
@@ -39,6 +42,7 @@ impl EdgeRefusal {
             EdgeRefusal::NoSuchPort => 16,
             EdgeRefusal::NoSuchVni => 17,
             EdgeRefusal::OwnSpent => 21,
+            EdgeRefusal::PortStorm(_) => 24,
         }
     }
 }
@@ -53,6 +57,7 @@ impl Display for EdgeRefusal {
             EdgeRefusal::NoSuchPort => "no such port",
             EdgeRefusal::NoSuchVni => "no such network here",
             EdgeRefusal::OwnSpent => "counter is spent",
+            EdgeRefusal::PortStorm(_) => "too many group or unknown frames of the port",
         };
         f.write_str(text)
     }

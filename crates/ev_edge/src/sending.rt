@@ -2,7 +2,7 @@
 ghost use Rattle.std.specs.Prelude.{◌≡◌, Some, IsSome, []};
 ghost use Rattle.ev_claims.specs.LocalRoutes.{vni_at};
 ghost use Rattle.ev_tunnel.specs.Decision.{IsFrom};
-ghost use Rattle.ev_edge.specs.Arrival.{frame_arrival, serves, tunnel_arrival};
+ghost use Rattle.ev_edge.specs.Arrival.{port_arrival, frame_arrival, serves, tunnel_arrival};
 ghost use Rattle.std.specs.Option.{ForSome};
 ghost use Rattle.ether_wire.specs.Ports.{IsPort};
 ghost use Rattle.ev_edge.specs.Sending.{IsDecision, port_of};
@@ -17,7 +17,7 @@ use ether_wire::{Addr, Mac, NO_PORTS, Vni};
 use ev_mobility::Alert;
 use ev_tunnel::{Decision, Forwarding, Source, decide_into, unwrap_datagram};
 use mac_arena::Station;
-use rstp_run::event::Event;
+use rstp_run::Event;
 
 /// Creates an empty decision if there is none.
 fn make_room(decision: &mut Option<Decision>)
@@ -51,19 +51,20 @@ impl Edge {
         ensures { FrameSteps (frame_arrival self.old port octets.now) self.old port
             (answered result reply.new) self.new }
     {
-        match self.frame_arrival(port, octets)? {
+        match self.port_arrival(port, octets)? {
             Arrival::Dropped => reply.clear(),
             Arrival::Message(bpdu) => self.bridge_event(Event::Bpdu(port, bpdu), reply),
             Arrival::Data(vni, destination, source) => {
+                self.take_on(port, vni, destination)?;
                 self.data(port, vni, destination, source, reply);
             }
         }
         Ok(())
     }
 
-    /// Returns the kind of a port's frame, or the cause of its refusal.
-    fn frame_arrival(&self, port: u8, octets: &[u8]) -> Result<Arrival, Refusal>
-        ensures { result ≡ frame_arrival self.now port octets.now }
+    /// Returns the kind of a port's frame, or the cause of its refusal, without the storm limit.
+    fn port_arrival(&self, port: u8, octets: &[u8]) -> Result<Arrival, Refusal>
+        ensures { result ≡ port_arrival self.now port octets.now }
     {
         let Some(vni) = self.routes.vni_of(port) else {
             return Err(Refusal::Edge(EdgeRefusal::NoSuchPort))
@@ -124,7 +125,7 @@ impl Edge {
     }
 
     /// The port where a destination is learnt.
-    fn port_of(&self, vni: Vni, mac: Mac) -> Option<u8>
+    pub(crate) fn port_of(&self, vni: Vni, mac: Mac) -> Option<u8>
         ensures value { result ≡ port_of self.now vni mac }
         ensures port { ForSome result IsPort }
     {

@@ -8,7 +8,7 @@ use bpdu_wire::BridgeId;
 use ether_wire::{Addr, Mac, Vni};
 use mac_arena::Station;
 use route_wire::{Advert, Content, Key, Register, Update, Value};
-use rstp_state::start::{PortSettings, Settings};
+use rstp_state::{PortSettings, Settings};
 use std::alloc::{AllocError, Global};
 
 mod away;

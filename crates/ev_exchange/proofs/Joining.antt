@@ -9,7 +9,7 @@ use Rattle.route_wire.specs.Fields.{Fields}
 use Rattle.route_join.specs.Table.{Table, value_at, IsTableOf}
 use Rattle.ev_exchange.specs.declared.announcing.EdgeTable.{EdgeTable}
 use Rattle.ev_exchange.specs.Sending.{is_own, own_of, own_updates}
-use Rattle.ev_exchange.specs.Saying.{Step, announces, says_back, said_at, said_of, sent_by}
+use Rattle.ev_exchange.specs.SendLoop.{Step, announces, says_back, said_at, said_of, sent_by}
 use Rattle.ev_exchange.specs.Laws.{Carries, TookBack, announced_by, IsUnnamed, HasEdge, stream_of, StreamCarries}
 use Rattle.ev_exchange.specs.Laws.{SaidBack, Came, JoinedAgrees}
 use Rattle.ev_exchange.proofs.Arriving.{first_in, first_or_later, filter_in, filter_has, said_is_carried, meets}

@@ -1,16 +1,11 @@
 -- The life of an edge: its table, and a look-up in it.
-use Rattle.std.proofs.Common.{◌≡◌, ℕ, Option, Some, None, [], ◌∷◌, refl, sym, ap, ◌∙◌, lit<, lit≤}
-use Rattle.std.specs.List.{IsDistinct}
+use Rattle.std.proofs.Common.{◌≡◌, Option, Some, None, refl, sym, ap, ◌∙◌}
 use Rattle.std.specs.Option.{option_map}
 use Rattle.route_wire.specs.declared.update.Register.{Register}
 use Rattle.route_wire.specs.declared.update.Value.{Value}
 use Rattle.route_wire.specs.Fields.{Fields}
 use Rattle.route_wire.specs.Order.{is_newer}
-use Rattle.route_join.specs.Table.{Table, value_at, update_at, is_news, AreOriginators}
-
-pub one_originator : (o : ℕ) → AreOriginators (o ∷ [])
-unfolding IsDistinct
-one_originator o = record { some = lit< tt; few = lit≤ tt; distinct = (tt, tt) }
+use Rattle.route_join.specs.Table.{Table, value_at, update_at, is_news}
 
 -- a value is news at a register if it is newer than the update there
 pub newer_there : (t : Table) (r : Register) (last : Fields) (v : Value) → Some last ≡ update_at t r

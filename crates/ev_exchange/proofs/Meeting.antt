@@ -9,7 +9,7 @@ use Rattle.route_join.specs.Table.{Table, value_at, IsTableOf}
 use Rattle.route_join.specs.Updates.{all_updates}
 use Rattle.ev_exchange.specs.declared.announcing.EdgeTable.{EdgeTable}
 use Rattle.ev_exchange.specs.Sending.{is_own, own_of, own_updates}
-use Rattle.ev_exchange.specs.Saying.{Step, announces, says_back, said_of, sent_by}
+use Rattle.ev_exchange.specs.SendLoop.{Step, announces, says_back, said_of, sent_by}
 use Rattle.ev_exchange.specs.Laws.{Carries, TookBack, HasEdge, announced_by, said_by, stream_of}
 use Rattle.ev_exchange.specs.JoinedProcesses.{Process, IsEdge, news, Joins, ProcessesAgree, EarlierLivesEnd}
 use Rattle.ev_exchange.proofs.Arriving.{first_in, first_or_later, filter_in, filter_has, own_updates_are, said_from}

@@ -10,9 +10,9 @@ use Rattle.ev_links.proofs.Behind.{behind_twice, behind_none}
 use Rattle.ev_exchange.specs.declared.announcing.Due.TheVariants.{Update, Back}
 use Rattle.ev_exchange.specs.declared.announcing.EdgeTable.{EdgeTable}
 use Rattle.ev_exchange.specs.Sending.{Sending, HasSent, HasSaid, own_of}
-use Rattle.ev_exchange.specs.Inner.Saying.{Comes}
-use Rattle.ev_exchange.specs.Saying.{Told, has_table, has_due, tables_from, whose, said_of, SaysTables, PassesOn}
-use Rattle.ev_exchange.specs.Saying.{Step, announces, says_back, told_at, said_at, told_by, sent_by, AreWhole}
+use Rattle.ev_exchange.specs.Inner.SendLoop.{Comes}
+use Rattle.ev_exchange.specs.SendLoop.{Told, has_table, has_due, tables_from, whose, said_of, SaysTables, PassesOn}
+use Rattle.ev_exchange.specs.SendLoop.{Step, announces, says_back, told_at, said_at, told_by, sent_by, AreWhole}
 
 pub said_none : (s : Sending) → HasSaid s s []
 said_none s start sent h = subst (HasSent s start) (sym (append-nil sent)) h

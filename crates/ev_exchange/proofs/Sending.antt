@@ -1,26 +1,16 @@
 -- One record more is sent, or none.
-use Rattle.std.proofs.Common.{◌≡◌, ℕ, ◌+◌, Bool, true, false, List, [], ◌∷◌, ◌++◌, map, drop, Result, Ok, sym, ap}
-use Rattle.std.proofs.Common.{Err, cond, is_ok, subst, ◌∙◌, append_assoc, append-nil}
-use Rattle.std.specs.List.{concat}
-use Rattle.std.proofs.lemmas.List.Folds.{concat-append}
+use Rattle.std.proofs.Common.{◌≡◌, ℕ, ◌+◌, Bool, true, false, List, [], ◌∷◌, ◌++◌, Result, Ok, sym, ap}
+use Rattle.std.proofs.Common.{Err, cond, is_ok, subst, ◌∙◌, append_assoc}
 use Rattle.std.proofs.lemmas.List.{map_push}
 use Rattle.ether_wire.specs.Ends.{End, with_text, Puts}
 use Rattle.ether_wire.specs.declared.ends.Device.{Device}
 use Rattle.ether_wire.proofs.Appending.{with_text_twice}
 use Rattle.route_wire.specs.Fields.{Fields}
-use Rattle.route_wire.specs.Record.{ReadsUpTo, Reads}
+use Rattle.route_wire.specs.Record.{Reads}
 use Rattle.route_wire.specs.Encode.{spelling_of}
-use Rattle.ev_exchange.specs.Sending.{Sending, records_of, all_ok, is_own, own_of, HasSent}
-
--- answers, and then the answers of the rest
-reads_on : (newest : ℕ) (s : List ℕ) (xs ys : List (Result Fields ℕ)) (r t : List ℕ) → ReadsUpTo newest s xs r
-    → ReadsUpTo newest r ys t → ReadsUpTo newest s (xs ++ ys) t
-reads_on newest s [] ys r t h k = subst (λ (z : List ℕ). ReadsUpTo newest z ys t) (sym h) k
-reads_on newest s (x ∷ xs) ys r t h k = (h.0, h.1, h.2, reads_on newest (drop h.0 s) xs ys r t h.3 k)
-
-records_push : (us : List Fields) (u : Fields) → records_of (us ++ u ∷ []) ≡ records_of us ++ spelling_of u
-records_push us u = ap concat (map_push spelling_of us u) ∙ concat-append (map spelling_of us) (spelling_of u ∷ [])
-    ∙ ap (λ z. records_of us ++ z) (append-nil (spelling_of u))
+use Rattle.ev_exchange.specs.Sending.{Sending, is_own, own_of, HasSent}
+use Rattle.route_wire.specs.Records.{records_of, all_ok}
+use Rattle.route_wire.proofs.Records.{reads_on, records-push as records_push}
 
 reads_more : (us : List Fields) (u : Fields) → ((rest : List ℕ) → Reads (records_of us ++ rest) (all_ok us) rest)
     → ((rest : List ℕ) → Reads (spelling_of u ++ rest) (Ok u ∷ []) rest) → (rest : List ℕ)

@@ -7,7 +7,7 @@ use Rattle.route_wire.specs.Fields.{Fields}
 use Rattle.route_join.specs.Table.{Table, value_at, IsTableOf}
 use Rattle.route_join.specs.Updates.{all_updates}
 use Rattle.ev_exchange.specs.declared.announcing.EdgeTable.{EdgeTable}
-use Rattle.ev_exchange.specs.Saying.{Step, says_back}
+use Rattle.ev_exchange.specs.SendLoop.{Step, says_back}
 use Rattle.ev_exchange.specs.Laws.{announced_by, stream_of, SaidBack}
 
 -- A process while it is joined: its edges by their addresses, each with its table when the connection began, and the

@@ -9,7 +9,7 @@ use Rattle.route_join.specs.Report.{report_of}
 use Rattle.route_join.specs.Updates.{all_updates}
 use Rattle.ev_exchange.specs.declared.announcing.EdgeTable.{EdgeTable}
 use Rattle.ev_exchange.specs.Sending.{own_updates, AreOwn}
-use Rattle.ev_exchange.specs.Saying.{Step, announces, says_back, sent_by}
+use Rattle.ev_exchange.specs.SendLoop.{Step, announces, says_back, sent_by}
 
 -- the updates that an edge sends from its table are its own registers, all of them
 abbrev pub OwnUpdatesAre : Type 0

@@ -1,7 +1,7 @@
 pub mod Receiving
 pub mod Sending
 pub mod Known
-pub mod Saying
+pub mod SendLoop
 pub mod Life
 pub mod Sessions
 pub mod Laws

@@ -1,14 +1,14 @@
 -- The records that are sent on a connection: those of the edges' tables when it began, and that of each update since.
-use Rattle.std.specs.Prelude.{◌≡◌, ℕ, ◌+◌, ◌==◌, Bool, true, false, List, map, ◌++◌, Contains, Some, Result, Ok}
-use Rattle.std.specs.List.{concat, filter}
+use Rattle.std.specs.Prelude.{◌≡◌, ℕ, ◌+◌, ◌==◌, Bool, true, false, List, ◌++◌, Contains, Some}
+use Rattle.std.specs.List.{filter}
 use Rattle.ether_wire.specs.Ends.{End, with_text}
 use Rattle.route_wire.specs.declared.update.Register.{Register}
 use Rattle.route_wire.specs.declared.update.Value.{Value}
 use Rattle.route_wire.specs.Fields.{Fields}
 use Rattle.route_wire.specs.Record.{Reads}
-use Rattle.route_wire.specs.Encode.{spelling_of}
 use Rattle.route_join.specs.Table.{Table, value_at, IsOrdered}
 use Rattle.route_join.specs.Updates.{all_updates}
+use Rattle.route_wire.specs.Records.{records_of, all_ok}
 
 -- the writer's end, whether no call of it has failed, and the octets that it holds back
 pub record Sending : Type 0 where
@@ -38,14 +38,6 @@ pub record AreOwn (t : Table) (o : ℕ) (us : List Fields) : Type 0 where
   pub ordered : IsOrdered us
 
 -- ---- the records that are written
-
--- the records of updates, one after the other
-abbrev pub records_of : List Fields → List ℕ
-records_of us = concat (map spelling_of us)
-
--- these updates, as the answers of a stream
-abbrev pub all_ok : List Fields → List (Result Fields ℕ)
-all_ok us = map (λ u. Ok u) us
 
 -- The writer holds its text at the start, followed by the records of these updates, or exactly one call of it failed.
 -- Whatever follows the records, they are read as the updates.

@@ -2,7 +2,7 @@
 //! it: the updates that the edges announce, and the originators that the other side names.
 ghost use Rattle.std.specs.Prelude.{◌≡◌, ◌∷◌, [], Option, List};
 ghost use Rattle.ev_links.specs.Coming.{behind};
-ghost use Rattle.ev_exchange.specs.Saying.{Told, has_table, has_due, IsReady};
+ghost use Rattle.ev_exchange.specs.SendLoop.{Told, has_table, has_due, IsReady};
 
 use crate::sender::Sender;
 use ether_wire::{Addr, Flushing};

@@ -9,7 +9,7 @@ mod known;
 mod laws;
 mod life;
 mod receiver;
-mod saying;
+mod send_loop;
 mod sender;
 mod sessions;
 mod stream_end;
@@ -25,7 +25,7 @@ pub use laws::{
 };
 pub use life::{Life, has_any_of};
 pub use receiver::{KINDS, Receiver};
-pub use saying::announce;
+pub use send_loop::announce;
 pub use sender::Sender;
 pub use sessions::{Change, Session, Sessions, Turn};
 pub use stream_end::StreamEnd;

@@ -38,6 +38,8 @@ use Rattle.ev_edge.specs.Arrival.{frame_arrival, tunnel_arrival}
 use Rattle.ev_edge.specs.Bridging.{aged, next_second}
 use Rattle.ev_edge.specs.Learning.{is_spent, refreshed, quotas_with}
 use Rattle.ev_edge.specs.Pinning.{DoesPin, pin_case, pin_case_at, unpinned_case, is_static, refused_pin, after_unpin}
+use Rattle.ev_edge.specs.declared.storms.Storm.{Storm}
+use Rattle.ev_edge.specs.Storms.{storms_with}
 use Rattle.ev_edge.specs.Steps.{Steps, FrameSteps, TunnelSteps, Bridges, BridgesAt, Seconds, LearnsIf, Pins, Marks}
 use Rattle.ev_edge.proofs.Cases.{IsHeard, learnt_by}
 use Rattle.ev_fabric.specs.declared.step.LocalEvent.{LocalEvent}
@@ -125,11 +127,15 @@ module _ (b : Edge) (s : Station) (c : Edge) (unknown : entry_at b.routes.learne
       (removed_still b.routes (flushed_in b.routes.learned h.flush) s unknown))
   by_second (Err r) h = absurd h
 
-  data_frame : (x : Bool) (q : Station) (port : ℕ) (told : Option Alert) → LearnsIf x b q port told c → LearnsIt b s c
-  data_frame x q port told h = learnt_by (λ d. c ≡ d → LearnsIt b s c) b q port told c same heard
+  -- whatever the counts of storms were made before
+  data_frame : (x : Bool) (q : Station) (port : ℕ) (told : Option Alert) (storms : List Storm)
+      → LearnsIf x (record b { storms = storms }) q port told c → LearnsIt b s c
+  data_frame x q port told storms h = learnt_by (λ d. c ≡ d → LearnsIt b s c) (record b { storms = storms }) q port told
+      c (λ is. without _ is unknown) heard
       (λ is. without _ is unknown) (λ new. learns 0 b.windows) (λ n new. learns n _) x h refl
     where
-      heard : IsHeard b q port → c ≡ refreshed b q port → LearnsIt b s c
+      heard : IsHeard (record b { storms = storms }) q port → c ≡ refreshed (record b { storms = storms }) q port
+          → LearnsIt b s c
       heard h is = elim (same_or_other s q) [
         | inl this ↦ absurd (let no : IsSome {T = Entry} None = subst IsSome
             (ap (entry_at b.routes.learned) (sym this) ∙ unknown) h.known in cc)
@@ -142,6 +148,7 @@ module _ (b : Edge) (s : Station) (c : Edge) (unknown : entry_at b.routes.learne
             routes = after_advert b.routes q port b.clock n;
             windows = windows;
             quotas = quotas_with b q port;
+            storms = storms;
           } → LearnsIt b s c
       learns n windows is = elim (same_or_other s q) [
         | inl this ↦ record {
@@ -160,7 +167,7 @@ module _ (b : Edge) (s : Station) (c : Edge) (unknown : entry_at b.routes.learne
   by_frame (Ok (Message m)) port answer h = bridged (tree_events.Bpdu port m) answer h
   by_frame (Ok (Data vni destination source)) port (Ok reply) h =
       data_frame (h.learning.learns && not (is_group source)) (record { vni = vni; mac = source }) port reply.alert
-      h.learning.learning
+      (storms_with b port vni destination) h.learning.learning
   by_frame (Ok (Data vni destination source)) port (Err r) h = absurd h
 
   by_tunnel : (x : Result Arrival edge.Refusal) (answer : Result Reply edge.Refusal)

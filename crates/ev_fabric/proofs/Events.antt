@@ -32,6 +32,7 @@ use Rattle.ev_edge.specs.Edge.{Edge, table_of, address_of}
 use Rattle.ev_edge.specs.Arrival.{frame_arrival, tunnel_arrival}
 use Rattle.ev_edge.specs.Pinning.{DoesPin, pin_case, refused_pin, after_unpin}
 use Rattle.ev_edge.specs.Bridging.{aged, next_second}
+use Rattle.ev_edge.specs.Storms.{taking_on}
 use Rattle.ev_edge.specs.Steps.{LearnsIf, Bridges, BridgesAt, Seconds, FrameSteps, TunnelSteps, TakesOwn, TakesOther}
 use Rattle.ev_edge.specs.Steps.{Takes, Pins, Marks, Steps}
 use Rattle.ev_fabric.specs.declared.step.LocalEvent.{LocalEvent}
@@ -98,8 +99,8 @@ frame_talks (Err r) e port result e' h = stays e e' h.1
 frame_talks (Ok Dropped) e port result e' h = stays e e' h.1
 frame_talks (Ok (Message b)) e port result e' h = bridges_talk (tree_events.Bpdu port b) e result e' h
 frame_talks (Ok (Data vni destination source)) e port (Ok reply) e' h =
-    learns_talk (h.learning.learns && not (is_group source)) e (record { vni = vni; mac = source }) port reply.alert e'
-    h.learning.learning
+    learns_talk (h.learning.learns && not (is_group source)) (taking_on e port vni destination)
+    (record { vni = vni; mac = source }) port reply.alert e' h.learning.learning
 frame_talks (Ok (Data vni destination source)) e port (Err r) e' h = absurd h
 
 tunnel_talks : (a : Result Arrival Refusal) (e : Edge) (result : Result Reply Refusal) (e' : Edge)

@@ -29,7 +29,9 @@ use Rattle.ev_edge.specs.Config.{IsConfig, settings_of}
 use Rattle.ev_edge.specs.Edge.{Edge, IsGoodEdge}
 use Rattle.ev_edge.specs.Opening.{IsOpening, start_of}
 use Rattle.ev_edge.specs.declared.limits.Quota.{Quota}
+use Rattle.ev_edge.specs.declared.storms.Storm.{Storm}
 use Rattle.ev_edge.specs.Limits.{no_limits, quotas_of}
+use Rattle.ev_edge.specs.Storms.{storms_of}
 use Rattle.ev_edge.proofs.Opened as edge
 use Rattle.ev_edge.proofs.Quotas.{opened_kept}
 use Rattle.ev_fabric.specs.Fabric.{Fabric}
@@ -56,6 +58,10 @@ port_of = record {
 -- the quotas of two such ports
 abbrev pub unlimited : List Quota
 unlimited = quotas_of (port_of ∷ port_of ∷ [])
+
+-- and their storm limits
+abbrev pub no_storms : List Storm
+no_storms = storms_of (port_of ∷ port_of ∷ [])
 
 abbrev pub listeners : List ℕ
 listeners = 0x0a000001 ∷ 0x0a000002 ∷ 0x0a000003 ∷ []
@@ -168,6 +174,7 @@ edge_of tree address = record {
   windows = empty;
   away = [];
   quotas = unlimited;
+  storms = no_storms;
 }
 
 abbrev pub fabric_of : Settings → Fabric
@@ -196,6 +203,7 @@ opens tree address = record {
   windows = refl;
   away = refl;
   quotas = refl;
+  storms = refl;
 }
 
 -- ---- they are good
@@ -254,8 +262,8 @@ good tree address listed = record {
   };
   keeps = (edge.opened (start_of (config_of tree address)) (opened_routes_of address) tree
       (settings_of (port_of ∷ port_of ∷ [])) 300 (start tree (settings_of (port_of ∷ port_of ∷ [])))
-      (record { windows = empty; places = [] }) unlimited (opens_routes tree address) refl refl served (lit< tt)
-      (opened_kept (port_of ∷ port_of ∷ []))).keeps;
+      (record { windows = empty; places = [] }) unlimited no_storms (opens_routes tree address) refl refl served
+      (lit< tt) (opened_kept (port_of ∷ port_of ∷ []))).keeps;
 }
 
 -- ---- the fabric

@@ -21,12 +21,14 @@ use Rattle.ev_edge.specs.declared.refusal.EdgeRefusal.TheVariants.{UnknownOrigin
 use Rattle.ev_edge.specs.declared.refusal.Refusal.{Refusal}
 use Rattle.ev_edge.specs.declared.refusal.Refusal.TheVariants.{Edge as OfEdge}
 use Rattle.ev_edge.specs.declared.reply.Reply.{Reply}
-use Rattle.ev_edge.specs.Arrival.{frame_arrival, arrival_on, arrival_at, reserved_arrival, message_in, data_in}
+use Rattle.ev_edge.specs.Arrival.{port_arrival, frame_arrival, arrival_on, arrival_at, reserved_arrival, message_in}
+use Rattle.ev_edge.specs.Arrival.{data_in}
 use Rattle.ether_wire.specs.Addr.{is_reserved}
 use Rattle.ev_edge.specs.Arrival.{holds_bpdu, is_up, inner_arrival, serves, datagram_arrival}
 use Rattle.ev_edge.specs.Arrival.{tunnel_arrival}
 use Rattle.ev_edge.specs.Edge.{Edge, IsGoodEdge, table_of, address_of}
 use Rattle.ev_edge.specs.Steps.{TunnelSteps, Steps}
+use Rattle.ev_edge.proofs.Admitting.{of_admitted}
 use Rattle.ev_edge.proofs.Places.{any_is}
 use Rattle.rstp_run.specs.Events.{Passes}
 use Rattle.ev_fabric.specs.Laws.{IsBehindPort, tunnel_frame_in, GoesOut, FromPortToPort}
@@ -40,7 +42,8 @@ use Rattle.ev_fabric.proofs.Sends.{station_frames_go, tunnel_frames_come_out, tu
 arrives_inner : (e : Edge) (port : ℕ) (octets : List ℕ) (vni destination source : ℕ)
     → frame_arrival e port octets ≡ Ok (Data vni destination source)
     → inner_arrival vni (frame_of octets) ≡ Ok (Data vni destination source)
-arrives_inner e port octets vni destination source is = go (vni_at e.routes.ports port) is
+arrives_inner e port octets vni destination source is = go (vni_at e.routes.ports port)
+    (of_admitted (port_arrival e port octets) e port vni destination source is)
   where
     reserved : (b : Bool) (r : Result Bpdu bpdu.BpduRefusal)
         → ◌≡◌ {A = Result Arrival Refusal} (cond b (message_in r) (Ok Dropped)) (Ok (Data vni destination source))

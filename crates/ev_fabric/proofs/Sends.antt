@@ -42,15 +42,17 @@ use Rattle.ev_edge.specs.Edge.{Edge, IsGoodEdge, table_of, address_of}
 use Rattle.ev_edge.specs.Arrival.{frame_arrival, tunnel_arrival}
 use Rattle.ev_edge.specs.Learning.{refreshed, quotas_with}
 use Rattle.ev_edge.specs.Sending.{port_of, IsDecision}
+use Rattle.ev_edge.specs.Storms.{taking_on}
 use Rattle.ev_edge.specs.Steps.{LearnsIf, SendsIf, DataSteps, FrameSteps, TunnelSteps, Steps}
 use Rattle.ev_edge.proofs.Cases.{learnt_by}
-use Rattle.ev_edge.proofs.Owning.{other_key, said_other}
+use Rattle.ev_edge.proofs.Owning.{other_key}
 use Rattle.ev_fabric.specs.Agreed.{Advertises}
 use Rattle.ev_fabric.specs.Laws.{IsBehindPort, frame_in, tunnel_frame_in, IsFrameFor, IsTunnelFrameFor, FramesGo}
 use Rattle.ev_fabric.specs.Laws.{FramesComeOut, TunnelFramesComeOut}
 use Rattle.ev_fabric.specs.Station.{StationFramesGo}
 use Rattle.ev_fabric.proofs.Agreements.{learnt, individual}
 use Rattle.ev_fabric.proofs.Stations.{agree_on_each, station_one, station_owner}
+use Rattle.ev_claims.proofs.Numbers.{key_stays as said_other}
 
 -- ---- learning a station leaves the others
 
@@ -164,20 +166,26 @@ sent passes None b vni destination from told h = absurd h
 sent true (Some d) b vni destination from told h = (d, refl, h)
 sent false (Some d) b vni destination from told h = cc
 
+-- a frame that is counted first
+taking_leaves : (a b : Edge) (port : ℕ) (s : Station) → LeavesBe (taking_on a port s.vni s.mac) b s → LeavesBe a b s
+taking_leaves a b port s h =
+    record { address = h.address; tree = h.tree; away = h.away; entry = h.entry; adverts = h.adverts }
+
 pub frame_sent : (a b : Edge) (event : Event) (port : ℕ) (s : Station) (reply : Reply) → IsFrameFor a event port s
     → Steps a event (Ok reply) b → IsSent a b s (Port port) reply
 frame_sent a b event port s reply frame steps =
     let d = sent steps_are.passes reply.decision b s.vni s.mac (Port port) (steps_are.are_passed.1 frame.passes)
     steps_are.sending in
     record {
-      leaves = learns_leave (steps_are.learning.learns && not (is_group frame.source)) a
-          (record { vni = s.vni; mac = frame.source }) port reply.alert b s other steps_are.learning.learning;
+      leaves = taking_leaves a b port s (learns_leave (steps_are.learning.learns && not (is_group frame.source))
+          (taking_on a port s.vni s.mac) (record { vni = s.vni; mac = frame.source }) port reply.alert b s other
+          steps_are.learning.learning);
       decision = d.0;
       there = d.1;
       is = d.2;
     }
   where
-    steps_are : DataSteps a port s.vni s.mac frame.source reply b
+    steps_are : DataSteps (taking_on a port s.vni s.mac) port s.vni s.mac frame.source reply b
     steps_are = subst (λ r. FrameSteps r a port (Ok reply) b) frame.arrives
         (frame_step a event (Ok reply) b port frame.octets frame.frame steps)
 

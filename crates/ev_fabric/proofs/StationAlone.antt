@@ -42,10 +42,11 @@ use Rattle.ev_fabric.proofs.ConvergingGood.{quieter}
 use Rattle.ev_fabric.proofs.ConvergingMoves.{Kept, Move, Stays, Tells, Takes, moved, move_kept, sound_kept}
 use Rattle.ev_fabric.proofs.ConvergingRounds.{Has, arrived_value}
 use Rattle.ev_fabric.proofs.StationStages.{filter_none, filter_has, filter_from, filter_past, waits_of, waiting, SameOn}
-use Rattle.ev_fabric.proofs.StationStages.{SameOf, same_newest, floods_same, left_same, not_both, AreWhole}
+use Rattle.ev_fabric.proofs.StationStages.{SameOf, same_newest, floods_same, left_same, AreWhole}
 use Rattle.ev_fabric.proofs.StationStages.{whole_station, heard_other, HasNone, IsAside, aside_same, aside_push}
 use Rattle.ev_fabric.proofs.StationStages.{aside_hears, Hears}
 use Rattle.ev_fabric.proofs.StationTaken.{runs_has}
+use Rattle.route_wire.proofs.Feeding.{never as not_both}
 
 -- ---- a step
 

@@ -46,11 +46,12 @@ use Rattle.ev_fabric.proofs.ConvergingMoves.{Kept, Move, Stays, Tells, Takes, ow
 use Rattle.ev_fabric.proofs.ConvergingLearning.{LearnsIt, learns_anew}
 use Rattle.ev_fabric.proofs.ConvergingRounds.{Has}
 use Rattle.ev_fabric.proofs.StationStages.{filter_none, filter_push, filter_past, waiting, marked_first}
-use Rattle.ev_fabric.proofs.StationStages.{SameOf, same_own, heard_other, whole_station, not_both, IsTo}
+use Rattle.ev_fabric.proofs.StationStages.{SameOf, same_own, heard_other, whole_station, IsTo}
 use Rattle.ev_fabric.proofs.StationStages.{IsFrom, IsAside, to_same, from_same, aside_same, to_push, from_push}
 use Rattle.ev_fabric.proofs.StationStages.{said_news, talks_news, speaks, aside_push, Hears}
 use Rattle.ev_fabric.proofs.StationStages.{idle_grows, to_grows, from_grows, aside_hears, from_hears}
 use Rattle.ev_fabric.proofs.StationAlone.{Leaves, Change, Moves, Same, Opens, Loses, change, agreed_known}
+use Rattle.route_wire.proofs.Feeding.{never as not_both}
 
 -- an edge at a place of a list
 abbrev pub At : List Edge → ℕ → Edge → Type 0

@@ -36,10 +36,11 @@ use Rattle.ev_fabric.proofs.ConvergingMoves.{sound_kept}
 use Rattle.ev_fabric.proofs.ConvergingNumbers.{agreement}
 use Rattle.ev_fabric.proofs.ConvergingHearing.{hear_cases}
 use Rattle.ev_fabric.proofs.StationStages.{filter_push, filter_past, waiting, SameOf, same_own, same_newest}
-use Rattle.ev_fabric.proofs.StationStages.{heard_other, whole_station, not_both, aside_quiet, Hears}
+use Rattle.ev_fabric.proofs.StationStages.{heard_other, whole_station, aside_quiet, Hears}
 use Rattle.ev_fabric.proofs.StationStages.{loses_it, idle_away, IsAside}
 use Rattle.ev_fabric.proofs.StationAlone.{Moves, Same, Opens, Loses, Change, AnyOpens, NoneLoses, alone_change}
 use Rattle.ev_fabric.proofs.StationAlone.{station_lasts}
+use Rattle.route_wire.proofs.Feeding.{never as not_both}
 
 pub station_reached : StationReached
 station_reached configs f are start =

@@ -39,6 +39,7 @@ use Rattle.ev_fabric.proofs.ConvergingEdge.{others_stay_away, known_stays_away, 
 use Rattle.ev_fabric.proofs.ConvergingSums.{later_one}
 use Rattle.ev_fabric.proofs.ConvergingIdle.{idle_hearing}
 use Rattle.ev_fabric.proofs.ConvergingHearing.{Loses, hear_cases, advert_kept, advert_stays}
+use Rattle.route_wire.proofs.Feeding.{never as not_both}
 
 -- ---- the elements of a list that pass a test
 
@@ -141,9 +142,6 @@ same_trans these e v w h g = record {
   values = λ r of. g.values r of ∙ h.values r of;
   waits = g.waits ∙ h.waits;
 }
-
-pub not_both : {b : Bool} → b ≡ true → b ≡ false → ⊥
-not_both yes' no' = let bad : true ≡ false = sym yes' ∙ no' in cc
 
 pub same_own : (s : Station) (e v : Speaker) → SameOf s e v → own v (key_of s) ≡ own e (key_of s)
 same_own s e v h = (λ n. value_at v.table (register_of (h.address n) (key_of s)))

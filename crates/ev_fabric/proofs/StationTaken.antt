@@ -76,7 +76,7 @@ open_has (step ∷ steps) old new i u sound h stays has =
     open_has steps h.0 new i u (step_sound old h.0 step h.1 h.2 sound) h.3 (rest_open i step steps stays)
     (step_has old h.0 step h.1 i u sound h.2 (first_open i step steps stays) has)
 
-none_first : (step : Step) (steps : List Step) → NoneRestarts (step ∷ steps)
+pub none_first : (step : Step) (steps : List Step) → NoneRestarts (step ∷ steps)
     → NoneRestarts (step ∷ []) × NoneRestarts steps
 none_first (Local e event) steps h = (tt, h)
 none_first (Announce e) steps h = (tt, h)

@@ -10,7 +10,7 @@ use ether_wire::{Addr, Mac, Out, Page, Vni};
 use ev_edge::{EdgeConfig, Limits, PortConfig, Reply};
 use mac_arena::Station;
 use route_join::Taken;
-use rstp_state::start::{PortSettings, Settings};
+use rstp_state::{PortSettings, Settings};
 use std::alloc::{AllocError, Global};
 use std::test::Fail;
 

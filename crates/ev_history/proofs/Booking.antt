@@ -12,10 +12,10 @@ use Rattle.ev_book.specs.declared.refusal.BookRefusal.{BookRefusal}
 use Rattle.ev_book.specs.declared.refusal.BookRefusal.TheVariants.{PassStrange, PassSpent, NoRoom, Edge as OfEdge}
 use Rattle.ev_book.specs.Book.{BookState, PassState, fits}
 use Rattle.ev_book.specs.Entering.{CallsBook, Calls, WritesOrNot, is_spent, answered}
-use Rattle.ev_history.specs.declared.entry.Deed.TheVariants.{Announces, Takes}
-use Rattle.ev_history.specs.declared.entry.Deed.TheVariants as deeds
-use Rattle.ev_history.specs.declared.entry.Entry.{Entry}
-use Rattle.ev_history.specs.declared.entry.Entry.TheVariants.{Does}
+use Rattle.ev_history.specs.declared.log_entry.Deed.TheVariants.{Announces, Takes}
+use Rattle.ev_history.specs.declared.log_entry.Deed.TheVariants as deeds
+use Rattle.ev_history.specs.declared.log_entry.LogEntry.{LogEntry}
+use Rattle.ev_history.specs.declared.log_entry.LogEntry.TheVariants.{Does}
 use Rattle.ev_history.specs.Log.{World, world, IsQuiet, IsKnown, Follows}
 use Rattle.ev_history.specs.Rule.{told}
 use Rattle.ev_history.specs.Booking.{is_own, Opens, announced_by}
@@ -71,7 +71,7 @@ own_quiet (events.Away a) answer own = tt
 own_quiet (events.Back a) answer own = tt
 
 -- an event that other edges have no part in adds nothing to the history
-pub stands_own : (place : ℕ) (log : List Entry) (e e' : Edge) (event : Event)
+pub stands_own : (place : ℕ) (log : List LogEntry) (e e' : Edge) (event : Event)
     (result : Result (Unit {0}) BookRefusal) → is_own event ≡ true → Stands place log e → EdgeMoves e event result e'
     → Stands place log e'
 stands_own place log e e' event (Ok done) own s g = stands_quiet place log e e' event (Ok g.0) s
@@ -83,7 +83,7 @@ stands_own place log e e' event (Err PassStrange) own s g = subst (Stands place 
 stands_own place log e e' event (Err PassSpent) own s g = subst (Stands place log) (sym g) s
 
 -- a call that was no step leaves the edge as it was
-pub goes_stands : (place : ℕ) (log : List Entry) (event : Event) (result : Result (Unit {0}) BookRefusal)
+pub goes_stands : (place : ℕ) (log : List LogEntry) (event : Event) (result : Result (Unit {0}) BookRefusal)
     (later : Edge) → GoesOn place log event result later → has_stepped result ≡ false → Stands place log later
 goes_stands place log event (Ok done) later g not_so = absurd cc
 goes_stands place log event (Err (OfEdge r)) later g not_so = absurd cc
@@ -92,7 +92,7 @@ goes_stands place log event (Err PassStrange) later g not_so = subst (Stands pla
 goes_stands place log event (Err PassSpent) later g not_so = subst (Stands place log) (sym g.moves) g.stood
 
 -- a step by which the edge takes an update may follow
-pub goes_follows : (place : ℕ) (log : List Entry) (u : Fields) (result : Result (Unit {0}) BookRefusal)
+pub goes_follows : (place : ℕ) (log : List LogEntry) (u : Fields) (result : Result (Unit {0}) BookRefusal)
     (later : Edge) (z : World) → IsKnown z.outside z.pool u
     → GoesOn place log (events.Take u) result later → has_stepped result ≡ true
     → Follows (told (world log) z) (Does place (Takes u) later)
@@ -107,14 +107,14 @@ goes_follows place log u (Err PassSpent) later z known g so = absurd cc
 -- ---- announcements
 
 -- an announcement may follow
-pub announced_follows : (place : ℕ) (log : List Entry) (u : Fields) (result : Result Reply BookRefusal) (e e' : Edge)
+pub announced_follows : (place : ℕ) (log : List LogEntry) (u : Fields) (result : Result Reply BookRefusal) (e e' : Edge)
     (z : World) → announced_by result ≡ Some u → Stands place log e
     → EdgeGoes e events.Announce result e' → Follows (told (world log) z) (Does place (Announces u) e')
 announced_follows place log u (Ok reply) e e' z says s g = announcing_follows place u log z reply e e' s g says
 announced_follows place log u (Err r) e e' z says s g = absurd cc
 
 -- a request for an announcement that had none adds nothing to the history
-pub unannounced_stands : (place : ℕ) (log : List Entry) (result : Result Reply BookRefusal) (e e' : Edge)
+pub unannounced_stands : (place : ℕ) (log : List LogEntry) (result : Result Reply BookRefusal) (e e' : Edge)
     → announced_by result ≡ None → Stands place log e → EdgeGoes e events.Announce result e' → Stands place log e'
 unannounced_stands place log (Ok reply) e e' none s g = stands_quiet place log e e' events.Announce (Ok reply) s none g
 unannounced_stands place log (Err (OfEdge r)) e e' none s g = stands_quiet place log e e' events.Announce (Err r) s
@@ -125,7 +125,7 @@ unannounced_stands place log (Err PassSpent) e e' none s g = subst (Stands place
 
 -- ---- opening
 
-pub opens_follows : (place : ℕ) (log : List Entry) (z : World) (later : Edge) → Opens place log later
+pub opens_follows : (place : ℕ) (log : List LogEntry) (z : World) (later : Edge) → Opens place log later
     → IsGoodEdge later → Follows (told (world log) z) (Does place deeds.Opens later)
 opens_follows place log z later o good = record
     { config = o.config; is_there = o.is_there; closed = o.closed; opens = o.opens; good = good }
@@ -133,7 +133,7 @@ opens_follows place log z later o good = record
 -- ---- whole calls
 
 -- an edge that is called with an update goes on
-pub goes_on : (place : ℕ) (log : List Entry) (b b' : BookState) (p p' : PassState) (event : Event) (u : Fields)
+pub goes_on : (place : ℕ) (log : List LogEntry) (b b' : BookState) (p p' : PassState) (event : Event) (u : Fields)
     (result : Result (Unit {0}) BookRefusal) (reply : Reply) → event ≡ events.Take u → Stands place log b.edge
     → CallsBook b p event (answered result reply) b' p' → GoesOn place log (events.Take u) result b'.edge
 goes_on place log b b' p p' event u result reply is s h = record {
@@ -142,19 +142,19 @@ goes_on place log b b' p p' event u result reply is s h = record {
   moves = subst (λ (e : Event). EdgeMoves b.edge e result b'.edge) is (book_moves b b' p p' event result reply h);
 }
 
-pub own_stands : (place : ℕ) (log : List Entry) (b b' : BookState) (p p' : PassState) (event : Event)
+pub own_stands : (place : ℕ) (log : List LogEntry) (b b' : BookState) (p p' : PassState) (event : Event)
     (result : Result (Unit {0}) BookRefusal) (reply : Reply) → is_own event ≡ true → Stands place log b.edge
     → CallsBook b p event (answered result reply) b' p' → Stands place log b'.edge
 own_stands place log b b' p p' event result reply own s h = stands_own place log b.edge b'.edge event result own s
     (book_moves b b' p p' event result reply h)
 
-pub announce_follows : (place : ℕ) (log : List Entry) (z : World) (b b' : BookState) (p p' : PassState) (u : Fields)
+pub announce_follows : (place : ℕ) (log : List LogEntry) (z : World) (b b' : BookState) (p p' : PassState) (u : Fields)
     (result : Result Reply BookRefusal) → announced_by result ≡ Some u → Stands place log b.edge
     → CallsBook b p events.Announce result b' p' → Follows (told (world log) z) (Does place (Announces u) b'.edge)
 announce_follows place log z b b' p p' u result says s h = announced_follows place log u result b.edge b'.edge z says
     s (book_goes b b' p p' events.Announce result h)
 
-pub announce_stands : (place : ℕ) (log : List Entry) (b b' : BookState) (p p' : PassState)
+pub announce_stands : (place : ℕ) (log : List LogEntry) (b b' : BookState) (p p' : PassState)
     (result : Result Reply BookRefusal) → announced_by result ≡ None → Stands place log b.edge
     → CallsBook b p events.Announce result b' p' → Stands place log b'.edge
 announce_stands place log b b' p p' result none s h = unannounced_stands place log result b.edge b'.edge none s

@@ -11,9 +11,9 @@ use prog.Atomic.{either}
 use Rattle.logbook.specs.Pages.{Cell, cell, keeps, no_nib, step, Moves, Goes}
 use Rattle.ev_edge.specs.Edge.{Edge}
 use Rattle.ev_edge.specs.declared.config.EdgeConfig.{EdgeConfig}
-use Rattle.ev_history.specs.declared.entry.Deed.{Deed}
-use Rattle.ev_history.specs.declared.entry.Entry.{Entry}
-use Rattle.ev_history.specs.declared.entry.Entry.TheVariants.{Begins, Does}
+use Rattle.ev_history.specs.declared.log_entry.Deed.{Deed}
+use Rattle.ev_history.specs.declared.log_entry.LogEntry.{LogEntry}
+use Rattle.ev_history.specs.declared.log_entry.LogEntry.TheVariants.{Begins, Does}
 use Rattle.ev_history.specs.Log.{World, IsHistory, Follows, AreLegal, world, end_of, world_after, count, is_of, is_one}
 use Rattle.ev_history.specs.Rule.{IsAdded, told}
 use Rattle.ev_history.specs.Inner.Rule.{IsKept, IsLater, Adds, Looks}
@@ -21,14 +21,14 @@ use Rattle.ev_history.proofs.Prefixes.{prefix_trans}
 use Rattle.ev_history.proofs.Histories.{count-append, history-append, world-append, later_end, follows_later}
 use Rattle.ev_history.proofs.Histories.{configs_end, pool_end, outside_same}
 
-abbrev pub shown : List Entry → List Entry
+abbrev pub shown : List LogEntry → List LogEntry
 shown log = []
 
-abbrev pub moved : List Entry → List Entry → ℕ → Type 0
+abbrev pub moved : List LogEntry → List LogEntry → ℕ → Type 0
 moved xs ys n = Unit {0}
 
 -- a later world, for the updates of another one
-later_told : (place : ℕ) (v x log : List Entry) → IsHistory v → IsHistory x → IsPrefix v log → IsPrefix x log
+later_told : (place : ℕ) (v x log : List LogEntry) → IsHistory v → IsHistory x → IsPrefix v log → IsPrefix x log
     → count place log ≡ count place v → IsLater place (told (world v) (world x)) (world log)
 later_told place v x log hv hx pv px same =
     let none : count place pv.0 ≡ 0 = omega (arith, same, ap (count place) pv.1, count-append place v pv.0) in
@@ -46,7 +46,7 @@ later_told place v x log hv hx pv px same =
 -- ---- the words
 
 -- the words, after one of them is set to its new count and no other count changes
-words_after : (cs : List Cell) (place m : ℕ) (log new : List Entry) → place < length cs
+words_after : (cs : List Cell) (place m : ℕ) (log new : List LogEntry) → place < length cs
     → ((n : ℕ) → n < length cs → cell cs n ≡ (count n log, true)) → count place new ≡ m
     → ((n : ℕ) → n ≢ place → count n new ≡ count n log)
     → (n : ℕ) → n < length (slice_set cs place (m, true)) → cell (slice_set cs place (m, true)) n ≡ (count n new, true)
@@ -76,7 +76,7 @@ none_other n place other = by_case (place == n) refl
     by_case true is = absurd (other (grind (arith, nat_tests, is)))
     by_case false is = refl
 
-seats_kept : (cs : List Cell) (place : ℕ) (c : Cell) (log more : List Entry) → IsKept cs log
+seats_kept : (cs : List Cell) (place : ℕ) (c : Cell) (log more : List LogEntry) → IsKept cs log
     → length (slice_set cs place c) ≡ length (world (log ++ more)).configs
 seats_kept cs place c log more kept =
     length-set cs place c ∙ kept.seats ∙ ap length
@@ -84,14 +84,14 @@ seats_kept cs place c log more kept =
 
 -- ---- the step
 
-module _ (v b x : List Entry) (place old : ℕ) (deed : Deed) (later : Edge) (hv : IsHistory v) (hx : IsHistory x)
+module _ (v b x : List LogEntry) (place old : ℕ) (deed : Deed) (later : Edge) (hv : IsHistory v) (hx : IsHistory x)
     (pv : IsPrefix v b) (px : IsPrefix x b)
     (had : count place v ≡ old) (seated : place < length (world v).configs)
     (follows : Follows (told (world v) (world x)) (Does place deed later)) where
-  abbrev entry : Entry
+  abbrev entry : LogEntry
   entry = Does place deed later
 
-  goes : (cs : List Cell) (log : List Entry) → IsKept cs log → IsPrefix b log → place < length cs
+  goes : (cs : List Cell) (log : List LogEntry) → IsKept cs log → IsPrefix b log → place < length cs
       → (cell cs place).0 ≡ count place log
       → (found : Bool) → ((cell cs place).0 == old) ≡ found
       → Goes IsKept shown moved place (b, (no_nib, None)) (λ n. either (n == old) (old + 1) n)
@@ -149,7 +149,7 @@ module _ (v b x : List Entry) (place old : ℕ) (deed : Deed) (later : Edge) (hv
       )
 
 -- of a shorter beginning, too
-pub added_back : (v b new : List Entry) (place old : ℕ) (e : Entry) → IsPrefix v b → count place v ≡ old
+pub added_back : (v b new : List LogEntry) (place old : ℕ) (e : LogEntry) → IsPrefix v b → count place v ≡ old
     → IsAdded place old b e new → IsAdded place (count place v) v e new
 added_back v b new place old e pre had added = record {
   log = added.log;
@@ -162,8 +162,9 @@ added_back v b new place old e pre had added = record {
 
 -- ---- the step that looks
 
-module _ (x : List Entry) (place : ℕ) (ask : Entry) (hx : IsHistory x) (seated : place < length (world x).configs) where
-  looks_goes : (cs : List Cell) (log : List Entry) → IsKept cs log → place < length cs
+module _ (x : List LogEntry) (place : ℕ) (ask : LogEntry) (hx : IsHistory x)
+    (seated : place < length (world x).configs) where
+  looks_goes : (cs : List Cell) (log : List LogEntry) → IsKept cs log → place < length cs
       → (cell cs place).0 ≡ count place log
       → Goes IsKept shown moved place (x, (no_nib, None)) (λ n. n) (Looks (step place 0 0 ask) (x, (no_nib, None)))
       cs log
@@ -205,7 +206,7 @@ first_kept outside configs n len = record {
 }
 
 -- if a word holds the known number of entries, there are no more
-pub whole_if : (place entries found : ℕ) (v x log : List Entry) → IsPrefix v x → IsPrefix x log
+pub whole_if : (place entries found : ℕ) (v x log : List LogEntry) → IsPrefix v x → IsPrefix x log
     → entries ≡ count place v → count place log ≡ found
     → OnTrue (found == entries) (count place x ≡ count place v)
 whole_if place entries found v x log p q had counted = by_case (found == entries) refl

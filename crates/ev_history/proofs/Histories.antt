@@ -9,33 +9,34 @@ use Rattle.ev_edge.specs.Edge.{Edge}
 use Rattle.ev_edge.specs.declared.event.Event.{Event}
 use Rattle.ev_edge.specs.declared.reply.Reply.{Reply}
 use Rattle.ev_edge.specs.declared.refusal.Refusal.{Refusal}
-use Rattle.ev_history.specs.declared.entry.Deed.{Deed}
-use Rattle.ev_history.specs.declared.entry.Deed.TheVariants.{Opens, Announces, Takes}
-use Rattle.ev_history.specs.declared.entry.Entry.{Entry}
-use Rattle.ev_history.specs.declared.entry.Entry.TheVariants.{Begins, Does}
+use Rattle.ev_history.specs.declared.log_entry.Deed.{Deed}
+use Rattle.ev_history.specs.declared.log_entry.Deed.TheVariants.{Opens, Announces, Takes}
+use Rattle.ev_history.specs.declared.log_entry.LogEntry.{LogEntry}
+use Rattle.ev_history.specs.declared.log_entry.LogEntry.TheVariants.{Begins, Does}
 use Rattle.ev_history.specs.Log.{World, world_after, edges_after, pool_after, end_of, begun, world, Follows, AreLegal}
 use Rattle.ev_history.specs.Log.{IsHistory, is_one, is_of, count, Turns, IsOpening, IsKnown}
 use Rattle.ev_history.specs.Inner.Rule.{IsLater}
 
-pub count-append : (n : ℕ) (xs ys : List Entry) → count n (xs ++ ys) ≡ count n xs + count n ys
+pub count-append : (n : ℕ) (xs ys : List LogEntry) → count n (xs ++ ys) ≡ count n xs + count n ys
 count-append n [] ys = omega arith
 count-append n (x ∷ xs) ys = let r = count-append n xs ys in omega arith
 
-pub end-append : (w : World) (xs ys : List Entry) → end_of w (xs ++ ys) ≡ end_of (end_of w xs) ys
+pub end-append : (w : World) (xs ys : List LogEntry) → end_of w (xs ++ ys) ≡ end_of (end_of w xs) ys
 end-append w [] ys = refl
 end-append w (x ∷ xs) ys = end-append (world_after w x) xs ys
 
-pub legal-append : (w : World) (xs ys : List Entry) → AreLegal w xs → AreLegal (end_of w xs) ys → AreLegal w (xs ++ ys)
+pub legal-append : (w : World) (xs ys : List LogEntry) → AreLegal w xs → AreLegal (end_of w xs) ys
+    → AreLegal w (xs ++ ys)
 legal-append w [] ys p q = q
 legal-append w (x ∷ xs) ys p q = (p.0, legal-append (world_after w x) xs ys p.1 q)
 
 -- a history goes on by entries that follow in its world
-pub history-append : (log more : List Entry) → IsHistory log → AreLegal (world log) more → IsHistory (log ++ more)
+pub history-append : (log more : List LogEntry) → IsHistory log → AreLegal (world log) more → IsHistory (log ++ more)
 history-append [] more p q = absurd p
 history-append (Begins o cs ∷ es) more p q = legal-append (begun o cs) es more p q
 history-append (Does place deed later ∷ es) more p q = absurd p
 
-pub world-append : (log more : List Entry) → IsHistory log → world (log ++ more) ≡ end_of (world log) more
+pub world-append : (log more : List LogEntry) → IsHistory log → world (log ++ more) ≡ end_of (world log) more
 world-append [] more p = absurd p
 world-append (Begins o cs ∷ es) more p = end-append (begun o cs) es more
 world-append (Does place deed later ∷ es) more p = absurd p
@@ -67,7 +68,7 @@ edges_other n place edges later h = by_case (place == n) refl h
     by_case true is h = absurd (omega arith)
     by_case false is h = rw is refl
 
-pub later_one : (n : ℕ) (w : World) (e : Entry) → is_of n e ≡ 0 → IsLater n w (world_after w e)
+pub later_one : (n : ℕ) (w : World) (e : LogEntry) → is_of n e ≡ 0 → IsLater n w (world_after w e)
 later_one n w (Begins o cs) h = later_self n w
 later_one n w (Does place deed later) h = record {
   outside = refl;
@@ -77,7 +78,7 @@ later_one n w (Does place deed later) h = record {
 }
 
 -- if none of the new entries is of the edge
-pub later_end : (n : ℕ) (w : World) (es : List Entry) → count n es ≡ 0 → IsLater n w (end_of w es)
+pub later_end : (n : ℕ) (w : World) (es : List LogEntry) → count n es ≡ 0 → IsLater n w (end_of w es)
 later_end n w [] h = later_self n w
 later_end n w (e ∷ es) h =
     later_trans n w (world_after w e) (end_of (world_after w e) es) (later_one n w e (omega arith))
@@ -122,29 +123,29 @@ follows_later n w z (Takes u) later p f = record {
   turns = turns_later (w.edges n) (z.edges n) f.turns p.edge;
 }
 
-pub configs_end : (w : World) (es : List Entry) → (end_of w es).configs ≡ w.configs
+pub configs_end : (w : World) (es : List LogEntry) → (end_of w es).configs ≡ w.configs
 configs_end w [] = refl
 configs_end w (Begins o cs ∷ es) = configs_end w es
 configs_end w (Does place deed later ∷ es) = configs_end (world_after w (Does place deed later)) es
 
-pub pool_end : (w : World) (es : List Entry) (u : Fields) → Contains w.pool u → Contains (end_of w es).pool u
+pub pool_end : (w : World) (es : List LogEntry) (u : Fields) → Contains w.pool u → Contains (end_of w es).pool u
 pool_end w [] u h = h
 pool_end w (Begins o cs ∷ es) u h = pool_end w es u h
 pool_end w (Does place deed later ∷ es) u h =
     pool_end (world_after w (Does place deed later)) es u (pool_grows w.pool deed u h)
 
-pub outside_end : (w : World) (es : List Entry) → (end_of w es).outside ≡ w.outside
+pub outside_end : (w : World) (es : List LogEntry) → (end_of w es).outside ≡ w.outside
 outside_end w [] = refl
 outside_end w (Begins o cs ∷ es) = outside_end w es
 outside_end w (Does place deed later ∷ es) = outside_end (world_after w (Does place deed later)) es
 
 -- a longer log is of the same edges
-pub configs_same : (v x : List Entry) → IsHistory v → IsPrefix v x → (world x).configs ≡ (world v).configs
+pub configs_same : (v x : List LogEntry) → IsHistory v → IsPrefix v x → (world x).configs ≡ (world v).configs
 configs_same v x hv pre =
     ap (λ (w : World). w.configs) (sym (ap world pre.1) ∙ world-append v pre.0 hv) ∙ configs_end (world v) pre.0
 
 -- a longer log is as open to other processes
-pub outside_same : (v x : List Entry) → IsHistory v → IsPrefix v x → (world x).outside ≡ (world v).outside
+pub outside_same : (v x : List LogEntry) → IsHistory v → IsPrefix v x → (world x).outside ≡ (world v).outside
 outside_same v x hv pre =
     ap (λ (w : World). w.outside) (sym (ap world pre.1) ∙ world-append v pre.0 hv) ∙ outside_end (world v) pre.0
 

@@ -12,10 +12,10 @@ use Rattle.ev_edge.specs.declared.refusal.Refusal.{Refusal}
 use Rattle.ev_edge.specs.Edge.{Edge, IsGoodEdge}
 use Rattle.ev_edge.specs.Opening as openings
 use Rattle.ev_edge.specs.Steps.{Steps}
-use Rattle.ev_history.specs.declared.entry.Deed.{Deed}
-use Rattle.ev_history.specs.declared.entry.Deed.TheVariants.{Opens, Announces, Takes}
-use Rattle.ev_history.specs.declared.entry.Entry.{Entry}
-use Rattle.ev_history.specs.declared.entry.Entry.TheVariants.{Begins, Does}
+use Rattle.ev_history.specs.declared.log_entry.Deed.{Deed}
+use Rattle.ev_history.specs.declared.log_entry.Deed.TheVariants.{Opens, Announces, Takes}
+use Rattle.ev_history.specs.declared.log_entry.LogEntry.{LogEntry}
+use Rattle.ev_history.specs.declared.log_entry.LogEntry.TheVariants.{Begins, Does}
 use Rattle.ev_history.specs.Log.{World, world, end_of, world_after, edges_after, IsHistory, IsQuiet, IsKnown, Turns}
 use Rattle.ev_history.specs.Log.{Follows, count}
 use Rattle.logbook.specs.Pages.{Book, Named}
@@ -26,7 +26,7 @@ use Rattle.ev_history.proofs.Histories.{count-append, world-append, later_end, c
 use Rattle.ev_history.proofs.Histories.{edges_here}
 
 -- an event that no other edge can see adds nothing to the log
-pub stands_quiet : (place : ℕ) (log : List Entry) (a b : Edge) (event : Event) (answer : Result Reply Refusal)
+pub stands_quiet : (place : ℕ) (log : List LogEntry) (a b : Edge) (event : Event) (answer : Result Reply Refusal)
     → Stands place log a → IsQuiet event answer → Steps a event answer b → Stands place log b
 stands_quiet place log a b event answer s quiet steps = record {
   before = s.before;
@@ -34,17 +34,17 @@ stands_quiet place log a b event answer s quiet steps = record {
   reaches = (event ∷ s.reaches.0, (a, answer, s.reaches.1, quiet, steps));
 }
 
-pub stands_turns : (place : ℕ) (log : List Entry) (a b : Edge) (event : Event) (answer : Result Reply Refusal)
+pub stands_turns : (place : ℕ) (log : List LogEntry) (a b : Edge) (event : Event) (answer : Result Reply Refusal)
     → Stands place log a → Steps a event answer b → Turns ((world log).edges place) event answer b
 stands_turns place log a b event answer s steps = record
     { before = s.before; is_open = s.is_open; mid = a; reaches = s.reaches; steps = steps }
 
-pub added_world : (place before : ℕ) (old new : List Entry) (entry : Entry)
+pub added_world : (place before : ℕ) (old new : List LogEntry) (entry : LogEntry)
     → (a : IsAdded place before old entry new) → world new ≡ world_after (world a.log) entry
 added_world place before old new entry a = ap world a.new_is ∙ world-append a.log (entry ∷ []) a.was
 
 -- after its entry, the edge has the entry's state
-pub added_stands : (place before : ℕ) (old new : List Entry) (deed : Deed) (later : Edge)
+pub added_stands : (place before : ℕ) (old new : List LogEntry) (deed : Deed) (later : Edge)
     → IsAdded place before old (Does place deed later) new → Stands place new later
 added_stands place before old new deed later a = record {
   before = later;
@@ -54,7 +54,7 @@ added_stands place before old new deed later a = record {
 }
 
 -- the update of its entry was announced
-pub added_told : (place before : ℕ) (old new : List Entry) (u : Fields) (later : Edge)
+pub added_told : (place before : ℕ) (old new : List LogEntry) (u : Fields) (later : Edge)
     → IsAdded place before old (Does place (Announces u) later) new → Contains (world new).pool u
 added_told place before old new u later a =
     subst (λ (w : World). Contains w.pool u)
@@ -62,7 +62,7 @@ added_told place before old new u later a =
     (Contains-append_right (world a.log).pool (u ∷ []) u (0, omega arith, refl))
 
 -- and is known
-pub told_known : (place before : ℕ) (old new : List Entry) (u : Fields) (later : Edge)
+pub told_known : (place before : ℕ) (old new : List LogEntry) (u : Fields) (later : Edge)
     → IsAdded place before old (Does place (Announces u) later) new → IsKnown (world new).outside (world new).pool u
 told_known place before old new u later a = known_told u (world new).outside (world new).pool
     (added_told place before old new u later a)
@@ -72,7 +72,7 @@ told_known place before old new u later a = known_told u (world new).outside (wo
     known_told u false pool h = h
 
 -- a longer log in which the edge has no more entries
-pub stands_later : (place : ℕ) (v x : List Entry) (edge : Edge) → IsHistory v → IsPrefix v x
+pub stands_later : (place : ℕ) (v x : List LogEntry) (edge : Edge) → IsHistory v → IsPrefix v x
     → count place x ≡ count place v → Stands place v edge → Stands place x edge
 stands_later place v x edge hv pre same s =
     let none : count place pre.0 ≡ 0 = omega (arith, same, ap (count place) pre.1, count-append place v pre.0) in
@@ -84,33 +84,33 @@ stands_later place v x edge hv pre same s =
       reaches = s.reaches;
     }
 
-pub count_between : (place : ℕ) (v x log : List Entry) → IsPrefix v x → IsPrefix x log
+pub count_between : (place : ℕ) (v x log : List LogEntry) → IsPrefix v x → IsPrefix x log
     → count place log ≡ count place v → count place x ≡ count place v
 count_between place v x log p q same =
     omega (arith, same, ap (count place) p.1, ap (count place) q.1, count-append place v p.0, count-append place x q.0)
 
 -- ---- entries that may follow
 
-pub opening_follows : (place : ℕ) (config : EdgeConfig) (log : List Entry) (z : World) (edge : Edge)
+pub opening_follows : (place : ℕ) (config : EdgeConfig) (log : List LogEntry) (z : World) (edge : Edge)
     → slice_get (world log).configs place ≡ Some config → (world log).edges place ≡ None
     → openings.IsOpening config edge → IsGoodEdge edge → Follows (told (world log) z) (Does place Opens edge)
 opening_follows place config log z edge there closed opens good = record
     { config = config; is_there = there; closed = closed; opens = opens; good = good }
 
-pub announcing_follows : (place : ℕ) (u : Fields) (log : List Entry) (z : World) (reply : Reply) (a b : Edge)
+pub announcing_follows : (place : ℕ) (u : Fields) (log : List LogEntry) (z : World) (reply : Reply) (a b : Edge)
     → Stands place log a → Steps a events.Announce (Ok reply) b → reply.announced ≡ Some u
     → Follows (told (world log) z) (Does place (Announces u) b)
 announcing_follows place u log z reply a b s steps says = record
     { reply = reply; turns = stands_turns place log a b events.Announce (Ok reply) s steps; says = says }
 
-pub taking_follows : (place : ℕ) (u : Fields) (log : List Entry) (z : World) (answer : Result Reply Refusal)
+pub taking_follows : (place : ℕ) (u : Fields) (log : List LogEntry) (z : World) (answer : Result Reply Refusal)
     (a b : Edge) → IsKnown z.outside z.pool u → Stands place log a → Steps a (events.Take u) answer b
     → Follows (told (world log) z) (Does place (Takes u) b)
 taking_follows place u log z answer a b has s steps = record
     { known = has; answer = answer; turns = stands_turns place log a b (events.Take u) answer s steps }
 
 -- the seat after its entry
-pub added_seat : (book : Book) (place entries : ℕ) (word : Named) (front new : List Entry) (deed : Deed)
+pub added_seat : (book : Book) (place entries : ℕ) (word : Named) (front new : List LogEntry) (deed : Deed)
     (later : Edge) → IsSeat book place entries word front
     → IsAdded place (count place front) front (Does place deed later) new → IsSeat book place (entries + 1) word new
 added_seat book place entries word front new deed later s a =
@@ -171,24 +171,24 @@ all_push P xs y all is n s h = by_case (get_snoc xs y n s h)
 
 -- ---- a log that has just begun
 
-pub first_none : (n : ℕ) (outside : Bool) (configs : List EdgeConfig) (log : List Entry)
+pub first_none : (n : ℕ) (outside : Bool) (configs : List EdgeConfig) (log : List LogEntry)
     → log ≡ Begins outside configs ∷ [] → count n log ≡ 0
 first_none n outside configs log is = ap (count n) is ∙ omega arith
 
-pub first_legal : (outside : Bool) (configs : List EdgeConfig) (log : List Entry) → log ≡ Begins outside configs ∷ []
+pub first_legal : (outside : Bool) (configs : List EdgeConfig) (log : List LogEntry) → log ≡ Begins outside configs ∷ []
     → IsHistory log
 first_legal outside configs log is = subst IsHistory (sym is) tt
 
-pub first_seated : (n len : ℕ) (outside : Bool) (configs : List EdgeConfig) (log : List Entry)
+pub first_seated : (n len : ℕ) (outside : Bool) (configs : List EdgeConfig) (log : List LogEntry)
     → log ≡ Begins outside configs ∷ [] → n < len → len ≡ length configs → n < length (world log).configs
-first_seated n len outside configs log is lt same = subst (λ (l : List Entry). n < length (world l).configs) (sym is)
+first_seated n len outside configs log is lt same = subst (λ (l : List LogEntry). n < length (world l).configs) (sym is)
     (omega (arith, lt, same))
 
-pub first_closed : (n : ℕ) (outside : Bool) (configs : List EdgeConfig) (log : List Entry)
+pub first_closed : (n : ℕ) (outside : Bool) (configs : List EdgeConfig) (log : List LogEntry)
     → log ≡ Begins outside configs ∷ [] → (world log).edges n ≡ None
-first_closed n outside configs log is = ap (λ (l : List Entry). (world l).edges n) is
+first_closed n outside configs log is = ap (λ (l : List LogEntry). (world l).edges n) is
 
-pub first_config : (n : ℕ) (config : EdgeConfig) (outside : Bool) (configs : List EdgeConfig) (log : List Entry)
+pub first_config : (n : ℕ) (config : EdgeConfig) (outside : Bool) (configs : List EdgeConfig) (log : List LogEntry)
     → log ≡ Begins outside configs ∷ [] → slice_get configs n ≡ Some config
     → slice_get (world log).configs n ≡ Some config
-first_config n config outside configs log is at = ap (λ (l : List Entry). slice_get (world l).configs n) is ∙ at
+first_config n config outside configs log is at = ap (λ (l : List LogEntry). slice_get (world l).configs n) is ∙ at

@@ -8,7 +8,7 @@ use Rattle.ev_edge.specs.declared.config.EdgeConfig.{EdgeConfig}
 use Rattle.ev_edge.specs.Edge.{Edge}
 use Rattle.ev_edge.specs.Opening as openings
 use Rattle.ev_book.specs.declared.refusal.BookRefusal.{BookRefusal}
-use Rattle.ev_history.specs.declared.entry.Entry.{Entry}
+use Rattle.ev_history.specs.declared.log_entry.LogEntry.{LogEntry}
 use Rattle.ev_history.specs.Log.{world}
 
 -- whether other edges have no part in an event: it is no update of another edge and no announcement
@@ -38,7 +38,7 @@ announced_by (Ok reply) = reply.announced
 announced_by (Err refusal) = None
 
 -- the edge at this place isn't open yet, and this is how it opens
-pub record Opens (place : ℕ) (log : List Entry) (edge : Edge) : Type 0 where
+pub record Opens (place : ℕ) (log : List LogEntry) (edge : Edge) : Type 0 where
   pub config : EdgeConfig
   pub is_there : slice_get (world log).configs place ≡ Some config
   pub closed : (world log).edges place ≡ None

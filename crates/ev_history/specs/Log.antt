@@ -11,10 +11,10 @@ use Rattle.ev_edge.specs.declared.refusal.Refusal.{Refusal}
 use Rattle.ev_edge.specs.Edge.{Edge, IsGoodEdge}
 use Rattle.ev_edge.specs.Opening as edges
 use Rattle.ev_edge.specs.Steps.{Steps}
-use Rattle.ev_history.specs.declared.entry.Deed.{Deed}
-use Rattle.ev_history.specs.declared.entry.Deed.TheVariants.{Opens, Announces, Takes}
-use Rattle.ev_history.specs.declared.entry.Entry.{Entry}
-use Rattle.ev_history.specs.declared.entry.Entry.TheVariants.{Begins, Does}
+use Rattle.ev_history.specs.declared.log_entry.Deed.{Deed}
+use Rattle.ev_history.specs.declared.log_entry.Deed.TheVariants.{Opens, Announces, Takes}
+use Rattle.ev_history.specs.declared.log_entry.LogEntry.{LogEntry}
+use Rattle.ev_history.specs.declared.log_entry.LogEntry.TheVariants.{Begins, Does}
 
 -- ---- events between two entries of an edge
 
@@ -79,12 +79,12 @@ pool_after pool (Takes u) = pool
 abbrev pub edges_after : (ℕ → Option Edge) → ℕ → Edge → ℕ → Option Edge
 edges_after edges place later n = if place == n then Some later else edges n
 
-abbrev pub world_after : World → Entry → World
+abbrev pub world_after : World → LogEntry → World
 world_after w (Begins outside configs) = w
 world_after w (Does place deed later) =
     world_of w.outside w.configs (edges_after w.edges place later) (pool_after w.pool deed)
 
-abbrev pub end_of : World → List Entry → World
+abbrev pub end_of : World → List LogEntry → World
 end_of w [] = w
 end_of w (e ∷ es) = end_of (world_after w e) es
 
@@ -119,24 +119,24 @@ pub record Taking (outside : Bool) (pool : List Fields) (old : Option Edge) (u :
   pub answer : Result Reply Refusal
   pub turns : Turns old (events.Take u) answer later
 
-abbrev pub Follows : World → Entry → Type 0
+abbrev pub Follows : World → LogEntry → Type 0
 Follows w (Begins outside configs) = ⊥
 Follows w (Does place Opens later) = IsOpening w place later
 Follows w (Does place (Announces u) later) = Announcing (w.edges place) u later
 Follows w (Does place (Takes u) later) = Taking w.outside w.pool (w.edges place) u later
 
 -- each entry follows the ones before it
-abbrev pub AreLegal : World → List Entry → Type 0
+abbrev pub AreLegal : World → List LogEntry → Type 0
 AreLegal w [] = Unit {0}
 AreLegal w (e ∷ es) = Follows w e × AreLegal (world_after w e) es
 
-abbrev pub IsHistory : List Entry → Type 0
+abbrev pub IsHistory : List LogEntry → Type 0
 IsHistory [] = ⊥
 IsHistory (Begins outside configs ∷ es) = AreLegal (begun outside configs) es
 IsHistory (Does place deed later ∷ es) = ⊥
 
 -- the edges and the pool at the end of a history
-abbrev pub world : List Entry → World
+abbrev pub world : List LogEntry → World
 world [] = begun false []
 world (Begins outside configs ∷ es) = end_of (begun outside configs) es
 world (Does place deed later ∷ es) = begun false []
@@ -147,10 +147,10 @@ abbrev pub is_one : Bool → ℕ
 is_one true = 1
 is_one false = 0
 
-abbrev pub is_of : ℕ → Entry → ℕ
+abbrev pub is_of : ℕ → LogEntry → ℕ
 is_of n (Begins outside configs) = 0
 is_of n (Does place deed later) = is_one (place == n)
 
-abbrev pub count : ℕ → List Entry → ℕ
+abbrev pub count : ℕ → List LogEntry → ℕ
 count n [] = 0
 count n (e ∷ es) = is_of n e + count n es

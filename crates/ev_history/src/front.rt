@@ -3,7 +3,7 @@ ghost use Rattle.std.specs.Prelude.{◌≡◌, ◌⊎◌};
 ghost use mathlib.Core.List.{IsPrefix};
 ghost use Rattle.ev_history.specs.Log.{IsHistory};
 
-use crate::entry::Entry;
+use crate::log_entry::LogEntry;
 use crate::rule::History;
 use logbook::Seen;
 use std::marker::{Brand, Model, PhantomData};
@@ -30,7 +30,7 @@ impl Naming for Brand {
 /// A beginning of the log that was seen. It has no bytes.
 #[derive(Drop)]
 pub struct Front<J: Naming> {
-    pub(crate) seen: Seen<Entry, u64, History>,
+    pub(crate) seen: Seen<LogEntry, u64, History>,
     of: PhantomData<J>,
 }
 
@@ -38,10 +38,10 @@ impl<J: Naming> Model for Front<J> {
     ghost use Rattle.std.specs.Prelude.{◌≡◌, List};
     ghost use Rattle.std.specs.Coded.{codes};
     ghost use Rattle.std.specs.FinMap.{code};
-    ghost use Rattle.ev_history.specs.declared.entry.Entry.{Entry};
+    ghost use Rattle.ev_history.specs.declared.log_entry.LogEntry.{LogEntry};
     ghost use Rattle.ev_history.specs.Log.{IsHistory};
 
-    ghost Value = { List Entry };
+    ghost Value = { List LogEntry };
 
     ghost coded = { Prim.hlevel (codes, code) };
 
@@ -52,7 +52,7 @@ impl<J: Naming> Model for Front<J> {
 
 impl<J: Naming> Front<J> {
     /// Returns this beginning of the log.
-    pub(crate) fn of(seen: Seen<Entry, u64, History>) -> Front<J>
+    pub(crate) fn of(seen: Seen<LogEntry, u64, History>) -> Front<J>
         requires book { seen.book ≡ J.book }
         requires legal { IsHistory seen.log }
         ensures { result ≡ seen.log }

@@ -3,16 +3,16 @@
 //! an edge adds an entry by one step of its word, so edges never wait for each other.
 #![tactic(auto)]
 
-mod entry;
 mod front;
+mod log_entry;
 mod logged_book;
 mod opening;
 mod rule;
 mod seat;
 mod told;
 
-pub use entry::{Deed, Entry};
 pub use front::{Front, Naming};
+pub use log_entry::{Deed, LogEntry};
 pub use logged_book::{LoggedBook, Placed};
 pub use opening::{NewHistory, Outside};
 pub use rule::Adding;

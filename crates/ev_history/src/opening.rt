@@ -3,8 +3,8 @@ ghost use Rattle.std.specs.Prelude.{◌≡◌, ℕ, Some, true, IfOk, is_some, l
 ghost use Rattle.ev_history.specs.Log.{world};
 ghost use Rattle.ev_history.specs.Opening.{is_new, IsNew};
 
-use crate::entry::Entry;
 use crate::front::{Front, Naming};
+use crate::log_entry::LogEntry;
 use crate::rule::History;
 use crate::seat::Seat;
 use crate::told::Told;
@@ -15,7 +15,7 @@ use std::alloc::{AllocError, Global};
 /// A history that begins. It has no name yet.
 #[derive(Drop)]
 pub struct NewHistory {
-    pub(crate) seen: Seen<Entry, u64, History>,
+    pub(crate) seen: Seen<LogEntry, u64, History>,
     pens: Pens,
     edges: usize,
     outside: bool,
@@ -31,7 +31,7 @@ impl NewHistory {
     /// Returns a history of `edges` edges. Updates of other processes come in if `outside`. Its
     /// configurations are those that `M` reads from `about`.
     #[tactic(auto, using(crate::proofs::Beginning::new_kept, crate::proofs::Beginning::new_is, crate::proofs::Beginning::new_outside, crate::proofs::Beginning::new_each))]
-    pub fn new<X, M: Opening<X, Entry>>(about: &X, edges: usize, outside: bool) -> Self
+    pub fn new<X, M: Opening<X, LogEntry>>(about: &X, edges: usize, outside: bool) -> Self
         requires { IsNew outside (M.log edges about.now) edges }
         ensures log { result.seen.log ≡ M.log edges about.now }
         ensures outside { result.outside ≡ outside }

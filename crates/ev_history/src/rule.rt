@@ -1,13 +1,13 @@
 //! The rule of the history, and the steps of its words.
 
-use crate::entry::{Deed, Entry};
+use crate::log_entry::{Deed, LogEntry};
 use ev_edge::Edge;
 use logbook::{Gain, Plain, Play, Rule};
 
 /// The rule: the log is a history of edges that share a pool of announced updates.
 pub(crate) struct History;
 
-impl Rule<Entry, u64> for History {
+impl Rule<LogEntry, u64> for History {
     ghost use Rattle.std.specs.Prelude.{[]};
     ghost use base.Fml.{ftrue};
     ghost use Rattle.ev_history.specs.Inner.Rule.{IsKept};
@@ -28,7 +28,7 @@ impl Rule<Entry, u64> for History {
 /// The callers trade nothing with the log.
 pub(crate) struct Nothing;
 
-impl Gain<Entry, u64> for Nothing {
+impl Gain<LogEntry, u64> for Nothing {
     ghost use base.Fml.{ftrue};
 
     ghost after = { λ names about answer. ftrue };
@@ -37,15 +37,15 @@ impl Gain<Entry, u64> for Nothing {
 /// A step that reads the number of an edge's entries.
 pub(crate) struct Look;
 
-impl Play<Entry, u64> for Look {
+impl Play<LogEntry, u64> for Look {
     ghost use Rattle.ev_history.specs.Inner.Rule.{Looks};
 
     ghost then = { Looks };
 }
 
-impl Plain<u64, Entry, u64> for Look {
+impl Plain<u64, LogEntry, u64> for Look {
     ghost use Rattle.std.specs.Prelude.{None, [], false};
-    ghost use Rattle.ev_history.specs.declared.entry.Entry.TheVariants.{Begins};
+    ghost use Rattle.ev_history.specs.declared.log_entry.LogEntry.TheVariants.{Begins};
 
     ghost ask = { λ x. Begins false [] };
 
@@ -66,15 +66,15 @@ pub struct Adding<'a> {
 /// A step that adds an entry.
 pub(crate) struct Add;
 
-impl Play<Entry, u64> for Add {
+impl Play<LogEntry, u64> for Add {
     ghost use Rattle.ev_history.specs.Inner.Rule.{Adds};
 
     ghost then = { Adds };
 }
 
-impl<'a> Plain<Adding<'a>, Entry, u64> for Add {
+impl<'a> Plain<Adding<'a>, LogEntry, u64> for Add {
     ghost use Rattle.std.specs.Prelude.{None};
-    ghost use Rattle.ev_history.specs.declared.entry.Entry.TheVariants.{Does};
+    ghost use Rattle.ev_history.specs.declared.log_entry.LogEntry.TheVariants.{Does};
 
     ghost ask = { λ x. Does x.place x.deed x.edge.now };
 

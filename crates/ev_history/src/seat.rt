@@ -3,13 +3,13 @@ ghost use Rattle.std.specs.Prelude.{◌≡◌, ◌<◌, ◌^◌, length, IfSome}
 ghost use Rattle.std.specs.Bool.{OnFalse, OnTrue};
 ghost use Rattle.logbook.specs.Pages.{nib, may_make_home};
 ghost use mathlib.Core.List.{IsPrefix};
-ghost use Rattle.ev_history.specs.declared.entry.Entry.TheVariants.{Does};
+ghost use Rattle.ev_history.specs.declared.log_entry.LogEntry.TheVariants.{Does};
 ghost use Rattle.ev_history.specs.Log.{IsHistory, Follows, world, count};
 ghost use Rattle.ev_history.specs.Rule.{told, IsAdded};
 ghost use Rattle.ev_history.specs.Standing.{Stands};
 
-use crate::entry::Entry;
 use crate::front::{Front, Naming};
+use crate::log_entry::LogEntry;
 use crate::rule::{Add, Adding, History, Look, Nothing};
 use logbook::{Offer, Pen, Word};
 use std::marker::Model;
@@ -20,7 +20,7 @@ use std::sync::Wait;
 pub struct Seat<J: Naming> {
     place: u64,
     entries: u64,
-    word: Word<Entry, u64, History>,
+    word: Word<LogEntry, u64, History>,
     front: Front<J>,
 }
 
@@ -99,7 +99,7 @@ impl<J: Naming> Seat<J> {
             (count self.now.place front.now ≡ count self.now.place self.now.log) }
     {
         let mut later = self.front.both(front);
-        let mut offer: Offer<Entry, u64, History, Nothing> = later
+        let mut offer: Offer<LogEntry, u64, History, Nothing> = later
             .seen
             .plain::<Nothing, u64, Look>(&0);
         let found = self.word.load::<Look, Nothing>(&mut later.seen, &mut offer);
@@ -133,7 +133,7 @@ impl<J: Naming> Seat<J> {
     {
         let entries = self.entries;
         let mut both = self.front.both(with);
-        let mut offer: Offer<Entry, u64, History, Nothing> = both
+        let mut offer: Offer<LogEntry, u64, History, Nothing> = both
             .seen
             .plain::<Nothing, Adding<'_>, Add>(adding);
         let mut pen = both.seen.no_pen();

@@ -3,3 +3,4 @@ pub mod Behind
 pub mod Coming
 pub mod Lines
 pub mod Orders
+pub mod Sharing

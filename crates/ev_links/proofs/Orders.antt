@@ -4,13 +4,13 @@ use Rattle.std.proofs.Common.{if◌then◌else◌}
 use Rattle.std.proofs.Common.{List, [], ◌∷◌, ◌++◌, length, refl, sym, ap, ◌∙◌, append_assoc, arith}
 use Rattle.std.proofs.lemmas.Bool.{eqb-true}
 use Rattle.std.proofs.lemmas.List.{append-nil}
-use Rattle.ev_links.specs.Links.{Packet}
-use Rattle.ev_links.specs.Line.{Waiting, waiting_of, has_room, after_frame, after_bpdu, frames_in_front, frames_left}
+use Rattle.ev_links.specs.Line.{Sourced, Waiting, waiting_of, has_room, after_frame, after_bpdu, frames_in_front}
+use Rattle.ev_links.specs.Line.{frames_left}
 use Rattle.ev_links.specs.DirectLine.{Direct, is_free, after_try}
 use Rattle.ev_links.specs.Laws.{Step, passes, puts, takes, ends, drops_rest, after_step, after_steps, IsStep, AreSteps}
 use Rattle.ev_links.specs.Laws.{leaving, kept, drops, all_leaving, all_kept, all_drops}
 
-none_left : (frames : List Packet) → (length frames == 0) ≡ true → frames ≡ []
+none_left : (frames : List Sourced) → (length frames == 0) ≡ true → frames ≡ []
 none_left [] is = refl
 none_left (f ∷ frames) is = let e = eqb-true (length (f ∷ frames)) 0 is in absurd (omega (arith, e))
 
@@ -18,7 +18,7 @@ and_right : (a b : Bool) → (a && b) ≡ true → b ≡ true
 and_right true b is = is
 and_right false b is = cc
 
-no_frames : (sending : Bool) (bpdus : List (List ℕ)) (frames : List Packet)
+no_frames : (sending : Bool) (bpdus : List (List ℕ)) (frames : List Sourced)
     → (not sending && (length bpdus == 0 && length frames == 0)) ≡ true → frames ≡ []
 no_frames true bpdus frames is = cc
 no_frames false bpdus frames is = none_left frames (and_right (length bpdus == 0) (length frames == 0) is)
@@ -29,24 +29,27 @@ none_waits d free = no_frames d.is_sending d.line.bpdus d.line.frames free
 
 -- ---- frames
 
-frames_put : (p : Packet) (w : Waiting) (room : Bool) → has_room w.frames (length p.octets) ≡ room
+frames_put : (p : Sourced) (w : Waiting) (room : Bool)
+    → has_room w.parts w.frames p.source (length p.packet.octets) ≡ room
     → (after_frame p w).frames ≡ w.frames ++ (if room then p ∷ [] else [])
-frames_put p w true is = ap (λ (b : Bool). (if b then waiting_of w.bpdus (w.frames ++ p ∷ []) w.dropped w.has_ended
-    else waiting_of w.bpdus w.frames (min (w.dropped + 1) (2 ^ 64 - 1)) w.has_ended).frames) is
-frames_put p w false is = ap (λ (b : Bool). (if b then waiting_of w.bpdus (w.frames ++ p ∷ []) w.dropped w.has_ended
-    else waiting_of w.bpdus w.frames (min (w.dropped + 1) (2 ^ 64 - 1)) w.has_ended).frames) is
+frames_put p w true is = ap (λ (b : Bool).
+    (if b then waiting_of w.parts w.bpdus (w.frames ++ p ∷ []) w.dropped w.has_ended
+    else waiting_of w.parts w.bpdus w.frames (min (w.dropped + 1) (2 ^ 64 - 1)) w.has_ended).frames) is
+frames_put p w false is = ap (λ (b : Bool).
+    (if b then waiting_of w.parts w.bpdus (w.frames ++ p ∷ []) w.dropped w.has_ended
+    else waiting_of w.parts w.bpdus w.frames (min (w.dropped + 1) (2 ^ 64 - 1)) w.has_ended).frames) is
     ∙ sym (append-nil w.frames)
 
-same_line : (p : Packet) (d : Direct) (free : Bool) → (if free then after_try p false d else d).line ≡ d.line
+pub same_line : (p : Sourced) (d : Direct) (free : Bool) → (if free then after_try p false d else d).line ≡ d.line
 same_line p d true = refl
 same_line p d false = refl
 
-bpdu_frames : (bpdu : List ℕ) (w : Waiting) (few : Bool) → nat_lt (length w.bpdus) 16 ≡ few
+pub bpdu_frames : (bpdu : List ℕ) (w : Waiting) (few : Bool) → nat_lt (length w.bpdus) 16 ≡ few
     → (after_bpdu bpdu w).frames ≡ w.frames
 bpdu_frames bpdu w true is = rw is refl
 bpdu_frames bpdu w false is = rw is refl
 
-parted : (bpdus : List (List ℕ)) (frames : List Packet)
+parted : (bpdus : List (List ℕ)) (frames : List Sourced)
     → frames ++ [] ≡ frames_in_front bpdus frames ++ frames_left bpdus frames
 parted (b ∷ bpdus) frames = append-nil frames
 parted [] [] = refl
@@ -57,7 +60,7 @@ one_step : (s : Step) (d : Direct) → IsStep s d
     → d.line.frames ++ kept s d ≡ leaving s d ++ (after_step s d).line.frames
 one_step (passes true p) d free = rw (none_waits d free) refl
 one_step (passes false p) d is =
-    sym (frames_put p d.line (has_room d.line.frames (length p.octets)) refl)
+    sym (frames_put p d.line (has_room d.line.parts d.line.frames p.source (length p.packet.octets)) refl)
     ∙ ap (λ (w : Waiting). (after_frame p w).frames) (sym (same_line p d (is_free d)))
 one_step (puts bpdu) d is =
     append-nil d.line.frames ∙ sym (bpdu_frames bpdu d.line (nat_lt (length d.line.bpdus) 16) refl)
@@ -72,9 +75,9 @@ frames_keep_their_order (s ∷ steps) d are =
     let next = after_step s d in
     let rest = all_kept steps next in
     sym (append_assoc d.line.frames (kept s d) rest)
-    ∙ ap (λ (l : List Packet). l ++ rest) (one_step s d are.0)
+    ∙ ap (λ (l : List Sourced). l ++ rest) (one_step s d are.0)
     ∙ append_assoc (leaving s d) next.line.frames rest
-    ∙ ap (λ (l : List Packet). leaving s d ++ l) (frames_keep_their_order steps next are.1)
+    ∙ ap (λ (l : List Sourced). leaving s d ++ l) (frames_keep_their_order steps next are.1)
     ∙ sym (append_assoc (leaving s d) (all_leaving steps next) (after_steps steps next).line.frames)
 
 -- ---- drops
@@ -82,7 +85,8 @@ frames_keep_their_order (s ∷ steps) d are =
 one_counted : (n : ℕ) → n ≤ 2 ^ 64 - 1 → n ≡ min (n + 0) (2 ^ 64 - 1)
 one_counted n few = omega (arith, few)
 
-frame_counted : (p : Packet) (w : Waiting) (room : Bool) → has_room w.frames (length p.octets) ≡ room
+frame_counted : (p : Sourced) (w : Waiting) (room : Bool)
+    → has_room w.parts w.frames p.source (length p.packet.octets) ≡ room
     → w.dropped ≤ 2 ^ 64 - 1
     → (after_frame p w).dropped ≡ min (w.dropped + (if room then 0 else 1)) (2 ^ 64 - 1)
 frame_counted p w true is few = rw is (one_counted w.dropped few)
@@ -98,7 +102,7 @@ one_drop : (s : Step) (d : Direct) → IsStep s d → d.line.dropped ≤ 2 ^ 64 
 one_drop (passes true p) d is few = one_counted d.line.dropped few
 one_drop (passes false p) d is few =
     ap (λ (w : Waiting). (after_frame p w).dropped) (same_line p d (is_free d))
-    ∙ frame_counted p d.line (has_room d.line.frames (length p.octets)) refl few
+    ∙ frame_counted p d.line (has_room d.line.parts d.line.frames p.source (length p.packet.octets)) refl few
 one_drop (puts bpdu) d is few = bpdu_counted bpdu d.line (nat_lt (length d.line.bpdus) 16) refl few
 one_drop takes d is few = one_counted d.line.dropped few
 one_drop ends d is few = one_counted d.line.dropped few

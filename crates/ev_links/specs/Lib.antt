@@ -3,7 +3,7 @@ pub mod Links
 pub mod Line
 pub mod DirectLine
 pub mod Laws
-pub mod FailAt
+pub mod FailingLink
 pub mod Flow
 pub mod Udp
 pub mod Inner

@@ -1,12 +1,12 @@
 //! The octets of the frames that wait on a line, one frame after the other.
 ghost use Rattle.std.specs.Prelude.{◌≡◌, ◌+◌, ◌-◌, ◌≤◌, ◌++◌, [], length, take, drop, vec_len, vec_capacity, IfOk};
 
+use crate::parts::HALF_OCTETS;
 use std::alloc::{AllocError, Global};
 use std::marker::Model;
 
-/// The most octets that may wait: 187 frames of 1,400 octets, which a link of 1 Gbit/s sends in two
-/// milliseconds. Frames that wait longer than a burst lasts are late, and take memory at each link.
-pub(crate) const OCTETS: usize = 262_144;
+/// The most octets that may wait: those of both halves of a line.
+pub(crate) const OCTETS: usize = 2 * HALF_OCTETS;
 
 /// Octets that wait. Their model is a list, the first octet first.
 ///
@@ -32,7 +32,7 @@ impl Model for Backlog {
     ghost view = { λ b. take (b.end - b.start) (drop b.start b.octets.items) };
 
     ghost invariant = { λ b. ((b.start ≤ b.end) × (b.end ≤ vec_len b.octets))
-        × ((b.end - b.start ≤ 262144) × (524288 ≤ vec_capacity b.octets)) };
+        × ((b.end - b.start ≤ 524288) × (1048576 ≤ vec_capacity b.octets)) };
 }
 
 /// Moves the octets from `start` to `end` to the front and returns their number. The part before
@@ -124,7 +124,7 @@ impl Backlog {
     /// Returns the number of octets that wait.
     pub(crate) fn len(&self) -> usize
         ensures len { result ≡ length self.now }
-        ensures few { result ≤ 262144 }
+        ensures few { result ≤ 524288 }
     {
         self.end - self.start
     }
@@ -139,7 +139,7 @@ impl Backlog {
 
     /// Appends octets. The backlog has room for them.
     pub(crate) fn append(&mut self, more: &[u8])
-        requires { length self.old + length more.now ≤ 262144 }
+        requires { length self.old + length more.now ≤ 524288 }
         ensures { self.new ≡ self.old ++ more.now }
     {
         if self.end + more.len() > 2 * OCTETS {

@@ -2,7 +2,7 @@
 //! otherwise.
 ghost use Rattle.std.specs.Prelude.{◌≡◌, ◌≤◌, false, length, IfOk, IfSome};
 ghost use Rattle.ev_links.specs.Links.{packet};
-ghost use Rattle.ev_links.specs.Line.{nothing_waits, first_of, handed};
+ghost use Rattle.ev_links.specs.Line.{sourced, nothing_waits, first_of, handed};
 ghost use Rattle.ev_links.specs.DirectLine.{direct, direct_of, Passes, with_bpdu_put, after_turn, after_its_end, after_its_drop};
 
 use crate::line::Line;
@@ -24,33 +24,36 @@ pub struct DirectLine<K> {
 }
 
 impl<K: PromptOut> DirectLine<K> {
-    /// Creates a line to this link on which nothing waits. The link's worker sends nothing yet.
+    /// Creates a line to this link on which nothing waits, with parts for the sources below
+    /// `parts`. The link's worker sends nothing yet.
     ///
     /// # Errors
     ///
     /// `AllocError` if memory is refused.
-    pub fn new(alloc: Global, link: K) -> Result<Self, AllocError>
+    pub fn new(alloc: Global, link: K, parts: usize) -> Result<Self, AllocError>
         ensures { IfOk result
-            (λ line. direct_of K.tried line ≡ direct nothing_waits false (K.tried link)) }
+            (λ line. direct_of K.tried line
+            ≡ direct (nothing_waits parts) false (K.tried link)) }
     {
         Ok(DirectLine {
-            line: Line::new(alloc)?,
+            line: Line::new(alloc, parts)?,
             link,
             is_sending: false,
         })
     }
 
-    /// Sends a frame, or a datagram, at once if nothing waits, the link's worker sends nothing, and
-    /// the link takes it without waiting. Otherwise appends it to the line, which drops and counts
-    /// it if there is no room. Returns `true` exactly if it was sent.
-    pub fn pass(&mut self, to: Addr, octets: &[u8]) -> bool
-        ensures { Passes result (packet to octets.now) (direct_of K.tried self.old)
-            (direct_of K.tried self.new) }
+    /// Sends a frame, or a datagram, of a source at once if nothing waits, the link's worker sends
+    /// nothing, and the link takes it without waiting. Otherwise appends it to the line, which
+    /// drops and counts it if neither the shared half nor the part of the source has room. Returns
+    /// `true` exactly if it was sent.
+    pub fn pass(&mut self, source: usize, to: Addr, octets: &[u8]) -> bool
+        ensures { Passes result (sourced source (packet to octets.now))
+            (direct_of K.tried self.old) (direct_of K.tried self.new) }
     {
         if !self.is_sending && self.line.is_empty() && self.link.send_now(to, octets) {
             return true;
         }
-        self.line.put(to, octets);
+        self.line.put(source, to, octets);
         false
     }
 

@@ -4,20 +4,22 @@
 
 mod backlog;
 mod channels;
-mod counted;
+mod counted_link;
 mod direct_line;
-mod fail_at;
+mod failing_link;
 mod flow;
-pub mod laws;
+mod laws;
 mod line;
 mod links;
+mod parts;
 mod udp;
 
 pub use channels::{ChannelIn, ChannelOut, Datagram};
-pub use counted::Counted;
+pub use counted_link::CountedLink;
 pub use direct_line::DirectLine;
-pub use fail_at::FailAt;
+pub use failing_link::FailingLink;
 pub use flow::{Flow, FlowCell};
+pub use laws::{each_drop_is_counted, frames_keep_their_order, only_a_full_part_drops};
 pub use line::{LONGEST, Line};
 pub use links::{LinkIn, LinkOut, PromptOut};
 pub use udp::{Destination, UdpOut, Wire, socket_address};

@@ -1,9 +1,12 @@
 //! The queue of a link: BPDUs, and frames after them, as far as there is room.
-ghost use Rattle.std.specs.Prelude.{◌≡◌, ◌+◌, ◌≤◌, ◌&&◌, nat_lt, nat_le, length, take, IfOk, IfSome};
+ghost use Rattle.std.specs.Prelude.{◌≡◌, ◌+◌, ◌≤◌, ◌&&◌, ◌||◌, nat_lt, nat_le, length, take, IfOk, IfSome};
 ghost use Rattle.ev_links.specs.Links.{packet};
-ghost use Rattle.ev_links.specs.Line.{nothing_waits, is_empty, after_frame, after_bpdu, first_of, after_take, handed, after_end, after_drop};
+ghost use Rattle.ev_links.specs.Line.{sourced, nothing_waits, is_empty, after_frame, after_bpdu, first_of, after_take, handed, after_end, after_drop};
 
 use crate::backlog::{Backlog, OCTETS, put_front};
+use crate::parts::{
+    HALF_FRAMES, HALF_OCTETS, SourceQueue, count, discount, empty_all, empty_parts, fits_in,
+};
 use ether_wire::Addr;
 use std::alloc::{AllocError, Global};
 use std::collections::VecDeque;
@@ -12,35 +15,42 @@ use std::marker::Model;
 /// The octets of the longest datagram of a link: a frame of 9,018 octets after a VXLAN header.
 pub const LONGEST: usize = 9026;
 
-/// The most frames that may wait, however short they are.
-const FRAMES: usize = 1024;
+/// The most frames that may wait, however short they are: those of both halves.
+const FRAMES: usize = 2 * HALF_FRAMES;
 
 /// The most BPDUs that may wait. A port sends at most ten at once, and then one a second: if 16
 /// wait, the link has made no progress for six seconds, and the newest BPDUs contain all of the
 /// port's state.
 const BPDUS: usize = 16;
 
-/// The destination address of a waiting frame, and its number of octets.
+/// The source of a waiting frame, its destination address, and its number of octets.
 #[derive(Clone, Copy)]
 struct Head {
+    source: usize,
     to: Addr,
     size: usize,
 }
 
 /// The queue of a link: BPDUs and frames that wait to be sent. A line allocates its memory once,
 /// when it is created, so that BPDUs and frames are dropped only for lack of room.
+///
+/// Frames come from several sources, the links of the edge. All sources share one half of the line,
+/// and each has an equal part of the other half. So a source that passes on too many frames fills
+/// the shared half and its own part, and leaves the other parts empty.
 #[derive(Drop)]
 pub struct Line {
     bpdus: VecDeque<[u8; 60]>,
     heads: VecDeque<Head>,
     /// The octets of the frames, one frame after the other.
     backlog: Backlog,
+    /// What waits of each source.
+    parts: Vec<SourceQueue>,
     dropped: u64,
     has_ended: bool,
 }
 
 impl Model for Line {
-    ghost use Rattle.std.specs.Prelude.{ℕ};
+    ghost use Rattle.std.specs.Prelude.{ℕ, vec_len};
     ghost use Rattle.std.specs.Coded.{codes};
     ghost use Rattle.std.specs.FinMap.{code};
     ghost use Rattle.std.specs.VecDeque.{deque_capacity};
@@ -50,20 +60,26 @@ impl Model for Line {
 
     ghost coded = { Prim.hlevel (codes, code) };
 
-    ghost view = { λ l. waiting_of l.bpdus.items (cut l.heads.items l.backlog) l.dropped
-        l.has_ended };
+    ghost view = { λ l. waiting_of (vec_len l.parts) l.bpdus.items
+        (cut l.heads.items l.backlog) l.dropped l.has_ended };
 
     ghost invariant = { λ l. IsLine l.heads.items l.backlog (deque_capacity l.heads)
-        (deque_capacity l.bpdus) };
+        (deque_capacity l.bpdus) l.parts.items };
 }
 
 /// Returns `true` exactly if there is room for a frame of `size` octets after `frames` frames,
-/// which have `waiting` octets together.
-fn has_room(frames: usize, waiting: usize, size: usize) -> bool
-    requires { waiting ≤ 262144 }
-    ensures { result ≡ (nat_le size 9026 && nat_lt frames 1024 && nat_le (waiting + size) 262144) }
+/// which have `waiting` octets together: in the shared half, or in the part of its source if
+/// `is_own`.
+fn has_room(frames: usize, waiting: usize, size: usize, is_own: bool) -> bool
+    requires { waiting ≤ 524288 }
+    ensures { result ≡ (nat_le size 9026
+        && ((nat_lt frames 2048 && nat_le (waiting + size) 524288)
+        && ((nat_lt frames 1024 && nat_le (waiting + size) 262144) || is_own))) }
 {
-    size <= LONGEST && frames < FRAMES && waiting + size <= OCTETS
+    if size > LONGEST || frames >= FRAMES || waiting + size > OCTETS {
+        return false;
+    }
+    is_own || (frames < HALF_FRAMES && waiting + size <= HALF_OCTETS)
 }
 
 /// Copies a BPDU's frame to the front of the buffer and returns its number of octets.
@@ -76,18 +92,19 @@ fn put_bpdu_front(buffer: &mut [u8], frame: &[u8; 60]) -> usize
 }
 
 impl Line {
-    /// Creates a line on which nothing waits.
+    /// Creates a line on which nothing waits, with parts for the sources below `parts`.
     ///
     /// # Errors
     ///
     /// `AllocError` if memory is refused.
-    pub fn new(alloc: Global) -> Result<Self, AllocError>
-        ensures { IfOk result (λ line. line ≡ nothing_waits) }
+    pub fn new(alloc: Global, parts: usize) -> Result<Self, AllocError>
+        ensures { IfOk result (λ line. line ≡ nothing_waits parts) }
     {
         Ok(Line {
             bpdus: VecDeque::with_capacity(alloc, BPDUS)?,
             heads: VecDeque::with_capacity(alloc, FRAMES)?,
             backlog: Backlog::new(alloc)?,
+            parts: empty_parts(alloc, parts)?,
             dropped: 0,
             has_ended: false,
         })
@@ -101,18 +118,21 @@ impl Line {
         self.bpdus.len() == 0 && self.heads.len() == 0
     }
 
-    /// Appends a frame, or a datagram, to the others. Drops and counts it exactly if it is longer
-    /// than the longest datagram or there is no room for it.
-    pub fn put(&mut self, to: Addr, octets: &[u8])
-        ensures { self.new ≡ after_frame (packet to octets.now) self.old }
+    /// Appends a frame, or a datagram, of a source to the others. Drops and counts it exactly if it
+    /// is longer than the longest datagram, or neither the shared half nor the part of the source
+    /// has room for it.
+    pub fn put(&mut self, source: usize, to: Addr, octets: &[u8])
+        ensures { self.new ≡ after_frame (sourced source (packet to octets.now)) self.old }
     {
-        if !has_room(self.heads.len(), self.backlog.len(), octets.len()) {
+        let size = octets.len();
+        let is_own = fits_in(self.parts.as_slice(), source, size);
+        if !has_room(self.heads.len(), self.backlog.len(), size, is_own) {
             self.dropped = self.dropped.saturating_add(1);
             return;
         }
-        let size = octets.len();
-        self.heads.push_back_reserved(Head { to, size });
+        self.heads.push_back_reserved(Head { source, to, size });
         self.backlog.append(octets);
+        count(&mut self.parts, source, size);
     }
 
     /// Appends a BPDU's frame to the other BPDUs, before all frames. If 16 wait, the oldest is
@@ -140,6 +160,7 @@ impl Line {
             return Some((Addr::default(), put_bpdu_front(buffer, &bpdu)));
         }
         let head = self.heads.pop_front()?;
+        discount(&mut self.parts, head.source, head.size);
         Some((head.to, self.backlog.take(head.size, buffer)))
     }
 
@@ -160,6 +181,7 @@ impl Line {
         self.bpdus.clear();
         self.heads.clear();
         self.backlog.clear();
+        empty_all(&mut self.parts);
     }
 
     /// Returns `true` if the line has ended.

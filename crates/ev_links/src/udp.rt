@@ -35,7 +35,7 @@ fn address_of(from: SocketAddr) -> Addr
 
 /// The source of a wire's datagrams.
 #[derive(Clone, Copy)]
-enum Spring<'x> {
+enum WireSource<'x> {
     /// The datagrams that come to this socket.
     Socket(&'x UdpSocket),
     /// The seconds of the clock.
@@ -46,7 +46,7 @@ enum Spring<'x> {
 /// An empty datagram wakes a call that waits on the socket, which then reads the flag.
 #[derive(Drop)]
 pub struct Wire<'x, C> {
-    spring: Spring<'x>,
+    source: WireSource<'x>,
     clock: &'x C,
     stop: &'x AtomicBool,
     failures: u64,
@@ -61,7 +61,7 @@ impl<'x, C: Clock> Wire<'x, C> {
         ensures { result.failures ≡ 0 }
     {
         Wire {
-            spring: Spring::Socket(socket),
+            source: WireSource::Socket(socket),
             clock,
             stop,
             failures: 0,
@@ -74,7 +74,7 @@ impl<'x, C: Clock> Wire<'x, C> {
         ensures { result.failures ≡ 0 }
     {
         Wire {
-            spring: Spring::Clock,
+            source: WireSource::Clock,
             clock,
             stop,
             failures: 0,
@@ -95,9 +95,9 @@ impl<'x, C: Clock> Wire<'x, C> {
     /// Sets how long a read of the socket waits: for ever if `limit` is `None`. Does nothing for a
     /// clock.
     fn limit(&self, limit: Option<Duration>) -> io::Result<()> {
-        match &self.spring {
-            Spring::Socket(socket) => socket.set_read_timeout(limit),
-            Spring::Clock => Ok(()),
+        match &self.source {
+            WireSource::Socket(socket) => socket.set_read_timeout(limit),
+            WireSource::Clock => Ok(()),
         }
     }
 
@@ -106,13 +106,13 @@ impl<'x, C: Clock> Wire<'x, C> {
     fn wait(&self, buffer: &mut [u8]) -> io::Result<(usize, Addr)>
         ensures { IfOk result (λ r. r.0 ≤ length buffer.new) }
     {
-        match &self.spring {
-            Spring::Socket(socket) => match socket.recv_from(buffer) {
+        match &self.source {
+            WireSource::Socket(socket) => match socket.recv_from(buffer) {
                 Ok((size, from)) => Ok((size, address_of(from))),
                 Err(error) if error.kind() == io::ErrorKind::WouldBlock => Ok((0, Addr::default())),
                 Err(error) => Err(error),
             },
-            Spring::Clock => {
+            WireSource::Clock => {
                 self.sleep();
                 Ok((0, Addr::default()))
             }

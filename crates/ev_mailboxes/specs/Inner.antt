@@ -1,3 +1,3 @@
-pub mod Desk
+pub mod RequestSlot
 pub mod Request
 pub mod Posts

@@ -1,3 +1,4 @@
+pub mod Boards
 pub mod Letter
 pub mod Mail
 pub mod Posts

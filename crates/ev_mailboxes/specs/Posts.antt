@@ -1,9 +1,9 @@
 -- The letters that a worker sends to the other edges.
 use Rattle.std.specs.Prelude.{ℕ, ◌==◌, if◌then◌else◌, List, [], ◌∷◌, ◌++◌, map}
 use Rattle.ev_channel.specs.Ends.{sent_by}
-use Rattle.ev_mailboxes.specs.declared.message.Message.TheVariants.{Record}
-use Rattle.ev_mailboxes.specs.declared.message.Letter.{Letter}
-use Rattle.ev_mailboxes.specs.declared.message.Letter.TheVariants.{Of}
+use Rattle.ev_mailboxes.specs.declared.edge_message.EdgeMessage.TheVariants.{Record}
+use Rattle.ev_mailboxes.specs.declared.edge_message.Letter.{Letter}
+use Rattle.ev_mailboxes.specs.declared.edge_message.Letter.TheVariants.{Of}
 use Rattle.ev_mailboxes.specs.declared.posts.EdgePost.{EdgePost}
 use Rattle.ev_mailboxes.specs.declared.posts.Posts.{Posts}
 

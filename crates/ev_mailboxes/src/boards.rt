@@ -1,6 +1,7 @@
 //! The boards of all edges. The edges' workers share them with the worker that writes the
 //! operator's lines.
-ghost use Rattle.std.specs.Prelude.{◌≡◌, ◌-◌, IfOk, slice_get, option_copied, vec_len};
+ghost use Rattle.std.specs.Prelude.{◌≡◌, ◌-◌, IfOk, slice_get, option_copied, option_map, vec_len};
+ghost use Rattle.ev_mailboxes.specs.Boards.{GivesLinks};
 
 use ev_notices::{
     Alarm, Board, LINKS, LinkCounts, News, Reception, Receptions, Refusals, Refused, Sendings,
@@ -20,7 +21,7 @@ struct Bell {
 
 /// The waiting news of one edge, each kind under a lock of its own.
 #[derive(Drop)]
-struct OfEdge {
+struct EdgeNotices {
     /// Its alerts.
     board: Mutex<Board>,
     /// Changes of its links: receiving failed, or works again.
@@ -45,7 +46,7 @@ fn unused_links(alloc: Global) -> Result<Vec<LinkCounts>, AllocError>
     Ok(links)
 }
 
-impl OfEdge {
+impl EdgeNotices {
     /// Looks at what came and was sent over each link, when a second passes. Returns `true` if a
     /// change of the sends waits to be reported since then.
     fn look<R: Wait>(&self, rt: &R) -> bool {
@@ -65,7 +66,7 @@ impl OfEdge {
 /// a lock never waits for another lock.
 #[derive(Drop)]
 pub struct Boards {
-    all: Vec<OfEdge>,
+    all: Vec<EdgeNotices>,
     /// Refused input from other processes.
     refusals: Mutex<Refusals>,
     bell: Mutex<Bell>,
@@ -85,7 +86,7 @@ impl Boards {
         let mut all = Vec::with_capacity(alloc, edges)?;
         for place in 0..edges {
             let _ = place;
-            all.push_reserved(OfEdge {
+            all.push_reserved(EdgeNotices {
                 board: Mutex::new(Board::new()),
                 receptions: Mutex::new(Receptions::new()),
                 sendings: Mutex::new(Sendings::new()),
@@ -105,7 +106,7 @@ impl Boards {
     }
 
     /// Returns the waiting news of the edge with this number, counted from 1.
-    fn of(&self, edge: usize) -> Option<&OfEdge>
+    fn of(&self, edge: usize) -> Option<&EdgeNotices>
         ensures { option_copied result ≡ slice_get self.now.all.items (edge - 1) }
     {
         self.all.get(edge.saturating_sub(1))
@@ -131,7 +132,10 @@ impl Boards {
     }
 
     /// Returns the numbers of the links of the edge with this number, the tunnel's first.
-    pub(crate) fn links(&self, edge: usize) -> Option<&[LinkCounts]> {
+    pub(crate) fn links(&self, edge: usize) -> Option<&[LinkCounts]>
+        ensures { GivesLinks self.now.all.items (edge - 1)
+            (option_map (λ links. links.now) result) }
+    {
         let of_edge = self.of(edge)?;
         let used = of_edge.used.load(Ordering::SeqCst);
         let links = of_edge.links.as_slice();

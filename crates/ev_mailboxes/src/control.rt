@@ -1,19 +1,21 @@
 //! Access to running edges: the caller that waits until they end can send each of them a step, or a
 //! query about its state.
-ghost use Rattle.std.specs.Prelude.{◌≡◌, IfSome, vec_len};
+ghost use Rattle.std.specs.Prelude.{◌≡◌, ◌-◌, IfSome, IfOk, option_map, vec_len};
+ghost use Rattle.ev_mailboxes.specs.Boards.{GivesLinks};
 
 use crate::boards::Boards;
 use crate::outbox::Outbox;
 use crate::outboxes::Joined;
 use crate::peers::Mailboxes;
-use crate::request::{Command, PortView, Reading, Request, Served};
+use crate::request::{EdgeNetworks, OperatorCommand, PortView, Reading, Request, begun_after};
 use crate::shared_mailbox::SharedMailbox;
 use ev_book::BookRefusal;
 use ev_edge::Reply;
 use ev_history::{Naming, Outside, Told};
 use ev_notices::{LinkCounts, Refused};
 use ev_view::EdgeQuestion;
-use route_wire::Update;
+use route_join::UpdatePage;
+use route_wire::{Register, Update};
 use std::alloc::{AllocError, Global};
 use std::sync::Wait;
 
@@ -69,7 +71,10 @@ impl<'x, J: Naming> Running<'x, J> {
 
     /// Returns the numbers of the links of the edge with this number, from 1: the tunnel's, then
     /// those of the ports. The call needs no answer of the edge.
-    pub fn links(&self, edge: usize) -> Option<&'x [LinkCounts]> {
+    pub fn links(&self, edge: usize) -> Option<&'x [LinkCounts]>
+        ensures { GivesLinks self.now.boards.now.all.items (edge - 1)
+            (option_map (λ links. links.now) result) }
+    {
         let boards = self.boards;
         boards.links(edge)
     }
@@ -130,16 +135,28 @@ impl<J: Naming> Control<'_, J> {
     }
 
     /// Enters a step, and returns the book's answer. Returns `None` if the edge has ended.
-    pub fn enter<R: Wait>(&self, rt: &R, command: Command) -> Option<Result<Reply, BookRefusal>> {
+    pub fn enter<R: Wait>(
+        &self,
+        rt: &R,
+        command: OperatorCommand,
+    ) -> Option<Result<Reply, BookRefusal>> {
         let mut answer = self.mailbox.ask(rt, &Request::Enter(command))?;
         answer.take_entered()
     }
 
-    /// Returns the updates of the edge's table.
-    pub fn table<R: Wait>(&self, rt: &R, alloc: Global) -> Option<Result<Vec<Update>, AllocError>> {
-        self.mailbox
-            .ask(rt, &Request::Read(Reading::Table(alloc)))?
-            .table()
+    /// Returns the page of the report of the edge's table after this register, or the first page.
+    /// Returns `None` if the edge has ended.
+    pub fn page<R: Wait>(
+        &self,
+        rt: &R,
+        alloc: Global,
+        after: Option<Register>,
+    ) -> Option<Result<UpdatePage, AllocError>>
+        ensures { IfSome result (λ answer. IfOk answer (λ page. page.after ≡ after)) }
+    {
+        let reading = Reading::Page(alloc, after);
+        let answer = self.mailbox.ask(rt, &Request::Read(reading))?;
+        begun_after(answer.page()?, &after)
     }
 
     /// Returns the state of the port in the spanning tree.
@@ -150,7 +167,11 @@ impl<J: Naming> Control<'_, J> {
     }
 
     /// Returns the edge's address and the networks that it serves.
-    pub fn served<R: Wait>(&self, rt: &R, alloc: Global) -> Option<Result<Served, AllocError>> {
+    pub fn served<R: Wait>(
+        &self,
+        rt: &R,
+        alloc: Global,
+    ) -> Option<Result<EdgeNetworks, AllocError>> {
         self.mailbox
             .ask(rt, &Request::Read(Reading::Served(alloc)))?
             .served()

@@ -1,10 +1,10 @@
 //! The inputs of an edge's worker of updates, and of the worker that writes the operator's lines.
 ghost use Rattle.std.specs.Prelude.{◌≡◌, ◌++◌, ◌∷◌, [], Option, List};
 ghost use Rattle.ev_mailboxes.specs.Letter.{came_of};
-ghost use Rattle.ev_mailboxes.specs.declared.message.Message.{Message};
+ghost use Rattle.ev_mailboxes.specs.declared.edge_message.EdgeMessage.{EdgeMessage};
 
 use crate::boards::Boards;
-use crate::message::{Letter, Message, coming};
+use crate::edge_message::{EdgeMessage, Letter, coming};
 use crate::peers::Peers;
 use ev_channel::Inbox;
 use ev_notices::{News, NoticesIn};
@@ -14,10 +14,10 @@ use std::thread;
 /// A source of the messages that other edges send. `U` is the type of their updates.
 pub trait UpdatesIn<U: Drop> {
     /// The messages that came, in their order, and `None` for the end.
-    ghost came: { Self → List (Option (Message U)) };
+    ghost came: { Self → List (Option (EdgeMessage U)) };
 
     /// Waits for the next message. Returns `None` at the end.
-    fn next(&mut self) -> Option<Message<U>>
+    fn next(&mut self) -> Option<EdgeMessage<U>>
         ensures { came self.new ≡ came self.old ++ result ∷ [] };
 }
 
@@ -49,7 +49,7 @@ impl<'x, U: Drop, R: Wait> UpdateBox<'x, U, R> {
 impl<U: Drop, R: Wait> UpdatesIn<U> for UpdateBox<'_, U, R> {
     ghost came = { λ b. came_of b.inbox };
 
-    fn next(&mut self) -> Option<Message<U>> {
+    fn next(&mut self) -> Option<EdgeMessage<U>> {
         for _ in self.rt.forever() {
             if let Some(letter) = self.inbox.next(self.rt) {
                 self.peers.received(self.rt, &letter);

@@ -4,23 +4,23 @@
 
 mod boards;
 mod control;
-mod desk;
+mod edge_message;
 mod inbox;
-mod message;
 mod outbox;
 mod outboxes;
 mod peers;
 mod posts;
 mod request;
+mod request_slot;
 mod shared_mailbox;
 mod waiting;
 
 pub use boards::Boards;
 pub use control::{Control, Running};
+pub use edge_message::{EdgeMessage, Letter};
 pub use inbox::{NoticeBox, UpdateBox, UpdatesIn};
-pub use message::{Letter, Message};
 pub use outbox::Outbox;
 pub use outboxes::Joined;
 pub use peers::{Mailboxes, Peers};
 pub use posts::{EdgePost, Posts};
-pub use request::{Answer, Command, PortView, Reading, Request, Served};
+pub use request::{EdgeNetworks, OperatorCommand, PortView, Reading, Request, Response};

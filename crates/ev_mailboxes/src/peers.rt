@@ -5,10 +5,10 @@ ghost use Rattle.std.specs.Prelude.{◌≡◌, ◌-◌, ◌<◌, IfSome, IfOk, s
 ghost use Rattle.ev_mailboxes.specs.Posts.{sent_to, with_record};
 
 use crate::boards::Boards;
-use crate::message::Letter;
+use crate::edge_message::Letter;
 use crate::outboxes::Outboxes;
 use crate::posts::Posts;
-use crate::request::Answer;
+use crate::request::Response;
 use crate::shared_mailbox::SharedMailbox;
 use crate::waiting::ROOM;
 use ev_channel::{Inbox, mailbox};
@@ -247,7 +247,7 @@ impl<'x, U: Drop> Peers<'x, U> {
     }
 
     /// Answers the request that this edge's worker of updates received last.
-    pub fn answer<R: Wait>(&self, rt: &R, answer: Answer) {
+    pub fn answer<R: Wait>(&self, rt: &R, answer: Response) {
         if let Some(mailbox) = self.own() {
             mailbox.answer(rt, answer);
         }

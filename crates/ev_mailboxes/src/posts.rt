@@ -3,7 +3,7 @@ ghost use Rattle.std.specs.Prelude.{◌≡◌, IfOk, length, map};
 ghost use Rattle.ev_mailboxes.specs.Posts.{letters_to, sent_to, one_with, with_record};
 ghost use Rattle.ev_mailboxes.specs.Inner.Posts.{none_sent};
 
-use crate::message::{Letter, Message};
+use crate::edge_message::{EdgeMessage, Letter};
 use crate::shared_mailbox::SharedMailbox;
 use ev_channel::{Inbox, Post};
 use ev_history::{Naming, Told};
@@ -36,7 +36,7 @@ fn send_one<J: Naming, R: Wait>(
     if let Some(mailbox) = mailbox {
         mailbox.expect_update();
     }
-    let mut letter = Letter::Of(Message::Record(update.again()));
+    let mut letter = Letter::Of(EdgeMessage::Record(update.again()));
     for _ in rt.forever() {
         match post.post.send(rt, letter) {
             Ok(()) => return,

@@ -1,20 +1,22 @@
 //! The operator's requests to a running edge, and the edge's answers.
-ghost use Rattle.std.specs.Prelude.{◌≡◌};
-ghost use Rattle.ev_mailboxes.specs.Inner.Request.{entered_in, table_in, port_in, served_in, view_in};
+ghost use Rattle.std.specs.Prelude.{◌≡◌, true, false, IfSome, IfNone, IfOk, MatchResult};
+ghost use Rattle.route_join.specs.After.{is_same_place};
+ghost use Rattle.ev_mailboxes.specs.Inner.Request.{entered_in, page_in, port_in, served_in, view_in};
 
 use ether_wire::{Addr, Vni};
 use ev_book::BookRefusal;
 use ev_edge::Reply;
 use ev_view::EdgeQuestion;
 use mac_arena::Station;
-use route_wire::Update;
-use rstp_state::port::PortState;
+use route_join::UpdatePage;
+use route_wire::Register;
+use rstp_state::PortState;
 use std::alloc::{AllocError, Global};
 use std::mem;
 
 /// A step that the operator requests from an edge. Ports are numbered from 1.
 #[derive(Clone, Copy, Debug, PartialEq, Eq)]
-pub enum Command {
+pub enum OperatorCommand {
     /// Pins the station on the port.
     Pin(Station, u8),
     /// Unpins the station.
@@ -36,8 +38,9 @@ pub enum Command {
 /// A query of the operator about an edge's state.
 #[derive(Clone, Copy)]
 pub enum Reading {
-    /// The updates of its table, in memory of this allocator.
-    Table(Global),
+    /// A page of its table's report, in memory of this allocator: the one after this register, or
+    /// the first one.
+    Page(Global, Option<Register>),
     /// The state of the port with this number in its spanning tree.
     Port(u8),
     /// Its address and the networks that it serves, in memory of this allocator.
@@ -50,7 +53,7 @@ pub enum Reading {
 #[derive(Clone, Copy)]
 pub enum Request {
     /// Enters a step.
-    Enter(Command),
+    Enter(OperatorCommand),
     /// Reads its state.
     Read(Reading),
 }
@@ -66,7 +69,7 @@ pub struct PortView {
 
 /// An edge's address and the networks that it serves.
 #[derive(Drop)]
-pub struct Served {
+pub struct EdgeNetworks {
     /// Its address, the originator of its updates.
     pub address: Addr,
     /// The VNI of each port, port 1 first.
@@ -77,39 +80,68 @@ pub struct Served {
 
 /// An edge's answer to a request.
 #[derive(Drop)]
-pub enum Answer {
+pub enum Response {
     /// The book's answer to the step.
     Entered(Result<Reply, BookRefusal>),
-    /// The updates of all registers of its table, in the order of a report, or `AllocError` if
-    /// memory was refused for them.
-    Table(Result<Vec<Update>, AllocError>),
+    /// The page of its table's report, or `AllocError` if memory was refused for it.
+    Page(Result<UpdatePage, AllocError>),
     /// The state of the port in its spanning tree. `None` if no port has that number.
     Port(Option<PortView>),
     /// Its address and networks, or `AllocError` if memory was refused for them.
-    Served(Result<Served, AllocError>),
+    Served(Result<EdgeNetworks, AllocError>),
     /// The answer to a query, or `AllocError` if memory was refused for it.
     View(Result<Vec<u8>, AllocError>),
 }
 
-impl Answer {
+/// Returns an answer unless it is another page than the one after this register. The clauses of a
+/// mailbox don't tell which request an answer belongs to, so that this is compared.
+pub(crate) fn begun_after(
+    answer: Result<UpdatePage, AllocError>,
+    after: &Option<Register>,
+) -> Option<Result<UpdatePage, AllocError>>
+    ensures none { IfNone result (MatchResult answer
+        (λ page. is_same_place page.after after.now ≡ false) (λ refused. ⊥)) }
+    ensures same { IfSome result (λ it. it ≡ answer) }
+    ensures after { IfSome result (λ answer. IfOk answer (λ page. page.after ≡ after.now)) }
+{
+    if is_after(&answer, after) {
+        Some(answer)
+    } else {
+        None
+    }
+}
+
+/// Returns `true` unless the answer is another page than the one after this register.
+fn is_after(answer: &Result<UpdatePage, AllocError>, after: &Option<Register>) -> bool
+    ensures { MatchResult answer.now (λ page. result ≡ is_same_place page.after after.now)
+        (λ refused. result ≡ true) }
+{
+    match answer {
+        Ok(page) => page.begins_after(after),
+        Err(_) => true,
+    }
+}
+
+impl Response {
     /// Takes the book's answer to a step, if this is the answer to a step.
     pub(crate) fn take_entered(&mut self) -> Option<Result<Reply, BookRefusal>>
         ensures { result ≡ entered_in self.old }
     {
         match self {
-            Answer::Entered(Ok(reply)) => Some(Ok(mem::replace(reply, Reply::nothing()))),
-            Answer::Entered(Err(refusal)) => Some(Err(*refusal)),
-            Answer::Table(_) | Answer::Port(_) | Answer::Served(_) | Answer::View(_) => None,
+            Response::Entered(Ok(reply)) => Some(Ok(mem::replace(reply, Reply::nothing()))),
+            Response::Entered(Err(refusal)) => Some(Err(*refusal)),
+            Response::Page(_) | Response::Port(_) | Response::Served(_) | Response::View(_) => None,
         }
     }
 
-    /// Returns the updates of the table, if this is the answer to that query.
-    pub(crate) fn table(self) -> Option<Result<Vec<Update>, AllocError>>
-        ensures { result ≡ table_in self }
+    /// Returns the page of the report, if this is the answer to that query.
+    pub(crate) fn page(self) -> Option<Result<UpdatePage, AllocError>>
+        ensures { result ≡ page_in self }
     {
         match self {
-            Answer::Table(updates) => Some(updates),
-            Answer::Entered(_) | Answer::Port(_) | Answer::Served(_) | Answer::View(_) => None,
+            Response::Page(page) => Some(page),
+            Response::Entered(_) | Response::Port(_) | Response::Served(_) | Response::View(_) =>
+                None,
         }
     }
 
@@ -118,18 +150,20 @@ impl Answer {
         ensures { result ≡ port_in self.now }
     {
         match self {
-            Answer::Port(view) => Some(*view),
-            Answer::Entered(_) | Answer::Table(_) | Answer::Served(_) | Answer::View(_) => None,
+            Response::Port(view) => Some(*view),
+            Response::Entered(_) | Response::Page(_) | Response::Served(_) | Response::View(_) =>
+                None,
         }
     }
 
     /// Returns the edge's address and networks, if this is the answer to that query.
-    pub(crate) fn served(self) -> Option<Result<Served, AllocError>>
+    pub(crate) fn served(self) -> Option<Result<EdgeNetworks, AllocError>>
         ensures { result ≡ served_in self }
     {
         match self {
-            Answer::Served(served) => Some(served),
-            Answer::Entered(_) | Answer::Table(_) | Answer::Port(_) | Answer::View(_) => None,
+            Response::Served(served) => Some(served),
+            Response::Entered(_) | Response::Page(_) | Response::Port(_) | Response::View(_) =>
+                None,
         }
     }
 
@@ -138,8 +172,9 @@ impl Answer {
         ensures { result ≡ view_in self }
     {
         match self {
-            Answer::View(text) => Some(text),
-            Answer::Entered(_) | Answer::Table(_) | Answer::Port(_) | Answer::Served(_) => None,
+            Response::View(text) => Some(text),
+            Response::Entered(_) | Response::Page(_) | Response::Port(_) | Response::Served(_) =>
+                None,
         }
     }
 }

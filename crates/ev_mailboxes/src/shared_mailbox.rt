@@ -4,9 +4,9 @@
 
 ghost use Rattle.std.specs.Prelude.{◌≡◌, IfOk};
 
-use crate::desk::Desk;
-use crate::message::{Letter, Message};
-use crate::request::{Answer, Request};
+use crate::edge_message::{EdgeMessage, Letter};
+use crate::request::{Request, Response};
+use crate::request_slot::RequestSlot;
 use crate::waiting::Waiting;
 use ev_channel::{Inbox, Post};
 use std::alloc::AllocError;
@@ -28,10 +28,10 @@ pub(crate) struct SharedMailbox<U: Drop> {
     waiting: Waiting,
     /// Whether a call waits: then no other one is sent.
     is_called: AtomicBool,
-    desk: Mutex<Desk>,
-    /// The condition variable of the desk's lock, notified when a caller has an answer to take, has
+    slot: Mutex<RequestSlot>,
+    /// The condition variable of the slot's lock, notified when a caller has an answer to take, has
     /// room for a request, or gets no answer.
-    desk_bell: Condvar,
+    slot_bell: Condvar,
     /// The condition variable of the post's lock, notified when its edge isn't behind any more.
     room_bell: Condvar,
 }
@@ -53,8 +53,8 @@ impl<U: Drop> SharedMailbox<U> {
             inbox: Mutex::new(Some(inbox)),
             waiting: Waiting::new(),
             is_called: AtomicBool::new(false),
-            desk: Mutex::new(Desk::new()),
-            desk_bell: Condvar::new(),
+            slot: Mutex::new(RequestSlot::new()),
+            slot_bell: Condvar::new(),
             room_bell: Condvar::new(),
         })
     }
@@ -120,7 +120,7 @@ impl<U: Drop> SharedMailbox<U> {
     pub(crate) fn put_waiting<R: Wait>(&self, rt: &R, update: U) {
         self.wait_for_room(rt);
         self.expect_update();
-        self.send(rt, Letter::Of(Message::Record(update)));
+        self.send(rt, Letter::Of(EdgeMessage::Record(update)));
     }
 
     /// Wakes the threads that wait until its edge isn't behind. Each of them has seen that it is
@@ -135,7 +135,7 @@ impl<U: Drop> SharedMailbox<U> {
     /// Calls its edge: another edge has room again.
     pub(crate) fn call<R: Wait>(&self, rt: &R) {
         if !self.is_called.swap(true, Ordering::SeqCst) {
-            self.send(rt, Letter::Of(Message::Room));
+            self.send(rt, Letter::Of(EdgeMessage::Room));
         }
     }
 
@@ -154,13 +154,13 @@ impl<U: Drop> SharedMailbox<U> {
         *self.inbox.lock(rt) = Some(inbox);
     }
 
-    /// Closes the mailbox and its desk: drops the letters that wait and come later, and answers no
+    /// Closes the mailbox and its slot: drops the letters that wait and come later, and answers no
     /// more requests.
     pub(crate) fn close<R: Wait>(&self, rt: &R) {
         self.waiting.close();
         self.discard(rt);
-        self.desk.lock(rt).close();
-        self.desk_bell.notify_all();
+        self.slot.lock(rt).close();
+        self.slot_bell.notify_all();
         self.ring_room(rt);
     }
 
@@ -168,60 +168,60 @@ impl<U: Drop> SharedMailbox<U> {
     /// and isn't any more.
     pub(crate) fn received(&self, letter: &Letter<U>) -> bool {
         match letter {
-            Letter::Of(Message::Record(_)) => self.waiting.remove(),
-            Letter::Of(Message::Room) => {
+            Letter::Of(EdgeMessage::Record(_)) => self.waiting.remove(),
+            Letter::Of(EdgeMessage::Room) => {
                 self.is_called.store(false, Ordering::SeqCst);
                 false
             }
-            Letter::Of(Message::Ask(_)) | Letter::Stop => false,
+            Letter::Of(EdgeMessage::Ask(_)) | Letter::Stop => false,
         }
     }
 
-    /// Waits until the desk is free, and takes it for a request. Returns `false` if the desk is
+    /// Waits until the slot is free, and takes it for a request. Returns `false` if the slot is
     /// closed.
-    fn take_desk<R: Wait>(&self, rt: &R) -> bool {
-        let mut desk = self.desk.lock(rt);
+    fn take_slot<R: Wait>(&self, rt: &R) -> bool {
+        let mut slot = self.slot.lock(rt);
         for _ in rt.forever() {
-            if desk.is_closed() {
+            if slot.is_closed() {
                 return false;
             }
-            if desk.ask() {
+            if slot.ask() {
                 return true;
             }
-            desk = self.desk_bell.wait(rt, desk);
+            slot = self.slot_bell.wait(rt, slot);
         }
         unreachable!()
     }
 
-    /// Waits for the answer to the request that was sent. Returns `None` if the desk is closed
+    /// Waits for the answer to the request that was sent. Returns `None` if the slot is closed
     /// without an answer.
-    fn collect<R: Wait>(&self, rt: &R) -> Option<Answer> {
-        let mut desk = self.desk.lock(rt);
+    fn collect<R: Wait>(&self, rt: &R) -> Option<Response> {
+        let mut slot = self.slot.lock(rt);
         for _ in rt.forever() {
-            let answer = desk.collect();
-            if answer.is_some() || desk.is_closed() {
+            let answer = slot.collect();
+            if answer.is_some() || slot.is_closed() {
                 return answer;
             }
-            desk = self.desk_bell.wait(rt, desk);
+            slot = self.slot_bell.wait(rt, slot);
         }
         unreachable!()
     }
 
     /// Sends the edge a request, and waits for its answer. Returns `None` if the edge has ended, or
     /// has no thread for its updates.
-    pub(crate) fn ask<R: Wait>(&self, rt: &R, request: &Request) -> Option<Answer> {
-        if !self.take_desk(rt) {
+    pub(crate) fn ask<R: Wait>(&self, rt: &R, request: &Request) -> Option<Response> {
+        if !self.take_slot(rt) {
             return None;
         }
-        self.send(rt, Letter::Of(Message::Ask(*request)));
+        self.send(rt, Letter::Of(EdgeMessage::Ask(*request)));
         let answer = self.collect(rt);
-        self.desk_bell.notify_all();
+        self.slot_bell.notify_all();
         answer
     }
 
-    /// Answers the request that was received last: puts the answer on the desk for the caller.
-    pub(crate) fn answer<R: Wait>(&self, rt: &R, answer: Answer) {
-        self.desk.lock(rt).answer(answer);
-        self.desk_bell.notify_all();
+    /// Answers the request that was received last: puts the answer in the slot for the caller.
+    pub(crate) fn answer<R: Wait>(&self, rt: &R, answer: Response) {
+        self.slot.lock(rt).answer(answer);
+        self.slot_bell.notify_all();
     }
 }

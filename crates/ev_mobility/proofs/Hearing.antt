@@ -16,6 +16,7 @@ use Rattle.route_join.specs.Updates.{AreUpdatesOf}
 use Rattle.route_join.proofs.Subjects.{address_key, about_address, about_itself}
 use Rattle.ev_mobility.specs.Seq.{Elsewhere, EveryElsewhere, IsSeqFor, foreign_in, greater_of, heard, heard_all}
 use Rattle.ev_mobility.specs.Seq.{nothing_heard, seq_above, seq_of}
+use Rattle.route_join.proofs.Basics.{first_there as first}
 
 -- one of the updates is another edge's advert
 pub record Among (own : ℕ) (us : List Fields) (P : Advert → Type 0) : Type 0 where
@@ -34,9 +35,6 @@ pub record Says (own : ℕ) (us : List Fields) (h k : Heard) : Type 0 where
   pub from : (g : ℕ) → k.greatest ≡ Some g → (h.greatest ≡ Some g) ⊎ Among own us (λ a. a.sequence ≡ g)
   pub most : (g : ℕ) → k.greatest ≡ Some g → ((m : ℕ) → h.greatest ≡ Some m → m ≤ g) × Each own us (λ a. a.sequence ≤ g)
   pub silent : k.greatest ≡ None → (h.greatest ≡ None) × Each own us (λ a. ⊥)
-
-first : (u : Fields) (us : List Fields) → Contains (u ∷ us) u
-first u us = (0, omega arith, refl)
 
 later : (u w : Fields) (us : List Fields) → Contains us w → Contains (u ∷ us) w
 later u w us c = (suc c.0, (let less = c.1 in omega (arith, less)), c.2)

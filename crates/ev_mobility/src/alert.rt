@@ -4,8 +4,9 @@ ghost use Rattle.ev_mobility.specs.Alert.{number_of, port_of};
 
 use std::fmt::{Display, Error, Formatter, Write};
 
-/// An alert of an edge to its operator about an address that it learns, pins or loses. The edge
-/// forwards the frame that brought the address in any case.
+/// An alert of an edge to its operator about an address that it learns, pins or loses, or about a
+/// port that brings too many frames. Except for the last, the edge forwards the frame that brought
+/// the address in any case.
 #[derive(Clone, Copy, Debug, PartialEq, Eq)]
 pub enum Alert {
     /// Another edge advertises the address as static. It is not learnt here.
@@ -25,12 +26,15 @@ pub enum Alert {
     /// This port has brought as many new addresses within 60 seconds as its configuration allows:
     /// the address isn't learnt.
     PortBusy(u8),
+    /// This port has brought as many group and unknown frames within a second as its configuration
+    /// allows: further ones are dropped, and nothing is learnt from them.
+    PortStorm(u8),
     /// There was no memory for the address: it isn't learnt.
     NoMemory,
 }
 
 impl Alert {
-    /// Returns the alert's number for logs: 1 to 8, or 15.
+    /// Returns the alert's number for logs: 1 to 9, or 15.
     pub fn number(self) -> u8
         ensures { result ≡ number_of self }
     {
@@ -43,6 +47,7 @@ impl Alert {
             Alert::TableFull => 6,
             Alert::PortFull(_) => 7,
             Alert::PortBusy(_) => 8,
+            Alert::PortStorm(_) => 9,
             Alert::NoMemory => 15,
         }
     }
@@ -54,6 +59,7 @@ impl Alert {
         match self {
             Alert::PortFull(port) => Some(port),
             Alert::PortBusy(port) => Some(port),
+            Alert::PortStorm(port) => Some(port),
             _ => None,
         }
     }
@@ -64,6 +70,7 @@ impl Display for Alert {
         let text = match self {
             Alert::PortFull(port) => return write!(f, "too many stations at port {port}"),
             Alert::PortBusy(port) => return write!(f, "too many new stations at port {port}"),
+            Alert::PortStorm(port) => return write!(f, "too many frames to flood at port {port}"),
             Alert::StaticElsewhere => "static at another edge",
             Alert::SequenceSpent => "sequence numbers are spent",
             Alert::Duplicate => "duplicate: frozen after five moves",

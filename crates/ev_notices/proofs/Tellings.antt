@@ -4,7 +4,7 @@ use Rattle.ether_wire.specs.declared.ends.Device.{Device}
 use Rattle.ether_wire.specs.Ends.{End, with_text, Puts}
 use Rattle.ether_wire.proofs.Appending.{with_text_none, puts_behind}
 use Rattle.ev_links.specs.Coming.{behind, after_these}
-use Rattle.ev_notices.specs.Telling.{Told, lines_of, news_text, TellsAll}
+use Rattle.ev_notices.specs.Notices.{Told, lines_of, news_text, TellsAll}
 use Rattle.ev_links.proofs.Behind.{behind_none}
 use Rattle.ev_links.proofs.Coming.{one_more}
 

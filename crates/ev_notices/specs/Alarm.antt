@@ -52,16 +52,17 @@ is_second _ = false
 
 -- ---- the alert of the event's answer
 
--- the call was refused for want of memory
-abbrev pub is_short : BookRefusal → Bool
-is_short book.NoRoom = true
-is_short (book.Edge (refused.Edge edge.NoMemory)) = true
-is_short _ = false
+-- the call was refused for want of memory, or for the storm limit of a port
+abbrev pub refusal_alert : BookRefusal → Option Alert
+refusal_alert book.NoRoom = Some alerts.NoMemory
+refusal_alert (book.Edge (refused.Edge edge.NoMemory)) = Some alerts.NoMemory
+refusal_alert (book.Edge (refused.Edge (edge.PortStorm port))) = Some (alerts.PortStorm port)
+refusal_alert _ = None
 
--- the alert of an answer: that of the reply, or refused memory
+-- the alert of an answer: that of the reply, or that of the refusal
 abbrev pub alert_of : Result Reply BookRefusal → Option Alert
 alert_of (Ok reply) = reply.alert
-alert_of (Err refusal) = if is_short refusal then Some alerts.NoMemory else None
+alert_of (Err refusal) = refusal_alert refusal
 
 -- the station of an alert; one about the limit of a port is about no single station
 abbrev pub station_for : Alert → ℕ → Event → Option Station

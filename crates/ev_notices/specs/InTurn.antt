@@ -4,7 +4,7 @@ use Rattle.ev_notices.specs.declared.alarm.Alarm.{Alarm}
 use Rattle.ev_notices.specs.declared.board.Notice.{Notice}
 use Rattle.ev_notices.specs.Board.{BoardState, empty_board, after_second, after_alarm, first_notice, after_take}
 use Rattle.ev_notices.specs.Board.{last_notice}
-use Rattle.ev_notices.specs.Telling.{notice_text}
+use Rattle.ev_notices.specs.Notices.{notice_text}
 
 -- a second passes; or an alert is accepted or suppressed, and the first waiting one is taken
 abbrev pub after_sign : Option Alarm → BoardState → BoardState

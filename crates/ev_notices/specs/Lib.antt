@@ -1,10 +1,10 @@
 pub mod Alarm
 pub mod Board
-pub mod Cause
+pub mod DropReason
 pub mod IdleWatch
 pub mod SendWatch
 pub mod Sendings
 pub mod Receptions
 pub mod Records
-pub mod Telling
+pub mod Notices
 pub mod InTurn

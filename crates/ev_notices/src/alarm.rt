@@ -2,7 +2,7 @@
 ghost use Rattle.std.specs.Prelude.{◌≡◌};
 ghost use Rattle.ether_wire.specs.Frame.{frame_of};
 ghost use Rattle.ev_book.specs.Entering.{answered};
-ghost use Rattle.ev_notices.specs.Alarm.{station_by, station_in, station_of, station_for, port_of, is_short, alert_of, alarm_of, is_second};
+ghost use Rattle.ev_notices.specs.Alarm.{station_by, station_in, station_of, station_for, port_of, refusal_alert, alert_of, alarm_of, is_second};
 
 use ether_wire::{Frame, Vni};
 use ev_book::BookRefusal;
@@ -72,25 +72,27 @@ fn port_of(event: &Event<'_>) -> Option<u8>
     }
 }
 
-/// Returns `true` if the book, or its edge, refused the call for want of memory.
-fn is_short(refusal: &BookRefusal) -> bool
-    ensures { result ≡ is_short refusal.now }
+/// Returns the alert of a refusal: refused memory, or the storm limit of a port.
+fn refusal_alert(refusal: &BookRefusal) -> Option<Alert>
+    ensures { result ≡ refusal_alert refusal.now }
 {
     match refusal {
-        BookRefusal::NoRoom => true,
-        BookRefusal::Edge(Refusal::Edge(EdgeRefusal::NoMemory)) => true,
-        _ => false,
+        BookRefusal::NoRoom => Some(Alert::NoMemory),
+        BookRefusal::Edge(Refusal::Edge(EdgeRefusal::NoMemory)) => Some(Alert::NoMemory),
+        BookRefusal::Edge(Refusal::Edge(EdgeRefusal::PortStorm(port))) => {
+            Some(Alert::PortStorm(*port))
+        }
+        _ => None,
     }
 }
 
-/// Returns the alert of an answer: that of the reply, or refused memory.
+/// Returns the alert of an answer: that of the reply, or that of the refusal.
 pub fn alert_of(answer: &Result<(), BookRefusal>, reply: &Reply) -> Option<Alert>
     ensures { result ≡ alert_of (answered answer.now reply.now) }
 {
     match answer {
         Ok(()) => reply.alert,
-        Err(refusal) if is_short(refusal) => Some(Alert::NoMemory),
-        Err(_) => None,
+        Err(refusal) => refusal_alert(refusal),
     }
 }
 

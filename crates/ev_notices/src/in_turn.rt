@@ -6,11 +6,10 @@ ghost use Rattle.ev_notices.specs.InTurn.{after_sign, told_by, some_text, told_t
 
 use crate::alarm::Alarm;
 use crate::board::{Board, Notice};
-use crate::telling::put_notice;
+use crate::notices::put_notice;
 use ether_wire::{Device, Out};
 
 /// Writes a notice, if there is one.
-#[tactic(auto, using(ether_wire::proofs::Appending::with_text_none))]
 fn put_some<N: Out>(notes: &mut N, edge: u64, notice: &Option<Notice>) -> Result<(), Device>
     requires { IsOpen (N.end notes.old) }
     ensures { Puts (N.end notes.old) (N.end notes.new) (some_text edge notice.now) result }

@@ -1,8 +1,10 @@
 //! The numbers of a link, which other threads read while the link is used.
+ghost use Rattle.std.specs.Prelude.{◌≡◌, ◌+◌, ◌-◌, ◌^◌, min};
+ghost use Rattle.ev_notices.specs.IdleWatch.{after_idle};
 
-use crate::cause::Cause;
+use crate::drop_reason::DropReason;
 use crate::idle_watch::IdleWatch;
-use ev_links::FlowCell;
+use ev_links::{Flow, FlowCell};
 use std::sync::atomic::{AtomicU64, Ordering};
 
 /// A watch that its owner shows to other threads.
@@ -22,20 +24,52 @@ impl IdleCell {
         }
     }
 
-    /// Notes a second that passes, with the number of datagrams so far.
-    fn second(&self, count: u64) {
-        let mut watch = IdleWatch {
-            count: self.count.load(Ordering::Relaxed),
-            seconds: self.seconds.load(Ordering::Relaxed),
-        };
-        watch.second(count);
+    /// Shows a watch from now on.
+    fn show(&self, watch: IdleWatch) {
         self.count.store(watch.count, Ordering::Relaxed);
         self.seconds.store(watch.seconds, Ordering::Relaxed);
+    }
+
+    /// Returns the watch that is shown.
+    fn shown(&self) -> IdleWatch {
+        IdleWatch {
+            count: self.count.load(Ordering::Relaxed),
+            seconds: self.seconds.load(Ordering::Relaxed),
+        }
     }
 
     /// Returns the seconds of the watch.
     fn seconds(&self) -> u64 {
         self.seconds.load(Ordering::Relaxed)
+    }
+}
+
+/// The flows of a link and the watches over both directions, loaded from their cells.
+#[derive(Clone, Copy)]
+struct Watched {
+    /// The datagrams that came.
+    received: Flow,
+    /// The datagrams that were sent at once.
+    at_once: Flow,
+    /// The datagrams that the link's worker sent.
+    queued: Flow,
+    /// The watch over what came.
+    idle_in: IdleWatch,
+    /// The watch over what was sent.
+    idle_out: IdleWatch,
+}
+
+impl Watched {
+    /// Notes a second that passes: at each watch, with the number of datagrams in its direction.
+    fn second(&mut self)
+        ensures came { self.new.idle_in ≡ after_idle self.old.received.datagrams self.old.idle_in }
+        ensures sent { self.new.idle_out
+            ≡ after_idle (min (self.old.at_once.datagrams + self.old.queued.datagrams) (2 ^ 64 - 1))
+            self.old.idle_out }
+    {
+        let sent = self.at_once.datagrams.saturating_add(self.queued.datagrams);
+        self.idle_in.second(self.received.datagrams);
+        self.idle_out.second(sent);
     }
 }
 
@@ -53,6 +87,7 @@ pub struct LinkCounts {
     malformed: AtomicU64,
     unlisted: AtomicU64,
     other_network: AtomicU64,
+    storm: AtomicU64,
     no_memory: AtomicU64,
     no_room: AtomicU64,
     idle_in: IdleCell,
@@ -70,6 +105,7 @@ impl LinkCounts {
             malformed: AtomicU64::new(0),
             unlisted: AtomicU64::new(0),
             other_network: AtomicU64::new(0),
+            storm: AtomicU64::new(0),
             no_memory: AtomicU64::new(0),
             no_room: AtomicU64::new(0),
             idle_in: IdleCell::new(),
@@ -78,23 +114,24 @@ impl LinkCounts {
     }
 
     /// Returns the number of datagrams that were dropped for this cause.
-    fn of(&self, cause: Cause) -> &AtomicU64 {
+    fn of(&self, cause: DropReason) -> &AtomicU64 {
         match cause {
-            Cause::TooLong => &self.too_long,
-            Cause::Malformed => &self.malformed,
-            Cause::Unlisted => &self.unlisted,
-            Cause::OtherNetwork => &self.other_network,
-            Cause::NoMemory => &self.no_memory,
+            DropReason::TooLong => &self.too_long,
+            DropReason::Malformed => &self.malformed,
+            DropReason::Unlisted => &self.unlisted,
+            DropReason::OtherNetwork => &self.other_network,
+            DropReason::Storm => &self.storm,
+            DropReason::NoMemory => &self.no_memory,
         }
     }
 
     /// Counts a datagram that was dropped for this cause.
-    pub fn refuse(&self, cause: Cause) {
+    pub fn refuse(&self, cause: DropReason) {
         self.of(cause).fetch_add(1, Ordering::Relaxed);
     }
 
     /// Returns the number of datagrams that were dropped for this cause.
-    pub fn refused(&self, cause: Cause) -> u64 {
+    pub fn refused(&self, cause: DropReason) -> u64 {
         self.of(cause).load(Ordering::Relaxed)
     }
 
@@ -125,10 +162,23 @@ impl LinkCounts {
         at_once.octets.saturating_add(queued.octets)
     }
 
+    /// Loads what the watches rest on.
+    fn watched(&self) -> Watched {
+        Watched {
+            received: self.received.shown(),
+            at_once: self.at_once.shown(),
+            queued: self.queued.shown(),
+            idle_in: self.idle_in.shown(),
+            idle_out: self.idle_out.shown(),
+        }
+    }
+
     /// Notes a second that passes. Only one thread calls this.
     pub fn second(&self) {
-        self.idle_in.second(self.received.shown().datagrams);
-        self.idle_out.second(self.sent());
+        let mut watched = self.watched();
+        watched.second();
+        self.idle_in.show(watched.idle_in);
+        self.idle_out.show(watched.idle_out);
     }
 
     /// Returns the seconds since the last datagram came, or since the beginning if none came.

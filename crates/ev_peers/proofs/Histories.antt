@@ -10,8 +10,8 @@ use Rattle.ev_edge.specs.Edge.{Edge}
 use Rattle.ev_book.specs.Book.{BookState}
 use Rattle.ev_book.specs.Opening.{IsOpened}
 use Rattle.ev_history.specs.Booking.{Opens}
-use Rattle.ev_history.specs.declared.entry.Entry.{Entry}
-use Rattle.ev_history.specs.declared.entry.Entry.TheVariants.{Begins}
+use Rattle.ev_history.specs.declared.log_entry.LogEntry.{LogEntry}
+use Rattle.ev_history.specs.declared.log_entry.LogEntry.TheVariants.{Begins}
 use Rattle.ev_history.specs.Log.{IsHistory, world, count}
 use Rattle.ev_history.specs.Opening.{IsNew}
 use Rattle.ev_history.specs.Rule.{SeatState}
@@ -19,7 +19,7 @@ use Rattle.ev_history.specs.Standing.{Stands}
 use Rattle.ev_history.proofs.Histories.{Same, same, other, decide}
 use Rattle.ev_history.proofs.Prefixes.{prefix_trans}
 use Rattle.ev_history.proofs.Standing.{stands_later, first_config, first_closed}
-use Rattle.ev_peers.specs.declared.outcome.Outcome.{Outcome}
+use Rattle.ev_peers.specs.declared.edge_outcome.EdgeOutcome.{EdgeOutcome}
 use Rattle.ev_peers.specs.EdgeThreads.{EdgeSetup}
 use Rattle.ev_peers.specs.History.{IsSeatOf, StandsAt, configs_of}
 use Rattle.ev_peers.specs.Inner.History.{AreSeatsOf, IsSeated, AreSeated, AreSeen}
@@ -27,7 +27,7 @@ use Rattle.ev_peers.specs.History.{RanStand, IsHistoryOf}
 use Rattle.ev_peers.specs.Inner.History.{AreSettled}
 
 abbrev Ran : Type 0
-Ran = Result Outcome AllocError
+Ran = Result EdgeOutcome AllocError
 
 -- ---- the last of a list
 
@@ -53,10 +53,10 @@ module _ {O : Type 0} where
   }
 
   -- there is a seat for each edge
-  pub begun_each : (outside : Bool) (setups : List (EdgeSetup O)) (log : List Entry) (count : ℕ)
+  pub begun_each : (outside : Bool) (setups : List (EdgeSetup O)) (log : List LogEntry) (count : ℕ)
       → length (world log).configs ≡ count → log ≡ Begins outside (configs_of setups) ∷ [] → count ≡ length setups
   begun_each outside setups log count each is =
-      sym each ∙ (ap (λ (l : List Entry). length (world l).configs) is
+      sym each ∙ (ap (λ (l : List LogEntry). length (world l).configs) is
       ∙ length-map setups (λ (setup : EdgeSetup O). setup.config))
 
   config_at : (setups : List (EdgeSetup O)) (n : ℕ) (setup : EdgeSetup O) → slice_get setups n ≡ Some setup
@@ -70,7 +70,7 @@ module _ {O : Type 0} where
   config_at (s ∷ ss) (suc n) setup h = config_at ss n setup h
 
   -- each of these seats is that of an edge that isn't open yet
-  pub begun_seats : (outside : Bool) (setups : List (EdgeSetup O)) (log : List Entry) (seats : List SeatState)
+  pub begun_seats : (outside : Bool) (setups : List (EdgeSetup O)) (log : List LogEntry) (seats : List SeatState)
       → log ≡ Begins outside (configs_of setups) ∷ []
       → ((n : ℕ) (s : SeatState) → slice_get seats n ≡ Some s → s.place ≡ n)
       → ((n : ℕ) (s : SeatState) → slice_get seats n ≡ Some s → s.log ≡ log) → AreSeatsOf setups seats
@@ -122,7 +122,8 @@ seat_opens config seat passes b s o = record {
 -- ---- the end
 
 -- the log contains the entries of the seat at place k, too
-pub seen_more : (k : ℕ) (all more : List Entry) (seats : List (Option SeatState)) (s : SeatState) → AreSeen k all seats
+pub seen_more : (k : ℕ) (all more : List LogEntry) (seats : List (Option SeatState)) (s : SeatState)
+    → AreSeen k all seats
     → IsPrefix all more → slice_get seats k ≡ Some (Some s) → IsPrefix s.log more → AreSeen (k + 1) more seats
 seen_more k all more seats s seen pre at this n x lt h = by_case (decide n k)
   where
@@ -133,7 +134,7 @@ seen_more k all more seats s seen pre at this n x lt h = by_case (decide n k)
     by_case (other ne) = prefix_trans x.log all more (seen n x (omega (arith, lt, ne)) h) pre
 
 -- no seat is at place k
-pub seen_none : (k : ℕ) (all : List Entry) (seats : List (Option SeatState)) → AreSeen k all seats
+pub seen_none : (k : ℕ) (all : List LogEntry) (seats : List (Option SeatState)) → AreSeen k all seats
     → slice_get seats k ≡ Some None → AreSeen (k + 1) all seats
 seen_none k all seats seen at n x lt h = by_case (decide n k)
   where
@@ -141,10 +142,11 @@ seen_none k all seats seen at n x lt h = by_case (decide n k)
     by_case (same e) = absurd (cc (sym h ∙ (ap (slice_get seats) e ∙ at)))
     by_case (other ne) = seen n x (omega (arith, lt, ne)) h
 
-pub seen_first : (log : List Entry) (seats : List (Option SeatState)) → AreSeen 0 log seats
+pub seen_first : (log : List LogEntry) (seats : List (Option SeatState)) → AreSeen 0 log seats
 seen_first log seats n x lt h = absurd (omega (arith, lt))
 
-pub settled_more : (k : ℕ) (log : List Entry) (seats : List (Option SeatState)) (s : SeatState) → AreSettled k log seats
+pub settled_more : (k : ℕ) (log : List LogEntry) (seats : List (Option SeatState)) (s : SeatState)
+    → AreSettled k log seats
     → slice_get seats k ≡ Some (Some s) → count s.place log ≡ count s.place s.log → AreSettled (k + 1) log seats
 settled_more k log seats s settled at this n x lt h = by_case (decide n k)
   where
@@ -154,7 +156,7 @@ settled_more k log seats s settled at this n x lt h = by_case (decide n k)
         subst (λ (y : SeatState). count y.place log ≡ count y.place y.log) (sym is) this
     by_case (other ne) = settled n x (omega (arith, lt, ne)) h
 
-pub settled_none : (k : ℕ) (log : List Entry) (seats : List (Option SeatState)) → AreSettled k log seats
+pub settled_none : (k : ℕ) (log : List LogEntry) (seats : List (Option SeatState)) → AreSettled k log seats
     → slice_get seats k ≡ Some None → AreSettled (k + 1) log seats
 settled_none k log seats settled at n x lt h = by_case (decide n k)
   where
@@ -162,31 +164,31 @@ settled_none k log seats settled at n x lt h = by_case (decide n k)
     by_case (same e) = absurd (cc (sym h ∙ (ap (slice_get seats) e ∙ at)))
     by_case (other ne) = settled n x (omega (arith, lt, ne)) h
 
-pub settled_first : (log : List Entry) (seats : List (Option SeatState)) → AreSettled 0 log seats
+pub settled_first : (log : List LogEntry) (seats : List (Option SeatState)) → AreSettled 0 log seats
 settled_first log seats n x lt h = absurd (omega (arith, lt))
 
 -- one seat more, if there is one
-pub seen_step : (k : ℕ) (all more : List Entry) (seats : List (Option SeatState)) (o : Option SeatState)
+pub seen_step : (k : ℕ) (all more : List LogEntry) (seats : List (Option SeatState)) (o : Option SeatState)
     → AreSeen k all seats → IsPrefix all more → slice_get seats k ≡ Some o → IfSome o (λ s. IsPrefix s.log more)
     → AreSeen (k + 1) more seats
 seen_step k all more seats (Some s) seen pre at this = seen_more k all more seats s seen pre at this
 seen_step k all more seats None seen pre at this =
     seen_none k more seats (λ n x lt h. prefix_trans x.log all more (seen n x lt h) pre) at
 
-pub settled_step : (k : ℕ) (log : List Entry) (seats : List (Option SeatState)) (o : Option SeatState)
+pub settled_step : (k : ℕ) (log : List LogEntry) (seats : List (Option SeatState)) (o : Option SeatState)
     → AreSettled k log seats → slice_get seats k ≡ Some o → IfSome o (λ s. count s.place log ≡ count s.place s.log)
     → AreSettled (k + 1) log seats
 settled_step k log seats (Some s) settled at this = settled_more k log seats s settled at this
 settled_step k log seats None settled at this = settled_none k log seats settled at
 
 -- the seat at place k has seen no more than all
-pub seen_at : (k count : ℕ) (log : List Entry) (seats : List (Option SeatState)) (o : Option SeatState)
+pub seen_at : (k count : ℕ) (log : List LogEntry) (seats : List (Option SeatState)) (o : Option SeatState)
     → AreSeen count log seats → k < count → slice_get seats k ≡ Some o → IfSome o (λ s. IsPrefix s.log log)
 seen_at k count log seats (Some s) seen lt at = seen k s lt at
 seen_at k count log seats None seen lt at = tt
 
 -- all edges that ran are at the end of the joined history
-all_stand : (log : List Entry) (place : ℕ) (rans : List Ran) (seats : List (Option SeatState))
+all_stand : (log : List LogEntry) (place : ℕ) (rans : List Ran) (seats : List (Option SeatState))
     → AreSeated place rans seats
     → ((n : ℕ) (s : SeatState) → slice_get seats n ≡ Some (Some s) → IsPrefix s.log log)
     → ((n : ℕ) (s : SeatState) → slice_get seats n ≡ Some (Some s) → count s.place log ≡ count s.place s.log)
@@ -210,16 +212,16 @@ within (y ∷ xs) zero x h = omega arith
 within (y ∷ xs) (suc n) x h = let r = within xs n x h in omega (arith, r)
 
 -- there is one history of all edges
-pub ended : (outside : Bool) (configs : List EdgeConfig) (first log : List Entry) (rans : List Ran)
+pub ended : (outside : Bool) (configs : List EdgeConfig) (first log : List LogEntry) (rans : List Ran)
     (seats : List (Option SeatState)) → first ≡ Begins outside configs ∷ [] → IsPrefix first log → IsHistory log
     → AreSeated 0 rans seats → AreSeen (length seats) log seats → AreSettled (length seats) log seats
     → IsHistoryOf outside configs rans
 ended outside configs first log rans seats begins pre legal seated seen settled =
-    let is : Begins outside configs ∷ pre.0 ≡ log = ap (λ (l : List Entry). l ++ pre.0) (sym begins) ∙ pre.1 in
+    let is : Begins outside configs ∷ pre.0 ≡ log = ap (λ (l : List LogEntry). l ++ pre.0) (sym begins) ∙ pre.1 in
     record {
       entries = pre.0;
       legal = subst IsHistory (sym is) legal;
-      stand = subst (λ (l : List Entry). RanStand l 0 rans) (sym is)
+      stand = subst (λ (l : List LogEntry). RanStand l 0 rans) (sym is)
           (all_stand log 0 rans seats seated (λ n s h. seen n s (within seats n (Some s) h) h)
           (λ n s h. settled n s (within seats n (Some s) h) h));
     }

@@ -9,9 +9,9 @@ use Rattle.ev_book.specs.Book.{PassState}
 use Rattle.ev_channel.specs.declared.view.View.{View}
 use Rattle.ev_channel.specs.Delivery.{of, messages}
 use Rattle.ev_channel.proofs.Delivering.{are_sent, was_sent, messages_append}
-use Rattle.ev_mailboxes.specs.Mail.{Message, Letter}
-use Rattle.ev_mailboxes.specs.declared.message.Message.TheVariants.{Record}
-use Rattle.ev_mailboxes.specs.declared.message.Letter.TheVariants.{Of, Stop}
+use Rattle.ev_mailboxes.specs.Mail.{EdgeMessage, Letter}
+use Rattle.ev_mailboxes.specs.declared.edge_message.EdgeMessage.TheVariants.{Record}
+use Rattle.ev_mailboxes.specs.declared.edge_message.Letter.TheVariants.{Of, Stop}
 use Rattle.ev_mailboxes.specs.Letter.{coming}
 use Rattle.ev_mailboxes.specs.Posts.{one_with, with_record}
 use Rattle.ev_peers.specs.declared.shared_edge.Ended.TheVariants.{End}
@@ -69,8 +69,8 @@ announced_is_sent p p' old new a = ap (λ (s : Said). s.sent) a.given ∙ all_se
 
 -- ---- taking
 
-letter_of : (l : Letter) (m : Message) → coming l ≡ Some m → l ≡ Of m
-letter_of (Of n) m e = ap (λ (x : Message). Of x) (same_value n m e)
+letter_of : (l : Letter) (m : EdgeMessage) → coming l ≡ Some m → l ≡ Of m
+letter_of (Of n) m e = ap (λ (x : EdgeMessage). Of x) (same_value n m e)
 letter_of Stop m e = absurd (never_none m e)
 
 -- the messages of one post are among all
@@ -88,15 +88,15 @@ among_all p [] x h = h
 among_all p (e ∷ es) x h = among_all_step e.0 p e.1 x es (e.0 == p) (λ rest. among_all p es x rest) h
 
 -- all that came to a worker that began with nothing: the handled messages, and then the end
-came_is : (bridge : ℕ) (s s' : Standing) (came : List (Option Message)) (ends : PeerEnds End bridge [] s came s')
+came_is : (bridge : ℕ) (s s' : Standing) (came : List (Option EdgeMessage)) (ends : PeerEnds End bridge [] s came s')
     → came ≡ reverse (map Some ends.all.things) ++ None ∷ []
 came_is bridge s s' came ends =
     same_value came (reverse (map Some ends.all.things) ++ None ∷ [])
-    (ends.end ∙ ap (λ (k : Option (List (Option Message))). behind k (None ∷ [])) ends.all.told)
+    (ends.end ∙ ap (λ (k : Option (List (Option EdgeMessage))). behind k (None ∷ [])) ends.all.told)
 
-pub each_taken_was_sent : (bridge : ℕ) (s s' : Standing) (came : List (Option Message))
+pub each_taken_was_sent : (bridge : ℕ) (s s' : Standing) (came : List (Option EdgeMessage))
     (ends : PeerEnds End bridge [] s came s') (waiting : List Letter) (views : List (View Letter))
-    → HasReceived came waiting views → (m : Message) → Contains ends.all.things m → WasSent views m
+    → HasReceived came waiting views → (m : EdgeMessage) → Contains ends.all.things m → WasSent views m
 each_taken_was_sent bridge s s' came ends waiting views h m taken =
     let all = map Some ends.all.things in
     let in_came : Contains came (Some m) =
@@ -107,21 +107,21 @@ each_taken_was_sent bridge s s' came ends waiting views h m taken =
     was_sent waiting views h.inbox h.got h.made (Of m) h.rule h.is_inbox
     (subst (λ (l : Letter). Contains (messages h.got) l) (letter_of letter.0 m letter.2) letter.1)
 
-handled : (bridge : ℕ) (s s' : Standing) (came : List (Option Message)) (ends : PeerEnds End bridge [] s came s')
-    (m : Message) → Contains came (Some m) → Contains ends.all.things m
+handled : (bridge : ℕ) (s s' : Standing) (came : List (Option EdgeMessage)) (ends : PeerEnds End bridge [] s came s')
+    (m : EdgeMessage) → Contains came (Some m) → Contains ends.all.things m
 handled bridge s s' came ends m h =
     let all = map Some ends.all.things in
     ⊎_elim
     (λ first.
     let r = from_map Some ends.all.things (Some m) (from_reverse all (Some m) first) in
-    subst (λ (n : Message). Contains ends.all.things n) (same_value r.0 m r.2) r.1)
+    subst (λ (n : EdgeMessage). Contains ends.all.things n) (same_value r.0 m r.2) r.1)
     (λ last. absurd (never_none m (one_is None (Some m) last)))
     (Contains-append_cases (reverse all) (None ∷ []) (Some m)
     (subst (λ l. Contains l (Some m)) (came_is bridge s s' came ends) h))
 
-pub each_sent_is_taken : (bridge : ℕ) (s s' : Standing) (came : List (Option Message))
+pub each_sent_is_taken : (bridge : ℕ) (s s' : Standing) (came : List (Option EdgeMessage))
     (ends : PeerEnds End bridge [] s came s') (waiting : List Letter) (views : List (View Letter))
-    → HasReceived came waiting views → (m : Message) → WasSent views m
+    → HasReceived came waiting views → (m : EdgeMessage) → WasSent views m
     → Contains ends.all.things m ⊎ Contains waiting (Of m)
 each_sent_is_taken bridge s s' came ends waiting views h m sent =
     let r = are_sent waiting views h.inbox sent.0 h.got h.made sent.1 sent.2 h.rule h.is_inbox sent.3 in

@@ -4,7 +4,7 @@ use Rattle.std.proofs.Common.{append_assoc, append-nil, length-append, Some, Non
 use Rattle.std.proofs.lemmas.List.{reverse-append, length-reverse}
 use Rattle.std.specs.declared.alloc.AllocError.{AllocError}
 use Rattle.std.specs.declared.thread.PromisedHandle.{PromisedHandle}
-use Rattle.ev_peers.specs.declared.outcome.Outcome.{Outcome}
+use Rattle.ev_peers.specs.declared.edge_outcome.EdgeOutcome.{EdgeOutcome}
 use Rattle.ev_peers.specs.declared.run.OfEdge.{OfEdge}
 use Rattle.ev_history.specs.Rule.{SeatState}
 use Rattle.ev_history.specs.Standing.{Stands}
@@ -14,11 +14,11 @@ use Rattle.ev_peers.specs.Inner.History.{seat_in, SeatedAs, IsSeated, AreSeated}
 use Rattle.ev_peers.specs.Inner.Handles.{Handle, IsHandle, AreHandles}
 
 abbrev Ran : Type 0
-Ran = Result Outcome AllocError
+Ran = Result EdgeOutcome AllocError
 
 -- the result of a thread
 abbrev Full : Type 0
-Full = Result (Outcome × SeatState) AllocError
+Full = Result (EdgeOutcome × SeatState) AllocError
 
 -- a result is at its own place
 full_seated : (place : ℕ) (full : Full) → SeatedAs (place + 1) full → IsSeated place (outcome_in full) (seat_in full)

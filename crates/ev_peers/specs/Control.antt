@@ -4,8 +4,8 @@ use Rattle.std.specs.Prelude.{Err, IsTrue}
 use Rattle.std.specs.Global.{Vec}
 use Rattle.std.specs.declared.alloc.AllocError.{AllocError}
 use Rattle.ether_wire.specs.Ports.{place_of_port}
-use Rattle.route_wire.specs.Fields.{Fields}
-use Rattle.route_join.specs.Updates.{all_updates}
+use Rattle.route_wire.specs.declared.update.Register.{Register}
+use Rattle.route_join.specs.After.{PageView, page_at}
 use Rattle.rstp_run.specs.Rules.{Tree}
 use Rattle.rstp_run.specs.Events.{IsPort, Passes}
 use Rattle.ev_edge.specs.Edge.{Edge, address_of, table_of}
@@ -16,23 +16,23 @@ use Rattle.ev_view.specs.declared.view.EdgeQuestion.{EdgeQuestion}
 use Rattle.ev_view.specs.EdgeViews.{edge_view_text}
 use Rattle.ev_book.specs.declared.refusal.BookRefusal.{BookRefusal}
 use Rattle.ev_book.specs.Book.{BookState, PassState}
-use Rattle.ev_mailboxes.specs.declared.request.Command.{Command}
-use Rattle.ev_mailboxes.specs.declared.request.Command.TheVariants as commands
+use Rattle.ev_mailboxes.specs.declared.request.OperatorCommand.{OperatorCommand}
+use Rattle.ev_mailboxes.specs.declared.request.OperatorCommand.TheVariants as commands
 use Rattle.ev_mailboxes.specs.declared.request.Request.{Request}
 use Rattle.ev_mailboxes.specs.declared.request.Request.TheVariants.{Enter, Read}
 use Rattle.ev_mailboxes.specs.declared.request.Reading.{Reading}
-use Rattle.ev_mailboxes.specs.declared.request.Reading.TheVariants.{Table, Port, Served as Serves, View}
-use Rattle.ev_mailboxes.specs.declared.request.Answer.{Answer}
-use Rattle.ev_mailboxes.specs.declared.request.Answer.TheVariants as replies
+use Rattle.ev_mailboxes.specs.declared.request.Reading.TheVariants.{Page, Port, Served as Serves, View}
+use Rattle.ev_mailboxes.specs.declared.request.Response.{Response}
+use Rattle.ev_mailboxes.specs.declared.request.Response.TheVariants as replies
 use Rattle.ev_mailboxes.specs.declared.request.PortView.{PortView}
-use Rattle.ev_mailboxes.specs.declared.request.Served.{Served}
-use Rattle.ev_peers.specs.Giving.{Parcel}
+use Rattle.ev_mailboxes.specs.declared.request.EdgeNetworks.{EdgeNetworks}
+use Rattle.ev_peers.specs.Forwarding.{Parcel}
 use Rattle.ev_peers.specs.Passing.{Said, says, answers, PassesOn}
 
 -- ---- a step
 
 -- the event of a step
-abbrev pub event_of : Command → Event
+abbrev pub event_of : OperatorCommand → Event
 event_of (commands.Pin s port) = events.Pin s port
 event_of (commands.Unpin s) = events.Unpin s
 event_of (commands.Thaw s) = events.Thaw s
@@ -43,7 +43,7 @@ event_of (commands.PortUp port) = events.PortUp port
 event_of (commands.PortDown port) = events.PortDown port
 
 -- The step was entered once and passed on, as a worker's event is, and `answer` is the book's answer.
-pub record Obeys (bridge : ℕ) (command : Command) (answer : Result Reply BookRefusal) (p : PassState)
+pub record Obeys (bridge : ℕ) (command : OperatorCommand) (answer : Result Reply BookRefusal) (p : PassState)
     (given : Option (List Parcel)) (records : Said) (p' : PassState) (given' : Option (List Parcel))
     (records' : Said) : Type 0 where
   pub passes : PassesOn bridge 0 [] p (event_of command) given records p' given' records'
@@ -51,10 +51,10 @@ pub record Obeys (bridge : ℕ) (command : Command) (answer : Result Reply BookR
 
 -- ---- a reading
 
--- the updates of all registers of the table, in the order of a report; memory may be refused for them
-abbrev pub ShowsTable : Edge → Result (Vec Fields) AllocError → Type 0
-ShowsTable e (Ok updates) = updates.items ≡ all_updates (table_of e)
-ShowsTable e (Err refused) = Unit {0}
+-- the page of the table's report after the register, or the first one; memory may be refused for it
+abbrev pub ShowsPage : Edge → Option Register → Result PageView AllocError → Type 0
+ShowsPage e after (Ok page) = page ≡ record { after = after; updates = page_at after (table_of e) }
+ShowsPage e after (Err refused) = Unit {0}
 
 -- the port's state, and whether frames pass there; `None` only if there is no port of this number
 abbrev pub ShowsPort : Tree → ℕ → Option PortView → Type 0
@@ -68,15 +68,15 @@ ShowsView number e q (Ok text) = text.items ≡ edge_view_text number e q
 ShowsView number e q (Err refused) = Unit {0}
 
 -- the edge's address, the VNI of each port, and the VNIs that the edge serves; memory may be refused for them
-abbrev pub ShowsServed : Edge → Result Served AllocError → Type 0
+abbrev pub ShowsServed : Edge → Result EdgeNetworks AllocError → Type 0
 ShowsServed e (Ok served) = (served.address ≡ address_of e) × (served.ports.items ≡ e.routes.ports)
     × (served.vnis.items ≡ e.routes.vnis)
 ShowsServed e (Err refused) = Unit {0}
 
 -- the answer of an edge to a reading
-abbrev pub Shows : Edge → Reading → Answer → Type 0
-Shows e (Table alloc) (replies.Table updates) = ShowsTable e updates
-Shows e (Table alloc) answer = ⊥
+abbrev pub Shows : Edge → Reading → Response → Type 0
+Shows e (Page alloc after) (replies.Page page) = ShowsPage e after page
+Shows e (Page alloc after) answer = ⊥
 Shows e (Port p) (replies.Port view) = ShowsPort e.tree p view
 Shows e (Port p) answer = ⊥
 Shows e (Serves alloc) (replies.Served served) = ShowsServed e served
@@ -85,7 +85,7 @@ Shows e (View alloc number q) (replies.View text) = ShowsView number e q text
 Shows e (View alloc number q) answer = ⊥
 
 -- The answer shows the state of some book. No caller knows which book was under the lock.
-pub record Looked (reading : Reading) (answer : Answer) : Type 0 where
+pub record Looked (reading : Reading) (answer : Response) : Type 0 where
   pub book : BookState
   pub shows : Shows book.edge reading answer
 
@@ -93,7 +93,7 @@ pub record Looked (reading : Reading) (answer : Answer) : Type 0 where
 
 -- a step is entered once and passed on; a reading changes nothing, and sends nothing to links, other edges or the
 -- operator
-abbrev pub Fulfils : ℕ → Request → Answer → PassState → Option (List Parcel) → Said → PassState
+abbrev pub Fulfils : ℕ → Request → Response → PassState → Option (List Parcel) → Said → PassState
     → Option (List Parcel) → Said → Type 0
 Fulfils bridge (Enter command) (replies.Entered answer) p given records p' given' records' =
     Obeys bridge command answer p given records p' given' records'
@@ -105,7 +105,7 @@ Fulfils bridge (Read reading) answer p given records p' given' records' =
 pub record Answers (bridge : ℕ) (request : Request) (p : PassState) (given : Option (List Parcel))
     (records : Said) (p' : PassState) (given' : Option (List Parcel)) (records' : Said) :
     Type 0 where
-  pub answer : Answer
+  pub answer : Response
   pub before : Said
   pub fulfils : Fulfils bridge request answer p given records p' given' before
   pub told : records' ≡ says before (answers answer ∷ [])

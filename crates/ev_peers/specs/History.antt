@@ -3,12 +3,12 @@ use Rattle.std.specs.Prelude.{◌≡◌, ℕ, ◌+◌, Bool, List, [], ◌∷◌
 use Rattle.std.specs.declared.alloc.AllocError.{AllocError}
 use Rattle.ev_edge.specs.declared.config.EdgeConfig.{EdgeConfig}
 use Rattle.ev_edge.specs.Edge.{Edge}
-use Rattle.ev_history.specs.declared.entry.Entry.{Entry}
-use Rattle.ev_history.specs.declared.entry.Entry.TheVariants.{Begins}
+use Rattle.ev_history.specs.declared.log_entry.LogEntry.{LogEntry}
+use Rattle.ev_history.specs.declared.log_entry.LogEntry.TheVariants.{Begins}
 use Rattle.ev_history.specs.Log.{IsHistory, world}
 use Rattle.ev_history.specs.Rule.{SeatState}
 use Rattle.ev_history.specs.Standing.{Stands}
-use Rattle.ev_peers.specs.declared.outcome.Outcome.{Outcome}
+use Rattle.ev_peers.specs.declared.edge_outcome.EdgeOutcome.{EdgeOutcome}
 use Rattle.ev_peers.specs.EdgeThreads.{EdgeSetup}
 
 -- ---- seats
@@ -25,7 +25,7 @@ pub record StandsAt (place : ℕ) (seat : SeatState) (edge : Edge) : Type 0 wher
   pub stands : Stands place seat.log edge
 
 -- the outcome of an edge, without its seat
-abbrev pub outcome_in : Result (Outcome × SeatState) AllocError → Result Outcome AllocError
+abbrev pub outcome_in : Result (EdgeOutcome × SeatState) AllocError → Result EdgeOutcome AllocError
 outcome_in (Ok r) = Ok r.0
 outcome_in (Err refused) = Err refused
 
@@ -33,7 +33,7 @@ outcome_in (Err refused) = Err refused
 
 -- the edges that ran have gone on from their last entries by events that no other edge can see; the first edge is at
 -- this place
-abbrev pub RanStand : List Entry → ℕ → List (Result Outcome AllocError) → Type 0
+abbrev pub RanStand : List LogEntry → ℕ → List (Result EdgeOutcome AllocError) → Type 0
 RanStand log place [] = Unit {0}
 RanStand log place (Ok outcome ∷ rans) = Stands place log outcome.edge × RanStand log (place + 1) rans
 RanStand log place (Err refused ∷ rans) = RanStand log (place + 1) rans
@@ -44,8 +44,9 @@ configs_of setups = map (λ setup. setup.config) setups
 
 -- There is one history of all these edges, which leads to these results. Each update that an edge took was announced
 -- before; if updates of other processes come in, it may be one of these.
-pub record IsHistoryOf (outside : Bool) (configs : List EdgeConfig) (rans : List (Result Outcome AllocError)) : Type 0
+pub record IsHistoryOf (outside : Bool) (configs : List EdgeConfig)
+    (rans : List (Result EdgeOutcome AllocError)) : Type 0
   where
-    pub entries : List Entry
+    pub entries : List LogEntry
     pub legal : IsHistory (Begins outside configs ∷ entries)
     pub stand : RanStand (Begins outside configs ∷ entries) 0 rans

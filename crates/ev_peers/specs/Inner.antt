@@ -1,8 +1,8 @@
 pub mod EdgeThreads
-pub mod Giving
+pub mod Forwarding
 pub mod Handles
 pub mod History
-pub mod Outcome
+pub mod EdgeOutcome
 pub mod Passing
 pub mod Plan
 pub mod Working

@@ -7,9 +7,9 @@ use Rattle.ev_book.specs.Book.{PassState}
 use Rattle.ev_channel.specs.declared.view.View.{View}
 use Rattle.ev_channel.specs.declared.view.View.TheVariants.{Sender, Receiver}
 use Rattle.ev_channel.specs.Delivery.{messages, Delivers}
-use Rattle.ev_mailboxes.specs.Mail.{Message, Letter}
-use Rattle.ev_mailboxes.specs.declared.message.Message.TheVariants.{Record}
-use Rattle.ev_mailboxes.specs.declared.message.Letter.TheVariants.{Of}
+use Rattle.ev_mailboxes.specs.Mail.{EdgeMessage, Letter}
+use Rattle.ev_mailboxes.specs.declared.edge_message.EdgeMessage.TheVariants.{Record}
+use Rattle.ev_mailboxes.specs.declared.edge_message.Letter.TheVariants.{Of}
 use Rattle.ev_mailboxes.specs.Letter.{coming}
 use Rattle.ev_peers.specs.declared.shared_edge.Ended.TheVariants.{End}
 use Rattle.ev_peers.specs.Passing.{Said, Announces}
@@ -35,13 +35,13 @@ AnnouncedIsSent =
 -- ---- taking
 
 -- one of the posts of a mailbox has sent this message
-abbrev pub WasSent : List (View Letter) → Message → Type 0
+abbrev pub WasSent : List (View Letter) → EdgeMessage → Type 0
 WasSent views m =
     (post p : ℕ) × (put : List Letter) × (get_elem? views post ≡ some (Sender p put)) × Contains put (Of m)
 
 -- A mailbox at a moment, after its edge's worker of updates has ended. The rule of the mailbox's channel holds of the
 -- letters that wait and of what all passes know. The inbox has received the letters whose messages came to the worker.
-pub record HasReceived (came : List (Option Message)) (waiting : List Letter) (views : List (View Letter)) :
+pub record HasReceived (came : List (Option EdgeMessage)) (waiting : List Letter) (views : List (View Letter)) :
     Type 0 where
   pub rule : Delivers waiting views
   pub inbox : ℕ
@@ -53,13 +53,13 @@ pub record HasReceived (came : List (Option Message)) (waiting : List Letter) (v
 -- each message that the worker handled was sent by a post of the mailbox
 abbrev pub EachTakenWasSent : Type 0
 EachTakenWasSent =
-    (bridge : ℕ) (s s' : Standing) (came : List (Option Message)) (ends : PeerEnds End bridge [] s came s')
+    (bridge : ℕ) (s s' : Standing) (came : List (Option EdgeMessage)) (ends : PeerEnds End bridge [] s came s')
     (waiting : List Letter) (views : List (View Letter)) → HasReceived came waiting views
-    → (m : Message) → Contains ends.all.things m → WasSent views m
+    → (m : EdgeMessage) → Contains ends.all.things m → WasSent views m
 
 -- each message that a post has sent was handled by the worker, or waits after the end
 abbrev pub EachSentIsTaken : Type 0
 EachSentIsTaken =
-    (bridge : ℕ) (s s' : Standing) (came : List (Option Message)) (ends : PeerEnds End bridge [] s came s')
+    (bridge : ℕ) (s s' : Standing) (came : List (Option EdgeMessage)) (ends : PeerEnds End bridge [] s came s')
     (waiting : List Letter) (views : List (View Letter)) → HasReceived came waiting views
-    → (m : Message) → WasSent views m → Contains ends.all.things m ⊎ Contains waiting (Of m)
+    → (m : EdgeMessage) → WasSent views m → Contains ends.all.things m ⊎ Contains waiting (Of m)

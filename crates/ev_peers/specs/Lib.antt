@@ -1,4 +1,4 @@
-pub mod Giving
+pub mod Forwarding
 pub mod EdgeThreads
 pub mod History
 pub mod Passing

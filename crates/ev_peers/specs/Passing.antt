@@ -10,14 +10,14 @@ use Rattle.ev_book.specs.Book.{BookState, PassState}
 use Rattle.ev_book.specs.Entering.{CallsBook}
 use Rattle.ev_history.specs.Booking.{announced_by}
 use Rattle.ev_notices.specs.declared.alarm.Alarm.{Alarm}
-use Rattle.ev_mailboxes.specs.declared.message.Letter.{Letter}
-use Rattle.ev_mailboxes.specs.declared.request.Answer.{Answer}
+use Rattle.ev_mailboxes.specs.declared.edge_message.Letter.{Letter}
+use Rattle.ev_mailboxes.specs.declared.request.Response.{Response}
 use Rattle.ev_mailboxes.specs.Posts.{with_record}
 use Rattle.ev_notices.specs.declared.receptions.Reception.{Reception}
-use Rattle.ev_notices.specs.declared.cause.Cause.{Cause}
+use Rattle.ev_notices.specs.declared.drop_reason.DropReason.{DropReason}
 use Rattle.ev_notices.specs.Alarm.{alarm_of, is_second}
-use Rattle.ev_notices.specs.Cause.{cause_of}
-use Rattle.ev_peers.specs.Giving.{Parcel, parcels_of}
+use Rattle.ev_notices.specs.DropReason.{cause_of}
+use Rattle.ev_peers.specs.Forwarding.{Parcel, parcels_of}
 use Rattle.ev_links.specs.Coming.{behind}
 
 -- A call of some book. No caller knows which book was under the lock.
@@ -56,9 +56,9 @@ pub data Word : Type 0 where
   has_room : Bool → Word
   second_passes : Word
   tells : Alarm → Word
-  answers : Answer → Word
+  answers : Response → Word
   hears : Reception → Word
-  drops : ℕ → Cause → Word
+  drops : ℕ → DropReason → Word
 
 -- The messages of a worker's outlet, whose records have this type: the number of its own edge, the letters that the
 -- worker has sent to each edge, and the words, if the outlet shows any.
@@ -133,7 +133,7 @@ link_of (TunnelFrame from octets) = Some 0
 link_of _ = None
 
 -- the word for a datagram that came over this link and is dropped for this cause
-abbrev pub drops_of : Option ℕ → Option Cause → List Word
+abbrev pub drops_of : Option ℕ → Option DropReason → List Word
 drops_of (Some place) (Some cause) = drops place cause ∷ []
 drops_of (Some place) None = []
 drops_of None cause = []

@@ -9,14 +9,14 @@ use Rattle.ev_edge.specs.declared.event.Event.TheVariants as events
 use Rattle.ev_book.specs.Book.{PassState}
 use Rattle.ev_peers.specs.declared.shared_edge.Ended.{Ended}
 use Rattle.ev_peers.specs.declared.shared_edge.Ended.TheVariants.{End, Device as Failed, NoMemory}
-use Rattle.ev_mailboxes.specs.Mail.{Message}
-use Rattle.ev_mailboxes.specs.declared.message.Message.TheVariants.{Record, Room, Ask}
+use Rattle.ev_mailboxes.specs.Mail.{EdgeMessage}
+use Rattle.ev_mailboxes.specs.declared.edge_message.EdgeMessage.TheVariants.{Record, Room, Ask}
 use Rattle.ev_notices.specs.declared.receptions.Input.{Input}
 use Rattle.ev_notices.specs.declared.receptions.Input.TheVariants as inputs
 use Rattle.ev_notices.specs.declared.receptions.Reception.{Reception}
-use Rattle.ev_peers.specs.declared.workers.Source.{Source}
-use Rattle.ev_peers.specs.declared.workers.Source.TheVariants.{Port, Tunnel, Clock}
-use Rattle.ev_peers.specs.Giving.{Parcel}
+use Rattle.ev_peers.specs.declared.workers.Inlet.{Inlet}
+use Rattle.ev_peers.specs.declared.workers.Inlet.TheVariants.{Port, Tunnel, Clock}
+use Rattle.ev_peers.specs.Forwarding.{Parcel}
 use Rattle.ev_links.specs.Links.{Arrival, Call, brings, fails}
 use Rattle.ev_peers.specs.Passing.{Said, says, hears, Announces, PassesOn}
 use Rattle.ev_peers.specs.Control.{Answers as AnswersRequest}
@@ -34,7 +34,7 @@ IsTunnelFrame from octets (events.TunnelFrame by datagram) = (by ≡ from) × (d
 IsTunnelFrame from octets _ = ⊥
 
 -- the event of a datagram; an empty datagram has none, except at a clock
-abbrev pub IsEventOf : Source → Arrival → Option Event → Type 0
+abbrev pub IsEventOf : Inlet → Arrival → Option Event → Type 0
 IsEventOf Clock a event = event ≡ Some events.Second
 IsEventOf (Port port vni) a None = a.octets ≡ []
 IsEventOf (Port port vni) a (Some event) = (a.octets ≢ []) × IsFrame port a.octets event
@@ -50,7 +50,7 @@ unwrapped (Ok carried) = fitting carried
 unwrapped (Err refusal) = (0, [])
 
 -- the VNI and the frame that a datagram carries
-abbrev pub carried : Source → List ℕ → ℕ × List ℕ
+abbrev pub carried : Inlet → List ℕ → ℕ × List ℕ
 carried (Port port vni) octets = fitting (vni, octets)
 carried Tunnel octets = unwrapped (instance_of octets)
 carried Clock octets = (0, [])
@@ -73,7 +73,7 @@ Does bridge carried s (Some event) s' = PassesOn bridge carried.0 carried.1 s.pa
     s'.parcels s'.records
 
 -- the event of a datagram, if it has one, is entered once and passed on
-pub record Handles (bridge : ℕ) (source : Source) (s : Standing) (a : Arrival) (s' : Standing) : Type 0 where
+pub record Handles (bridge : ℕ) (source : Inlet) (s : Standing) (a : Arrival) (s' : Standing) : Type 0 where
   pub event : Option Event
   pub is : IsEventOf source a event
   pub does : Does bridge (carried source a.octets) s event s'
@@ -84,7 +84,7 @@ Resumes s s' = Announces s.pass s.records s'.pass s'.records × (s'.parcels ≡ 
 
 -- an update of another edge is entered and passed on; if another edge has room again, announcements are requested; a
 -- request is carried out once, and answered
-abbrev pub Takes : ℕ → Standing → Message → Standing → Type 0
+abbrev pub Takes : ℕ → Standing → EdgeMessage → Standing → Type 0
 Takes bridge s (Record u) s' = Does bridge (0, []) s (Some (events.Take u)) s'
 Takes bridge s Room s' = Resumes s s'
 Takes bridge s (Ask request) s' = AnswersRequest bridge request s.pass s.parcels s.records s'.pass s'.parcels s'.records
@@ -104,28 +104,28 @@ abbrev pub port_event : ℕ → Bool → Event
 port_event port true = events.PortUp port
 port_event port false = events.PortDown port
 
-abbrev pub input_of : Source → Input
+abbrev pub input_of : Inlet → Input
 input_of (Port port vni) = inputs.Port port
 input_of Tunnel = inputs.Tunnel
 input_of Clock = inputs.Clock
 
 -- the port of a port's link comes up or goes down; for other links nothing is done
-abbrev pub Turns : ℕ → Source → Bool → Standing → Standing → Type 0
+abbrev pub Turns : ℕ → Inlet → Bool → Standing → Standing → Type 0
 Turns bridge (Port port vni) works s s' = Does bridge (vni, []) s (Some (port_event port works)) s'
 Turns bridge Tunnel works s s' = s' ≡ s
 Turns bridge Clock works s s' = s' ≡ s
 
 -- the message to the operator about a link
-abbrev pub change_of : Source → Bool → Reception
+abbrev pub change_of : Inlet → Bool → Reception
 change_of source works = record { input = input_of source; works = works }
 
 -- the operator receives the message that a link works again or has failed, and the link's port comes up or goes down
-abbrev pub Changes : ℕ → Source → Bool → Standing → Standing → Type 0
+abbrev pub Changes : ℕ → Inlet → Bool → Standing → Standing → Type 0
 Changes bridge source works s s' =
     Turns bridge source works (standing s.pass s.parcels (says s.records (hears (change_of source works) ∷ []))) s'
 
 -- this happens exactly if the link started or stopped failing with this call
-abbrev pub Becomes : ℕ → Source → Bool → Bool → Standing → Standing → Type 0
+abbrev pub Becomes : ℕ → Inlet → Bool → Bool → Standing → Standing → Type 0
 Becomes bridge source true true s s' = s' ≡ s
 Becomes bridge source true false s s' = Changes bridge source false s s'
 Becomes bridge source false true s s' = Changes bridge source true s s'
@@ -136,13 +136,13 @@ has_brought (brings a) = true
 has_brought fails = false
 
 -- the datagram that a call brought is handled; a failed call brought none
-abbrev pub HandlesCall : ℕ → Source → Standing → Call → Standing → Type 0
+abbrev pub HandlesCall : ℕ → Inlet → Standing → Call → Standing → Type 0
 HandlesCall bridge source s (brings a) s' = Handles bridge source s a s'
 HandlesCall bridge source s fails s' = s' ≡ s
 
 -- One call of a worker's link. If the link started or stopped failing with this call, the operator receives a message
 -- and the link's port comes up or goes down. Then the datagram that the call brought is handled.
-pub record Answers (bridge : ℕ) (source : Source) (h : Hearing) (call : Call) (h' : Hearing) : Type 0 where
+pub record Answers (bridge : ℕ) (source : Inlet) (h : Hearing) (call : Call) (h' : Hearing) : Type 0 where
   pub works : h'.works ≡ has_brought call
   pub turned : Standing
   pub becomes : Becomes bridge source h.works (has_brought call) h.at turned
@@ -159,14 +159,14 @@ abbrev pub most_failures : ℕ
 most_failures = 2 ^ 64 - 1
 
 -- the worker answered all calls of its link, to the link's end, unless the link had failed as often as it can
-abbrev pub Hears : ℕ → Source → ℕ → Option (List (Option Call)) → Hearing → Option (List (Option Call)) → Hearing
+abbrev pub Hears : ℕ → Inlet → ℕ → Option (List (Option Call)) → Hearing → Option (List (Option Call)) → Hearing
     → Type 0
 Hears bridge source failed came h came' h' =
     DoesAllToTheEnd (Answers bridge source) came h came' h'
     ⊎ (DoesAll (Answers bridge source) came h came' h' × (failed ≡ most_failures))
 
 -- A link works at the beginning. Failures and refused memory end no worker.
-pub record Ends (bridge : ℕ) (source : Source) (failed : ℕ) (came : Option (List (Option Call))) (s : Standing)
+pub record Ends (bridge : ℕ) (source : Inlet) (failed : ℕ) (came : Option (List (Option Call))) (s : Standing)
     (came' : Option (List (Option Call))) (s' : Standing) : Type 0 where
   pub works : Bool
   pub hears : Hears bridge source failed came (hearing true s) came' (hearing works s')
@@ -179,7 +179,7 @@ pub record PortEnds (bridge port vni failed : ℕ) (came : Option (List (Option 
   pub ends : Ends bridge (Port port vni) failed came up came' s'
 
 -- a worker of other edges' updates took all messages that came, to the end; it has no link
-abbrev pub PeerEnds : Ended → ℕ → List (Option Message) → Standing → List (Option Message) → Standing → Type 0
+abbrev pub PeerEnds : Ended → ℕ → List (Option EdgeMessage) → Standing → List (Option EdgeMessage) → Standing → Type 0
 PeerEnds End bridge came s came' s' = DoesAllToTheEnd (Takes bridge) (Some came) s (Some came') s'
 PeerEnds Failed bridge came s came' s' = ⊥
 PeerEnds NoMemory bridge came s came' s' = ⊥

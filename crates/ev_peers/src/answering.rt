@@ -2,13 +2,11 @@
 //! from the edge's book.
 ghost use Rattle.std.specs.Prelude.{◌≡◌, ◌++◌, true, IfOk};
 ghost use Rattle.ev_history.specs.Booking.{is_own};
-ghost use Rattle.route_join.specs.Updates.{all_updates};
-ghost use Rattle.ev_edge.specs.Edge.{table_of};
 ghost use Rattle.ev_book.specs.Entering.{answered};
-ghost use Rattle.ev_peers.specs.Control.{event_of, Obeys, ShowsTable, ShowsPort, ShowsServed, ShowsView, Shows, Looked, Fulfils, Answers};
+ghost use Rattle.ev_peers.specs.Control.{event_of, Obeys, ShowsPage, ShowsPort, ShowsServed, ShowsView, Shows, Looked, Fulfils, Answers};
 
+use crate::forwarding::CarriedFrame;
 use crate::gate::Gate;
-use crate::giving::Carried;
 use crate::outlet::Outlet;
 use crate::shared_edge::SharedEdge;
 use crate::worker::Worker;
@@ -16,10 +14,11 @@ use ether_wire::Vni;
 use ev_book::BookRefusal;
 use ev_edge::{Edge, Event, Reply};
 use ev_history::{LoggedBook, Naming, Placed, Told};
-use ev_mailboxes::{Answer, Command, PortView, Reading, Request, Served};
+use ev_mailboxes::{EdgeNetworks, OperatorCommand, PortView, Reading, Request, Response};
 use ev_view::EdgeQuestion;
-use route_wire::Update;
-use rstp_run::bridge::Bridge;
+use route_join::UpdatePage;
+use route_wire::Register;
+use rstp_run::Bridge;
 use std::alloc::{AllocError, Global};
 use std::mem;
 use std::sync::Wait;
@@ -35,26 +34,26 @@ fn replied(answer: Result<(), BookRefusal>, reply: &mut Reply) -> Result<Reply, 
 }
 
 /// Returns the step as an event of an edge.
-fn event_of(command: &Command) -> Event<'static>
+fn event_of(command: &OperatorCommand) -> Event<'static>
     ensures event { result ≡ event_of command.now }
     ensures own { is_own result ≡ true }
 {
     match command {
-        Command::Pin(station, port) => Event::Pin(*station, *port),
-        Command::Unpin(station) => Event::Unpin(*station),
-        Command::Thaw(station) => Event::Thaw(*station),
-        Command::Away(edge) => Event::Away(*edge),
-        Command::Back(edge) => Event::Back(*edge),
-        Command::Mcheck(port) => Event::Mcheck(*port),
-        Command::PortUp(port) => Event::PortUp(*port),
-        Command::PortDown(port) => Event::PortDown(*port),
+        OperatorCommand::Pin(station, port) => Event::Pin(*station, *port),
+        OperatorCommand::Unpin(station) => Event::Unpin(*station),
+        OperatorCommand::Thaw(station) => Event::Thaw(*station),
+        OperatorCommand::Away(edge) => Event::Away(*edge),
+        OperatorCommand::Back(edge) => Event::Back(*edge),
+        OperatorCommand::Mcheck(port) => Event::Mcheck(*port),
+        OperatorCommand::PortUp(port) => Event::PortUp(*port),
+        OperatorCommand::PortDown(port) => Event::PortDown(*port),
     }
 }
 
 /// Enters a step, and sends its frames and records, as for any event.
 fn obey<L: Placed, J: Naming, O: Outlet<Told<J>> + Drop, G: Gate, R: Wait>(
     worker: &mut Worker<'_, L, J, O, G, R>,
-    command: &Command,
+    command: &OperatorCommand,
 ) -> Result<Reply, BookRefusal>
     ensures obeys { Obeys worker.old.shared_edge.now.bridge command.now result
         worker.old.pass (O.parcels worker.old.outlet) (O.records worker.old.outlet)
@@ -62,21 +61,17 @@ fn obey<L: Placed, J: Naming, O: Outlet<Told<J>> + Drop, G: Gate, R: Wait>(
     ensures stays { worker.new.shared_edge ≡ worker.old.shared_edge }
 {
     let event = event_of(command);
-    let (answer, is_pending) = worker.give(&event, &None, &Carried::none());
+    let (answer, is_pending) = worker.give(&event, &None, &CarriedFrame::none());
     let answer = replied(answer, &mut worker.scratch.reply);
     worker.announce_if(is_pending);
     answer
 }
 
-/// Returns the updates of all registers of an edge's table.
-fn updates_of(alloc: Global, edge: &Edge) -> Result<Vec<Update>, AllocError>
-    ensures { ShowsTable edge.now result }
+/// Returns the page of the report of an edge's table after this register, or the first page.
+fn page_of(alloc: Global, edge: &Edge, after: Option<Register>) -> Result<UpdatePage, AllocError>
+    ensures { ShowsPage edge.now after result }
 {
-    let mut updates = Vec::new(alloc);
-    for update in edge.table().updates() {
-        updates.push(update)?;
-    }
-    Ok(updates)
+    edge.table().page(alloc, after)
 }
 
 /// Returns a copy of these networks.
@@ -89,11 +84,11 @@ fn copied(alloc: Global, vnis: &[Vni]) -> Result<Vec<Vni>, AllocError>
 }
 
 /// Returns the address, the ports and the networks of an edge.
-fn served_by(alloc: Global, edge: &Edge) -> Result<Served, AllocError>
+fn served_by(alloc: Global, edge: &Edge) -> Result<EdgeNetworks, AllocError>
     ensures { ShowsServed edge.now result }
 {
     let routes = edge.routes();
-    Ok(Served {
+    Ok(EdgeNetworks {
         address: routes.address(),
         ports: copied(alloc, routes.ports())?,
         vnis: copied(alloc, routes.vnis())?,
@@ -126,21 +121,21 @@ fn view_text(
 }
 
 /// Returns the answer to a reading, from this edge.
-fn shown(edge: &Edge, reading: &Reading) -> Answer
+fn shown(edge: &Edge, reading: &Reading) -> Response
     ensures { Shows edge.now reading.now result }
 {
     match reading {
-        Reading::Table(alloc) => Answer::Table(updates_of(*alloc, edge)),
-        Reading::Port(port) => Answer::Port(view_of(edge.bridge(), *port)),
-        Reading::Served(alloc) => Answer::Served(served_by(*alloc, edge)),
+        Reading::Page(alloc, after) => Response::Page(page_of(*alloc, edge, *after)),
+        Reading::Port(port) => Response::Port(view_of(edge.bridge(), *port)),
+        Reading::Served(alloc) => Response::Served(served_by(*alloc, edge)),
         Reading::View(alloc, number, question) => {
-            Answer::View(view_text(*alloc, *number, edge, question))
+            Response::View(view_text(*alloc, *number, edge, question))
         }
     }
 }
 
 /// Returns the answer to a reading, from this book.
-fn seen<L: Placed, J: Naming>(book: &LoggedBook<L, J>, reading: &Reading) -> Answer
+fn seen<L: Placed, J: Naming>(book: &LoggedBook<L, J>, reading: &Reading) -> Response
     ensures shows { Shows book.now.edge reading.now result }
     ensures looked { Looked reading.now result }
 {
@@ -151,7 +146,7 @@ fn seen<L: Placed, J: Naming>(book: &LoggedBook<L, J>, reading: &Reading) -> Ans
 fn look<L: Placed, J: Naming, G: Gate, R: Wait>(
     shared_edge: &SharedEdge<'_, L, J, G, R>,
     reading: &Reading,
-) -> Answer
+) -> Response
     ensures { Looked reading.now result }
 {
     let book = shared_edge.book.lock(shared_edge.rt);
@@ -162,14 +157,14 @@ fn look<L: Placed, J: Naming, G: Gate, R: Wait>(
 fn fulfil<L: Placed, J: Naming, O: Outlet<Told<J>> + Drop, G: Gate, R: Wait>(
     worker: &mut Worker<'_, L, J, O, G, R>,
     request: &Request,
-) -> Answer
+) -> Response
     ensures fulfils { Fulfils worker.old.shared_edge.now.bridge request.now result
         worker.old.pass (O.parcels worker.old.outlet) (O.records worker.old.outlet)
         worker.new.pass (O.parcels worker.new.outlet) (O.records worker.new.outlet) }
     ensures stays { worker.new.shared_edge ≡ worker.old.shared_edge }
 {
     match request {
-        Request::Enter(command) => Answer::Entered(obey(worker, command)),
+        Request::Enter(command) => Response::Entered(obey(worker, command)),
         Request::Read(reading) => look(worker.shared_edge, reading),
     }
 }

@@ -7,9 +7,9 @@ ghost use Rattle.ev_peers.specs.History.{IsSeatOf, StandsAt, outcome_in};
 ghost use Rattle.ev_peers.specs.Inner.EdgeThreads.{IsReady};
 
 use crate::edge_links::EdgeLinks;
-use crate::entering::{Workplace, join_entering, start_entering, start_peer};
+use crate::edge_outcome::{EdgeOutcome, Faults};
+use crate::entering::{WorkerContext, join_entering, start_entering, start_peer};
 use crate::gate::Gate;
-use crate::outcome::{Faults, Outcome};
 use crate::outlet::{Senders, report_refused};
 use crate::plan::{EdgeThreads, Shared, planned};
 use crate::sending::{all_dropped, join_sending, start_sending, stop_sending};
@@ -45,7 +45,7 @@ struct ReadyThreads<'x, L: Placed, J: Naming, I: Drop, O: Drop, G, R> {
     fresh: Vec<Pass<L>>,
     /// The pass of the worker of other edges' records.
     peer: Pass<L>,
-    workplace: &'x Workplace<'x, L, J, O, G, R>,
+    workplace: &'x WorkerContext<'x, L, J, O, G, R>,
 }
 
 impl<'x, L: Placed, J: Naming, I: Drop, O: Drop, G, R> Model
@@ -127,7 +127,7 @@ fn run_within<
 
 /// The surroundings of an edge.
 #[derive(Drop)]
-pub struct Host<'x, J: Naming, G, R> {
+pub struct EdgeContext<'x, J: Naming, G, R> {
     /// Waits, and starts threads.
     pub rt: &'x R,
     /// The allocator.
@@ -142,11 +142,11 @@ pub struct Host<'x, J: Naming, G, R> {
 
 /// The book, the lines and the shared data of an edge's workers.
 fn workplace_of<'x, L: Placed, J: Naming, K, G, R>(
-    host: &Host<'x, J, G, R>,
+    host: &EdgeContext<'x, J, G, R>,
     bridge: Mac,
     book: &'x Mutex<LoggedBook<L, J>>,
     shared: &'x Shared<K>,
-) -> Workplace<'x, L, J, K, G, R>
+) -> WorkerContext<'x, L, J, K, G, R>
     ensures shared { result.shared.now ≡ shared.now }
     ensures book { result.shared_edge.book.now ≡ book.now }
     ensures edge { result.shared_edge.edge ≡ host.now.number }
@@ -167,7 +167,7 @@ fn workplace_of<'x, L: Placed, J: Naming, K, G, R>(
         lines: shared.lines.as_slice(),
         peers: host.peers,
     };
-    Workplace {
+    WorkerContext {
         shared_edge,
         outlet,
         shared,
@@ -230,12 +230,12 @@ pub fn edge_worker<
     G: Gate + Sync,
     R: Threads + Wait + Clock + Sync,
 >(
-    host: Host<'_, J, G, R>,
+    host: EdgeContext<'_, J, G, R>,
     blank: Blank,
     seat: Seat<J>,
     config: EdgeConfig,
     links: EdgeLinks<I, O>,
-) -> Result<(Outcome, Seat<J>), AllocError>
+) -> Result<(EdgeOutcome, Seat<J>), AllocError>
     requires name { blank.name ≡ L.name }
     requires parts { blank.parts ≡ L.parts }
     requires place { seat.place ≡ L.place }
@@ -270,7 +270,7 @@ pub fn edge_worker<
     let (passes, faults) = run_workers(rt, ready_threads);
     let (edge, totals, seat) = closed(book, passes);
     let out_of_memory = shared.out_of_memory.load(Ordering::SeqCst);
-    let outcome = Outcome {
+    let outcome = EdgeOutcome {
         number: host.number,
         address,
         edge,

@@ -2,16 +2,16 @@
 //! the clock, and that of the edge's mailbox.
 ghost use Rattle.std.specs.Prelude.{◌≡◌, ◌+◌, ◌≤◌, vec_len, vec_capacity};
 
+use crate::edge_outcome::Faults;
 use crate::gate::Gate;
-use crate::outcome::Faults;
 use crate::outlet::{Senders, WorkerOutlet};
-use crate::plan::{Entered, Entering, Shared, Task};
+use crate::plan::{Entered, Entering, Shared, Task, source_of};
 use crate::shared_edge::{Ended, SharedEdge};
 use crate::worker::Worker;
 use crate::workers::{clock_worker, peer_worker, port_worker, tunnel_worker};
 use ev_book::Pass;
 use ev_history::{Naming, Placed};
-use ev_links::{Counted, LinkIn, PromptOut};
+use ev_links::{CountedLink, LinkIn, PromptOut};
 use ev_mailboxes::UpdateBox;
 use std::sync::Wait;
 use std::sync::atomic::{AtomicBool, Ordering};
@@ -21,7 +21,7 @@ use std::thread::{JoinHandle, Scope, Threads};
 /// The workplace of the workers of an edge that enter events: the edge, their outlet, and the
 /// values that they share.
 #[derive(Drop)]
-pub(crate) struct Workplace<'x, L: Placed, J: Naming, K, G, R> {
+pub(crate) struct WorkerContext<'x, L: Placed, J: Naming, K, G, R> {
     /// The edge.
     pub(crate) shared_edge: SharedEdge<'x, L, J, G, R>,
     /// The outlet for the answers of the edge's book.
@@ -49,18 +49,18 @@ fn counted<'x, J: Naming, I: LinkIn, K, R>(
     senders: Senders<'x, J, K, R>,
     place: usize,
     link: I,
-) -> Counted<'x, I> {
+) -> CountedLink<'x, I> {
     let cell = match senders.peers.link(place) {
         Some(counts) => Some(&counts.received),
         None => None,
     };
-    Counted::new(link, cell)
+    CountedLink::new(link, cell)
 }
 
 /// Runs the worker of a task until it ends. Returns at once with `Ended::NoMemory` if the task's
 /// thread was refused.
 fn enter_task<'x, L: Placed, J: Naming, I: LinkIn + Drop, K: PromptOut, G: Gate, R: Wait>(
-    workplace: &'x Workplace<'x, L, J, K, G, R>,
+    workplace: &'x WorkerContext<'x, L, J, K, G, R>,
     pass: Pass<L>,
     task: Task<I>,
     is_refused: &AtomicBool,
@@ -69,7 +69,7 @@ fn enter_task<'x, L: Placed, J: Naming, I: LinkIn + Drop, K: PromptOut, G: Gate,
         return (pass, Ended::NoMemory);
     }
     let senders = workplace.outlet;
-    let Some(outlet) = WorkerOutlet::new(senders) else {
+    let Some(outlet) = WorkerOutlet::new(senders, source_of(&task)) else {
         return (pass, Ended::NoMemory);
     };
     let mut worker = Worker::new(&workplace.shared_edge, pass, outlet);
@@ -100,7 +100,7 @@ fn start_task<
     R: Wait + Sync + 'x,
 >(
     scope: &Scope<'s, &'x ()>,
-    workplace: &'x Workplace<'x, L, J, K, G, R>,
+    workplace: &'x WorkerContext<'x, L, J, K, G, R>,
     pass: Pass<L>,
     task: Task<I>,
     is_refused: &'x AtomicBool,
@@ -114,7 +114,9 @@ fn start_task<
     }
 }
 
-/// Starts a thread for each link whose datagrams are entered. Keeps the passes of refused threads.
+/// Starts a thread for each link whose datagrams are entered, the clock's first. Starts no further
+/// one after a refused thread: ports of an edge without a clock would send no BPDU, and frames
+/// could run in a circle. Keeps the passes of all tasks without a thread.
 pub(crate) fn start_entering<
     's,
     'x: 's,
@@ -126,7 +128,7 @@ pub(crate) fn start_entering<
     R: Wait + Sync + 'x,
 >(
     scope: &Scope<'s, &'x ()>,
-    workplace: &'x Workplace<'x, L, J, K, G, R>,
+    workplace: &'x WorkerContext<'x, L, J, K, G, R>,
     tasks: Vec<Task<I>>,
     fresh: Vec<Pass<L>>,
     entering: Entering<L>,
@@ -147,7 +149,14 @@ pub(crate) fn start_entering<
     let mut fresh = fresh;
     let mut tasks = tasks;
     let mut faults = Faults::none();
+    if let Some(last) = tasks.len().checked_sub(1) {
+        tasks.swap(0, last);
+    }
     while let (Some(task), Some(pass)) = (tasks.pop(), fresh.pop()) {
+        if faults.memory {
+            passes.push_reserved(pass);
+            continue;
+        }
         let is_refused = &shared.no_entering[tasks.len()];
         match start_task(scope, workplace, pass, task, is_refused) {
             Ok(handle) => running.push_reserved(handle),
@@ -195,7 +204,7 @@ pub(crate) fn start_peer<
     R: Wait + Sync + 'x,
 >(
     scope: &Scope<'s, &'x ()>,
-    workplace: &'x Workplace<'x, L, J, K, G, R>,
+    workplace: &'x WorkerContext<'x, L, J, K, G, R>,
     pass: Pass<L>,
 ) -> Result<JoinHandle<Entered<L>>, Entered<L>> {
     let task: Task<I> = Task::Peer;

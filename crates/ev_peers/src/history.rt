@@ -1,13 +1,13 @@
 //! The history of the edges of a run, at its beginning and at its end.
 ghost use Rattle.std.specs.Prelude.{◌≡◌, ◌∷◌, [], IfSome, length};
 ghost use mathlib.Core.List.{IsPrefix};
-ghost use Rattle.ev_history.specs.declared.entry.Entry.TheVariants.{Begins};
+ghost use Rattle.ev_history.specs.declared.log_entry.LogEntry.TheVariants.{Begins};
 ghost use Rattle.ev_history.specs.Log.{IsHistory, count};
 ghost use Rattle.ev_peers.specs.History.{configs_of};
 ghost use Rattle.ev_peers.specs.Inner.History.{AreSeen, AreSettled};
 
 use crate::run::Setup;
-use ev_history::{Entry, Front, Naming, NewHistory, Seat};
+use ev_history::{Front, LogEntry, Naming, NewHistory, Seat};
 use logbook::Opening;
 use std::sync::Wait;
 
@@ -21,9 +21,9 @@ struct Beginning<'a, I: Drop, O: Drop> {
 /// The history of a run begins with the configurations of its edges.
 struct Begin;
 
-impl<'a, I: Drop, O: Drop> Opening<Beginning<'a, I, O>, Entry> for Begin {
+impl<'a, I: Drop, O: Drop> Opening<Beginning<'a, I, O>, LogEntry> for Begin {
     ghost use Rattle.std.specs.Prelude.{◌∷◌, []};
-    ghost use Rattle.ev_history.specs.declared.entry.Entry.TheVariants.{Begins};
+    ghost use Rattle.ev_history.specs.declared.log_entry.LogEntry.TheVariants.{Begins};
     ghost use Rattle.ev_peers.specs.History.{configs_of};
 
     ghost log = { λ count b. Begins b.outside (configs_of b.setups.now) ∷ [] };

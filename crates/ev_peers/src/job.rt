@@ -4,7 +4,7 @@ ghost use Rattle.ev_peers.specs.EdgeThreads.{IsRanOf};
 ghost use Rattle.ev_peers.specs.History.{outcome_in};
 ghost use Rattle.ev_peers.specs.Inner.History.{SeatedAs};
 
-use crate::edge_threads::{Host, edge_worker};
+use crate::edge_threads::{EdgeContext, edge_worker};
 use crate::gate::Gate;
 use crate::outlet::report_refused;
 use crate::run::{SeatedRan, Setup};
@@ -20,7 +20,7 @@ use std::time::Clock;
 #[derive(Drop)]
 pub(crate) struct Job<'x, J: Naming, I: Drop, O: Drop, G, R> {
     /// The edge's surroundings.
-    pub(crate) host: Host<'x, J, G, R>,
+    pub(crate) host: EdgeContext<'x, J, G, R>,
     /// The edge's configuration and links.
     pub(crate) setup: Setup<I, O>,
     /// The edge's seat in the history.

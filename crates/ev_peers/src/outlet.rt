@@ -1,8 +1,8 @@
 //! The outlet of an edge's workers: frames go to its links or their lines, records to the other
 //! edges, alerts and failures of links to the operator.
-ghost use Rattle.std.specs.Prelude.{◌≡◌, ◌∷◌, [], Option, List, slice_get, option_copied};
-ghost use Rattle.ev_peers.specs.Giving.{Parcel, parcel, first_parcel};
-ghost use Rattle.ev_peers.specs.Inner.Giving.{place_of};
+ghost use Rattle.std.specs.Prelude.{◌≡◌, ◌∷◌, [], Option, List, slice_get, option_copied, IfSome};
+ghost use Rattle.ev_peers.specs.Forwarding.{Parcel, parcel, first_parcel};
+ghost use Rattle.ev_peers.specs.Inner.Forwarding.{place_of};
 ghost use Rattle.ev_links.specs.Coming.{behind};
 ghost use Rattle.ev_mailboxes.specs.Posts.{sent_to};
 ghost use Rattle.ev_peers.specs.Passing.{SaidOf, said_of, says, sends, has_room, second_passes, tells, hears, drops, answers};
@@ -11,9 +11,9 @@ use crate::shared_line::SharedLine;
 use ether_wire::Addr;
 use ev_history::{Naming, Told};
 use ev_links::PromptOut;
-use ev_mailboxes::{Answer, Peers, Posts};
+use ev_mailboxes::{Peers, Posts, Response};
 use ev_mobility::Alert;
-use ev_notices::{Alarm, Cause, Reception};
+use ev_notices::{Alarm, DropReason, Reception};
 use std::alloc::AllocError;
 use std::sync::Wait;
 
@@ -76,12 +76,12 @@ pub trait Outlet<U: Drop> {
         ensures parcels { parcels self.new ≡ parcels self.old };
 
     /// Counts a datagram that the edge dropped: from the link at this place, for this cause.
-    fn dropped(&mut self, place: usize, cause: Cause)
+    fn dropped(&mut self, place: usize, cause: DropReason)
         ensures told { records self.new ≡ says (records self.old) (drops place cause ∷ []) }
         ensures parcels { parcels self.new ≡ parcels self.old };
 
     /// Gives the operator the answer to a request.
-    fn answer(&mut self, answer: Answer)
+    fn answer(&mut self, answer: Response)
         ensures told { records self.new ≡ says (records self.old) (answers answer ∷ []) }
         ensures parcels { parcels self.new ≡ parcels self.old };
 }
@@ -127,14 +127,23 @@ fn line_at<K>(lines: &[SharedLine<K>], place: usize) -> Option<&SharedLine<K>>
 #[derive(Drop)]
 pub(crate) struct WorkerOutlet<'x, J: Naming, K, R> {
     senders: Senders<'x, J, K, R>,
+    /// The place of the link whose datagrams the worker enters: its part of each line.
+    source: usize,
     posts: Posts<Told<J>>,
 }
 
 impl<'x, J: Naming, K, R: Wait> WorkerOutlet<'x, J, K, R> {
-    /// Returns the outlet of a worker that begins. Returns `None` if all workers have theirs.
-    pub(crate) fn new(senders: Senders<'x, J, K, R>) -> Option<Self> {
+    /// Returns the outlet of a worker that begins, and that enters the datagrams of the link at a
+    /// place. Returns `None` if all workers have their outlets.
+    pub(crate) fn new(senders: Senders<'x, J, K, R>, source: usize) -> Option<Self>
+        ensures { IfSome result (λ outlet. outlet.source ≡ source) }
+    {
         let posts = senders.peers.posts(senders.rt)?;
-        Some(WorkerOutlet { senders, posts })
+        Some(WorkerOutlet {
+            senders,
+            source,
+            posts,
+        })
     }
 }
 
@@ -149,7 +158,7 @@ impl<J: Naming, K: PromptOut, R: Wait> Outlet<Told<J>> for WorkerOutlet<'_, J, K
         let (place, address) = place_of(to);
         if let Some(line) = line_at(self.senders.lines, place) {
             let counts = self.senders.peers.link(place);
-            line.pass(self.senders.rt, counts, address, octets);
+            line.pass(self.senders.rt, counts, self.source, address, octets);
         }
     }
 
@@ -184,13 +193,13 @@ impl<J: Naming, K: PromptOut, R: Wait> Outlet<Told<J>> for WorkerOutlet<'_, J, K
         self.senders.peers.reception(self.senders.rt, reception);
     }
 
-    fn dropped(&mut self, place: usize, cause: Cause) {
+    fn dropped(&mut self, place: usize, cause: DropReason) {
         if let Some(counts) = self.senders.peers.link(place) {
             counts.refuse(cause);
         }
     }
 
-    fn answer(&mut self, answer: Answer) {
+    fn answer(&mut self, answer: Response) {
         self.senders.peers.answer(self.senders.rt, answer);
     }
 }

@@ -2,11 +2,11 @@
 //! threads and their results. It allocates everything before the first thread starts.
 ghost use Rattle.std.specs.Prelude.{◌≡◌, ◌+◌, ◌<◌, ◌≤◌, ◌∷◌, [], ◌++◌, length, reverse, vec_len, vec_capacity, IfOk};
 ghost use Rattle.ev_peers.specs.Inner.EdgeThreads.{HasRoom};
-ghost use Rattle.ev_peers.specs.Inner.Plan.{vni_at, port_tasks, tasks_of, outputs_back, outputs_of};
+ghost use Rattle.ev_peers.specs.Inner.Plan.{source_of, vni_at, port_tasks, tasks_of, outputs_back, outputs_of};
 ghost use Rattle.ev_peers.specs.declared.plan.Task.TheVariants.{Port, Tunnel, Clock};
 
 use crate::edge_links::{EdgeLinks, Link};
-use crate::outcome::Sent;
+use crate::edge_outcome::Sent;
 use crate::shared_edge::Ended;
 use crate::shared_line::SharedLine;
 use ether_wire::Vni;
@@ -32,6 +32,17 @@ pub(crate) enum Task<I: Drop> {
     Clock(I),
     /// The records of the other edges.
     Peer,
+}
+
+/// Returns the place of the link over which a task's datagrams come: that of a port is its number.
+/// Tasks without frames have the place of the tunnel.
+pub(crate) fn source_of<I: Drop>(task: &Task<I>) -> usize
+    ensures { result ≡ source_of task.now }
+{
+    match task {
+        Task::Port(port, _, _) => *port as usize,
+        Task::Tunnel(_) | Task::Clock(_) | Task::Peer => 0,
+    }
 }
 
 /// The data that the threads of an edge share.
@@ -73,13 +84,14 @@ pub(crate) struct EdgeThreads<L: Ledger, I: Drop, O: Drop> {
     pub(crate) sending: Vec<JoinHandle<Sent>>,
 }
 
-/// Returns an empty line to each of these links, which gets a handle of the link.
+/// Returns an empty line to each of these links, which gets a handle of the link. Each line has a
+/// part for each link.
 fn empty_lines<K: PromptOut>(alloc: Global, links: &[K]) -> Result<Vec<SharedLine<K>>, AllocError>
     ensures { IfOk result (λ lines. vec_len lines ≡ length links.now) }
 {
     let mut lines = Vec::with_capacity(alloc, links.len())?;
     for link in links {
-        lines.push_reserved(SharedLine::new(alloc, link.clone()?)?);
+        lines.push_reserved(SharedLine::new(alloc, link.clone()?, links.len())?);
     }
     Ok(lines)
 }

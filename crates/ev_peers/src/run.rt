@@ -1,19 +1,19 @@
 //! Edges that run beside each other, each on a thread, with a mailbox for each.
 ghost use Rattle.std.specs.Prelude.{◌≡◌, ◌+◌, ◌≤◌, ◌∷◌, [], length, map, reverse, vec_len, vec_capacity, IfOk};
 ghost use Rattle.ev_edge.specs.Config.{IsConfig};
-ghost use Rattle.ev_history.specs.declared.entry.Entry.TheVariants.{Begins};
+ghost use Rattle.ev_history.specs.declared.log_entry.LogEntry.TheVariants.{Begins};
 ghost use Rattle.ev_peers.specs.EdgeThreads.{setup_of, IsRanOf, AreRanFrom};
 ghost use Rattle.ev_peers.specs.History.{IsSeatOf, outcome_in, configs_of, IsHistoryOf};
 ghost use Rattle.ev_peers.specs.Inner.History.{AreSeatsOf, SeatedAs};
 ghost use Rattle.ev_peers.specs.Inner.Handles.{IsHandle, AreHandles};
 
 use crate::edge_links::EdgeLinks;
-use crate::edge_threads::Host;
+use crate::edge_outcome::EdgeOutcome;
+use crate::edge_threads::EdgeContext;
 use crate::gate::Gate;
 use crate::history::{all_seen, settle_all};
 use crate::job::{Job, run_one};
 use crate::joining::join_edges;
-use crate::outcome::Outcome;
 use crate::outlet::report_refused;
 use ether_wire::Addr;
 use ev_edge::EdgeConfig;
@@ -81,10 +81,10 @@ impl<I: Drop, O: Drop> Setup<I, O> {
 }
 
 /// The result of an edge.
-pub(crate) type Ran = Result<Outcome, AllocError>;
+pub(crate) type Ran = Result<EdgeOutcome, AllocError>;
 
 /// The result of an edge's thread: the outcome, and the edge's seat in the history.
-pub(crate) type SeatedRan<J> = Result<(Outcome, Seat<J>), AllocError>;
+pub(crate) type SeatedRan<J> = Result<(EdgeOutcome, Seat<J>), AllocError>;
 
 /// The promise that the result of a thread is that of the edge with this number and address, over
 /// the links of `ports` ports.
@@ -118,7 +118,7 @@ fn workers_of<I: Drop, O: Drop>(setups: &[Setup<I, O>]) -> u32 {
 
 /// The surroundings that edges share.
 #[derive(Drop)]
-struct Common<'x, J: Naming, G, R> {
+struct SharedContext<'x, J: Naming, G, R> {
     /// Waits, and starts threads.
     rt: &'x R,
     /// The allocator.
@@ -131,14 +131,14 @@ struct Common<'x, J: Naming, G, R> {
     boards: &'x Boards,
 }
 
-impl<'x, J: Naming, G, R> Common<'x, J, G, R> {
+impl<'x, J: Naming, G, R> SharedContext<'x, J, G, R> {
     /// Returns the surroundings of the edge with this number.
-    fn host(&self, number: usize) -> Host<'x, J, G, R>
+    fn host(&self, number: usize) -> EdgeContext<'x, J, G, R>
         ensures number { result.number ≡ number }
         ensures rt { result.rt.now ≡ self.now.rt.now }
         ensures gate { result.gate.now ≡ self.now.gate.now }
     {
-        Host {
+        EdgeContext {
             rt: self.rt,
             alloc: self.alloc,
             gate: self.gate,
@@ -160,7 +160,7 @@ fn start_edge<
     R: Threads + Wait + Clock + Sync + 'x,
 >(
     scope: &Scope<'s, &'x ()>,
-    common: &Common<'x, J, G, R>,
+    common: &SharedContext<'x, J, G, R>,
     number: usize,
     setup: Setup<I, O>,
     seat: Seat<J>,
@@ -202,7 +202,7 @@ fn start_edges<
     R: Threads + Wait + Clock + Sync + 'x,
 >(
     scope: &Scope<'s, &'x ()>,
-    common: &Common<'x, J, G, R>,
+    common: &SharedContext<'x, J, G, R>,
     setups: Vec<Setup<I, O>>,
     seats: Vec<Seat<J>>,
     running: Vec<Handle<J>>,
@@ -240,7 +240,7 @@ struct Ready<J: Naming, I: Drop, O: Drop> {
 
 impl<J: Naming, I: Drop, O: Drop> Model for Ready<J, I, O> {
     ghost use Rattle.std.specs.Prelude.{◌≡◌, ◌∷◌, [], List, vec_len, vec_capacity};
-    ghost use Rattle.ev_history.specs.declared.entry.Entry.TheVariants.{Begins};
+    ghost use Rattle.ev_history.specs.declared.log_entry.LogEntry.TheVariants.{Begins};
     ghost use Rattle.ev_peers.specs.EdgeThreads.{EdgeSetup};
     ghost use Rattle.ev_peers.specs.History.{configs_of};
     ghost use Rattle.ev_peers.specs.Inner.History.{AreSeatsOf};
@@ -277,13 +277,13 @@ impl<J: Naming> Mailroom<J> {
 
 /// Edges that are about to run beside each other. Its model is the list of their setups.
 #[derive(Drop)]
-pub struct Start<J: Naming, I: Drop, O: Drop> {
+pub struct PreparedEdges<J: Naming, I: Drop, O: Drop> {
     ready: Ready<J, I, O>,
     /// The allocator of the edges.
     alloc: Global,
 }
 
-impl<J: Naming, I: Drop, O: Drop> Model for Start<J, I, O> {
+impl<J: Naming, I: Drop, O: Drop> Model for PreparedEdges<J, I, O> {
     ghost use Rattle.std.specs.Prelude.{List};
     ghost use Rattle.ev_peers.specs.EdgeThreads.{EdgeSetup};
 
@@ -292,7 +292,7 @@ impl<J: Naming, I: Drop, O: Drop> Model for Start<J, I, O> {
     ghost view = { λ s. s.ready };
 }
 
-impl<J: Naming, I: Drop, O: Drop> Start<J, I, O> {
+impl<J: Naming, I: Drop, O: Drop> PreparedEdges<J, I, O> {
     /// Prepares these edges, whose history has just begun, and their mailboxes. Each edge also
     /// allocates its book from here, when it begins.
     ///
@@ -324,7 +324,7 @@ impl<J: Naming, I: Drop, O: Drop> Start<J, I, O> {
             left,
         };
         let mailroom = Mailroom { mailboxes, outside };
-        Ok((Start { ready, alloc }, mailroom))
+        Ok((PreparedEdges { ready, alloc }, mailroom))
     }
 }
 
@@ -342,7 +342,7 @@ fn run_within<
     T,
 >(
     scope: &Scope<'s, &'x ()>,
-    common: &Common<'x, J, G, R>,
+    common: &SharedContext<'x, J, G, R>,
     ready: Ready<J, I, O>,
     until: F,
 ) -> (Vec<Ran>, T)
@@ -378,7 +378,7 @@ fn run_ready<
     R: Threads + Wait + Clock + Sync + 'x,
     F: FnOnce() -> T + Drop,
     T,
->(common: Common<'x, J, G, R>, ready: Ready<J, I, O>, until: F) -> (Vec<Ran>, T)
+>(common: SharedContext<'x, J, G, R>, ready: Ready<J, I, O>, until: F) -> (Vec<Ran>, T)
     requires { F.pre until }
     ensures each { AreRanFrom 1 ready result.0.items }
     ensures all { vec_len result.0 ≡ length ready }
@@ -414,7 +414,7 @@ pub fn run_all<
     T,
 >(
     rt: &R,
-    start: Start<J, I, O>,
+    start: PreparedEdges<J, I, O>,
     mailroom: &Mailroom<J>,
     boards: &Boards,
     gate: &G,
@@ -426,8 +426,8 @@ pub fn run_all<
     ensures until { F.post until result.1 }
     ensures history { IsHistoryOf J.outside (configs_of start) result.0.items }
 {
-    let Start { ready, alloc } = start;
-    let common = Common {
+    let PreparedEdges { ready, alloc } = start;
+    let common = SharedContext {
         rt,
         alloc,
         gate,

@@ -2,7 +2,7 @@
 //! its own.
 ghost use Rattle.std.specs.Prelude.{◌≡◌, ◌+◌, ◌≤◌, length, vec_len, vec_capacity};
 
-use crate::outcome::{Faults, Sent};
+use crate::edge_outcome::{Faults, Sent};
 use crate::outlet::Senders;
 use crate::packets::LineBox;
 use crate::plan::Shared;
@@ -10,7 +10,7 @@ use crate::shared_edge::Ended;
 use crate::shared_line::SharedLine;
 use crate::workers::out_worker;
 use ev_history::{Naming, Told};
-use ev_links::{Counted, LinkOut, PromptOut};
+use ev_links::{CountedLink, LinkOut, PromptOut};
 use ev_mailboxes::Peers;
 use ev_notices::LinkCounts;
 use std::sync::Wait;
@@ -31,7 +31,7 @@ fn send_all<O: LinkOut + PromptOut + Drop, R: Wait + Clock>(
         Some(counts) => Some(&counts.queued),
         None => None,
     };
-    let mut link = Counted::new(link, cell);
+    let mut link = CountedLink::new(link, cell);
     if is_refused.load(Ordering::SeqCst) {
         return (0, Ended::NoMemory);
     }

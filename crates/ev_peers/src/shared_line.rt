@@ -2,7 +2,7 @@
 //! frames on to it, and the link's worker sends those that wait.
 ghost use Rattle.std.specs.Prelude.{◌≡◌, ◌-◌, ◌/◌, ◌≤◌, nat_le, false, length, if◌then◌else◌, None, IfSome};
 ghost use Rattle.std.specs.Time.{instant_nanos};
-ghost use Rattle.ev_links.specs.Line.{first_of, handed};
+ghost use Rattle.ev_links.specs.Line.{sourced, first_of, handed};
 ghost use Rattle.ev_links.specs.DirectLine.{direct_of, Passes, after_turn, after_its_drop};
 ghost use Rattle.ev_links.specs.Flow.{counted};
 ghost use Rattle.ev_links.specs.Links.{packet};
@@ -51,13 +51,13 @@ fn is_over<R: Clock>(rt: &R, ended: Option<Instant>) -> bool
 
 impl<K: PromptOut> TimedLine<K> {
     /// Passes a frame on, as `DirectLine::pass` does, and shows the numbers of the link.
-    fn pass(&mut self, counts: Option<&LinkCounts>, to: Addr, octets: &[u8]) -> bool
-        ensures passes { Passes result (packet to octets.now) (direct_of K.tried self.old.line)
-            (direct_of K.tried self.new.line) }
+    fn pass(&mut self, counts: Option<&LinkCounts>, source: usize, to: Addr, octets: &[u8]) -> bool
+        ensures passes { Passes result (sourced source (packet to octets.now))
+            (direct_of K.tried self.old.line) (direct_of K.tried self.new.line) }
         ensures counted { self.new.at_once ≡ (if result
             then counted (length octets.now) self.old.at_once else self.old.at_once) }
     {
-        let is_sent = self.line.pass(to, octets);
+        let is_sent = self.line.pass(source, to, octets);
         if is_sent {
             self.at_once = self.at_once.with(octets.len());
         }
@@ -99,13 +99,14 @@ pub(crate) struct SharedLine<K> {
 }
 
 impl<K: PromptOut> SharedLine<K> {
-    /// Creates a line to this link on which nothing waits.
+    /// Creates a line to this link on which nothing waits, with parts for the sources below
+    /// `parts`.
     ///
     /// # Errors
     ///
     /// `AllocError` if memory is refused.
-    pub(crate) fn new(alloc: Global, link: K) -> Result<Self, AllocError> {
-        let line = DirectLine::new(alloc, link)?;
+    pub(crate) fn new(alloc: Global, link: K, parts: usize) -> Result<Self, AllocError> {
+        let line = DirectLine::new(alloc, link, parts)?;
         Ok(SharedLine {
             timed: Mutex::new(TimedLine {
                 line,
@@ -116,18 +117,19 @@ impl<K: PromptOut> SharedLine<K> {
         })
     }
 
-    /// Sends a frame, or a datagram, at once. If that needs waiting, puts it on the line, or drops
-    /// and counts it. Shows the numbers.
+    /// Sends a frame, or a datagram, of a source at once. If that needs waiting, puts it on the
+    /// line, or drops and counts it. Shows the numbers.
     pub(crate) fn pass<R: Wait>(
         &self,
         rt: &R,
         counts: Option<&LinkCounts>,
+        source: usize,
         to: Addr,
         octets: &[u8],
     ) {
         let is_sent = {
             let mut timed = self.timed.lock(rt);
-            timed.pass(counts, to, octets)
+            timed.pass(counts, source, to, octets)
         };
         if !is_sent {
             self.bell.notify_one();

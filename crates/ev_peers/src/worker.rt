@@ -3,11 +3,11 @@ ghost use Rattle.std.specs.Prelude.{◌≡◌, ◌≤◌, length};
 ghost use Rattle.ev_book.specs.Entering.{answered};
 ghost use Rattle.ev_history.specs.Booking.{IsCovered};
 ghost use Rattle.ev_links.specs.Coming.{behind};
-ghost use Rattle.ev_notices.specs.Cause.{cause_of};
+ghost use Rattle.ev_notices.specs.DropReason.{cause_of};
 ghost use Rattle.ev_peers.specs.Passing.{Leaves, Announces, AnnouncesIf, PassesOn, says, given_by, link_of, drops_of, alarms_of, signs_of};
 
+use crate::forwarding::{CarriedFrame, give_out};
 use crate::gate::Gate;
-use crate::giving::{Carried, give_out};
 use crate::outlet::Outlet;
 use crate::shared_edge::SharedEdge;
 use ether_wire::{Mac, Vni};
@@ -101,7 +101,7 @@ impl<L: Placed, J: Naming, O: Outlet<Told<J>> + Drop, G: Gate, R: Wait> Worker<'
         &mut self,
         event: &Event<'_>,
         told: &Option<Told<J>>,
-        carried: &Carried<'_>,
+        carried: &CarriedFrame<'_>,
     ) -> (Result<(), BookRefusal>, bool)
         requires fits { length carried.now.frame.now ≤ 9018 }
         requires covered { IsCovered event.now told.now }
@@ -136,7 +136,12 @@ impl<L: Placed, J: Naming, O: Outlet<Told<J>> + Drop, G: Gate, R: Wait> Worker<'
     /// Enters an event with the frame that it carries, and passes on the answer: frames to the
     /// links, messages for the operator to the board. If an announcement is pending then, sends
     /// the announcements to the other edges. So a frame of a known station enters the book once.
-    pub(crate) fn act(&mut self, event: &Event<'_>, told: &Option<Told<J>>, carried: &Carried<'_>)
+    pub(crate) fn act(
+        &mut self,
+        event: &Event<'_>,
+        told: &Option<Told<J>>,
+        carried: &CarriedFrame<'_>,
+    )
         requires fits { length carried.now.frame.now ≤ 9018 }
         requires covered { IsCovered event.now told.now }
         ensures passes { PassesOn self.old.shared_edge.now.bridge
@@ -163,7 +168,6 @@ fn link_of(event: &Event<'_>) -> Option<usize>
 }
 
 /// Counts an event's datagram, if it is dropped for this refusal.
-#[tactic(auto, using(crate::proofs::PassingOn::says_none))]
 fn count_drop<U: Drop, O: Outlet<U>>(outlet: &mut O, event: &Event<'_>, refusal: &BookRefusal)
     ensures records { O.records outlet.new
         ≡ says (O.records outlet.old) (drops_of (link_of event.now) (cause_of refusal.now)) }
@@ -178,12 +182,11 @@ fn count_drop<U: Drop, O: Outlet<U>>(outlet: &mut O, event: &Event<'_>, refusal:
 }
 
 /// Passes the frames of an answer to the links of its edge. Does nothing for a refusal.
-#[tactic(auto, using(ev_links::proofs::Behind::behind_none))]
 fn give_answer<U: Drop, O: Outlet<U>>(
     outlet: &mut O,
     scratch: &mut Scratch,
     bridge: Mac,
-    carried: &Carried<'_>,
+    carried: &CarriedFrame<'_>,
     answer: &Result<(), BookRefusal>,
 )
     requires { length carried.now.frame.now ≤ 9018 }
@@ -200,7 +203,6 @@ fn give_answer<U: Drop, O: Outlet<U>>(
 }
 
 /// Counts an event's datagram if the answer drops it, and reports the event's second and alarm.
-#[tactic(auto, using(crate::proofs::PassingOn::says_twice))]
 fn give_signs<U: Drop, O: Outlet<U>>(
     outlet: &mut O,
     vni: Vni,
@@ -220,7 +222,6 @@ fn give_signs<U: Drop, O: Outlet<U>>(
 
 /// Reports a second to the operator's board if the event is one, and then the alarm of the answer
 /// if there is one.
-#[tactic(auto, using(crate::proofs::PassingOn::says_none, crate::proofs::PassingOn::says_twice))]
 fn give_alarms<U: Drop, O: Outlet<U>>(
     outlet: &mut O,
     vni: Vni,

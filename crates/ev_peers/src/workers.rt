@@ -2,15 +2,15 @@
 ghost use Rattle.std.specs.Prelude.{◌≡◌, ◌+◌, ◌^◌, ◌<◌, ◌≤◌, true, length, take, IfSome};
 ghost use Rattle.ev_history.specs.Booking.{is_own};
 ghost use Rattle.ev_links.specs.Links.{arrival, packet};
-ghost use Rattle.ev_peers.specs.declared.workers.Source.TheVariants.{Port, Tunnel, Clock};
+ghost use Rattle.ev_peers.specs.declared.workers.Inlet.TheVariants.{Port, Tunnel, Clock};
 ghost use Rattle.ev_peers.specs.Working.{ended_of, IsEventOf, fitting, unwrapped, carried, standing, hearing, input_of, Handles, Turns, Changes, Becomes, Hears, Takes, Ends, PortEnds, PeerEnds};
 ghost use Rattle.ev_peers.specs.Inner.Working.{TurnsOnce};
 ghost use Rattle.vxlan_wire.specs.Vxlan.{instance_of};
 ghost use Rattle.ev_peers.specs.Sending.{gone, Sends, OutEnds};
 
 use crate::answering::answer;
+use crate::forwarding::CarriedFrame;
 use crate::gate::Gate;
-use crate::giving::Carried;
 use crate::outlet::Outlet;
 use crate::packets::PacketsIn;
 use crate::shared_edge::Ended;
@@ -19,14 +19,14 @@ use ether_wire::{Addr, Vni};
 use ev_edge::Event;
 use ev_history::{Naming, Placed, Told};
 use ev_links::{LONGEST, LinkIn, LinkOut};
-use ev_mailboxes::{Message, UpdatesIn};
+use ev_mailboxes::{EdgeMessage, UpdatesIn};
 use ev_notices::{Input, Reception};
 use ev_tunnel::unwrap_datagram;
 use std::sync::Wait;
 
 /// The source of the datagrams that come over a link.
 #[derive(Clone, Copy)]
-enum Source {
+enum Inlet {
     /// Frames of the access port with this number, which belongs to this VNI.
     Port(u8, Vni),
     /// Datagrams of other edges.
@@ -39,49 +39,49 @@ enum Source {
 const FRAME: usize = 9018;
 
 /// Returns this frame with its VNI, or no frame if it has more than 9,018 octets.
-fn fitting<'a>(vni: Vni, frame: &'a [u8]) -> Carried<'a>
+fn fitting<'a>(vni: Vni, frame: &'a [u8]) -> CarriedFrame<'a>
     ensures fits { length result.frame.now ≤ 9018 }
     ensures fitting { (result.vni, result.frame.now) ≡ fitting (vni, frame.now) }
 {
     if frame.len() > FRAME {
-        return Carried::none();
+        return CarriedFrame::none();
     }
-    Carried { vni, frame }
+    CarriedFrame { vni, frame }
 }
 
 /// Returns the frame that a tunnel's datagram carries. Returns no frame if the octets are no VXLAN
 /// datagram, or the frame has more than 9,018 octets.
-fn unwrapped<'a>(octets: &'a [u8]) -> Carried<'a>
+fn unwrapped<'a>(octets: &'a [u8]) -> CarriedFrame<'a>
     ensures fits { length result.frame.now ≤ 9018 }
     ensures unwrapped { (result.vni, result.frame.now) ≡ unwrapped (instance_of octets.now) }
 {
     match unwrap_datagram(octets) {
         Ok((vni, frame)) => fitting(vni, frame),
-        Err(_) => Carried::none(),
+        Err(_) => CarriedFrame::none(),
     }
 }
 
 /// Returns the frame of a datagram that comes over a link. A clock's datagram has none.
-fn carried<'a>(source: &Source, octets: &'a [u8]) -> Carried<'a>
+fn carried<'a>(source: &Inlet, octets: &'a [u8]) -> CarriedFrame<'a>
     ensures fits { length result.frame.now ≤ 9018 }
     ensures carried { (result.vni, result.frame.now) ≡ carried source.now octets.now }
 {
     match source {
-        Source::Port(_, vni) => fitting(*vni, octets),
-        Source::Tunnel => unwrapped(octets),
-        Source::Clock => Carried::none(),
+        Inlet::Port(_, vni) => fitting(*vni, octets),
+        Inlet::Tunnel => unwrapped(octets),
+        Inlet::Clock => CarriedFrame::none(),
     }
 }
 
 /// Returns the event of a link's datagram. An empty datagram has none, except a clock's.
-fn event_of<'a>(source: &Source, from: Addr, octets: &'a [u8]) -> Option<Event<'a>>
+fn event_of<'a>(source: &Inlet, from: Addr, octets: &'a [u8]) -> Option<Event<'a>>
     ensures event { IsEventOf source.now (arrival from octets.now) result }
     ensures own { IfSome result (λ event. is_own event ≡ true) }
 {
     match source {
-        Source::Clock => Some(Event::Second),
-        Source::Port(port, _) if !octets.is_empty() => Some(Event::Frame(*port, octets)),
-        Source::Tunnel if !octets.is_empty() => Some(Event::TunnelFrame(from, octets)),
+        Inlet::Clock => Some(Event::Second),
+        Inlet::Port(port, _) if !octets.is_empty() => Some(Event::Frame(*port, octets)),
+        Inlet::Tunnel if !octets.is_empty() => Some(Event::TunnelFrame(from, octets)),
         _ => None,
     }
 }
@@ -89,7 +89,7 @@ fn event_of<'a>(source: &Source, from: Addr, octets: &'a [u8]) -> Option<Event<'
 /// Enters the event of a link's datagram, if it has one, and passes on the answer.
 fn enter_datagram<L: Placed, J: Naming, O: Outlet<Told<J>> + Drop, G: Gate, R: Wait>(
     worker: &mut Worker<'_, L, J, O, G, R>,
-    source: &Source,
+    source: &Inlet,
     from: Addr,
     octets: &[u8],
 )
@@ -117,7 +117,7 @@ fn turn_port<L: Placed, J: Naming, O: Outlet<Told<J>> + Drop, G: Gate, R: Wait>(
         (standing worker.new.pass (O.parcels worker.new.outlet) (O.records worker.new.outlet)) }
     ensures stays { worker.new.shared_edge ≡ worker.old.shared_edge }
 {
-    let carried = Carried { vni, frame: &[] };
+    let carried = CarriedFrame { vni, frame: &[] };
     if is_up {
         worker.act(&Event::PortUp(port), &None, &carried);
     } else {
@@ -126,13 +126,13 @@ fn turn_port<L: Placed, J: Naming, O: Outlet<Told<J>> + Drop, G: Gate, R: Wait>(
 }
 
 /// Returns the source as an input in a message to the operator.
-fn input_of(source: &Source) -> Input
+fn input_of(source: &Inlet) -> Input
     ensures { result ≡ input_of source.now }
 {
     match source {
-        Source::Port(port, _) => Input::Port(*port),
-        Source::Tunnel => Input::Tunnel,
-        Source::Clock => Input::Clock,
+        Inlet::Port(port, _) => Input::Port(*port),
+        Inlet::Tunnel => Input::Tunnel,
+        Inlet::Clock => Input::Clock,
     }
 }
 
@@ -141,7 +141,7 @@ fn input_of(source: &Source) -> Input
 /// bridge there, and create a loop.
 fn change<L: Placed, J: Naming, O: Outlet<Told<J>> + Drop, G: Gate, R: Wait>(
     worker: &mut Worker<'_, L, J, O, G, R>,
-    source: &Source,
+    source: &Inlet,
     works: bool,
 )
     ensures changes { Changes worker.old.shared_edge.now.bridge source.now works
@@ -153,7 +153,7 @@ fn change<L: Placed, J: Naming, O: Outlet<Told<J>> + Drop, G: Gate, R: Wait>(
         input: input_of(source),
         works,
     });
-    if let Source::Port(port, vni) = source {
+    if let Inlet::Port(port, vni) = source {
         turn_port(worker, *port, *vni, works);
     }
 }
@@ -161,7 +161,7 @@ fn change<L: Placed, J: Naming, O: Outlet<Told<J>> + Drop, G: Gate, R: Wait>(
 /// Calls `change` if the link started or stopped failing with this call.
 fn note_call<L: Placed, J: Naming, O: Outlet<Told<J>> + Drop, G: Gate, R: Wait>(
     worker: &mut Worker<'_, L, J, O, G, R>,
-    source: &Source,
+    source: &Inlet,
     works: &mut bool,
     has_brought: bool,
 )
@@ -183,7 +183,7 @@ fn turn<L: Placed, J: Naming, I: LinkIn, O: Outlet<Told<J>> + Drop, G: Gate, R: 
     worker: &mut Worker<'_, L, J, O, G, R>,
     buffer: &mut [u8],
     link: &mut I,
-    source: &Source,
+    source: &Inlet,
     works: &mut bool,
 ) -> bool
     requires { I.failed link.old + 1 < 2 ^ 64 }
@@ -216,7 +216,7 @@ fn turn<L: Placed, J: Naming, I: LinkIn, O: Outlet<Told<J>> + Drop, G: Gate, R: 
 fn hear_all<L: Placed, J: Naming, I: LinkIn, O: Outlet<Told<J>> + Drop, G: Gate, R: Wait>(
     worker: &mut Worker<'_, L, J, O, G, R>,
     link: &mut I,
-    source: &Source,
+    source: &Inlet,
 ) -> bool
     ensures { Hears worker.old.shared_edge.now.bridge source.now (I.failed link.new)
         (I.came link.old)
@@ -245,7 +245,7 @@ fn hear_all<L: Placed, J: Naming, I: LinkIn, O: Outlet<Told<J>> + Drop, G: Gate,
 fn link_worker<L: Placed, J: Naming, I: LinkIn, O: Outlet<Told<J>> + Drop, G: Gate, R: Wait>(
     worker: &mut Worker<'_, L, J, O, G, R>,
     link: &mut I,
-    source: &Source,
+    source: &Inlet,
 ) -> Ended
     ensures ended { result ≡ ended_of (I.failed link.old) (I.failed link.new) }
     ensures works { Ends worker.old.shared_edge.now.bridge source.now (I.failed link.new)
@@ -281,7 +281,7 @@ pub fn port_worker<L: Placed, J: Naming, I: LinkIn, O: Outlet<Told<J>> + Drop, G
         (standing worker.new.pass (O.parcels worker.new.outlet) (O.records worker.new.outlet)) }
 {
     turn_port(worker, port, vni, true);
-    link_worker(worker, link, &Source::Port(port, vni))
+    link_worker(worker, link, &Inlet::Port(port, vni))
 }
 
 /// Enters the datagrams that other edges send. An empty datagram is not entered.
@@ -298,7 +298,7 @@ pub fn tunnel_worker<L: Placed, J: Naming, I: LinkIn, O: Outlet<Told<J>> + Drop,
         (I.came link.new)
         (standing worker.new.pass (O.parcels worker.new.outlet) (O.records worker.new.outlet)) }
 {
-    link_worker(worker, link, &Source::Tunnel)
+    link_worker(worker, link, &Inlet::Tunnel)
 }
 
 /// Enters a second at each tick of a clock.
@@ -315,14 +315,14 @@ pub fn clock_worker<L: Placed, J: Naming, I: LinkIn, O: Outlet<Told<J>> + Drop, 
         (I.came clock.new)
         (standing worker.new.pass (O.parcels worker.new.outlet) (O.records worker.new.outlet)) }
 {
-    link_worker(worker, clock, &Source::Clock)
+    link_worker(worker, clock, &Inlet::Clock)
 }
 
 /// Handles a message: enters an update of another edge, requests announcements if another edge has
 /// room for them again, or answers the operator.
 fn enter_message<L: Placed, J: Naming, O: Outlet<Told<J>> + Drop, G: Gate, R: Wait>(
     worker: &mut Worker<'_, L, J, O, G, R>,
-    message: &Message<Told<J>>,
+    message: &EdgeMessage<Told<J>>,
 )
     ensures takes { Takes worker.old.shared_edge.now.bridge
         (standing worker.old.pass (O.parcels worker.old.outlet) (O.records worker.old.outlet))
@@ -331,12 +331,12 @@ fn enter_message<L: Placed, J: Naming, O: Outlet<Told<J>> + Drop, G: Gate, R: Wa
     ensures stays { worker.new.shared_edge ≡ worker.old.shared_edge }
 {
     match message {
-        Message::Record(told) => {
+        EdgeMessage::Record(told) => {
             let event = Event::Take(*told.update());
-            worker.act(&event, &Some(told.again()), &Carried::none())
+            worker.act(&event, &Some(told.again()), &CarriedFrame::none())
         }
-        Message::Room => worker.announce(),
-        Message::Ask(request) => answer(worker, request),
+        EdgeMessage::Room => worker.announce(),
+        EdgeMessage::Ask(request) => answer(worker, request),
     }
 }
 

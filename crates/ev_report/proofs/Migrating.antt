@@ -20,7 +20,7 @@ use Rattle.route_wire.specs.Order.{register_cmp}
 use Rattle.route_wire.specs.Inner.Totals.{ip_total}
 use Rattle.route_join.specs.Table.{Table, IsOrdered, IsTableOf, entries_of}
 use Rattle.route_join.specs.Updates.{all_updates, AreAllUpdates}
-use Rattle.route_join.proofs.Orders.{less, both}
+use Rattle.route_join.proofs.Orders.{less}
 use Rattle.route_join.proofs.Tables.{same_register}
 use Rattle.route_join.proofs.Abouts.{all_updates_are}
 use Rattle.ev_report.specs.Ends.{Devices, Passes}
@@ -31,6 +31,8 @@ use Rattle.ev_report.specs.Migrated.{is_same_subject, is_same_old, old_cmp, is_n
 use Rattle.ev_report.specs.Migrated.{migrated_at, AreMigrated, newer_old, newest_along, entering}
 use Rattle.ev_report.specs.Inner.Migrated.{behind}
 use Rattle.ev_report.specs.Migrated.{migrated_along, migrated_all, migrated_of}
+use Rattle.std.proofs.lemmas.Bool.{and_parts as both}
+use Rattle.route_join.proofs.Basics.{first_there as at_first}
 
 -- ---- old registers
 
@@ -291,9 +293,6 @@ first_or_rest u us w c = go c.0 c.1 c.2
     go : (k : ℕ) → k < length (u ∷ us) → slice_index_or (u ∷ us) k w ≡ w → (u ≡ w) ⊎ Contains us w
     go zero l e = inl e
     go (suc k) l e = inr (k, omega (arith, l), e)
-
-at_first : (u : Fields) (us : List Fields) → Contains (u ∷ us) u
-at_first u us = (0, omega arith, refl)
 
 in_rest : (u : Fields) (us : List Fields) (w : Fields) → Contains us w → Contains (u ∷ us) w
 in_rest u us w c = (suc c.0, omega (arith, c.1), c.2)

@@ -52,7 +52,6 @@ impl Failures {
 }
 
 /// Writes a text where it is so.
-#[tactic(auto, using(ether_wire::proofs::Appending::with_text_none))]
 fn put_if<N: Out>(is_so: bool, text: &[u8], notes: &mut N) -> Result<(), Device>
     requires { IsOpen (N.end notes.old) }
     ensures { Puts (N.end notes.old) (N.end notes.new) (text_if is_so text.now) result }
@@ -61,7 +60,6 @@ fn put_if<N: Out>(is_so: bool, text: &[u8], notes: &mut N) -> Result<(), Device>
 }
 
 /// Writes a line for each of input and output that failed.
-#[tactic(auto, using(ether_wire::proofs::Appending::with_text_twice))]
 fn put_failed<N: Out>(is_unread: bool, is_unwritten: bool, notes: &mut N) -> Result<(), Device>
     requires { IsOpen (N.end notes.old) }
     ensures { Puts (N.end notes.old) (N.end notes.new) (failed_text is_unread is_unwritten) result }

@@ -5,7 +5,6 @@ ghost use Rattle.ev_report.specs.Notes.{line, refused_line, fault_line, truncate
 use ether_wire::{Device, Out, put_decimal};
 
 /// Writes a line of two numbers, each behind its words.
-#[tactic(auto, using(ether_wire::proofs::Appending::with_text_twice))]
 fn put_line<N: Out>(
     notes: &mut N,
     first: &[u8],

@@ -146,7 +146,6 @@ impl ListFault {
 }
 
 /// Writes the wrong part of a list, why, and what was expected.
-#[tactic(auto, using(ether_wire::proofs::Appending::with_text_twice))]
 pub fn put_wrong_part<N: Out>(notes: &mut N, wrong: WrongPart<'_>) -> Result<(), Device>
     requires { IsOpen (N.end notes.old) }
     ensures { Puts (N.end notes.old) (N.end notes.new)

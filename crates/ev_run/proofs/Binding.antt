@@ -1,6 +1,6 @@
 -- The ports whose sockets have been bound so far, and the reason that prevents the next one.
 use Rattle.std.proofs.Common.{◌≡◌, ℕ, zero, suc, ◌+◌, ◌<◌, Bool, true, false, List, [], ◌∷◌, ◌++◌, map, take, length}
-use Rattle.std.proofs.Common.{get_or, Option, Some, None, refl, sym, ap, ap₂, subst, true≢false, ◌∙◌, arith}
+use Rattle.std.proofs.Common.{get_or, Option, Some, None, refl, sym, ap, ap₂, subst, ◌∙◌, arith}
 use Rattle.std.proofs.Common.{◌||◌, Result, Ok, Err, IfErr, IsErrAnd}
 use Rattle.std.proofs.lemmas.List.{take_more, map-append}
 use Rattle.std.proofs.lemmas.List.Elements.{filter_map-append, Contains-append_left, Contains-append_right}
@@ -22,6 +22,7 @@ use Rattle.ev_peers.specs.declared.edge_links.Link.{Link}
 use Rattle.ev_run.specs.Inner.Sockets.{to_remote}
 use Rattle.ev_run.specs.Sockets.{locals_of, tunnel_of, edge_ends, ends_from, endpoints_of, all_ends, lacks_end}
 use Rattle.ev_run.specs.Sockets.{lacks_ends, lacks_address, Hinders}
+use Rattle.rstp_state.proofs.Basics.{no as never}
 
 -- one port more, and one end of its link
 pub end_more : (end : PortEndpoints → Option Endpoint) (at : PortSocket → Endpoint) (links : List PortEndpoints)
@@ -97,9 +98,6 @@ one_of one at (suc k, within, is) = absurd (omega (arith, within))
 all_in_local : (local : Endpoint) (ends : List Endpoint) → Contains ends local → (at : Endpoint)
     → Contains (local ∷ []) at → Contains ends at
 all_in_local local ends there at h = subst (λ (e : Endpoint). Contains ends e) (one_of local at h) there
-
-never : {A : Type 0} → false ≡ true → A
-never h = absurd (true≢false (sym h))
 
 -- a port's socket that can't be bound
 pub port_hinders : (links : List PortEndpoints) (place : ℕ) (d : PortEndpoints) (local : Endpoint) (why : StartError)

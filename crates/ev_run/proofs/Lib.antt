@@ -4,3 +4,4 @@ pub mod Serving
 pub mod Shortening
 pub mod Threads
 pub mod AsFabric
+pub mod Sound

@@ -1,7 +1,7 @@
 -- A run of edges: the input that is read out, and the texts at the end.
 use Rattle.std.proofs.Common.{◌≡◌, inl, inr, ℕ, ◌+◌, ◌-◌, ◌<◌, ◌^◌, min, Bool, false, not, ◌||◌, nat_lt, List, [], ◌∷◌}
 use Rattle.std.proofs.Common.{◌++◌, take, length, get_or, map, reverse, append_assoc, Result, Ok, Err, is_ok, refl}
-use Rattle.std.proofs.Common.{MatchOption, sym, ap, subst, ◌∙◌, arith}
+use Rattle.std.proofs.Common.{MatchOption, Some, None, sym, ap, subst, ◌∙◌, arith}
 use Rattle.std.proofs.Math.Seq.{take-length}
 use Rattle.std.proofs.lemmas.List.{append-nil, take_more, map-append, reverse-append}
 use Rattle.std.proofs.lemmas.List.Sums.{sum_by_push}
@@ -9,7 +9,7 @@ use Rattle.std.specs.List.{sum_by, list_any}
 use Rattle.std.proofs.lemmas.List.Elements.{Contains-append_left, Contains-append_right}
 use Rattle.std.specs.List.{concat, Contains}
 use Rattle.ether_wire.specs.declared.ends.Device as device
-use Rattle.ether_wire.specs.Ends.{End, Source, Gets, Puts}
+use Rattle.ether_wire.specs.Ends.{End, Source, Gets, Puts, with_text}
 use Rattle.ev_edge.specs.declared.config.EdgeConfig.{EdgeConfig}
 use Rattle.ev_edge.specs.Config.{IsConfig}
 use Rattle.ev_links.specs.Udp.{destination_of}
@@ -35,14 +35,14 @@ use Rattle.ev_run.specs.Inner.RunEdges.{EachConfig}
 use Rattle.ev_run.specs.RunEdges.{system_text, Ran}
 use Rattle.ev_run.specs.RunEdges.{link_failed, was_out_of_memory, all_lost, IsReadOut, ReadsOut, TellsEnded}
 use Rattle.ev_run.specs.Inner.RunEdges.{PutsRest, TellsRest}
-use Rattle.ev_notices.specs.Telling.{Told, lines_of}
+use Rattle.ev_notices.specs.Notices.{Told, lines_of}
 use Rattle.ether_wire.proofs.Appending.{puts_behind}
-use Rattle.ev_run.specs.RunEdges.{start_text, IsStartError, RunsEdges}
+use Rattle.ev_run.specs.RunEdges.{start_text, IsStartError, Begins, RunsEdges}
 use Rattle.ev_run.specs.Needs.{threads_of}
-use Rattle.ev_run.specs.ThreadCheck.{IsTooFew}
-use Rattle.ev_run.specs.Inner.ThreadCheck.{TellsTooFew}
+use Rattle.ev_run.specs.ThreadCheck.{IsTooFew, too_few_text}
+use Rattle.ev_run.specs.declared.thread_check.ThreadPolicy.{ThreadPolicy}
 use Rattle.ev_run.specs.declared.thread_check.TooFewThreads.{TooFewThreads}
-use Rattle.ev_run.proofs.Threads.{lacks_threads, passed_few}
+use Rattle.ev_run.proofs.Threads.{StopsBy, lacks_threads, passed_few}
 use Rattle.ev_report.proofs.Finishing.{put_holds, put_failed, passed_out, passed_notes, passed_status, failed_out}
 use Rattle.ev_report.proofs.Finishing.{failed_notes}
 use Rattle.ev_report.proofs.Gathering.{gathers_more, whole_ended, whole_failed, whole_unended}
@@ -218,11 +218,11 @@ pub tells_nothing : (notes : End) → TellsCause Unnamed notes notes 4
 tells_nothing notes = (holds_none notes, refl)
 
 -- no edge began
-pub runs_none : (is_asked : Bool) (config : Config) (cause : StartError) (input : Source) (out notes notes' : End)
-    (status : ℕ)
+pub runs_none : (is_asked : Bool) (policy : ThreadPolicy) (config : Config) (cause : StartError) (input : Source)
+    (out notes notes' : End) (status : ℕ)
     → Hinders (all_ends config) (lacks_address config) cause → TellsCause cause notes notes' status
-    → RunsEdges is_asked config (devices input out notes) (devices input out notes') status
-runs_none is_asked config (Unbindable at why) input out notes notes' status hinders told = inr (inl (
+    → RunsEdges is_asked policy config (devices input out notes) (devices input out notes') status
+runs_none is_asked policy config (Unbindable at why) input out notes notes' status hinders told = inr (inl (
   refl,
   holds_none out,
   record {
@@ -234,7 +234,7 @@ runs_none is_asked config (Unbindable at why) input out notes notes' status hind
     status_is = told.1;
   },
 ))
-runs_none is_asked config Unnamed input out notes notes' status hinders told = inr (inl (
+runs_none is_asked policy config Unnamed input out notes notes' status hinders told = inr (inl (
   refl,
   holds_none out,
   record {
@@ -246,15 +246,15 @@ runs_none is_asked config Unnamed input out notes notes' status hinders told = i
     status_is = told.1;
   },
 ))
-runs_none is_asked config NoMemory input out notes notes' status hinders told =
-    rw told.0 (inr (inr (inl (refused_memory out notes status told.1))))
+runs_none is_asked policy config NoMemory input out notes notes' status hinders told =
+    rw told.0 (inl (inr (refused_memory out notes status told.1)))
 
 -- the edges ran with sockets that are bound to the right endpoints
-pub runs_bound : (is_asked : Bool) (config : Config) (bound remotes : List (List Endpoint)) (before after : Devices)
+pub begins_bound : (is_asked : Bool) (config : Config) (bound remotes : List (List Endpoint)) (before after : Devices)
     (status : ℕ) → Ran is_asked config.edges.items bound remotes before after status → bound ≡ endpoints_of config
     → remotes ≡ all_remotes config.links.items → lacks_address config ≡ false
-    → RunsEdges is_asked config before after status
-runs_bound is_asked config bound remotes before after status ran same to whole =
+    → Begins is_asked config before after status
+begins_bound is_asked config bound remotes before after status ran same to whole =
     let edges = config.edges.items in
     inl (
       whole,
@@ -263,18 +263,32 @@ runs_bound is_asked config bound remotes before after status ran same to whole =
     )
 
 -- the memory with which the edges begin was refused
-pub runs_refused : (is_asked : Bool) (config : Config) (input input' : Source) (out out' notes notes' : End)
+pub begins_refused : (is_asked : Bool) (config : Config) (input input' : Source) (out out' notes notes' : End)
     → out' ≡ out → notes' ≡ notes
-    → RunsEdges is_asked config (devices input out notes) (devices input' out' notes') 3
-runs_refused is_asked config input input' out out' notes notes' a b =
-    rw (a, b) (inr (inr (inl (refused_memory out notes 3 refl))))
+    → Begins is_asked config (devices input out notes) (devices input' out' notes') 3
+begins_refused is_asked config input input' out out' notes notes' a b =
+    rw (a, b) (inr (refused_memory out notes 3 refl))
 
--- the system allows too few threads
-pub runs_few : (is_asked : Bool) (config : Config) (lack : TooFewThreads) (input : Source) (out notes notes' : End)
-    (status : ℕ) → IsTooFew (threads_of is_asked config.edges.items) lack → TellsTooFew lack notes notes' status
-    → RunsEdges is_asked config (devices input out notes) (devices input out notes') status
-runs_few is_asked config lack input out notes notes' status few told =
-    inr (inr (inr (lacks_threads config.edges.items is_asked lack input out notes notes' status few told)))
+-- the system allows too few threads: no edge began, or the edges began all the same
+pub runs_few : (is_asked : Bool) (policy : ThreadPolicy) (config : Config) (lack : TooFewThreads) (input : Source)
+    (out notes notes' : End) (status : ℕ) → IsTooFew (threads_of is_asked config.edges.items) lack
+    → StopsBy policy lack notes notes' (Some status)
+    → RunsEdges is_asked policy config (devices input out notes) (devices input out notes') status
+runs_few is_asked policy config lack input out notes notes' status few stops =
+    inr (inr (inl (lacks_threads config.edges.items is_asked policy lack input out notes notes' status few stops)))
+
+pub runs_short : (is_asked : Bool) (policy : ThreadPolicy) (config : Config) (lack : TooFewThreads) (input : Source)
+    (out notes notes' : End) (after : Devices) (status : ℕ)
+    → IsTooFew (threads_of is_asked config.edges.items) lack → StopsBy policy lack notes notes' None
+    → Begins is_asked config (devices input out notes') after status
+    → RunsEdges is_asked policy config (devices input out notes) after status
+runs_short is_asked policy config lack input out notes notes' after status few stops begins =
+    inr (inr (inr (record {
+      allowed = stops.1;
+      lack = lack;
+      few = few;
+      begins = subst (λ (e : End). Begins is_asked config (devices input out e) after status) stops.0 begins;
+    })))
 
 -- ---- buffered writers
 
@@ -325,16 +339,30 @@ module _ (is_asked : Bool) (config : Config) (before held after : Devices) (stat
     told = passed_ended r.alerts r.ended (system_text r.table sockets) r.is_read r.told;
   }
 
-  pub passed_runs : RunsEdges is_asked config before held status → RunsEdges is_asked config before after last
-  passed_runs (inl r) = inl (
+  passed_begins : Begins is_asked config before held status → Begins is_asked config before after last
+  passed_begins (inl r) = inl (
     r.0,
     passed_ran config.edges.items (endpoints_of config) (all_remotes config.links.items) r.1,
   )
+  passed_begins (inr h) = inr (passed_refused before held after status last p h)
+
+module _ (is_asked : Bool) (policy : ThreadPolicy) (config : Config) (before held after : Devices) (status last : ℕ)
+    (p : Passes before.out.failures before.notes.failures held after status last) where
+  pub passed_runs : RunsEdges is_asked policy config before held status
+      → RunsEdges is_asked policy config before after last
+  passed_runs (inl b) = inl (passed_begins is_asked config before held after status last p b)
   passed_runs (inr (inl h)) = inr (inl (
     p.input ∙ h.0,
     passed_out before held after status last p [] h.1,
-    passed_start_error h.2,
+    passed_start_error is_asked config before held after status last p h.2,
   ))
-  passed_runs (inr (inr (inl h))) = inr (inr (inl (passed_refused before held after status last p h)))
-  passed_runs (inr (inr (inr h))) =
-      inr (inr (inr (passed_few is_asked config.edges.items before held after status last p h)))
+  passed_runs (inr (inr (inl h))) =
+      inr (inr (inl (passed_few is_asked policy config.edges.items before held after status last p h)))
+  passed_runs (inr (inr (inr h))) = inr (inr (inr (record {
+    allowed = h.allowed;
+    lack = h.lack;
+    few = h.few;
+    begins = passed_begins is_asked config
+        (devices before.input before.out (with_text before.notes (too_few_text h.lack))) held after status last p
+        h.begins;
+  })))

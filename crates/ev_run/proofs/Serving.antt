@@ -9,6 +9,7 @@ use Rattle.ev_report.proofs.Silence.{passed_four, holds_none}
 use Rattle.ev_config.specs.declared.whole.Config.{Config}
 use Rattle.ev_run.specs.declared.control_socket.ListenError.{ListenError}
 use Rattle.ev_run.specs.Serving.{listen_error_text, TellsListenError, ServesEdges}
+use Rattle.ev_run.specs.declared.thread_check.ThreadPolicy.{ThreadPolicy}
 use Rattle.ev_run.proofs.Running.{passed_runs}
 
 -- the note has a path
@@ -21,12 +22,12 @@ tells_path path notes notes' r why put = record {
 }
 
 -- nothing could listen
-pub serves_none : (path : Text) (config : Config) (input : Source) (out notes notes' : End) (status : ℕ)
-    → TellsListenError path notes notes' status
-    → ServesEdges path config (devices input out notes) (devices input out notes') status
-serves_none path config input out notes notes' status told = inr (refl, holds_none out, told)
+pub serves_none : (policy : ThreadPolicy) (path : Text) (config : Config) (input : Source) (out notes notes' : End)
+    (status : ℕ) → TellsListenError path notes notes' status
+    → ServesEdges policy path config (devices input out notes) (devices input out notes') status
+serves_none policy path config input out notes notes' status told = inr (refl, holds_none out, told)
 
-module _ (path : Text) (config : Config) (before held after : Devices) (status last : ℕ)
+module _ (policy : ThreadPolicy) (path : Text) (config : Config) (before held after : Devices) (status last : ℕ)
     (p : Passes before.out.failures before.notes.failures held after status last) where
   passed_listen_error : TellsListenError path before.notes held.notes status
       → TellsListenError path before.notes after.notes last
@@ -36,8 +37,9 @@ module _ (path : Text) (config : Config) (before held after : Devices) (status l
     status_is = passed_four before held after status last p u.status_is;
   }
 
-  pub passed_serves : ServesEdges path config before held status → ServesEdges path config before after last
-  passed_serves (inl r) = inl (passed_runs true config before held after status last p r)
+  pub passed_serves : ServesEdges policy path config before held status
+      → ServesEdges policy path config before after last
+  passed_serves (inl r) = inl (passed_runs true policy config before held after status last p r)
   passed_serves (inr h) = inr (
     p.input ∙ h.0,
     passed_out before held after status last p [] h.1,

@@ -39,9 +39,9 @@ is_end c = eqb c 10
 -- the rows of a text of rows are these, and an empty one
 rows_of_rows : (rows : List Text) → All (none_passes is_end) rows → rows_of (text_of_rows rows) ≡ rows ++ [] ∷ []
 rows_of_rows [] clean = refl
-rows_of_rows (row ∷ rows) clean =
-    slice_split_at is_end row 10 (text_of_rows rows) (All-head (none_passes is_end) row rows clean) refl
-    ∙ ap (λ more. row ∷ more) (rows_of_rows rows (All-tail (none_passes is_end) row rows clean))
+rows_of_rows (text ∷ rows) clean =
+    slice_split_at is_end text 10 (text_of_rows rows) (All-head (none_passes is_end) text rows clean) refl
+    ∙ ap (λ more. text ∷ more) (rows_of_rows rows (All-tail (none_passes is_end) text rows clean))
 
 -- the greatest number of a row
 abbrev most : Text → ℕ → List Text → ℕ

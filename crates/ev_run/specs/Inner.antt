@@ -5,4 +5,3 @@ pub mod Serving
 pub mod Settling
 pub mod Sockets
 pub mod SystemDrops
-pub mod ThreadCheck

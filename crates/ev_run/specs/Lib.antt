@@ -2,6 +2,7 @@ pub mod Sockets
 pub mod Links
 pub mod SystemDrops
 pub mod RunEdges
+pub mod Laws
 pub mod Serving
 pub mod Needs
 pub mod Obstacles

@@ -13,8 +13,8 @@ use Rattle.ev_run.specs.declared.obstacles.End.{End}
 use Rattle.ev_run.specs.declared.obstacles.End.TheVariants.{Local, Remote}
 use Rattle.ev_run.specs.declared.obstacles.Cause.{Cause}
 use Rattle.ev_run.specs.declared.obstacles.Cause.TheVariants.{NoPort, NoHost, Tunnel, Taken}
-use Rattle.ev_run.specs.declared.obstacles.Limits.{Limits}
-use Rattle.ev_run.specs.declared.obstacles.Seat.{Seat}
+use Rattle.ev_run.specs.declared.obstacles.ProcessLimits.{ProcessLimits}
+use Rattle.ev_run.specs.declared.obstacles.EdgePort.{EdgePort}
 use Rattle.ev_run.specs.declared.obstacles.Obstacle.{Obstacle}
 use Rattle.ev_run.specs.declared.obstacles.Obstacle.TheVariants.{Unheard, Useless, TooMany, TooManyThreads}
 use Rattle.ev_run.specs.RunEdges.{endpoint_text}
@@ -52,21 +52,22 @@ local_cause edges before ports at =
 abbrev pub remote_cause : Endpoint → Option Cause
 remote_cause at = if at.port == 0 then Some NoPort else if at.address == 0 then Some NoHost else None
 
-abbrev pub useless : Seat → End → Endpoint → Option Cause → List Obstacle
+abbrev pub useless : EdgePort → End → Endpoint → Option Cause → List Obstacle
 useless seat end at None = []
 useless seat end at (Some cause) = Useless seat end at cause ∷ []
 
-abbrev pub local_obstacles : List EdgeConfig → List (ArrayVec PortEndpoints) → List PortEndpoints → Seat
+abbrev pub local_obstacles : List EdgeConfig → List (ArrayVec PortEndpoints) → List PortEndpoints → EdgePort
     → Option Endpoint → List Obstacle
 local_obstacles edges before ports seat None = []
 local_obstacles edges before ports seat (Some at) = useless seat Local at (local_cause edges before ports at)
 
-abbrev pub remote_obstacles : Seat → Option Endpoint → List Obstacle
+abbrev pub remote_obstacles : EdgePort → Option Endpoint → List Obstacle
 remote_obstacles seat None = []
 remote_obstacles seat (Some at) = useless seat Remote at (remote_cause at)
 
 -- the obstacles of a port
-abbrev pub port_obstacles : List EdgeConfig → List (ArrayVec PortEndpoints) → List PortEndpoints → Seat → PortEndpoints
+abbrev pub port_obstacles : List EdgeConfig → List (ArrayVec PortEndpoints) → List PortEndpoints → EdgePort
+    → PortEndpoints
     → List Obstacle
 port_obstacles edges before ports seat link =
     local_obstacles edges before ports seat link.local ++ remote_obstacles seat link.remote
@@ -106,12 +107,12 @@ thread_obstacles threads None = []
 thread_obstacles threads (Some most) = if nat_lt most threads then TooManyThreads threads most ∷ [] else []
 
 -- the limits that are too low for a run
-abbrev pub limit_obstacles : List EdgeConfig → Bool → Limits → List Obstacle
+abbrev pub limit_obstacles : List EdgeConfig → Bool → ProcessLimits → List Obstacle
 limit_obstacles edges is_asked limits = count_obstacles (sockets_of is_asked edges) limits.descriptors
     ++ thread_obstacles (threads_of is_asked edges) limits.threads
 
 -- the obstacles of a run, which clients may query if `is_asked`
-abbrev pub obstacles_of : List EdgeConfig → List (ArrayVec PortEndpoints) → Bool → Limits → List Obstacle
+abbrev pub obstacles_of : List EdgeConfig → List (ArrayVec PortEndpoints) → Bool → ProcessLimits → List Obstacle
 obstacles_of edges all is_asked limits =
     (each_from edge_obstacles 1 edges ++ all_ports_obstacles edges all) ++ limit_obstacles edges is_asked limits
 
@@ -132,7 +133,7 @@ abbrev pub port_text : ℕ → Text
 port_text port = codes ", port " ++ decimal port ++ codes ": "
 
 -- `edge E, port P: `
-abbrev pub seat_text : Seat → Text
+abbrev pub seat_text : EdgePort → Text
 seat_text seat = codes "edge " ++ decimal seat.edge ++ port_text seat.port
 
 -- the kind of an end, and its endpoint

@@ -6,23 +6,27 @@ use Rattle.std.specs.Fmt.{decimal}
 use Rattle.std.specs.Bool.{OnFalse}
 use Rattle.std.specs.List.{sum_by, list_any}
 use Rattle.std.specs.declared.alloc.AllocError.{AllocError}
-use Rattle.ether_wire.specs.Ends.{End, Source}
+use Rattle.ether_wire.specs.Ends.{End, Source, with_text}
 use Rattle.ether_wire.specs.Addr.{addr_text}
 use Rattle.ev_edge.specs.Edge.{Edge, table_of}
 use Rattle.ev_edge.specs.declared.config.EdgeConfig.{EdgeConfig}
 use Rattle.ev_peers.specs.EdgeThreads.{EdgeSetup, AreRanFrom}
 use Rattle.ev_peers.specs.History.{configs_of, IsHistoryOf}
 use Rattle.ev_runs.specs.Laws.{IsRunOf}
-use Rattle.ev_peers.specs.declared.outcome.Outcome.{Outcome}
+use Rattle.ev_peers.specs.declared.edge_outcome.EdgeOutcome.{EdgeOutcome}
 use Rattle.ev_links.specs.declared.udp.UdpOut.{UdpOut}
-use Rattle.ev_notices.specs.Telling.{Told, lines_of}
+use Rattle.ev_notices.specs.Notices.{Told, lines_of}
 use Rattle.route_join.specs.Report.{report_of}
 use Rattle.ev_config.specs.declared.whole.Config.{Config}
 use Rattle.ev_config.specs.declared.endpoint.Endpoint.{Endpoint}
 use Rattle.ev_run.specs.Sockets.{endpoints_of, all_ends, all_remotes, lacks_address, Hinders}
 use Rattle.ev_run.specs.Links.{AreSetupsOf}
 use Rattle.ev_run.specs.SystemDrops.{dropped_at}
-use Rattle.ev_run.specs.ThreadCheck.{LacksThreads}
+use Rattle.ev_run.specs.Needs.{threads_of}
+use Rattle.ev_run.specs.ThreadCheck.{IsTooFew, too_few_text, LacksThreads}
+use Rattle.ev_run.specs.declared.thread_check.ThreadPolicy.{ThreadPolicy}
+use Rattle.ev_run.specs.declared.thread_check.ThreadPolicy.TheVariants.{RunWithout}
+use Rattle.ev_run.specs.declared.thread_check.TooFewThreads.{TooFewThreads}
 use Rattle.ev_run.specs.declared.print.Dropped.{Dropped}
 use Rattle.ev_run.specs.declared.print.Dropped.TheVariants.{NoRoom, BySystem}
 use Rattle.ev_run.specs.declared.sockets.BindError.{BindError}
@@ -30,7 +34,7 @@ use Rattle.ev_run.specs.declared.sockets.BindError.TheVariants as bind_error
 use Rattle.ev_run.specs.declared.sockets.StartError.{StartError}
 use Rattle.ev_run.specs.declared.sockets.StartError.TheVariants.{Unbindable, Unnamed, NoMemory}
 use Rattle.ev_report.specs.declared.input.ReadError.TheVariants.{Device}
-use Rattle.ev_report.specs.Ends.{Devices, has_failed, Holds}
+use Rattle.ev_report.specs.Ends.{Devices, devices, has_failed, Holds}
 use Rattle.ev_report.specs.Input.{ReadsWhole}
 use Rattle.ev_report.specs.Notes.{status_of}
 use Rattle.ev_report.specs.Silence.{IsRefusedMemory}
@@ -71,7 +75,7 @@ ReadsOut old new false = ReadsWhole old new (Err Device)
 
 -- the outcome of an edge, or that the memory with which it begins was refused
 abbrev pub Ended : Type 0
-Ended = Result Outcome AllocError
+Ended = Result EdgeOutcome AllocError
 
 -- `edge N`, and then the report of the edge's table
 abbrev pub edge_text : ℕ → Edge → Text
@@ -211,14 +215,29 @@ pub record IsStartError (config : Config) (notes notes' : End) (status : ℕ) : 
   pub noted : Holds notes notes' text
   pub status_is : status ≡ 4
 
--- The edges of a configuration were run, and each port has its addresses; or no edge began, nothing was read, and only
--- the reason was written; or the memory with which the edges begin was refused, or the threads. Clients may query the
--- edges meanwhile if `is_asked`.
-abbrev pub RunsEdges : Bool → Config → Devices → Devices → ℕ → Type 0
-RunsEdges is_asked config before after status =
+-- The edges of a configuration were run, and each port has its addresses; or the memory with which they begin was
+-- refused. Clients may query the edges meanwhile if `is_asked`.
+abbrev pub Begins : Bool → Config → Devices → Devices → ℕ → Type 0
+Begins is_asked config before after status =
     ((lacks_address config ≡ false) × Ran is_asked config.edges.items (endpoints_of config)
     (all_remotes config.links.items) before after status)
+    ⊎ IsRefusedMemory before.out after.out before.notes after.notes status
+
+-- The system allows fewer threads than the edges need, and they began all the same, after a note about the threads.
+pub record BeginsShort (is_asked : Bool) (policy : ThreadPolicy) (config : Config) (before after : Devices)
+    (status : ℕ) : Type 0 where
+  pub allowed : policy ≡ RunWithout
+  pub lack : TooFewThreads
+  pub few : IsTooFew (threads_of is_asked config.edges.items) lack
+  pub begins : Begins is_asked config (devices before.input before.out (with_text before.notes (too_few_text lack)))
+      after status
+
+-- The edges began, with too few threads only if the policy allows that. Or no edge began, nothing was read, and only
+-- the reason was written: an address, or the lack of threads.
+abbrev pub RunsEdges : Bool → ThreadPolicy → Config → Devices → Devices → ℕ → Type 0
+RunsEdges is_asked policy config before after status =
+    Begins is_asked config before after status
     ⊎ (((after.input ≡ before.input) × Holds before.out after.out []
     × IsStartError config before.notes after.notes status)
-    ⊎ (IsRefusedMemory before.out after.out before.notes after.notes status
-    ⊎ LacksThreads is_asked config.edges.items before after status))
+    ⊎ (LacksThreads is_asked policy config.edges.items before after status
+    ⊎ BeginsShort is_asked policy config before after status))

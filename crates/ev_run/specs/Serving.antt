@@ -5,6 +5,7 @@ use Rattle.ev_report.specs.Ends.{Devices, Holds}
 use Rattle.ev_report.specs.Originators.{Text}
 use Rattle.ev_config.specs.declared.whole.Config.{Config}
 use Rattle.ev_run.specs.declared.control_socket.ListenError.{ListenError}
+use Rattle.ev_run.specs.declared.thread_check.ThreadPolicy.{ThreadPolicy}
 use Rattle.ev_run.specs.declared.control_socket.ListenError.TheVariants as listen_error
 use Rattle.ev_run.specs.RunEdges.{RunsEdges}
 
@@ -30,8 +31,8 @@ pub record TellsListenError (path : Text) (notes notes' : End) (status : ℕ) : 
 
 -- The edges are run, whatever clients do; or nothing can listen at this path, no edge began, nothing was read, and only
 -- a note about the path was written.
-abbrev pub ServesEdges : Text → Config → Devices → Devices → ℕ → Type 0
-ServesEdges path config before after status =
-    RunsEdges true config before after status
+abbrev pub ServesEdges : ThreadPolicy → Text → Config → Devices → Devices → ℕ → Type 0
+ServesEdges policy path config before after status =
+    RunsEdges true policy config before after status
     ⊎ ((after.input ≡ before.input) × Holds before.out after.out []
     × TellsListenError path before.notes after.notes status)

@@ -44,6 +44,6 @@ count_of (Some word) = unwrap_or (decimal_of_text (2 ^ 64 - 1) word) 0
 abbrev pub row_drops : Text → Text → ℕ
 row_drops local row = if names local (slice_get (words_of row) 1) then count_of (slice_get (words_of row) 12) else 0
 
--- how many datagrams the text reports as dropped there: the greatest number of a row
+-- how many datagrams the text reports as dropped there: the greatest number of a row; 0 if it has no row of the socket
 abbrev pub dropped_at : Text → Endpoint → ℕ
 dropped_at text at = fold (λ most row. max most (row_drops (local_text at) row)) 0 (rows_of text)

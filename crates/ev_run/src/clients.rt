@@ -1,16 +1,17 @@
-//! The clients of a run. Each client has a thread of its own, and one of a few seats while it is
+//! The clients of a run. Each client has a thread of its own, and one of a few slots while it is
 //! served.
 ghost use Rattle.std.specs.Prelude.{◌≡◌, ◌^◌};
 ghost use Rattle.ether_wire.specs.Ends.{Allows};
 ghost use Rattle.ev_run.specs.RunEdges.{ReadsOut};
 
+use crate::client_stream::ClientStream;
 use crate::control_socket::ControlSocket;
-use crate::first_line::{Wanted, wanted_by};
+use crate::first_line::{ClientRequest, wanted_by};
 use crate::records::{ServedEdges, exchange};
 use crate::run::is_read_out;
 use crate::watching::enter_due;
 use ether_wire::{Buffered, In, Reader, Writer};
-use ev_console::converse;
+use ev_console::{LocalEdges, SystemDrops, converse};
 use ev_exchange::{Known, Sessions};
 use ev_history::Naming;
 use ev_mailboxes::Running;
@@ -24,9 +25,9 @@ use std::time::{Clock, Duration};
 use std::{io, thread};
 
 /// The most clients that are served at once.
-const SEATS: usize = 8;
+const SLOTS: usize = 8;
 
-/// The most consoles that are served at once: two seats are left for clients that exchange records.
+/// The most consoles that are served at once: two slots are left for clients that exchange records.
 const CONSOLES: usize = 6;
 
 /// The timeout in seconds of each read of a client's first line, and of each write to a client.
@@ -39,40 +40,40 @@ const FAREWELL: u64 = 100;
 /// look at the sessions if no step was due.
 const PAUSE: u64 = 100;
 
-/// A seat that a client has taken.
+/// A slot that a client has taken.
 #[derive(Drop)]
-struct Seated {
+struct ClientSlot {
     /// The handle that ends the client's connection.
     end: UnixStream,
     /// The client is a console.
     is_console: bool,
 }
 
-/// The seats of the clients that are being served.
+/// The slots of the clients that are being served.
 #[derive(Drop)]
-struct Seats {
-    taken: [Option<Seated>; SEATS],
+struct ClientSlots {
+    taken: [Option<ClientSlot>; SLOTS],
     is_closed: bool,
 }
 
-impl Seats {
-    /// Returns seats that are all free.
+impl ClientSlots {
+    /// Returns slots that are all free.
     fn new() -> Self {
-        Seats {
+        ClientSlots {
             taken: [None, None, None, None, None, None, None, None],
             is_closed: false,
         }
     }
 
-    /// Gives a client a seat and returns the seat's number. Returns `None` if no seat is free or
-    /// the seats are closed.
+    /// Gives a client a slot and returns the slot's number. Returns `None` if no slot is free or
+    /// the slots are closed.
     fn take(&mut self, end: UnixStream) -> Option<usize> {
         if self.is_closed {
             return None;
         }
-        for (place, seat) in self.taken.iter_mut().enumerate() {
-            if seat.is_none() {
-                *seat = Some(Seated {
+        for (place, slot) in self.taken.iter_mut().enumerate() {
+            if slot.is_none() {
+                *slot = Some(ClientSlot {
                     end,
                     is_console: false,
                 });
@@ -85,8 +86,8 @@ impl Seats {
     /// Returns the number of consoles.
     fn consoles(&self) -> usize {
         let mut count = 0usize;
-        for seat in self.taken.iter() {
-            if let Some(seated) = seat {
+        for slot in self.taken.iter() {
+            if let Some(seated) = slot {
                 count = count.saturating_add(usize::from(seated.is_console));
             }
         }
@@ -104,19 +105,19 @@ impl Seats {
         true
     }
 
-    /// Frees a client's seat.
+    /// Frees a client's slot.
     fn leave(&mut self, place: usize) {
-        if let Some(seat) = self.taken.get_mut(place) {
-            *seat = None;
+        if let Some(slot) = self.taken.get_mut(place) {
+            *slot = None;
         }
     }
 
-    /// Closes the seats: gives no client a seat any more, and ends the connections of all clients
+    /// Closes the slots: gives no client a slot any more, and ends the connections of all clients
     /// that have one.
     fn close(&mut self) {
         self.is_closed = true;
-        for seat in self.taken.iter() {
-            if let Some(seated) = seat {
+        for slot in self.taken.iter() {
+            if let Some(seated) = slot {
                 let _ = seated.end.shutdown(Shutdown::Both);
             }
         }
@@ -138,7 +139,7 @@ pub(crate) struct Service {
 
 /// The state that the clients share.
 #[derive(Drop)]
-struct Hall<'x, J: Naming, R> {
+struct ServerState<'x, J: Naming, R, T> {
     /// The runtime, which waits and starts threads.
     rt: &'x R,
     /// The allocator of the answers.
@@ -147,28 +148,26 @@ struct Hall<'x, J: Naming, R> {
     running: Running<'x, J>,
     /// The service for the clients.
     service: &'x Service,
-    /// The seats of the clients.
-    seats: &'x Mutex<Seats>,
+    /// The slots of the clients.
+    slots: &'x Mutex<ClientSlots>,
     /// The sessions with edges elsewhere.
     sessions: &'x Mutex<Sessions>,
     /// The edges elsewhere that the configuration doesn't name.
     unlisted: &'x Mutex<Known>,
+    /// The system's counters at the sockets of the edges.
+    system: &'x T,
 }
 
 /// Answers a client's lines until the client ends, sends nothing for too long, or doesn't read the
 /// answers in time.
-fn console<J: Naming, R: Wait>(hall: &Hall<'_, J, R>, stream: &UnixStream) -> io::Result<()> {
-    stream.set_read_timeout(Some(Duration::from_secs(hall.service.idle)))?;
-    let mut reader = Reader::new(stream);
+fn console<J: Naming, R: Wait, T: SystemDrops>(
+    server: &ServerState<'_, J, R, T>,
+    stream: &UnixStream,
+) -> io::Result<()> {
+    stream.set_read_timeout(Some(Duration::from_secs(server.service.idle)))?;
+    let mut reader = Reader::new(ClientStream::new(stream));
     let mut out = Buffered::new(Writer::new(stream));
-    let conversed = converse(
-        hall.rt,
-        hall.alloc,
-        &hall.running,
-        hall.unlisted,
-        &mut reader,
-        &mut out,
-    );
+    let conversed = converse(server.alloc, server.host(), &mut reader, &mut out);
     let _ = out.abandon();
     if conversed.is_err() {
         // A read timed out, or the client doesn't read: then this line has no room either.
@@ -179,13 +178,13 @@ fn console<J: Naming, R: Wait>(hall: &Hall<'_, J, R>, stream: &UnixStream) -> io
 }
 
 /// Serves a client that is a console, or writes `busy` to it if there are six consoles already.
-fn console_seated<J: Naming, R: Wait>(
-    hall: &Hall<'_, J, R>,
+fn console_seated<J: Naming, R: Wait, T: SystemDrops>(
+    server: &ServerState<'_, J, R, T>,
     stream: &UnixStream,
     place: usize,
 ) -> io::Result<()> {
-    if hall.seats.lock(hall.rt).converse(place) {
-        console(hall, stream)
+    if server.slots.lock(server.rt).converse(place) {
+        console(server, stream)
     } else {
         say(stream, b"busy\n");
         Ok(())
@@ -198,9 +197,9 @@ fn say(stream: &UnixStream, words: &[u8]) {
     let _ = stream.write_all(words);
 }
 
-/// Serves a client in a seat by its first line.
-fn attend<J: Naming + Send + Sync, R: Threads + Wait + Clock + Sync>(
-    hall: &Hall<'_, J, R>,
+/// Serves a client in a slot by its first line.
+fn attend<J: Naming + Send + Sync, R: Threads + Wait + Clock + Sync, T: SystemDrops + Sync>(
+    server: &ServerState<'_, J, R, T>,
     stream: &UnixStream,
     place: usize,
 ) -> io::Result<()> {
@@ -208,120 +207,148 @@ fn attend<J: Naming + Send + Sync, R: Threads + Wait + Clock + Sync>(
     stream.set_write_timeout(patience)?;
     stream.set_read_timeout(patience)?;
     match wanted_by(stream) {
-        Wanted::Console => console_seated(hall, stream, place)?,
-        Wanted::Records => {
+        ClientRequest::Console => console_seated(server, stream, place)?,
+        ClientRequest::Records => {
             stream.set_read_timeout(None)?;
-            exchange(hall.served_edges(), stream);
+            exchange(server.served_edges(), stream);
         }
-        Wanted::Unknown => say(
+        ClientRequest::Unknown => say(
             stream,
             b"error: the first line is neither 'console' nor 'records'\n",
         ),
-        Wanted::Nothing => {}
+        ClientRequest::Nothing => {}
     }
     Ok(())
 }
 
-/// Serves a client, ends its connection, and frees its seat.
-fn attend_seated<J: Naming + Send + Sync, R: Threads + Wait + Clock + Sync>(
-    hall: &Hall<'_, J, R>,
+/// Serves a client, ends its connection, and frees its slot.
+fn attend_seated<J: Naming + Send + Sync, R: Threads + Wait + Clock + Sync, T: SystemDrops + Sync>(
+    server: &ServerState<'_, J, R, T>,
     stream: UnixStream,
     place: usize,
 ) {
-    let _ = attend(hall, &stream, place);
+    let _ = attend(server, &stream, place);
     let _ = stream.shutdown(Shutdown::Both);
-    hall.seats.lock(hall.rt).leave(place);
+    server.slots.lock(server.rt).leave(place);
 }
 
-/// Gives a client a seat and a thread, or writes `busy` to it if it gets no seat.
-fn let_in<'s, 'x: 's, J: Naming + Send + Sync, R: Threads + Wait + Clock + Sync>(
-    scope: &Scope<'s, &'x ()>,
-    hall: &'x Hall<'x, J, R>,
-    stream: UnixStream,
-) {
+/// Gives a client a slot and a thread, or writes `busy` to it if it gets no slot.
+fn admit<
+    's,
+    'x: 's,
+    J: Naming + Send + Sync,
+    R: Threads + Wait + Clock + Sync,
+    T: SystemDrops + Sync,
+>(scope: &Scope<'s, &'x ()>, server: &'x ServerState<'x, J, R, T>, stream: UnixStream) {
     let Ok(end) = stream.try_clone() else {
         return;
     };
-    let seat = hall.seats.lock(hall.rt).take(end);
-    let Some(place) = seat else {
+    let slot = server.slots.lock(server.rt).take(end);
+    let Some(place) = slot else {
         say(&stream, b"busy\n");
         return;
     };
     if scope
-        .spawn(move || attend_seated(hall, stream, place))
+        .spawn(move || attend_seated(server, stream, place))
         .is_err()
     {
-        hall.seats.lock(hall.rt).leave(place);
+        server.slots.lock(server.rt).leave(place);
     }
 }
 
-/// Accepts clients as they connect, until the hall is closed.
-fn receive<'s, 'x: 's, J: Naming + Send + Sync, R: Threads + Wait + Clock + Sync>(
-    scope: &Scope<'s, &'x ()>,
-    hall: &'x Hall<'x, J, R>,
-) {
-    for _ in hall.rt.forever() {
-        match hall.service.socket.accept() {
-            Ok(stream) => let_in(scope, hall, stream),
-            Err(_) if hall.is_closed() => return,
-            Err(_) => thread::sleep(hall.rt, Duration::from_millis(PAUSE)),
+/// Accepts clients as they connect, until the server is closed.
+fn receive<
+    's,
+    'x: 's,
+    J: Naming + Send + Sync,
+    R: Threads + Wait + Clock + Sync,
+    T: SystemDrops + Sync,
+>(scope: &Scope<'s, &'x ()>, server: &'x ServerState<'x, J, R, T>) {
+    for _ in server.rt.forever() {
+        match server.service.socket.accept() {
+            Ok(stream) => admit(scope, server, stream),
+            Err(_) if server.is_closed() => return,
+            Err(_) => thread::sleep(server.rt, Duration::from_millis(PAUSE)),
         }
     }
 }
 
-/// Serves clients until the hall is closed and all clients have gone.
-fn serve_clients<'x, J: Naming + Send + Sync, R: Threads + Wait + Clock + Sync>(
-    hall: &'x Hall<'x, J, R>,
-) {
-    thread::scope(thread::scope_env(), hall.rt, move |scope| {
-        receive(scope, hall)
+/// Serves clients until the server is closed and all clients have gone.
+fn serve_clients<
+    'x,
+    J: Naming + Send + Sync,
+    R: Threads + Wait + Clock + Sync,
+    T: SystemDrops + Sync,
+>(server: &'x ServerState<'x, J, R, T>) {
+    thread::scope(thread::scope_env(), server.rt, move |scope| {
+        receive(scope, server)
     })
 }
 
-/// Marks edges elsewhere as away or back at the edges of this process, until the hall is closed.
-fn watch_sessions<J: Naming, R: Wait + Clock>(hall: &Hall<'_, J, R>) {
-    for _ in hall.rt.forever() {
-        if hall.is_closed() {
+/// Marks edges elsewhere as away or back at the edges of this process, until the server is closed.
+fn watch_sessions<J: Naming, R: Wait + Clock, T: SystemDrops>(server: &ServerState<'_, J, R, T>) {
+    for _ in server.rt.forever() {
+        if server.is_closed() {
             return;
         }
-        if !enter_due(hall.rt, &hall.running, hall.sessions, hall.service.hold) {
-            thread::sleep(hall.rt, Duration::from_millis(PAUSE));
+        if !enter_due(
+            server.rt,
+            &server.running,
+            server.sessions,
+            server.service.hold,
+        ) {
+            thread::sleep(server.rt, Duration::from_millis(PAUSE));
         }
     }
 }
 
-/// Reads an input out, and then closes the hall. Returns `true` if no read failed and the end came
-/// within 2^40 reads. Serves clients and watches sessions meanwhile, if a thread can be started for
-/// each of the two.
-fn read_beside<'s, 'x: 's, J: Naming + Send + Sync, R: Threads + Wait + Clock + Sync, E: In>(
-    scope: &Scope<'s, &'x ()>,
-    hall: &'x Hall<'x, J, R>,
-    reader: &mut E,
-) -> bool
+/// Reads an input out, and then closes the server. Returns `true` if no read failed and the end
+/// came within 2^40 reads. Serves clients and watches sessions meanwhile, if a thread can be
+/// started for each of the two.
+fn read_beside<
+    's,
+    'x: 's,
+    J: Naming + Send + Sync,
+    R: Threads + Wait + Clock + Sync,
+    T: SystemDrops + Sync,
+    E: In,
+>(scope: &Scope<'s, &'x ()>, server: &'x ServerState<'x, J, R, T>, reader: &mut E) -> bool
     requires { Allows (2 ^ 40) (E.end reader.old) }
     ensures { ReadsOut (E.end reader.old) (E.end reader.new) result }
 {
-    let _ = scope.spawn(move || serve_clients(hall));
-    let _ = scope.spawn(move || watch_sessions(hall));
+    let _ = scope.spawn(move || serve_clients(server));
+    let _ = scope.spawn(move || watch_sessions(server));
     let is_read = is_read_out(reader);
-    hall.close();
+    server.close();
     is_read
 }
 
-impl<J: Naming, R: Wait> Hall<'_, J, R> {
-    /// Returns `true` if the hall is closed to more clients.
+impl<J: Naming, R: Wait, T> ServerState<'_, J, R, T> {
+    /// Returns `true` if the server is closed to more clients.
     fn is_closed(&self) -> bool {
-        self.seats.lock(self.rt).is_closed
+        self.slots.lock(self.rt).is_closed
     }
 
-    /// Closes the hall: accepts no more clients, and ends the connections of all.
+    /// Closes the server: accepts no more clients, and ends the connections of all.
     fn close(&self) {
-        self.seats.lock(self.rt).close();
+        self.slots.lock(self.rt).close();
         self.service.socket.end();
     }
 }
 
-impl<'x, J: Naming, R> Hall<'x, J, R> {
+impl<'x, J: Naming, R, T> ServerState<'x, J, R, T> {
+    /// Returns the edges as a console queries them.
+    fn host(&self) -> LocalEdges<'x, J, R, T>
+        ensures { result.system.now ≡ self.now.system.now }
+    {
+        LocalEdges {
+            rt: self.rt,
+            running: self.running,
+            unlisted: Some(self.unlisted),
+            system: self.system,
+        }
+    }
+
     /// Returns the edges as clients exchange records with them.
     fn served_edges(&self) -> ServedEdges<'x, J, R>
         ensures { result.listed.now ≡ self.now.service.now.listed }
@@ -338,23 +365,26 @@ impl<'x, J: Naming, R> Hall<'x, J, R> {
 }
 
 /// Reads an input out, and serves clients meanwhile. Returns once all clients have gone.
-fn read_serving<'x, J: Naming + Send + Sync, R: Threads + Wait + Clock + Sync, E: In>(
-    hall: &'x Hall<'x, J, R>,
-    reader: &mut E,
-) -> bool
+fn read_serving<
+    'x,
+    J: Naming + Send + Sync,
+    R: Threads + Wait + Clock + Sync,
+    T: SystemDrops + Sync,
+    E: In,
+>(server: &'x ServerState<'x, J, R, T>, reader: &mut E) -> bool
     requires { Allows (2 ^ 40) (E.end reader.old) }
     ensures { ReadsOut (E.end reader.old) (E.end reader.new) result }
 {
     // The closure returns the reader; its ghost name shows that it is this reader.
     let (is_read, _reader) = thread::scope(
         thread::scope_env(),
-        hall.rt,
+        server.rt,
         |scope| -> (bool, &mut E)
             requires { Allows (2 ^ 40) (E.end reader.now) }
             ensures same { result.1.ghost_name ≡ reader.entry.ghost_name }
             ensures read { ReadsOut (E.end reader.entry.now) (E.end result.1.now) result.0 }
         {
-            let is_read = read_beside(scope, hall, &mut *reader);
+            let is_read = read_beside(scope, server, &mut *reader);
             (is_read, reader)
         },
     );
@@ -363,11 +393,18 @@ fn read_serving<'x, J: Naming + Send + Sync, R: Threads + Wait + Clock + Sync, E
 
 /// Reads an input out, and serves the clients of a socket meanwhile, if there is one. Returns
 /// `true` if no read failed and the end came within 2^40 reads. Returns once all clients have gone.
-pub(crate) fn read_out<'x, J: Naming + Send + Sync, R: Threads + Wait + Clock + Sync, E: In>(
+pub(crate) fn read_out<
+    'x,
+    J: Naming + Send + Sync,
+    R: Threads + Wait + Clock + Sync,
+    T: SystemDrops + Sync,
+    E: In,
+>(
     rt: &'x R,
     alloc: Global,
     running: Running<'x, J>,
     service: Option<&'x Service>,
+    system: &'x T,
     reader: &mut E,
 ) -> bool
     requires { Allows (2 ^ 40) (E.end reader.old) }
@@ -376,17 +413,18 @@ pub(crate) fn read_out<'x, J: Naming + Send + Sync, R: Threads + Wait + Clock + 
     let Some(service) = service else {
         return is_read_out(reader);
     };
-    let seats = Mutex::new(Seats::new());
+    let slots = Mutex::new(ClientSlots::new());
     let sessions = Mutex::new(Sessions::new());
     let unlisted = Mutex::new(Known::new());
-    let hall = Hall {
+    let server = ServerState {
         rt,
         alloc,
         running,
         service,
-        seats: &seats,
+        slots: &slots,
         sessions: &sessions,
         unlisted: &unlisted,
+        system,
     };
-    read_serving(&hall, reader)
+    read_serving(&server, reader)
 }

@@ -76,7 +76,6 @@ impl ListenError {
 }
 
 /// Writes at which path nothing can listen, and why.
-#[tactic(auto, using(ether_wire::proofs::Appending::with_text_twice))]
 pub(crate) fn put_listen_error<N: Out>(
     notes: &mut N,
     path: &[u8],
@@ -99,7 +98,7 @@ fn file_at<R: Files>(rt: &R, path: &str) -> Option<(u64, u64)> {
 
 /// What is at the path of a control socket.
 #[derive(Clone, Copy)]
-enum Found {
+enum PathState {
     /// No file.
     Nothing,
     /// A socket at which no process listens any more, as a killed run leaves one.
@@ -114,7 +113,7 @@ enum Found {
 
 /// What to do before a socket is bound to a path.
 #[derive(Clone, Copy)]
-enum Decision {
+enum BindAction {
     /// Nothing.
     Bind,
     /// Remove the file that is there.
@@ -124,44 +123,44 @@ enum Decision {
 }
 
 /// Returns what is at a path.
-fn found_at<R: Files + Net>(rt: &R, path: &str) -> Found {
+fn found_at<R: Files + Net>(rt: &R, path: &str) -> PathState {
     let found = match fs::symlink_metadata(rt, path) {
         Ok(found) => found,
-        Err(error) if error.kind() == ErrorKind::NotFound => return Found::Nothing,
-        Err(error) => return Found::Hidden(listen_error_of(error.kind())),
+        Err(error) if error.kind() == ErrorKind::NotFound => return PathState::Nothing,
+        Err(error) => return PathState::Hidden(listen_error_of(error.kind())),
     };
     if !found.file_type().is_socket() {
-        return Found::Foreign;
+        return PathState::Foreign;
     }
     match UnixStream::connect(rt, path) {
-        Ok(_) => Found::Served,
-        Err(error) if error.kind() == ErrorKind::ConnectionRefused => Found::Stale,
-        Err(error) => Found::Hidden(listen_error_of(error.kind())),
+        Ok(_) => PathState::Served,
+        Err(error) if error.kind() == ErrorKind::ConnectionRefused => PathState::Stale,
+        Err(error) => PathState::Hidden(listen_error_of(error.kind())),
     }
 }
 
 /// Returns what to do with what is at a path. Only a socket at which no process listens any more is
 /// removed.
-fn what_to_do(found: Found) -> Decision
+fn what_to_do(found: PathState) -> BindAction
     ensures { result ≡ what_to_do found }
 {
     match found {
-        Found::Nothing => Decision::Bind,
-        Found::Stale => Decision::Replace,
-        Found::Served => Decision::Refuse(ListenError::InUse),
-        Found::Foreign => Decision::Refuse(ListenError::NotSocket),
-        Found::Hidden(why) => Decision::Refuse(why),
+        PathState::Nothing => BindAction::Bind,
+        PathState::Stale => BindAction::Replace,
+        PathState::Served => BindAction::Refuse(ListenError::InUse),
+        PathState::Foreign => BindAction::Refuse(ListenError::NotSocket),
+        PathState::Hidden(why) => BindAction::Refuse(why),
     }
 }
 
 /// Follows the decision on a path. Returns why no socket can be bound to it, if so.
-fn follow<R: Files>(rt: &R, path: &str, decision: Decision) -> Result<(), ListenError>
+fn follow<R: Files>(rt: &R, path: &str, decision: BindAction) -> Result<(), ListenError>
     ensures { Follows decision result }
 {
     match decision {
-        Decision::Bind => Ok(()),
-        Decision::Replace => explained(fs::remove_file(rt, path)),
-        Decision::Refuse(why) => Err(why),
+        BindAction::Bind => Ok(()),
+        BindAction::Replace => explained(fs::remove_file(rt, path)),
+        BindAction::Refuse(why) => Err(why),
     }
 }
 

@@ -1,5 +1,6 @@
 //! The first line of a client, which names its request.
 
+use crate::client_stream::ClientStream;
 use arrayvec::ArrayVec;
 use std::io;
 use std::io::Read;
@@ -9,7 +10,7 @@ use std::os::unix::net::UnixStream;
 const OPENING: usize = 16;
 
 /// A client's request, by its first line.
-pub(crate) enum Wanted {
+pub(crate) enum ClientRequest {
     /// A conversation, line after line.
     Console,
     /// An exchange of records.
@@ -22,9 +23,8 @@ pub(crate) enum Wanted {
 
 /// Returns the next octet, or `None` at the end.
 fn next_octet(stream: &UnixStream) -> io::Result<Option<u8>> {
-    let mut stream = stream;
     let mut octet = [0; 1];
-    match stream.read(&mut octet)? {
+    match ClientStream::new(stream).read(&mut octet)? {
         0 => Ok(None),
         _ => Ok(Some(octet[0])),
     }
@@ -47,11 +47,11 @@ fn first_line(stream: &UnixStream) -> Option<ArrayVec<u8, OPENING>> {
 }
 
 /// Reads a client's first line, and returns its request.
-pub(crate) fn wanted_by(stream: &UnixStream) -> Wanted {
+pub(crate) fn wanted_by(stream: &UnixStream) -> ClientRequest {
     match first_line(stream) {
-        Some(line) if line.as_slice() == b"console".as_slice() => Wanted::Console,
-        Some(line) if line.as_slice() == b"records".as_slice() => Wanted::Records,
-        Some(_) => Wanted::Unknown,
-        None => Wanted::Nothing,
+        Some(line) if line.as_slice() == b"console".as_slice() => ClientRequest::Console,
+        Some(line) if line.as_slice() == b"records".as_slice() => ClientRequest::Records,
+        Some(_) => ClientRequest::Unknown,
+        None => ClientRequest::Nothing,
     }
 }

@@ -1,11 +1,13 @@
 //! Edges that run over UDP sockets until an input ends, and their reports at the end.
-#![tactic(auto)]
+#![tactic(auto, using(ether_wire::proofs::Appending::with_text_twice, ether_wire::proofs::Appending::with_text_none))]
 
 mod begun;
 mod bound;
+mod client_stream;
 mod clients;
 mod control_socket;
 mod first_line;
+mod laws;
 mod links;
 mod lives;
 mod named;
@@ -17,15 +19,21 @@ mod records;
 mod run;
 mod serve;
 mod settling;
+mod socket_drops;
 mod sockets;
+mod system;
 mod system_drops;
 mod thread_check;
 mod watching;
 
 pub use control_socket::ListenError;
+pub use laws::ran_is_sound;
 pub use needs::{Needs, needs_of};
-pub use obstacles::{Cause, End, Limits, Obstacle, Seat, obstacles_of};
+pub use obstacles::{Cause, EdgePort, End, Obstacle, ProcessLimits, obstacles_of};
 pub use print_needs::{put_asked_needs, put_obstacles};
 pub use run::{run_buffered, run_edges};
 pub use serve::{serve_buffered, serve_edges};
 pub use sockets::BindError;
+pub use system::System;
+pub use system_drops::UdpTable;
+pub use thread_check::ThreadPolicy;

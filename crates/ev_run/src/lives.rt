@@ -106,16 +106,28 @@ impl PeerLives {
         }
     }
 
+    /// Compares the lives with the updates that the first edge of this process holds, page by page.
+    /// Returns `None` if it stops before, since the edge has ended or memory is refused.
+    fn compare_pages<J: Naming, R: Wait>(&self, edges: &ServedEdges<'_, J, R>) -> Option<()> {
+        let control = edges.running.edge(1)?;
+        let mut after = None;
+        for _ in edges.rt.forever() {
+            let page = control.page(edges.rt, edges.alloc, after)?.ok()?;
+            self.report(edges, page.updates());
+            if page.is_last() {
+                return Some(());
+            }
+            after = page.end();
+        }
+        unreachable!()
+    }
+
     /// Compares the lives, once, with the updates that the first edge of this process holds.
     pub(crate) fn compare<J: Naming, R: Wait>(&mut self, edges: &ServedEdges<'_, J, R>) {
         if self.is_done {
             return;
         }
-        if let Some(control) = edges.running.edge(1) {
-            if let Some(Ok(held)) = control.table(edges.rt, edges.alloc) {
-                self.report(edges, held.as_slice());
-            }
-        }
+        let _compared = self.compare_pages(edges);
         self.end();
     }
 }
@@ -136,16 +148,15 @@ fn edge_at<'x, J: Naming, R: Wait>(
     None
 }
 
-/// Returns the life of this edge in which it announced those of the updates that are its own.
-/// Returns `None` if memory is refused.
-fn life_in(alloc: Global, originator: Addr, updates: &[Update]) -> Option<Life> {
-    let mut life = Life::new(alloc, originator);
+/// Adds to a life those of the updates that are of its edge. Returns `None` if memory is refused.
+fn add_own(life: &mut Life, updates: &[Update]) -> Option<()> {
+    let originator = life.originator();
     for update in updates {
         if update.register().originator == originator && life.add(update).is_err() {
             return None;
         }
     }
-    Some(life)
+    Some(())
 }
 
 /// Returns the present life of an edge of this process, by its table, or `None` if memory is
@@ -155,8 +166,17 @@ fn present_life<J: Naming, R: Wait>(
     originator: Addr,
 ) -> Option<Life> {
     let control = edge_at(edges, originator)?;
-    let updates = control.table(edges.rt, edges.alloc)?.ok()?;
-    life_in(edges.alloc, originator, updates.as_slice())
+    let mut life = Life::new(edges.alloc, originator);
+    let mut after = None;
+    for _ in edges.rt.forever() {
+        let page = control.page(edges.rt, edges.alloc, after)?.ok()?;
+        add_own(&mut life, page.updates())?;
+        if page.is_last() {
+            return Some(life);
+        }
+        after = page.end();
+    }
+    unreachable!()
 }
 
 /// The edges of this process whose updates come back over a connection.

@@ -1,7 +1,7 @@
 //! Edges that run under a name of their history. Each run picks the name.
 ghost use Rattle.std.specs.Prelude.{◌≡◌, ◌∷◌, [], ◌^◌, length, vec_len, IfOk, OnErr};
 ghost use Rattle.ether_wire.specs.Ends.{IsOpen, Allows};
-ghost use Rattle.ev_history.specs.declared.entry.Entry.TheVariants.{Begins};
+ghost use Rattle.ev_history.specs.declared.log_entry.LogEntry.TheVariants.{Begins};
 ghost use Rattle.ev_peers.specs.EdgeThreads.{AreRanFrom};
 ghost use Rattle.ev_peers.specs.History.{configs_of, IsHistoryOf};
 ghost use Rattle.ev_run.specs.RunEdges.{ReadsOut};
@@ -9,12 +9,13 @@ ghost use Rattle.ev_run.specs.Inner.RunEdges.{TellsMeanwhile};
 
 use crate::bound::{Sockets, end_all_reads};
 use crate::clients::read_out;
-use crate::run::{Host, Ready, tell_meanwhile};
+use crate::run::{Ready, RunContext, tell_meanwhile};
 use ether_wire::{Device, In, Out};
+use ev_console::SystemDrops;
 use ev_history::{Naming, NewHistory};
 use ev_links::{UdpOut, Wire};
 use ev_mailboxes::Boards;
-use ev_peers::{Mailroom, OpenGate, Outcome, Start, run_all};
+use ev_peers::{EdgeOutcome, Mailroom, OpenGate, PreparedEdges, run_all};
 use std::alloc::AllocError;
 use std::sync::Wait;
 use std::sync::atomic::{AtomicBool, Ordering};
@@ -22,25 +23,33 @@ use std::thread::{Threads, join};
 use std::time::Clock;
 
 /// The result of a run: that of each edge, and `true` if the input was read up to its end.
-pub(crate) type Reached = (Vec<Result<Outcome, AllocError>>, bool);
+pub(crate) type Reached = (Vec<Result<EdgeOutcome, AllocError>>, bool);
 
-/// The means to stop edges.
+/// The sockets of edges, and the means to stop them.
 #[derive(Drop)]
-pub(crate) struct Ends<'x> {
+pub(crate) struct Ends<'x, T> {
     /// The sockets of the edges.
     pub(crate) sockets: &'x [Sockets],
     /// The flag that makes the edges stop.
     pub(crate) stop: &'x AtomicBool,
+    /// The system's counters at the sockets.
+    pub(crate) system: &'x T,
 }
 
 /// Runs edges until the reader ends, and then stops them. Clients of a control socket may query
 /// them meanwhile.
-fn run_reading<'x, J: Naming + Send + Sync, R: Threads + Wait + Clock + Sync, E: In>(
-    host: &Host<'x, R>,
-    start: Start<J, Wire<'x, R>, UdpOut<'x>>,
+fn run_reading<
+    'x,
+    J: Naming + Send + Sync,
+    R: Threads + Wait + Clock + Sync,
+    T: SystemDrops + Sync,
+    E: In,
+>(
+    host: &RunContext<'x, R>,
+    start: PreparedEdges<J, Wire<'x, R>, UdpOut<'x>>,
     mailroom: &Mailroom<J>,
     boards: &Boards,
-    ends: Ends<'x>,
+    ends: Ends<'x, T>,
     reader: &mut E,
 ) -> Reached
     requires { Allows (2 ^ 40) (E.end reader.old) }
@@ -50,7 +59,11 @@ fn run_reading<'x, J: Naming + Send + Sync, R: Threads + Wait + Clock + Sync, E:
     ensures read { ReadsOut (E.end reader.old) (E.end reader.new) result.1 }
 {
     let (rt, alloc, service) = (host.rt, host.alloc, host.service);
-    let Ends { sockets, stop } = ends;
+    let Ends {
+        sockets,
+        stop,
+        system,
+    } = ends;
     // The closure returns the reader; its ghost name shows that it is this reader.
     let (ended, (is_read, _reader)) = run_all(
         rt,
@@ -64,7 +77,7 @@ fn run_reading<'x, J: Naming + Send + Sync, R: Threads + Wait + Clock + Sync, E:
             ensures read { ReadsOut (E.end reader.entry.now) (E.end result.1.now) result.0 }
         {
             let running = mailroom.running(boards);
-            let is_read = read_out(rt, alloc, running, service, &mut *reader);
+            let is_read = read_out(rt, alloc, running, service, system, &mut *reader);
             stop.store(true, Ordering::SeqCst);
             end_all_reads(sockets);
             (is_read, reader)
@@ -75,13 +88,13 @@ fn run_reading<'x, J: Naming + Send + Sync, R: Threads + Wait + Clock + Sync, E:
 
 /// Edges over sockets that are about to run, and their history, which has just begun.
 #[derive(Drop)]
-pub(crate) struct Prepared<'x, R> {
+pub(crate) struct Prepared<'x, R, T> {
     /// The edges.
     pub(crate) setups: Vec<Ready<'x, R>>,
     /// Their history.
     pub(crate) history: NewHistory,
     /// The means to stop them.
-    pub(crate) ends: Ends<'x>,
+    pub(crate) ends: Ends<'x, T>,
 }
 
 /// Runs edges under a name of their history until the reader ends, and writes their alerts
@@ -94,11 +107,12 @@ pub(crate) fn run_named<
     'x,
     J: Naming + Send + Sync,
     R: Threads + Wait + Clock + Sync,
+    T: SystemDrops + Sync,
     E: In,
     N: Out + Send,
 >(
-    host: &Host<'x, R>,
-    prepared: Prepared<'x, R>,
+    host: &RunContext<'x, R>,
+    prepared: Prepared<'x, R, T>,
     reader: &mut E,
     notes: &mut N,
 ) -> Result<(Result<(), Device>, Reached), AllocError>
@@ -122,7 +136,9 @@ pub(crate) fn run_named<
         ends,
     } = prepared;
     let boards = Boards::new(alloc, setups.len())?;
-    let (start, mailroom) = Start::<J, Wire<'x, R>, UdpOut<'x>>::new(alloc, setups, history)?;
+    let (start, mailroom) = PreparedEdges::<J, Wire<'x, R>, UdpOut<'x>>::new(
+        alloc, setups, history,
+    )?;
     // The closures return `reader` and `notes`; their ghost names show that they are these.
     let (first, second) = join(
         rt,

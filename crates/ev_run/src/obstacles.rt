@@ -37,7 +37,7 @@ pub enum Cause {
 
 /// A port of an edge. Both numbers count from 1.
 #[derive(Clone, Copy, Debug, PartialEq, Eq)]
-pub struct Seat {
+pub struct EdgePort {
     /// The number of the edge.
     pub edge: u64,
     /// The number of the port.
@@ -50,7 +50,7 @@ pub enum Obstacle {
     /// The address of the edge with this number is 0.0.0.0.
     Unheard(u64),
     /// This end of a port is of no use.
-    Useless(Seat, End, Endpoint, Cause),
+    Useless(EdgePort, End, Endpoint, Cause),
     /// The first number is that of the sockets. The second is that of the descriptors that are
     /// allowed, which are too few.
     TooMany(u64, u64),
@@ -61,7 +61,7 @@ pub enum Obstacle {
 
 /// The limits of the process, as far as they are known.
 #[derive(Clone, Copy, Debug, PartialEq, Eq)]
-pub struct Limits {
+pub struct ProcessLimits {
     /// The number of descriptors that the process may have.
     pub descriptors: Option<u64>,
     /// The number of threads that all processes of its user may have together.
@@ -70,7 +70,7 @@ pub struct Limits {
 
 /// The ends with which the ends of a port are compared.
 #[derive(Clone, Copy)]
-struct Others<'a> {
+struct OtherEnds<'a> {
     /// All edges.
     edges: &'a [EdgeConfig],
     /// The links of the edges before its own.
@@ -141,7 +141,7 @@ fn is_before(before: &[ArrayVec<PortEndpoints, 64>], at: &Endpoint) -> bool
 }
 
 /// Returns why a port can't receive its frames at this endpoint, or `None` if it can.
-fn local_cause(others: &Others<'_>, at: &Endpoint) -> Option<Cause>
+fn local_cause(others: &OtherEnds<'_>, at: &Endpoint) -> Option<Cause>
     ensures { result ≡ local_cause others.now.edges.now others.now.before.now others.now.ports.now
         at.now }
 {
@@ -173,7 +173,7 @@ fn remote_cause(at: &Endpoint) -> Option<Cause>
 /// Adds an end of a port if there is a cause why it is of no use.
 fn add_useless(
     found: &mut Vec<Obstacle>,
-    seat: Seat,
+    seat: EdgePort,
     end: End,
     at: Endpoint,
     cause: Option<Cause>,
@@ -189,8 +189,8 @@ fn add_useless(
 /// Adds the local end of a port if it is of no use.
 fn add_local(
     found: &mut Vec<Obstacle>,
-    others: &Others<'_>,
-    seat: Seat,
+    others: &OtherEnds<'_>,
+    seat: EdgePort,
     local: Option<Endpoint>,
 ) -> Result<(), AllocError>
     ensures { OnOk result (found.new.items ≡ found.old.items ++ local_obstacles
@@ -208,7 +208,7 @@ fn add_local(
 /// Adds the remote end of a port if it is of no use.
 fn add_remote(
     found: &mut Vec<Obstacle>,
-    seat: Seat,
+    seat: EdgePort,
     remote: Option<Endpoint>,
 ) -> Result<(), AllocError>
     ensures { OnOk result (found.new.items ≡ found.old.items ++ remote_obstacles seat remote) }
@@ -225,8 +225,8 @@ fn add_remote(
 /// Adds the ends of a port that are of no use.
 fn add_port(
     found: &mut Vec<Obstacle>,
-    others: &Others<'_>,
-    seat: Seat,
+    others: &OtherEnds<'_>,
+    seat: EdgePort,
     link: &PortEndpoints,
 ) -> Result<(), AllocError>
     ensures { OnOk result (found.new.items ≡ found.old.items ++ port_obstacles
@@ -248,12 +248,12 @@ fn add_ports(
 {
     for (place, link) in links.iter().enumerate() {
         let (ports, _) = links.split_at(place);
-        let others = Others {
+        let others = OtherEnds {
             edges,
             before,
             ports,
         };
-        let seat = Seat {
+        let seat = EdgePort {
             edge: before.len() as u64 + 1,
             port: place as u64 + 1,
         };
@@ -327,7 +327,7 @@ fn add_limits(
     found: &mut Vec<Obstacle>,
     config: &Config,
     is_asked: bool,
-    limits: Limits,
+    limits: ProcessLimits,
 ) -> Result<(), AllocError>
     ensures { OnOk result (found.new.items ≡ found.old.items
         ++ limit_obstacles config.now.edges.items is_asked limits) }
@@ -346,7 +346,7 @@ pub fn obstacles_of(
     alloc: Global,
     config: &Config,
     is_asked: bool,
-    limits: Limits,
+    limits: ProcessLimits,
 ) -> Result<Vec<Obstacle>, AllocError>
     ensures { IfOk result (λ found. found.items
         ≡ obstacles_of config.now.edges.items config.now.links.items is_asked limits) }

@@ -12,11 +12,10 @@ use crate::system_drops::dropped_at;
 use ether_wire::{Device, Out, put_decimal};
 use ev_config::Endpoint;
 use ev_edge::Edge;
-use ev_peers::Outcome;
+use ev_peers::EdgeOutcome;
 use std::alloc::AllocError;
 
 /// Writes `edge E`, and then the edge's report.
-#[tactic(auto, using(ether_wire::proofs::Appending::with_text_twice))]
 fn put_report<W: Out>(out: &mut W, number: u64, edge: &Edge) -> Result<(), Device>
     requires { IsOpen (W.end out.old) }
     ensures { Puts (W.end out.old) (W.end out.new) (edge_text number edge.now) result }
@@ -28,11 +27,10 @@ fn put_report<W: Out>(out: &mut W, number: u64, edge: &Edge) -> Result<(), Devic
 }
 
 /// Writes the report of an edge, if it ran.
-#[tactic(auto, using(ether_wire::proofs::Appending::with_text_none))]
 fn put_ended<W: Out>(
     out: &mut W,
     number: u64,
-    ended: &Result<Outcome, AllocError>,
+    ended: &Result<EdgeOutcome, AllocError>,
 ) -> Result<(), Device>
     requires { IsOpen (W.end out.old) }
     ensures { Puts (W.end out.old) (W.end out.new) (ended_text number ended.now) result }
@@ -50,7 +48,7 @@ fn put_ended<W: Out>(
 /// `Device` exactly if a call of the writer failed; then no further call is made.
 pub(crate) fn put_reports<W: Out>(
     out: &mut W,
-    ended: &[Result<Outcome, AllocError>],
+    ended: &[Result<EdgeOutcome, AllocError>],
 ) -> Result<(), Device>
     requires { IsOpen (W.end out.old) }
     ensures { Puts (W.end out.old) (W.end out.new) (reports_from 1 ended.now) result }
@@ -62,7 +60,6 @@ pub(crate) fn put_reports<W: Out>(
 }
 
 /// Writes which link a line is for: the tunnel's, or that of the port with this number.
-#[tactic(auto, using(ether_wire::proofs::Appending::with_text_twice))]
 fn put_link<N: Out>(notes: &mut N, place: u64) -> Result<(), Device>
     requires { IsOpen (N.end notes.old) }
     ensures { Puts (N.end notes.old) (N.end notes.new) (link_text place) result }
@@ -75,7 +72,6 @@ fn put_link<N: Out>(notes: &mut N, place: u64) -> Result<(), Device>
 }
 
 /// Writes `edge E `.
-#[tactic(auto, using(ether_wire::proofs::Appending::with_text_twice))]
 fn put_edge<N: Out>(notes: &mut N, number: u64) -> Result<(), Device>
     requires { IsOpen (N.end notes.old) }
     ensures { Puts (N.end notes.old) (N.end notes.new)
@@ -108,7 +104,6 @@ impl Dropped {
 }
 
 /// Writes `: N` and the kind of the drop.
-#[tactic(auto, using(ether_wire::proofs::Appending::with_text_twice))]
 fn put_count<N: Out>(notes: &mut N, dropped: u64, what: Dropped) -> Result<(), Device>
     requires { IsOpen (N.end notes.old) }
     ensures { Puts (N.end notes.old) (N.end notes.new)
@@ -120,7 +115,6 @@ fn put_count<N: Out>(notes: &mut N, dropped: u64, what: Dropped) -> Result<(), D
 }
 
 /// Writes how many frames or datagrams were dropped at a link, if there were any.
-#[tactic(auto, using(ether_wire::proofs::Appending::with_text_twice, ether_wire::proofs::Appending::with_text_none))]
 fn put_dropped<N: Out>(
     notes: &mut N,
     number: u64,
@@ -153,11 +147,10 @@ fn put_lines<N: Out>(notes: &mut N, number: u64, dropped: &[u64]) -> Result<(), 
 }
 
 /// Writes how many frames each line of an edge had no room for, if the edge ran.
-#[tactic(auto, using(ether_wire::proofs::Appending::with_text_none))]
 fn put_drops<N: Out>(
     notes: &mut N,
     number: u64,
-    ended: &Result<Outcome, AllocError>,
+    ended: &Result<EdgeOutcome, AllocError>,
 ) -> Result<(), Device>
     requires { IsOpen (N.end notes.old) }
     ensures { Puts (N.end notes.old) (N.end notes.new) (drops_text number ended.now) result }
@@ -169,7 +162,10 @@ fn put_drops<N: Out>(
 }
 
 /// Writes how many frames each line of the edges that ran had no room for.
-fn put_all_drops<N: Out>(notes: &mut N, ended: &[Result<Outcome, AllocError>]) -> Result<(), Device>
+fn put_all_drops<N: Out>(
+    notes: &mut N,
+    ended: &[Result<EdgeOutcome, AllocError>],
+) -> Result<(), Device>
     requires { IsOpen (N.end notes.old) }
     ensures { Puts (N.end notes.old) (N.end notes.new) (each_from drops_text 1 ended.now) result }
 {
@@ -263,7 +259,7 @@ fn put_all_sockets<N: Out>(notes: &mut N, table: &[u8], sockets: &[Sockets]) -> 
 /// `Device` exactly if a call of the writer failed; then no further call is made.
 pub(crate) fn put_notes<N: Out>(
     notes: &mut N,
-    ended: &[Result<Outcome, AllocError>],
+    ended: &[Result<EdgeOutcome, AllocError>],
     watched: Watched<'_>,
     lost: u64,
 ) -> Result<(), Device>
@@ -279,7 +275,6 @@ pub(crate) fn put_notes<N: Out>(
 }
 
 /// Writes `lost N` if sends failed.
-#[tactic(auto, using(ether_wire::proofs::Appending::with_text_twice, ether_wire::proofs::Appending::with_text_none))]
 fn put_lost<N: Out>(notes: &mut N, lost: u64) -> Result<(), Device>
     requires { IsOpen (N.end notes.old) }
     ensures { Puts (N.end notes.old) (N.end notes.new) (lost_text lost) result }

@@ -6,13 +6,12 @@ ghost use Rattle.ev_run.specs.Needs.{threads_text, sockets_text, memory_text, ne
 ghost use Rattle.ev_run.specs.Obstacles.{lead_text, cause_text, port_text, seat_text, end_text, most_text, most_threads_text, obstacle_text, told_of, obstacles_text};
 
 use crate::needs::Needs;
-use crate::obstacles::{Cause, End, Obstacle, Seat};
+use crate::obstacles::{Cause, EdgePort, End, Obstacle};
 use crate::sockets::put_endpoint;
 use ether_wire::{Device, Out, put_decimal};
 use ev_config::Endpoint;
 
 /// Writes the number of threads.
-#[tactic(auto, using(ether_wire::proofs::Appending::with_text_twice))]
 fn put_threads<W: Out>(out: &mut W, threads: u64) -> Result<(), Device>
     requires { IsOpen (W.end out.old) }
     ensures { Puts (W.end out.old) (W.end out.new) (threads_text threads) result }
@@ -22,7 +21,6 @@ fn put_threads<W: Out>(out: &mut W, threads: u64) -> Result<(), Device>
 }
 
 /// Writes the number of sockets.
-#[tactic(auto, using(ether_wire::proofs::Appending::with_text_twice))]
 fn put_sockets<W: Out>(out: &mut W, sockets: u64) -> Result<(), Device>
     requires { IsOpen (W.end out.old) }
     ensures { Puts (W.end out.old) (W.end out.new) (sockets_text sockets) result }
@@ -32,7 +30,6 @@ fn put_sockets<W: Out>(out: &mut W, sockets: u64) -> Result<(), Device>
 }
 
 /// Writes the amount of memory in MiB.
-#[tactic(auto, using(ether_wire::proofs::Appending::with_text_twice))]
 fn put_memory<W: Out>(out: &mut W, memory: u64) -> Result<(), Device>
     requires { IsOpen (W.end out.old) }
     ensures { Puts (W.end out.old) (W.end out.new) (memory_text memory) result }
@@ -47,7 +44,6 @@ fn put_memory<W: Out>(out: &mut W, memory: u64) -> Result<(), Device>
 /// # Errors
 ///
 /// `Device` exactly if a call of the writer failed; then no further call is made.
-#[tactic(auto, using(ether_wire::proofs::Appending::with_text_twice))]
 fn put_needs<W: Out>(out: &mut W, needs: Needs) -> Result<(), Device>
     requires { IsOpen (W.end out.old) }
     ensures { Puts (W.end out.old) (W.end out.new) (needs_text needs) result }
@@ -58,7 +54,6 @@ fn put_needs<W: Out>(out: &mut W, needs: Needs) -> Result<(), Device>
 }
 
 /// Writes the resources that clients take in addition, if clients may query the run.
-#[tactic(auto, using(ether_wire::proofs::Appending::with_text_none))]
 fn put_clients<W: Out>(out: &mut W, is_asked: bool) -> Result<(), Device>
     requires { IsOpen (W.end out.old) }
     ensures { Puts (W.end out.old) (W.end out.new)
@@ -76,7 +71,6 @@ fn put_clients<W: Out>(out: &mut W, is_asked: bool) -> Result<(), Device>
 /// # Errors
 ///
 /// As `put_needs`.
-#[tactic(auto, using(ether_wire::proofs::Appending::with_text_twice))]
 pub fn put_asked_needs<W: Out>(out: &mut W, needs: Needs, is_asked: bool) -> Result<(), Device>
     requires { IsOpen (W.end out.old) }
     ensures { Puts (W.end out.old) (W.end out.new) (asked_text is_asked needs) result }
@@ -86,7 +80,6 @@ pub fn put_asked_needs<W: Out>(out: &mut W, needs: Needs, is_asked: bool) -> Res
 }
 
 /// Writes `, port P: `.
-#[tactic(auto, using(ether_wire::proofs::Appending::with_text_twice))]
 fn put_port<N: Out>(notes: &mut N, port: u64) -> Result<(), Device>
     requires { IsOpen (N.end notes.old) }
     ensures { Puts (N.end notes.old) (N.end notes.new) (port_text port) result }
@@ -97,8 +90,7 @@ fn put_port<N: Out>(notes: &mut N, port: u64) -> Result<(), Device>
 }
 
 /// Writes `edge E, port P: `.
-#[tactic(auto, using(ether_wire::proofs::Appending::with_text_twice))]
-fn put_seat<N: Out>(notes: &mut N, seat: Seat) -> Result<(), Device>
+fn put_seat<N: Out>(notes: &mut N, seat: EdgePort) -> Result<(), Device>
     requires { IsOpen (N.end notes.old) }
     ensures { Puts (N.end notes.old) (N.end notes.new) (seat_text seat) result }
 {
@@ -119,7 +111,6 @@ fn put_lead<N: Out>(notes: &mut N, end: End) -> Result<(), Device>
 }
 
 /// Writes the kind of an end, and its endpoint.
-#[tactic(auto, using(ether_wire::proofs::Appending::with_text_twice))]
 fn put_end<N: Out>(notes: &mut N, end: End, at: Endpoint) -> Result<(), Device>
     requires { IsOpen (N.end notes.old) }
     ensures { Puts (N.end notes.old) (N.end notes.new) (end_text end at) result }
@@ -142,7 +133,6 @@ fn put_cause<N: Out>(notes: &mut N, cause: Cause) -> Result<(), Device>
 }
 
 /// Writes which edge has the address 0.0.0.0.
-#[tactic(auto, using(ether_wire::proofs::Appending::with_text_twice))]
 fn put_unheard<N: Out>(notes: &mut N, edge: u64) -> Result<(), Device>
     requires { IsOpen (N.end notes.old) }
     ensures { Puts (N.end notes.old) (N.end notes.new)
@@ -154,10 +144,9 @@ fn put_unheard<N: Out>(notes: &mut N, edge: u64) -> Result<(), Device>
 }
 
 /// Writes which end of a port is of no use, and why.
-#[tactic(auto, using(ether_wire::proofs::Appending::with_text_twice))]
 fn put_useless<N: Out>(
     notes: &mut N,
-    seat: Seat,
+    seat: EdgePort,
     end: End,
     at: Endpoint,
     cause: Cause,
@@ -172,7 +161,6 @@ fn put_useless<N: Out>(
 }
 
 /// Writes the number of descriptors that are allowed.
-#[tactic(auto, using(ether_wire::proofs::Appending::with_text_twice))]
 fn put_most<N: Out>(notes: &mut N, most: u64) -> Result<(), Device>
     requires { IsOpen (N.end notes.old) }
     ensures { Puts (N.end notes.old) (N.end notes.new) (most_text most) result }
@@ -183,7 +171,6 @@ fn put_most<N: Out>(notes: &mut N, most: u64) -> Result<(), Device>
 }
 
 /// Writes that there are too many sockets.
-#[tactic(auto, using(ether_wire::proofs::Appending::with_text_twice))]
 fn put_too_many<N: Out>(notes: &mut N, sockets: u64, most: u64) -> Result<(), Device>
     requires { IsOpen (N.end notes.old) }
     ensures { Puts (N.end notes.old) (N.end notes.new)
@@ -194,7 +181,6 @@ fn put_too_many<N: Out>(notes: &mut N, sockets: u64, most: u64) -> Result<(), De
 }
 
 /// Writes the number of threads that are allowed.
-#[tactic(auto, using(ether_wire::proofs::Appending::with_text_twice))]
 fn put_most_threads<N: Out>(notes: &mut N, most: u64) -> Result<(), Device>
     requires { IsOpen (N.end notes.old) }
     ensures { Puts (N.end notes.old) (N.end notes.new) (most_threads_text most) result }
@@ -205,7 +191,6 @@ fn put_most_threads<N: Out>(notes: &mut N, most: u64) -> Result<(), Device>
 }
 
 /// Writes that there are too many threads.
-#[tactic(auto, using(ether_wire::proofs::Appending::with_text_twice))]
 fn put_too_many_threads<N: Out>(notes: &mut N, threads: u64, most: u64) -> Result<(), Device>
     requires { IsOpen (N.end notes.old) }
     ensures { Puts (N.end notes.old) (N.end notes.new)

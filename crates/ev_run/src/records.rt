@@ -3,17 +3,15 @@
 //! edge of the client are written back to it, so that an edge that has restarted withdraws the
 //! routes of its earlier life. The operator receives a message if the configuration doesn't list an
 //! originator, and if an edge was restarted in an incarnation that isn't higher.
-ghost use Rattle.std.specs.Prelude.{◌≡◌, true};
-ghost use Rattle.std.specs.List.{list_any};
-ghost use Rattle.std.specs.Option.{option_map_or};
-ghost use Rattle.ev_exchange.specs.Sending.{is_own};
+ghost use Rattle.std.specs.Prelude.{◌≡◌, ◌∷◌, ◌++◌, [], OnOk};
+ghost use Rattle.ev_exchange.specs.Sending.{own_of};
 
+use crate::client_stream::ClientStream;
 use crate::lives::{OwnLives, PeerLives};
 use crate::watching::second_now;
 use ether_wire::{Addr, Buffered, Flushing, Reader, Writer};
 use ev_exchange::{
-    Announcing, Due, EdgeTable, Entrance, Known, Sender, Sessions, StreamEnd, announce, has_any_of,
-    receive,
+    Announcing, Due, EdgeTable, Entrance, Known, Sender, Sessions, StreamEnd, announce, receive,
 };
 use ev_history::Naming;
 use ev_mailboxes::{Control, Joined, Running};
@@ -71,31 +69,70 @@ struct Announced<'x, J: Naming, R> {
     named: Option<Addr>,
 }
 
-impl<J: Naming, R: Wait> Announced<'_, J, R> {
-    /// Returns `true` if these updates of an edge's table contain one of the named originator, or
-    /// none is named.
-    fn is_taken(&self, updates: &[Update]) -> bool
-        ensures { result
-            ≡ option_map_or (λ o. list_any (is_own o) updates.now) self.now.named true }
-    {
-        match self.named {
-            Some(originator) => has_any_of(originator, updates),
-            None => true,
-        }
+/// Adds an update, if it is of this originator.
+fn add_one(own: &mut Vec<Update>, originator: Addr, update: &Update) -> Result<(), AllocError>
+    ensures { OnOk result
+        (own.new.items ≡ own.old.items ++ own_of originator (update.now ∷ [])) }
+{
+    if update.register().originator == originator {
+        own.push(*update)?;
     }
+    Ok(())
+}
 
-    /// Returns the updates of an edge's table. An edge answers before it takes the waiting updates:
-    /// asks again, up to 100 times, while the table lacks the update that named an originator.
-    fn updates(&self, alloc: Global, control: &Control<'_, J>) -> Option<Vec<Update>> {
+/// Adds those of the updates that are of this originator.
+fn add_own(own: &mut Vec<Update>, originator: Addr, updates: &[Update]) -> Result<(), AllocError>
+    ensures { OnOk result (own.new.items ≡ own.old.items ++ own_of originator updates.now) }
+{
+    for update in updates {
+        add_one(own, originator, update)?;
+    }
+    Ok(())
+}
+
+/// Returns the updates of this originator in an edge's table, which is read page by page. Returns
+/// `None` if the edge has ended or memory is refused.
+fn own_in<J: Naming, R: Wait>(
+    rt: &R,
+    alloc: Global,
+    control: &Control<'_, J>,
+    originator: Addr,
+) -> Option<Vec<Update>> {
+    let mut own = Vec::new(alloc);
+    let mut after = None;
+    for _ in rt.forever() {
+        let page = control.page(rt, alloc, after)?.ok()?;
+        add_own(&mut own, originator, page.updates()).ok()?;
+        if page.is_last() {
+            return Some(own);
+        }
+        after = page.end();
+    }
+    unreachable!()
+}
+
+impl<J: Naming, R: Wait> Announced<'_, J, R> {
+    /// Returns the registers of the named originator in an edge's table, or the edge's own if none
+    /// is named. An edge answers before it takes the waiting updates: asks again, up to 100 times,
+    /// while the table lacks the update that named an originator.
+    fn updates(
+        &self,
+        alloc: Global,
+        control: &Control<'_, J>,
+        address: Addr,
+    ) -> Option<Vec<Update>> {
         let edges = self.connection.edges;
         let rt = edges.rt;
+        let Some(originator) = self.named else {
+            return own_in(rt, alloc, control, address);
+        };
         for _ in 0..TRIES {
-            let updates = control.table(rt, alloc)?.ok()?;
-            if self.is_taken(updates.as_slice()) {
+            let updates = own_in(rt, alloc, control, originator)?;
+            if !updates.as_slice().is_empty() {
                 return Some(updates);
             }
         }
-        control.table(rt, alloc)?.ok()
+        own_in(rt, alloc, control, originator)
     }
 
     /// Waits for the next update of the connection's outbox. Returns the item that it makes due.
@@ -124,7 +161,7 @@ impl<J: Naming, R: Wait> Announcing for Announced<'_, J, R> {
         let edges = self.connection.edges;
         let control = edges.running.edge(edge as usize)?;
         let served = control.served(edges.rt, alloc)?.ok()?;
-        let updates = self.updates(alloc, &control)?;
+        let updates = self.updates(alloc, &control, served.address)?;
         Some(EdgeTable {
             address: served.address,
             updates,
@@ -271,7 +308,10 @@ fn hear<J: Naming, R: Wait + Clock>(connection: &Connection<'_, J, R>) {
         peers: PeerLives::new(connection.edges.alloc),
         own: OwnLives::new(),
     };
-    let incoming = receive(&mut into, &mut Reader::new(connection.stream));
+    let incoming = receive(
+        &mut into,
+        &mut Reader::new(ClientStream::new(connection.stream)),
+    );
     let edges = &connection.edges;
     if let StreamEnd::Faulty(fault) = incoming.end {
         edges.running.refuse(edges.rt, Refused::Record(fault));

@@ -8,7 +8,8 @@ ghost use Rattle.ev_edge.specs.Config.{IsConfig};
 ghost use Rattle.ev_report.specs.Ends.{AreOpen, Holds, devices};
 ghost use Rattle.ev_run.specs.Inner.Sockets.{bound_at, sent_to};
 ghost use Rattle.ev_run.specs.Links.{begun_of, destinations_of, sends_to};
-ghost use Rattle.ev_run.specs.RunEdges.{ReadsOut, sends_failed, link_failed, was_out_of_memory, all_lost, system_text, noted_text, Ran, start_text, RunsEdges};
+ghost use Rattle.ev_run.specs.Sockets.{all_remotes, endpoints_of, lacks_address};
+ghost use Rattle.ev_run.specs.RunEdges.{ReadsOut, sends_failed, link_failed, was_out_of_memory, all_lost, system_text, noted_text, Ran, start_text, Begins, RunsEdges};
 ghost use Rattle.ev_run.specs.Inner.RunEdges.{EachConfig, PutsRest, TellsMeanwhile, TellsRest};
 
 use crate::begun::{begun_in, first_incarnation};
@@ -17,16 +18,18 @@ use crate::clients::Service;
 use crate::links::links_of;
 use crate::named::{Ends, Prepared, run_named};
 use crate::print::{Watched, put_notes, put_reports};
+use crate::socket_drops::SocketDrops;
 use crate::sockets::{StartError, bind_all, put_bind_error};
-use crate::system_drops::udp_table;
-use crate::thread_check::{check_threads, tell_too_few};
+use crate::system::System;
+use crate::system_drops::{UdpTable, rows_of_drops};
+use crate::thread_check::{ThreadPolicy, check_threads, stopped_by};
 use ether_wire::{Device, In, Out};
 use ev_config::Config;
 use ev_edge::EdgeConfig;
 use ev_links::{UdpOut, Wire};
 use ev_mailboxes::{Boards, NoticeBox};
 use ev_notices::notice_worker;
-use ev_peers::{Outcome, Setup, new_history};
+use ev_peers::{EdgeOutcome, Setup, new_history};
 use ev_report::{Buffers, DEVICE, Devices, MEMORY, MOST_READS, status_of};
 use std::alloc::{AllocError, Global};
 use std::fs::Files;
@@ -126,7 +129,7 @@ struct Sum {
 
 impl Sum {
     /// Returns this sum with the faults of one more edge.
-    fn with(self, ended: &Result<Outcome, AllocError>) -> Self
+    fn with(self, ended: &Result<EdgeOutcome, AllocError>) -> Self
         ensures lost { result.lost ≡ min (self.lost + sends_failed ended.now) (2 ^ 64 - 1) }
         ensures device { result.is_device ≡ (self.is_device || link_failed ended.now) }
         ensures out_of_memory { result.is_out_of_memory
@@ -148,7 +151,7 @@ impl Sum {
 }
 
 /// Returns the sum of the faults of these edges.
-fn sum_of(ended: &[Result<Outcome, AllocError>]) -> Sum
+fn sum_of(ended: &[Result<EdgeOutcome, AllocError>]) -> Sum
     ensures lost { result.lost ≡ all_lost ended.now }
     ensures device { result.is_device ≡ list_any link_failed ended.now }
     ensures out_of_memory { result.is_out_of_memory ≡ list_any was_out_of_memory ended.now }
@@ -176,7 +179,7 @@ fn has_failed(sum: Sum, is_read: bool, is_told: bool, is_noted: bool) -> bool
 fn put_rest<N: Out>(
     notes: &mut N,
     told: Result<(), Device>,
-    ended: &[Result<Outcome, AllocError>],
+    ended: &[Result<EdgeOutcome, AllocError>],
     watched: Watched<'_>,
     lost: u64,
 ) -> Result<(), Device>
@@ -195,7 +198,7 @@ fn put_rest<N: Out>(
 /// which were written while the edges ran.
 fn tell_ended<W: Out, N: Out>(
     told: Result<(), Device>,
-    ended: &[Result<Outcome, AllocError>],
+    ended: &[Result<EdgeOutcome, AllocError>],
     watched: Watched<'_>,
     is_read: bool,
     out: &mut W,
@@ -229,7 +232,7 @@ pub(crate) fn tell_meanwhile<R: Wait, N: Out>(
 
 /// The environment in which edges run.
 #[derive(Drop)]
-pub(crate) struct Host<'x, R> {
+pub(crate) struct RunContext<'x, R> {
     /// The runtime, which waits, starts threads, and has sockets and a clock.
     pub(crate) rt: &'x R,
     /// The allocator.
@@ -238,12 +241,12 @@ pub(crate) struct Host<'x, R> {
     pub(crate) service: Option<&'x Service>,
 }
 
-impl<'x, R> Host<'x, R> {
+impl<'x, R> RunContext<'x, R> {
     /// Returns these as one value.
     pub(crate) fn new(rt: &'x R, alloc: Global, service: Option<&'x Service>) -> Self
         ensures { is_some result.service ≡ is_some service.entry }
     {
-        Host { rt, alloc, service }
+        RunContext { rt, alloc, service }
     }
 }
 
@@ -253,8 +256,8 @@ impl<'x, R> Host<'x, R> {
 /// # Errors
 ///
 /// `AllocError` if memory is refused before an edge has begun.
-fn run_bound<'x, 'h: 'x, R: Threads + Wait + Files + Clock + Sync, E: In, W: Out, N: Out + Send>(
-    host: &Host<'h, R>,
+fn run_bound<'x, 'h: 'x, R: Threads + Wait + UdpTable + Clock + Sync, E: In, W: Out, N: Out + Send>(
+    host: &RunContext<'h, R>,
     configs: Vec<EdgeConfig>,
     sockets: &'x [Sockets],
     reader: &mut E,
@@ -280,16 +283,20 @@ fn run_bound<'x, 'h: 'x, R: Threads + Wait + Files + Clock + Sync, E: In, W: Out
     let incarnation = first_incarnation(rt, is_asked);
     let setups = all_ready(rt, alloc, incarnation, configs, sockets, &stop)?;
     let history = new_history(setups.as_slice(), is_asked);
+    let system = SocketDrops { rt, sockets };
     let prepared = Prepared {
         setups,
         history,
         ends: Ends {
             sockets,
             stop: &stop,
+            system: &system,
         },
     };
-    let (told, (ended, is_read)) = run_named::<Brand, R, E, N>(host, prepared, reader, notes)?;
-    let table = udp_table(rt, alloc);
+    let (told, (ended, is_read)) = run_named::<Brand, R, SocketDrops<'_, R>, E, N>(
+        host, prepared, reader, notes,
+    )?;
+    let table = rows_of_drops(rt, alloc);
     let watched = Watched {
         table: table.as_slice(),
         sockets,
@@ -314,19 +321,55 @@ fn tell_start_error<N: Out>(start_error: StartError, notes: &mut N) -> u8
     }
 }
 
+/// Runs the edges of a configuration over these sockets, or returns the status if memory is refused
+/// before an edge has begun.
+fn begin<'h, R: Threads + Wait + UdpTable + Clock + Sync, E: In, W: Out, N: Out + Send>(
+    host: &RunContext<'h, R>,
+    config: Config,
+    sockets: &[Sockets],
+    reader: &mut E,
+    out: &mut W,
+    notes: &mut N,
+) -> u8
+    requires config { AreConfigs config.edges.items }
+    requires many { length sockets.now ≡ vec_len config.edges }
+    requires bound { map bound_at sockets.now ≡ endpoints_of config }
+    requires remotes { map sent_to sockets.now ≡ all_remotes config.links.items }
+    requires addresses { lacks_address config ≡ false }
+    requires reader { Allows (2 ^ 40) (E.end reader.old) }
+    requires out { IsOpen (W.end out.old) }
+    requires notes { IsOpen (N.end notes.old) }
+    ensures { Begins (is_some host.now.service) config
+        (devices (E.end reader.old) (W.end out.old) (N.end notes.old))
+        (devices (E.end reader.new) (W.end out.new) (N.end notes.new)) result }
+{
+    let Config { edges, links: _ } = config;
+    match run_bound(host, edges, sockets, reader, out, notes) {
+        Ok(status) => status,
+        Err(_) => MEMORY,
+    }
+}
+
 /// Runs edges as `run_edges` does, with or without a control socket whose clients may query them
 /// meanwhile.
 pub(crate) fn run_asked<
-    R: Threads + Wait + Net + Files + Clock + Sync,
+    R: Threads + Wait + Net + Files + UdpTable + Clock + Sync,
     E: In,
     W: Out,
     N: Out + Send,
->(host: &Host<'_, R>, config: Config, reader: &mut E, out: &mut W, notes: &mut N) -> u8
+>(
+    host: &RunContext<'_, R>,
+    policy: ThreadPolicy,
+    config: Config,
+    reader: &mut E,
+    out: &mut W,
+    notes: &mut N,
+) -> u8
     requires config { AreConfigs config.edges.items }
     requires reader { Allows (2 ^ 40) (E.end reader.old) }
     requires out { IsOpen (W.end out.old) }
     requires notes { IsOpen (N.end notes.old) }
-    ensures { RunsEdges (is_some host.now.service) config
+    ensures { RunsEdges (is_some host.now.service) policy config
         (devices (E.end reader.old) (W.end out.old) (N.end notes.old))
         (devices (E.end reader.new) (W.end out.new) (N.end notes.new)) result }
 {
@@ -334,13 +377,13 @@ pub(crate) fn run_asked<
         Ok(sockets) => sockets,
         Err(start_error) => return tell_start_error(start_error, notes),
     };
-    if let Err(lack) = check_threads(host.rt, &config, host.service.is_some()) {
-        return tell_too_few(lack, notes);
-    }
-    let Config { edges, links: _ } = config;
-    match run_bound(host, edges, sockets.as_slice(), reader, out, notes) {
-        Ok(status) => status,
-        Err(_) => MEMORY,
+    let sockets = sockets.as_slice();
+    match check_threads(host.rt, &config, host.service.is_some()) {
+        Ok(()) => begin(host, config, sockets, reader, out, notes),
+        Err(lack) => match stopped_by(policy, lack, notes) {
+            Some(status) => status,
+            None => begin(host, config, sockets, reader, out, notes),
+        },
     }
 }
 
@@ -354,43 +397,41 @@ pub(crate) fn run_asked<
 /// Returns the greatest status that applies: 4 if a device failed, which may be a reader, a writer,
 /// a link or a socket that can't be bound; 3 if memory or a thread was refused; else 0. If a socket
 /// can't be bound, no edge begins, and a line on `notes` has the address and the reason. If the
-/// system doesn't start as many threads as the run needs, no edge begins, and a line on `notes` has
-/// both numbers. If a port lacks an address, no edge begins either, and nothing is written.
-pub fn run_edges<R: Threads + Wait + Net + Files + Clock + Sync, E: In, W: Out, N: Out + Send>(
-    rt: &R,
-    alloc: Global,
-    config: Config,
-    reader: &mut E,
-    out: &mut W,
-    notes: &mut N,
-) -> u8
+/// system doesn't start as many threads as the run needs, a line on `notes` has both numbers, and
+/// no edge begins unless the policy of `system` allows it. If a port lacks an address, no edge
+/// begins either, and nothing is written.
+pub fn run_edges<
+    R: Threads + Wait + Net + Files + UdpTable + Clock + Sync,
+    E: In,
+    W: Out,
+    N: Out + Send,
+>(system: &System<'_, R>, config: Config, reader: &mut E, out: &mut W, notes: &mut N) -> u8
     requires config { AreConfigs config.edges.items }
     requires reader { Allows (2 ^ 40) (E.end reader.old) }
     requires out { IsOpen (W.end out.old) }
     requires notes { IsOpen (N.end notes.old) }
-    ensures { RunsEdges false config
+    ensures { RunsEdges false system.now.policy config
         (devices (E.end reader.old) (W.end out.old) (N.end notes.old))
         (devices (E.end reader.new) (W.end out.new) (N.end notes.new)) result }
 {
-    let host = Host::new(rt, alloc, None);
-    run_asked(&host, config, reader, out, notes)
+    let host = RunContext::new(system.rt, system.alloc, None);
+    run_asked(&host, system.policy, config, reader, out, notes)
 }
 
 /// Runs edges as `run_edges` does, with few and large writes. Takes the devices and returns them.
-pub fn run_buffered<H: Threads + Wait + Net + Files + Clock + Sync, R: In, W: Out, N: Out + Send>(
-    rt: &H,
-    alloc: Global,
-    config: Config,
-    devices: Devices<R, W, N>,
-) -> (u8, Devices<R, W, N>)
+pub fn run_buffered<
+    H: Threads + Wait + Net + Files + UdpTable + Clock + Sync,
+    R: In,
+    W: Out,
+    N: Out + Send,
+>(system: &System<'_, H>, config: Config, devices: Devices<R, W, N>) -> (u8, Devices<R, W, N>)
     requires config { AreConfigs config.edges.items }
     requires devices { AreOpen devices }
-    ensures { RunsEdges false config devices result.1 result.0 }
+    ensures { RunsEdges false system.now.policy config devices result.1 result.0 }
 {
     let mut all = Buffers::new(devices);
     let status = run_edges(
-        rt,
-        alloc,
+        system,
         config,
         &mut all.reader,
         &mut all.out,

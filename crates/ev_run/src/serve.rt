@@ -8,12 +8,13 @@ ghost use Rattle.ev_run.specs.Inner.Serving.{listed_by};
 
 use crate::clients::Service;
 use crate::control_socket::{ControlSocket, ListenError, put_listen_error};
-use crate::run::{Host, run_asked};
+use crate::run::{RunContext, run_asked};
+use crate::system::System;
+use crate::system_drops::UdpTable;
 use ether_wire::{In, Out};
-use ev_config::{Config, Served};
+use ev_config::{Config, ServedConfig};
 use ev_exchange::Known;
 use ev_report::{Buffers, DEVICE, Devices};
-use std::alloc::Global;
 use std::fs::Files;
 use std::net::Net;
 use std::sync::Wait;
@@ -45,29 +46,28 @@ fn listed_by(config: &Config) -> Known
 ///
 /// If nothing can listen at the path, no edge begins, a line on `notes` has the reason, and the
 /// status is 4.
-pub fn serve_edges<R: Threads + Wait + Net + Files + Clock + Sync, E: In, W: Out, N: Out + Send>(
-    rt: &R,
-    alloc: Global,
-    served: Served,
-    reader: &mut E,
-    out: &mut W,
-    notes: &mut N,
-) -> u8
+pub fn serve_edges<
+    R: Threads + Wait + Net + Files + UdpTable + Clock + Sync,
+    E: In,
+    W: Out,
+    N: Out + Send,
+>(system: &System<'_, R>, served: ServedConfig, reader: &mut E, out: &mut W, notes: &mut N) -> u8
     requires config { AreConfigs served.config.edges.items }
     requires reader { Allows (2 ^ 40) (E.end reader.old) }
     requires out { IsOpen (W.end out.old) }
     requires notes { IsOpen (N.end notes.old) }
-    ensures { ServesEdges (string_bytes served.control) served.config
+    ensures { ServesEdges system.now.policy (string_bytes served.control) served.config
         (devices (E.end reader.old) (W.end out.old) (N.end notes.old))
         (devices (E.end reader.new) (W.end out.new) (N.end notes.new)) result }
 {
-    let Served {
+    let ServedConfig {
         config,
         control,
         idle,
         hold,
     } = served;
     let path = control.as_bytes();
+    let rt = system.rt;
     let socket = match ControlSocket::open(rt, path) {
         Ok(socket) => socket,
         Err(why) => return tell_listen_error(path, why, notes),
@@ -79,27 +79,27 @@ pub fn serve_edges<R: Threads + Wait + Net + Files + Clock + Sync, E: In, W: Out
         idle,
         hold,
     };
-    let host = Host::new(rt, alloc, Some(&service));
-    let status = run_asked(&host, config, reader, out, notes);
+    let host = RunContext::new(rt, system.alloc, Some(&service));
+    let status = run_asked(&host, system.policy, config, reader, out, notes);
     service.socket.remove(rt, path);
     status
 }
 
 /// Runs edges as `serve_edges` does, with few and large writes. Takes the devices and returns them.
-pub fn serve_buffered<H: Threads + Wait + Net + Files + Clock + Sync, R: In, W: Out, N: Out + Send>(
-    rt: &H,
-    alloc: Global,
-    served: Served,
-    devices: Devices<R, W, N>,
-) -> (u8, Devices<R, W, N>)
+pub fn serve_buffered<
+    H: Threads + Wait + Net + Files + UdpTable + Clock + Sync,
+    R: In,
+    W: Out,
+    N: Out + Send,
+>(system: &System<'_, H>, served: ServedConfig, devices: Devices<R, W, N>) -> (u8, Devices<R, W, N>)
     requires config { AreConfigs served.config.edges.items }
     requires devices { AreOpen devices }
-    ensures { ServesEdges (string_bytes served.control) served.config devices result.1 result.0 }
+    ensures { ServesEdges system.now.policy (string_bytes served.control) served.config
+        devices result.1 result.0 }
 {
     let mut all = Buffers::new(devices);
     let status = serve_edges(
-        rt,
-        alloc,
+        system,
         served,
         &mut all.reader,
         &mut all.out,

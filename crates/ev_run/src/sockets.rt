@@ -87,7 +87,6 @@ impl BindError {
 }
 
 /// Writes `ADDRESS:PORT`.
-#[tactic(auto, using(ether_wire::proofs::Appending::with_text_twice))]
 pub(crate) fn put_endpoint<N: Out>(notes: &mut N, at: Endpoint) -> Result<(), Device>
     requires { IsOpen (N.end notes.old) }
     ensures { Puts (N.end notes.old) (N.end notes.new) (endpoint_text at) result }
@@ -98,7 +97,6 @@ pub(crate) fn put_endpoint<N: Out>(notes: &mut N, at: Endpoint) -> Result<(), De
 }
 
 /// Writes which address can't be bound, and why.
-#[tactic(auto, using(ether_wire::proofs::Appending::with_text_twice))]
 pub(crate) fn put_bind_error<N: Out>(
     notes: &mut N,
     at: Endpoint,

@@ -5,12 +5,12 @@
 //! |---|---|---|
 //! | 2 | where the socket is bound | `0100007F:4E21` for 127.0.0.1:20001 |
 //! | 13 | datagrams dropped there | decimal |
-ghost use Rattle.std.specs.Prelude.{◌≡◌, ◌<◌, true, length, map, option_map, IfOk};
+ghost use Rattle.std.specs.Prelude.{◌≡◌, ◌<◌, true, length, map, option_map, Option, List, ℕ, IfOk};
 ghost use Rattle.std.specs.Fmt.{digit_glyph};
 ghost use Rattle.std.specs.List.{filter, slice_get};
 ghost use Rattle.ev_config.specs.declared.endpoint.Endpoint.{Endpoint};
 ghost use Rattle.ev_run.specs.SystemDrops.{upper_pair, local_text, rows_of, words_of, names, count_of, row_drops, dropped_at};
-ghost use Rattle.ev_run.specs.Inner.SystemDrops.{reports_drops, text_of_rows};
+ghost use Rattle.ev_run.specs.Inner.SystemDrops.{reports_drops, text_of_rows, row_report, greater, reported_at, IsShortened};
 
 use ether_wire::read_decimal;
 use ev_config::Endpoint;
@@ -106,6 +106,41 @@ pub(crate) fn dropped_at(text: &[u8], at: Endpoint) -> u64
         .fold(0, |most: u64, row| most.max(row_drops(&local, row)))
 }
 
+/// Returns the number of datagrams that a row reports as dropped at a socket, or `None` if it isn't
+/// a row of that socket.
+fn row_report(local: &[u8], row: &[u8]) -> Option<u64>
+    ensures { result ≡ row_report local.now row.now }
+{
+    if names(local, word_at(row, 1)) {
+        Some(count_of(word_at(row, 12)))
+    } else {
+        None
+    }
+}
+
+/// Returns the greater of two numbers, or the known one.
+fn greater(one: Option<u64>, other: Option<u64>) -> Option<u64>
+    ensures { result ≡ greater one other }
+{
+    match (one, other) {
+        (Some(one), Some(other)) => Some(one.max(other)),
+        (Some(one), None) => Some(one),
+        (None, other) => other,
+    }
+}
+
+/// Returns the number of datagrams that this text of the system reports as dropped at a socket, or
+/// `None` if it has no row of that socket. If it has several rows, the greatest number counts.
+pub(crate) fn reported_at(text: &[u8], at: Endpoint) -> Option<u64>
+    ensures { result ≡ reported_at text.now at }
+{
+    let local = local_text(at);
+    text.split(|octet| *octet == b'\n')
+        .fold(None, |most: Option<u64>, row| {
+            greater(most, row_report(&local, row))
+        })
+}
+
 /// Returns `true` if a row reports dropped datagrams.
 fn reports_drops(row: &[u8]) -> bool
     ensures { result ≡ reports_drops row.now }
@@ -153,15 +188,42 @@ fn read_table<R: Files>(rt: &R, alloc: Global) -> io::Result<Vec<u8>> {
     Ok(table)
 }
 
+/// The system's table of UDP sockets. A console reads it on a thread of its own. The kit's borrow
+/// checker covers no such thread that rests on `Files`, which has types of its own.
+pub trait UdpTable {
+    /// The system gave this text of its table, or none.
+    ghost shows: { Self → Option (List ℕ) → Type 0 };
+
+    /// Returns the system's table of UDP sockets as it is now. Returns `None` if the table can't be
+    /// read, if memory for it is refused, or if it is too long: its last row may be cut then, and
+    /// its last number with it.
+    fn udp_table(&self, alloc: Global) -> Option<Vec<u8>>
+        ensures { shows self.now (option_map (λ text. text.items) result) };
+}
+
+impl<R: Files> UdpTable for R {
+    ghost use Rattle.std.specs.Prelude.{⊤};
+
+    ghost shows = { λ runtime text. ⊤ };
+
+    fn udp_table(&self, alloc: Global) -> Option<Vec<u8>> {
+        match read_table(self, alloc) {
+            Ok(table) if (table.len() as u64) < MOST => Some(table),
+            _ => None,
+        }
+    }
+}
+
 /// Returns the system's table of UDP sockets as it is now, without the rows of sockets that dropped
-/// nothing. The result is empty if the table can't be read, if memory for it is refused, or if it
-/// is too long: its last row may be cut then, and its last number with it.
-pub(crate) fn udp_table<R: Files>(rt: &R, alloc: Global) -> Vec<u8> {
-    match read_table(rt, alloc) {
-        Ok(table) if (table.len() as u64) < MOST => match shortened(alloc, table.as_slice()) {
+/// nothing. The result is empty if the table can't be read, or if memory is refused.
+pub(crate) fn rows_of_drops<R: UdpTable>(rt: &R, alloc: Global) -> Vec<u8>
+    ensures { (table : Option (List ℕ)) × R.shows rt.now table × IsShortened table result.items }
+{
+    match rt.udp_table(alloc) {
+        Some(table) => match shortened(alloc, table.as_slice()) {
             Ok(short) => short,
             Err(_) => Vec::new(alloc),
         },
-        _ => Vec::new(alloc),
+        None => Vec::new(alloc),
     }
 }

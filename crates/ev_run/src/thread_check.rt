@@ -1,20 +1,30 @@
 //! The check before a run that the system starts as many threads as the run needs.
-ghost use Rattle.std.specs.Prelude.{◌≤◌, IfErr};
-ghost use Rattle.ether_wire.specs.Ends.{IsOpen, Puts};
+ghost use Rattle.std.specs.Prelude.{◌≡◌, ◌≤◌, true, false, IfErr, MatchOption};
+ghost use Rattle.ether_wire.specs.Ends.{IsOpen, Puts, with_text};
 ghost use Rattle.ev_run.specs.Needs.{threads_of};
 ghost use Rattle.ev_run.specs.ThreadCheck.{allowed_text, too_few_text, IsTooFew};
-ghost use Rattle.ev_run.specs.Inner.ThreadCheck.{TellsTooFew};
+ghost use Rattle.ev_report.specs.Ends.{Holds, has_failed};
+ghost use Rattle.ev_report.specs.Notes.{status_of};
 
 use crate::needs::threads_of;
 use crate::settling::{counted_threads, settle};
 use ether_wire::{Device, Out, put_decimal};
 use ev_config::Config;
-use ev_report::status_of;
+use ev_report::{DEVICE, MEMORY};
 use std::fs::Files;
 use std::sync::{Mutex, Wait};
 use std::thread;
 use std::thread::{Scope, Threads};
 use std::time::Clock;
+
+/// What a run does if the system refuses threads.
+#[derive(Clone, Copy, Debug, PartialEq, Eq)]
+pub enum ThreadPolicy {
+    /// No edge begins.
+    RequireAll,
+    /// The edges begin with the threads that there are.
+    RunWithout,
+}
 
 /// A refusal of threads. Both numbers count the thread that runs the check.
 #[derive(Clone, Copy, Debug, PartialEq, Eq)]
@@ -111,7 +121,6 @@ pub(crate) fn check_threads<R: Threads + Wait + Files + Clock + Sync>(
 }
 
 /// Writes how many threads the system allowed, and what to do.
-#[tactic(auto, using(ether_wire::proofs::Appending::with_text_twice))]
 fn put_allowed<N: Out>(notes: &mut N, allowed: u64) -> Result<(), Device>
     requires { IsOpen (N.end notes.old) }
     ensures { Puts (N.end notes.old) (N.end notes.new) (allowed_text allowed) result }
@@ -122,7 +131,6 @@ fn put_allowed<N: Out>(notes: &mut N, allowed: u64) -> Result<(), Device>
 }
 
 /// Writes that the system allows too few threads.
-#[tactic(auto, using(ether_wire::proofs::Appending::with_text_twice))]
 fn put_too_few<N: Out>(notes: &mut N, lack: TooFewThreads) -> Result<(), Device>
     requires { IsOpen (N.end notes.old) }
     ensures { Puts (N.end notes.old) (N.end notes.new) (too_few_text lack) result }
@@ -132,11 +140,26 @@ fn put_too_few<N: Out>(notes: &mut N, lack: TooFewThreads) -> Result<(), Device>
     put_allowed(notes, lack.allowed)
 }
 
-/// Writes that the system allows too few threads, and returns the status.
-pub(crate) fn tell_too_few<N: Out>(lack: TooFewThreads, notes: &mut N) -> u8
+/// Writes that the system allows too few threads. Returns the status if no edge may begin: by the
+/// policy, or since writing failed.
+pub(crate) fn stopped_by<N: Out>(
+    policy: ThreadPolicy,
+    lack: TooFewThreads,
+    notes: &mut N,
+) -> Option<u8>
     requires { IsOpen (N.end notes.old) }
-    ensures { TellsTooFew lack (N.end notes.old) (N.end notes.new) result }
+    ensures { MatchOption result
+        ((N.end notes.new ≡ with_text (N.end notes.old) (too_few_text lack))
+        × (policy ≡ ThreadPolicy.RunWithout))
+        (λ status. Holds (N.end notes.old) (N.end notes.new) (too_few_text lack)
+        × (status ≡ status_of (has_failed (N.end notes.old) (N.end notes.new)) true false)
+        × (policy ≡ ThreadPolicy.RunWithout → status ≡ 4)) }
 {
-    let is_told = put_too_few(notes, lack).is_ok();
-    status_of(!is_told, true, false)
+    match put_too_few(notes, lack) {
+        Err(Device) => Some(DEVICE),
+        Ok(()) => match policy {
+            ThreadPolicy::RequireAll => Some(MEMORY),
+            ThreadPolicy::RunWithout => None,
+        },
+    }
 }

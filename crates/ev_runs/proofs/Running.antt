@@ -26,10 +26,10 @@ use Rattle.ev_fabric.specs.Local.{event_of}
 use Rattle.ev_fabric.specs.Opening.{AreOpened}
 use Rattle.ev_fabric.specs.Steps.{FabricSteps, StepsAt, AnnouncesAt, IsRefused, of_edge, with_edge, with_announced}
 use Rattle.ev_fabric.specs.Runs.{Runs}
-use Rattle.ev_history.specs.declared.entry.Deed.{Deed}
-use Rattle.ev_history.specs.declared.entry.Deed.TheVariants.{Opens, Announces, Takes}
-use Rattle.ev_history.specs.declared.entry.Entry.{Entry}
-use Rattle.ev_history.specs.declared.entry.Entry.TheVariants.{Begins, Does}
+use Rattle.ev_history.specs.declared.log_entry.Deed.{Deed}
+use Rattle.ev_history.specs.declared.log_entry.Deed.TheVariants.{Opens, Announces, Takes}
+use Rattle.ev_history.specs.declared.log_entry.LogEntry.{LogEntry}
+use Rattle.ev_history.specs.declared.log_entry.LogEntry.TheVariants.{Begins, Does}
 use Rattle.ev_history.specs.Log.{World, world_after, edges_after, pool_after, end_of, begun, Follows, AreLegal, Goes}
 use Rattle.ev_history.specs.Log.{Reaches, IsQuiet, Turns, IsOpening, world, IsHistory, IsKnown, announced_by}
 use Rattle.ev_history.proofs.Histories.{edges_here, edges_there, Same, same, other, decide}
@@ -345,7 +345,7 @@ place_in_pool : (pool : List Fields) (u : Fields) → Contains pool u → (k : �
 place_in_pool pool u h = (h.0, slice_get_read pool (length pool) h.0 u refl h.1 (sym h.2))
 
 -- a log is a run from edges as they were opened
-pub run_back : (es : List Entry) (w : World) → w.outside ≡ false → AreLegal w es → Seated w → (edges : List Edge)
+pub run_back : (es : List LogEntry) (w : World) → w.outside ≡ false → AreLegal w es → Seated w → (edges : List Edge)
     → length edges ≡ length w.configs
     → ((n : ℕ) (a : Edge) → slice_get edges n ≡ Some a → (end_of w es).edges n ≡ Some a)
     → Begun w (end_of w es).pool edges
@@ -433,13 +433,13 @@ tails_run configs pool done (b ∷ bs) (a ∷ xs) r =
 
 -- ---- the law
 
-record Lasts (log : List Entry) (k : ℕ) (edges : List Edge) : Type 0 where
+record Lasts (log : List LogEntry) (k : ℕ) (edges : List Edge) : Type 0 where
   lasts : List Edge
   len : length lasts ≡ length edges
   are : (i : ℕ) (b : Edge) → slice_get lasts i ≡ Some b → (world log).edges (k + i) ≡ Some b
   reach : AllReach lasts edges
 
-lasts_of : (log : List Entry) (k : ℕ) (edges : List Edge) → AllStand log k edges → Lasts log k edges
+lasts_of : (log : List LogEntry) (k : ℕ) (edges : List Edge) → AllStand log k edges → Lasts log k edges
 lasts_of log k [] all = record { lasts = []; len = refl; are = λ i b h. absurd cc; reach = tt }
 lasts_of log k (a ∷ xs) all =
     let s = all.0 in
@@ -466,7 +466,7 @@ opened_there configs edges pool b = record {
 }
 
 -- a history at whose end these edges stand is a run of the fabric
-pub history_runs : (configs : List EdgeConfig) (es : List Entry) (edges : List Edge)
+pub history_runs : (configs : List EdgeConfig) (es : List LogEntry) (edges : List Edge)
     → IsHistory (Begins false configs ∷ es) → length edges ≡ length configs
     → AllStand (Begins false configs ∷ es) 0 edges → IsRunOf configs edges
 history_runs configs es edges legal len all =

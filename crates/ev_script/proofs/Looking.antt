@@ -7,7 +7,7 @@ use Rattle.std.specs.List.{list_all}
 use Rattle.ether_wire.specs.Ends.{End, IsOpen}
 use Rattle.ev_report.specs.Ends.{Tells}
 use Rattle.ev_report.proofs.Taking.{tells_more, tells_none}
-use Rattle.ev_script.specs.declared.checking.Found.{Found}
+use Rattle.ev_script.specs.declared.checking.CheckedLines.{CheckedLines}
 use Rattle.ev_script.specs.Script.{cut_line}
 use Rattle.ev_script.specs.Faults.{is_good, told_text, faults_text, LooksAt}
 use Rattle.ev_script.proofs.Playings.{follows_more}
@@ -33,13 +33,13 @@ all_more [] line = and-true (is_good line)
 all_more (l ∷ lines) line = ap (λ b. is_good l && b) (all_more lines line)
     ∙ sym (and_assoc (is_good l) (list_all is_good lines) (is_good line))
 
-pub looks_none : (name script : List ℕ) (e : End) (found : Found) → found.count ≡ 0 → found.are_good ≡ true
+pub looks_none : (name script : List ℕ) (e : End) (found : CheckedLines) → found.count ≡ 0 → found.are_good ≡ true
     → found.are_told ≡ true → LooksAt name script script e e found
 looks_none name script e found count good told =
     let silent = subst (λ b. Tells e e true b []) (sym told) (tells_none e true) in
     record { lines = []; follows = refl; count = count; good = good; told = silent }
 
-pub looks_more : (name script rest line after : List ℕ) (a b c : End) (found more : Found)
+pub looks_more : (name script rest line after : List ℕ) (a b c : End) (found more : CheckedLines)
     → LooksAt name script rest a b found → 0 < length rest → (line, after) ≡ cut_line rest
     → more.count ≡ found.count + 1 → more.are_good ≡ (found.are_good && is_good line)
     → Tells b c found.are_told more.are_told (told_text name (found.count + 1) line)
@@ -58,7 +58,8 @@ looks_more name script rest line after a b c found more h some cut count good to
     }
 
 -- if no note has failed so far, a call may fail
-pub told_open : (name script rest : List ℕ) (a b : End) (found : Found) → LooksAt name script rest a b found → IsOpen a
+pub told_open : (name script rest : List ℕ) (a b : End) (found : CheckedLines) → LooksAt name script rest a b found
+    → IsOpen a
     → found.are_told ≡ true → IsOpen b
 told_open name script rest a b found h room e =
     let same = ap (λ (x : End). x.failures) (h.told.written e) in omega arith

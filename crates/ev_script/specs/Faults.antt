@@ -5,7 +5,7 @@ use Rattle.std.specs.List.{list_all}
 use Rattle.ether_wire.specs.Ends.{End}
 use Rattle.ether_wire.specs.Parse.{parted}
 use Rattle.ev_report.specs.Ends.{Tells}
-use Rattle.ev_script.specs.declared.checking.Found.{Found}
+use Rattle.ev_script.specs.declared.checking.CheckedLines.{CheckedLines}
 use Rattle.ev_script.specs.declared.script.fault.LineFault.{LineFault}
 use Rattle.ev_script.specs.declared.script.fault.LineFault.TheVariants.{Remark, Return, Long, NoEdge, NoVerb, Misspelt}
 use Rattle.ev_script.specs.declared.script.command.Verb.{Verb}
@@ -96,7 +96,7 @@ faults_text name number (line ∷ lines) = told_text name number line ++ faults_
 
 -- Lines at the front of a script were checked: they were counted, `are_good` is true exactly if each is good, and each
 -- bad one was reported with its place and the reason, or a note failed.
-pub record LooksAt (name script rest : List ℕ) (old new : End) (found : Found) : Type 0 where
+pub record LooksAt (name script rest : List ℕ) (old new : End) (found : CheckedLines) : Type 0 where
   pub lines : List (List ℕ)
   pub follows : Follows (λ line. Some line) script lines rest
   pub count : found.count ≡ length lines
@@ -104,5 +104,5 @@ pub record LooksAt (name script rest : List ℕ) (old new : End) (found : Found)
   pub told : Tells old new true found.are_told (faults_text name 1 lines)
 
 -- all lines were checked
-abbrev pub ChecksLines : List ℕ → List ℕ → End → End → Found → Type 0
+abbrev pub ChecksLines : List ℕ → List ℕ → End → End → CheckedLines → Type 0
 ChecksLines name script old new found = LooksAt name script [] old new found

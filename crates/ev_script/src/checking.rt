@@ -9,7 +9,7 @@ use ether_wire::{Device, Out, put_decimal};
 
 /// The result of a check of lines.
 #[derive(Clone, Copy, Debug)]
-pub struct Found {
+pub struct CheckedLines {
     /// The number of lines.
     pub count: u64,
     /// Whether each line is a command.
@@ -19,7 +19,6 @@ pub struct Found {
 }
 
 /// Writes `NAME:N: WHY`.
-#[tactic(auto, using(ether_wire::proofs::Appending::with_text_twice))]
 pub(crate) fn put_fault<N: Out>(
     notes: &mut N,
     name: &[u8],
@@ -36,7 +35,6 @@ pub(crate) fn put_fault<N: Out>(
 }
 
 /// Writes why the line of this number is bad, if it is.
-#[tactic(auto, using(ether_wire::proofs::Appending::with_text_none))]
 fn put_told<N: Out>(notes: &mut N, name: &[u8], number: u64, line: &[u8]) -> Result<(), Device>
     requires { IsOpen (N.end notes.old) }
     ensures { Puts (N.end notes.old) (N.end notes.new) (told_text name.now number line.now) result }
@@ -47,9 +45,9 @@ fn put_told<N: Out>(notes: &mut N, name: &[u8], number: u64, line: &[u8]) -> Res
     put_fault(notes, name, number, why_of(line))
 }
 
-impl Found {
+impl CheckedLines {
     /// Returns the result with one line more. Reports the line if it is none of the commands.
-    fn with<N: Out>(self, name: &[u8], line: &[u8], notes: &mut N) -> Found
+    fn with<N: Out>(self, name: &[u8], line: &[u8], notes: &mut N) -> CheckedLines
         requires count { self.count + 1 < 2 ^ 64 }
         requires room { self.are_told ≡ true → IsOpen (N.end notes.old) }
         ensures count { result.count ≡ self.count + 1 }
@@ -58,7 +56,7 @@ impl Found {
             (told_text name.now (self.count + 1) line.now) }
     {
         let count = self.count + 1;
-        Found {
+        CheckedLines {
             count,
             are_good: self.are_good && is_good(line),
             are_told: self.are_told && put_told(notes, name, count, line).is_ok(),
@@ -68,12 +66,12 @@ impl Found {
 
 /// Checks each line of a script, and writes `NAME:N: WHY` on the notes for each that is none of the
 /// commands. After a note that failed it writes no more.
-pub fn check_lines<N: Out>(name: &[u8], script: &[u8], notes: &mut N) -> Found
+pub fn check_lines<N: Out>(name: &[u8], script: &[u8], notes: &mut N) -> CheckedLines
     requires { IsOpen (N.end notes.old) }
     ensures { ChecksLines name.now script.now (N.end notes.old) (N.end notes.new) result }
 {
     let mut rest = script;
-    let mut found = Found {
+    let mut found = CheckedLines {
         count: 0,
         are_good: true,
         are_told: true,

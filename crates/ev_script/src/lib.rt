@@ -1,11 +1,11 @@
 //! Scripts: the language of a line, and the simulation that plays the lines on a fabric of edges.
-#![tactic(auto)]
+#![tactic(auto, using(ether_wire::proofs::Appending::with_text_twice, ether_wire::proofs::Appending::with_text_none))]
 
 mod checking;
 mod script;
 mod simulate;
 
-pub use checking::{Found, check_lines};
+pub use checking::{CheckedLines, check_lines};
 pub use script::{
     Command, Hex, MOST_OCTETS, Mode, Question, edge_question_of, parse, question_of, why_text,
 };

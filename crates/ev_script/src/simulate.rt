@@ -25,7 +25,6 @@ pub use simulator::port_number;
 use std::alloc::Global;
 
 /// Writes `line N bad`.
-#[tactic(auto, using(ether_wire::proofs::Appending::with_text_twice))]
 fn put_bad<N: Out>(notes: &mut N, number: u64) -> Result<(), Device>
     requires { IsOpen (N.end notes.old) }
     ensures { Puts (N.end notes.old) (N.end notes.new) (bad_head number) result }
@@ -36,7 +35,6 @@ fn put_bad<N: Out>(notes: &mut N, number: u64) -> Result<(), Device>
 }
 
 /// Writes `line N bad`, and on the next line the reason.
-#[tactic(auto, using(ether_wire::proofs::Appending::with_text_twice))]
 fn put_bad_and_why<N: Out>(notes: &mut N, number: u64, line: &[u8]) -> Result<(), Device>
     requires { IsOpen (N.end notes.old) }
     ensures { Puts (N.end notes.old) (N.end notes.new) (bad_line number line.now) result }
@@ -46,7 +44,6 @@ fn put_bad_and_why<N: Out>(notes: &mut N, number: u64, line: &[u8]) -> Result<()
 }
 
 /// Writes which line is bad and why, if a line is bad.
-#[tactic(auto, using(ether_wire::proofs::Appending::with_text_none))]
 fn put_bad_line<N: Out>(bad: Option<BadLine<'_>>, notes: &mut N) -> Result<(), Device>
     requires { IsOpen (N.end notes.old) }
     ensures { Puts (N.end notes.old) (N.end notes.new) (note_of_line bad.entry) result }

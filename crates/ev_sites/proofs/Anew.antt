@@ -36,7 +36,7 @@ use Rattle.ev_fabric.specs.declared.refusal.FabricRefusal.TheVariants.{NoSuchEdg
 use Rattle.ev_fabric.specs.declared.step.Step.TheVariants.{Deliver, Restart}
 use Rattle.ev_fabric.specs.Fabric.{Fabric, nth, incarnation_of}
 use Rattle.ev_fabric.specs.Steps.{IsRefused, RestartsAt, in_incarnation, with_edge, with_opened}
-use Rattle.ev_fabric.proofs.Example.{listeners, config_of, port_of, served, good, nobody_learnt, unlimited}
+use Rattle.ev_fabric.proofs.Example.{listeners, config_of, port_of, served, good, nobody_learnt, unlimited, no_storms}
 use Rattle.ev_sites.proofs.Tables.{Said, looked_up, found, taken, unchanged}
 use Rattle.ev_sites.proofs.Guest.{flood_register, speaker_in, routes_with}
 use Rattle.ev_sites.proofs.Risen.{root_settings}
@@ -77,6 +77,7 @@ is_opening address = record {
   windows = refl;
   away = refl;
   quotas = refl;
+  storms = refl;
 }
 
 is_good : (address : ℕ) → Contains listeners address → IsGoodEdge (opened_anew address)
@@ -89,7 +90,7 @@ is_good address listed = record {
   };
   keeps = (edge.opened (start_of (config_anew address)) (opened_anew address).routes root_settings
       (settings_of (port_of ∷ port_of ∷ [])) 300 (start root_settings (settings_of (port_of ∷ port_of ∷ [])))
-      (record { windows = empty; places = [] }) unlimited (opens_routes address) refl refl served (lit< tt)
+      (record { windows = empty; places = [] }) unlimited no_storms (opens_routes address) refl refl served (lit< tt)
       (opened_kept (port_of ∷ port_of ∷ []))).keeps;
 }
 

@@ -30,6 +30,7 @@ use Rattle.ev_edge.specs.declared.reply.Reply.{Reply}
 use Rattle.ev_edge.specs.Edge.{Edge, table_of, address_of}
 use Rattle.ev_edge.specs.Arrival.{is_other, datagram_arrival, tunnel_arrival}
 use Rattle.ev_edge.specs.Sending.{IsDecision, port_of}
+use Rattle.ev_edge.specs.Storms.{taking_on}
 use Rattle.ev_edge.specs.Steps.{LearnsIf, SendsIf, DataSteps, FrameSteps, TunnelSteps}
 use Rattle.ev_edge.proofs.Cases.{learnt_by}
 use Rattle.ev_edge.specs.Laws.{decision_in}
@@ -134,11 +135,13 @@ module _ (e : Edge) (port : ℕ) (e' : Edge) (some : 1 ≤ port) where
       }
 
   data_sent : (vni destination source : ℕ) (reply : Reply) (d : Decision)
-      → DataSteps e port vni destination source reply e' → reply.decision ≡ Some d → (q : ℕ) → IsPort q
+      → DataSteps (taking_on e port vni destination) port vni destination source reply e' → reply.decision ≡ Some d
+      → (q : ℕ) → IsPort q
       → has_port d.local q ≡ true → Sent e port q
   data_sent vni destination source reply d h is q port_q there =
       sent vni destination d
-      (learnt_stays e (record { vni = vni; mac = source }) port reply.alert e' _ h.learning.learning) h.passes
+      (learnt_stays (taking_on e port vni destination) (record { vni = vni; mac = source }) port reply.alert e' _
+      h.learning.learning) h.passes
       h.are_passed.0 (subst (SendsIf h.passes e' vni destination (Port port)) is h.sending) q port_q there
 
   pub frame_sent : (arrival : Result Arrival Refusal) (result : Result Reply Refusal) (d : Decision)

@@ -37,6 +37,7 @@ use Rattle.ev_edge.specs.Config.{settings_of}
 use Rattle.ev_edge.specs.Edge.{Edge, table_of, address_of}
 use Rattle.ev_edge.specs.Opening.{IsOpening}
 use Rattle.ev_edge.specs.Pinning.{DoesPin, pin_case, refused_pin, after_unpin}
+use Rattle.ev_edge.specs.Storms.{taking_on}
 use Rattle.ev_edge.specs.Steps.{Steps, LearnsIf, FrameSteps, TunnelSteps, Bridges, BridgesAt, Seconds, Takes, Pins}
 use Rattle.ev_edge.specs.Steps.{Marks}
 use Rattle.ev_edge.proofs.Cases.{learnt_by, or_refused}
@@ -105,8 +106,8 @@ frame_goes (Err r) a port result b h = stays a b h.1
 frame_goes (Ok Dropped) a port result b h = stays a b h.1
 frame_goes (Ok (Message m)) a port result b h = bridges_go (tree_events.Bpdu port m) a result b h
 frame_goes (Ok (Data vni destination source)) a port (Ok reply) b h =
-    learns_go (h.learning.learns && not (is_group source)) a (record { vni = vni; mac = source }) port reply.alert b
-    h.learning.learning
+    learns_go (h.learning.learns && not (is_group source)) (taking_on a port vni destination)
+    (record { vni = vni; mac = source }) port reply.alert b h.learning.learning
 frame_goes (Ok (Data vni destination source)) a port (Err r) b h = absurd h
 
 tunnel_goes : (arrival : Result Arrival edge.Refusal) (a : Edge) (result : Result Reply edge.Refusal)

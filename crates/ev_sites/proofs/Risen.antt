@@ -39,7 +39,7 @@ use Rattle.ev_fabric.specs.declared.step.LocalEvent.TheVariants.{PortUp}
 use Rattle.ev_fabric.specs.Fabric.{Fabric}
 use Rattle.ev_fabric.specs.Steps.{FabricSteps}
 use Rattle.ev_fabric.specs.Runs.{Runs}
-use Rattle.ev_fabric.proofs.Example.{fabric_of, configs_of, nobody_learnt, unlimited}
+use Rattle.ev_fabric.proofs.Example.{fabric_of, configs_of, nobody_learnt, unlimited, no_storms}
 use Rattle.ev_sites.proofs.Guest.{flood_register, said_first, speaker_with, routes_with, here, there}
 
 -- ---- addresses of frames
@@ -145,6 +145,7 @@ edge_with routes tree windows = record {
   windows = windows;
   away = [];
   quotas = unlimited;
+  storms = no_storms;
 }
 
 abbrev pub fabric_with : Edge → Edge → List Fields → Fabric

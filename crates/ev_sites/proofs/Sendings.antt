@@ -24,6 +24,7 @@ use Rattle.ev_fabric.proofs.Goings.{one_there, runs_lead}
 use Rattle.ev_sites.specs.Sessions.{Took, Holds, Parts, TookIn, IsDelivered, IsSent}
 use Rattle.ev_sites.proofs.Tables.{Said, table_with, looked_up, found}
 use Rattle.ev_sites.proofs.Telling.{update}
+use Rattle.ev_fabric.proofs.StationTaken.{none_first}
 
 -- ---- lists of updates
 
@@ -130,14 +131,6 @@ took_present x n m j u (step ∷ steps) old new run sound h (inr took) =
     (rest_past x n m (suc j) new.pool step steps h) took
 
 -- ---- processes
-
--- no edge is opened again
-none_first : (step : Step) (steps : List Step) → NoneRestarts (step ∷ steps)
-    → NoneRestarts (step ∷ []) × NoneRestarts steps
-none_first (Local e event) steps h = (tt, h)
-none_first (Announce e) steps h = (tt, h)
-none_first (Deliver e k) steps h = (tt, h)
-none_first (Restart e n) steps h = absurd h
 
 pub none_opens : (steps : List Step) → NoneRestarts steps → (i : ℕ) → StaysOpen i steps
 none_opens [] none i n (k, lt, is) = omega (arith, lt)

@@ -2,7 +2,7 @@
 
 ghost use Rattle.ev_sites.specs.Settled.{EdgesStaySettled, FabricsStaySettled};
 
-use rstp_run::laws::{every_event_settles, stays_settled};
+use rstp_run::{every_event_settles, stays_settled};
 
 /// States that the bridge of an edge is settled at every moment from the edge's opening on, and
 /// that each event of the bridge ends settled, if the Hello time isn't 0.

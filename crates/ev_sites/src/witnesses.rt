@@ -9,7 +9,7 @@ use ev_fabric::{
     agrees_on, every_run, frames_meanwhile, from_port_to_port, starts, station_agrees,
     station_agrees_after_a_move, station_moves_anyhow, taken_stays,
 };
-use rstp_run::laws::{runs_happen, settled_by_lists};
+use rstp_run::{runs_happen, settled_by_lists};
 
 /// A witness of `no_circle_in_a_fabric`, and so of `no_circle_through_tunnels` and
 /// `every_run_can_be`: two edges, after a run from their opening, each the root of a ring of three

@@ -1,7 +1,7 @@
 -- What holds of each decision.
 use Rattle.std.proofs.Common.{◌≡◌, ◌≢◌, ℕ, ◌<◌, ◌≤◌, ◌^◌, zero, suc, inl, inr, Bool, true, false, not, cond, ◌==◌, ◌&&◌}
 use Rattle.std.proofs.Common.{Option, Some, None, List, [], ◌∷◌, length, Contains, refl, sym, ap, subst, ◌∙◌, arith}
-use Rattle.std.proofs.lemmas.Bool.{eq-eqb, eqb-true, or_cases, false_from_ne_true, true≢false}
+use Rattle.std.proofs.lemmas.Bool.{eq-eqb, eqb-true, or_cases, false_from_ne_true, true≢false, not-true as not_true}
 use Rattle.std.proofs.lemmas.Bool.Decides.{nat_tests}
 use Rattle.std.proofs.lemmas.Nat.{and_le_l}
 use Rattle.std.proofs.lemmas.List.Kept.{IsStrictlyIncreasing-filter}
@@ -23,18 +23,11 @@ use Rattle.ev_tunnel.specs.Decision.{is_from, open_ports, port_alone, local_of, 
 use Rattle.ev_tunnel.specs.Decision.{is_up, up_owner, up_edges, local_for, remote_for, local_up, remote_up}
 use Rattle.ev_tunnel.specs.Inner.Decision.{IsPlace}
 use Rattle.ev_tunnel.specs.Laws.{IsOneCopy, ArePassing, AreOthers}
+use Rattle.std.proofs.lemmas.Bool.{and_parts as both}
 
 -- no port is in the set of none
 none_there : {P : Type 0} (p : ℕ) → has_port 0 p ≡ true → P
 none_there p h = absurd (true≢false (sym h ∙ has_port-none p))
-
-both : (a b : Bool) → (a && b) ≡ true → (a ≡ true) × (b ≡ true)
-both true b h = (refl, h)
-both false b h = absurd (true≢false (sym h))
-
-not_true : (b : Bool) → not b ≡ true → b ≡ false
-not_true true h = absurd (true≢false (sym h))
-not_true false h = refl
 
 -- a port among the open ones is a member, and passes
 open_is : (from : Source) (ports : Ports) (q : ℕ) → has_port (open_ports from ports) q ≡ true
@@ -168,7 +161,7 @@ one_of : (x o : ℕ) → Contains (x ∷ []) o → x ≡ o
 one_of x o (zero, below, at) = at
 one_of x o (suc k, below, at) = absurd (omega arith)
 
-none_of : {P : Type 0} (o : ℕ) → Contains [] o → P
+pub none_of : {P : Type 0} (o : ℕ) → Contains [] o → P
 none_of o (k, below, at) = absurd (omega arith)
 
 -- the edges that get it: its owner

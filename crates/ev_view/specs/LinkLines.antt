@@ -17,12 +17,12 @@ in_words row =
     amount_words (codes " in ") row.received ++ amount_words (codes " octets ") row.received_octets
     ++ amount_words (codes " failed ") row.failed_reads ++ amount_words (codes " idle ") row.idle_in
 
--- ` long N malformed N unlisted N network N memory N`: dropped datagrams, by cause
+-- ` long N malformed N unlisted N network N storm N memory N`: dropped datagrams, by cause
 abbrev pub refused_words : LinkRow → List ℕ
 refused_words row =
     amount_words (codes " long ") row.too_long ++ amount_words (codes " malformed ") row.malformed
     ++ amount_words (codes " unlisted ") row.unlisted ++ amount_words (codes " network ") row.other_network
-    ++ amount_words (codes " memory ") row.no_memory
+    ++ amount_words (codes " storm ") row.storm ++ amount_words (codes " memory ") row.no_memory
 
 -- ` system N`: datagrams that the system dropped, if their number is known
 abbrev pub system_words : Option ℕ → List ℕ

@@ -103,7 +103,6 @@ fn counted_all(edge: &Edge, updates: Updates<'_>) -> Counts
 }
 
 /// Writes a word and its count.
-#[tactic(auto, using(ether_wire::proofs::Appending::with_text_twice))]
 fn put_amount<W: Out>(out: &mut W, word: &[u8], amount: u64) -> Result<(), Device>
     requires { IsOpen (W.end out.old) }
     ensures { Puts (W.end out.old) (W.end out.new) (amount_words word.now amount) result }
@@ -113,7 +112,6 @@ fn put_amount<W: Out>(out: &mut W, word: &[u8], amount: u64) -> Result<(), Devic
 }
 
 /// Writes how many stations an edge has learnt and pinned, and how many are frozen.
-#[tactic(auto, using(ether_wire::proofs::Appending::with_text_twice))]
 fn put_stations_words<W: Out>(out: &mut W, edge: &Edge, counts: &Counts) -> Result<(), Device>
     requires { IsOpen (W.end out.old) }
     ensures { Puts (W.end out.old) (W.end out.new) (stations_words edge.now counts.now) result }
@@ -124,7 +122,6 @@ fn put_stations_words<W: Out>(out: &mut W, edge: &Edge, counts: &Counts) -> Resu
 }
 
 /// Writes how many registers an edge has, and how many of them are its adverts, and others'.
-#[tactic(auto, using(ether_wire::proofs::Appending::with_text_twice))]
 fn put_registers_words<W: Out>(out: &mut W, counts: &Counts) -> Result<(), Device>
     requires { IsOpen (W.end out.old) }
     ensures { Puts (W.end out.old) (W.end out.new) (registers_words counts.now) result }
@@ -135,7 +132,6 @@ fn put_registers_words<W: Out>(out: &mut W, counts: &Counts) -> Result<(), Devic
 }
 
 /// Writes how many own registers an edge has still to announce, and ends the line.
-#[tactic(auto, using(ether_wire::proofs::Appending::with_text_twice))]
 fn put_pending_words<W: Out>(out: &mut W, edge: &Edge) -> Result<(), Device>
     requires { IsOpen (W.end out.old) }
     ensures { Puts (W.end out.old) (W.end out.new) (pending_words edge.now) result }
@@ -145,7 +141,6 @@ fn put_pending_words<W: Out>(out: &mut W, edge: &Edge) -> Result<(), Device>
 }
 
 /// Writes the counts of an edge from these counts of its registers.
-#[tactic(auto, using(ether_wire::proofs::Appending::with_text_twice))]
 fn put_line<W: Out>(out: &mut W, number: u64, edge: &Edge, counts: &Counts) -> Result<(), Device>
     requires { IsOpen (W.end out.old) }
     ensures { Puts (W.end out.old) (W.end out.new) (counts_line number edge.now counts.now) result }

@@ -18,7 +18,6 @@ fn put_comma<W: Out>(out: &mut W, number: u64) -> Result<(), Device>
 }
 
 /// Writes the number of a port, and of its network.
-#[tactic(auto, using(ether_wire::proofs::Appending::with_text_twice))]
 fn put_port<W: Out>(out: &mut W, number: u64, vni: Vni) -> Result<(), Device>
     requires { IsOpen (W.end out.old) }
     ensures { Puts (W.end out.old) (W.end out.new) (port_words number vni) result }
@@ -41,7 +40,6 @@ fn put_ports<W: Out>(out: &mut W, vnis: &[Vni]) -> Result<(), Device>
 }
 
 /// Writes the number of a network.
-#[tactic(auto, using(ether_wire::proofs::Appending::with_text_twice))]
 fn put_network<W: Out>(out: &mut W, number: u64, vni: Vni) -> Result<(), Device>
     requires { IsOpen (W.end out.old) }
     ensures { Puts (W.end out.old) (W.end out.new) (network_words number vni) result }
@@ -62,7 +60,6 @@ fn put_networks<W: Out>(out: &mut W, vnis: &[Vni]) -> Result<(), Device>
 }
 
 /// Writes the end of an edge's line: its ports and networks.
-#[tactic(auto, using(ether_wire::proofs::Appending::with_text_twice))]
 fn put_served<W: Out>(out: &mut W, ports: &[Vni], vnis: &[Vni]) -> Result<(), Device>
     requires { IsOpen (W.end out.old) }
     ensures { Puts (W.end out.old) (W.end out.new) (served_text ports.now vnis.now) result }
@@ -79,7 +76,6 @@ fn put_served<W: Out>(out: &mut W, ports: &[Vni], vnis: &[Vni]) -> Result<(), De
 /// # Errors
 ///
 /// `Device` exactly if a call of the writer failed; then no further call is made.
-#[tactic(auto, using(ether_wire::proofs::Appending::with_text_twice))]
 pub fn put_edge_line<W: Out>(
     out: &mut W,
     number: u64,

@@ -27,6 +27,8 @@ pub struct LinkRow {
     pub unlisted: u64,
     /// The dropped datagrams of networks that the edge doesn't serve.
     pub other_network: u64,
+    /// The dropped group and unknown frames beyond the storm limit of the port.
+    pub storm: u64,
     /// The datagrams that were dropped because memory was refused.
     pub no_memory: u64,
     /// The datagrams that the system dropped at the link's socket, if their number is known.
@@ -44,7 +46,6 @@ pub struct LinkRow {
 }
 
 /// Writes a word and its number.
-#[tactic(auto, using(ether_wire::proofs::Appending::with_text_twice))]
 fn put_amount<W: Out>(out: &mut W, word: &[u8], amount: u64) -> Result<(), Device>
     requires { IsOpen (W.end out.old) }
     ensures { Puts (W.end out.old) (W.end out.new) (amount_words word.now amount) result }
@@ -54,7 +55,6 @@ fn put_amount<W: Out>(out: &mut W, word: &[u8], amount: u64) -> Result<(), Devic
 }
 
 /// Writes which link a line is about: the tunnel's, or that of the port with this number.
-#[tactic(auto, using(ether_wire::proofs::Appending::with_text_twice))]
 fn put_place<W: Out>(out: &mut W, place: u64) -> Result<(), Device>
     requires { IsOpen (W.end out.old) }
     ensures { Puts (W.end out.old) (W.end out.new) (place_words place) result }
@@ -67,7 +67,6 @@ fn put_place<W: Out>(out: &mut W, place: u64) -> Result<(), Device>
 }
 
 /// Writes what came over a link.
-#[tactic(auto, using(ether_wire::proofs::Appending::with_text_twice))]
 fn put_in<W: Out>(out: &mut W, row: &LinkRow) -> Result<(), Device>
     requires { IsOpen (W.end out.old) }
     ensures { Puts (W.end out.old) (W.end out.new) (in_words row.now) result }
@@ -79,7 +78,6 @@ fn put_in<W: Out>(out: &mut W, row: &LinkRow) -> Result<(), Device>
 }
 
 /// Writes how many datagrams the edge dropped, by cause.
-#[tactic(auto, using(ether_wire::proofs::Appending::with_text_twice))]
 fn put_refused<W: Out>(out: &mut W, row: &LinkRow) -> Result<(), Device>
     requires { IsOpen (W.end out.old) }
     ensures { Puts (W.end out.old) (W.end out.new) (refused_words row.now) result }
@@ -88,11 +86,11 @@ fn put_refused<W: Out>(out: &mut W, row: &LinkRow) -> Result<(), Device>
     put_amount(out, b" malformed ", row.malformed)?;
     put_amount(out, b" unlisted ", row.unlisted)?;
     put_amount(out, b" network ", row.other_network)?;
+    put_amount(out, b" storm ", row.storm)?;
     put_amount(out, b" memory ", row.no_memory)
 }
 
 /// Writes how many datagrams the system dropped, if that is known.
-#[tactic(auto, using(ether_wire::proofs::Appending::with_text_none))]
 fn put_system<W: Out>(out: &mut W, drops: Option<u64>) -> Result<(), Device>
     requires { IsOpen (W.end out.old) }
     ensures { Puts (W.end out.old) (W.end out.new) (system_words drops) result }
@@ -104,7 +102,6 @@ fn put_system<W: Out>(out: &mut W, drops: Option<u64>) -> Result<(), Device>
 }
 
 /// Writes how many datagrams the edge and the system dropped.
-#[tactic(auto, using(ether_wire::proofs::Appending::with_text_twice))]
 fn put_dropped<W: Out>(out: &mut W, row: &LinkRow) -> Result<(), Device>
     requires { IsOpen (W.end out.old) }
     ensures { Puts (W.end out.old) (W.end out.new) (dropped_words row.now) result }
@@ -114,7 +111,6 @@ fn put_dropped<W: Out>(out: &mut W, row: &LinkRow) -> Result<(), Device>
 }
 
 /// Writes what went over a link, and ends the line.
-#[tactic(auto, using(ether_wire::proofs::Appending::with_text_twice))]
 fn put_out<W: Out>(out: &mut W, row: &LinkRow) -> Result<(), Device>
     requires { IsOpen (W.end out.old) }
     ensures { Puts (W.end out.old) (W.end out.new) (out_words row.now) result }
@@ -128,7 +124,6 @@ fn put_out<W: Out>(out: &mut W, row: &LinkRow) -> Result<(), Device>
 }
 
 /// Writes the line of a link.
-#[tactic(auto, using(ether_wire::proofs::Appending::with_text_twice))]
 fn put_line<W: Out>(out: &mut W, number: u64, place: u64, row: &LinkRow) -> Result<(), Device>
     requires { IsOpen (W.end out.old) }
     ensures { Puts (W.end out.old) (W.end out.new) (link_line number place row.now) result }

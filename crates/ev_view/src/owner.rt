@@ -55,7 +55,6 @@ fn best_but(told: &[Addr], updates: UpdatesOf<'_>) -> Option<Offer>
 }
 
 /// Writes the line of an advert.
-#[tactic(auto, using(ether_wire::proofs::Appending::with_text_twice))]
 fn put_offer<W: Out>(out: &mut W, number: u64, offer: &Offer) -> Result<(), Device>
     requires { IsOpen (W.end out.old) }
     ensures { Puts (W.end out.old) (W.end out.new) (offer_line number offer.now) result }
@@ -97,7 +96,6 @@ fn put_offers<W: Out>(
 }
 
 /// Writes the owner of an address, or `none`.
-#[tactic(auto, using(ether_wire::proofs::Appending::with_text_twice))]
 fn put_owner_line<W: Out>(out: &mut W, number: u64, owner: Option<Addr>) -> Result<(), Device>
     requires { IsOpen (W.end out.old) }
     ensures { Puts (W.end out.old) (W.end out.new) (owner_line number owner) result }
@@ -114,7 +112,6 @@ fn put_owner_line<W: Out>(out: &mut W, number: u64, owner: Option<Addr>) -> Resu
 }
 
 /// Writes the owner of an address and the adverts, the best one first.
-#[tactic(auto, using(ether_wire::proofs::Appending::with_text_twice))]
 pub(crate) fn put_owner<W: Out>(
     out: &mut W,
     number: u64,

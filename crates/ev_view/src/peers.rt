@@ -20,7 +20,6 @@ fn put_state<W: Out>(out: &mut W, is_away: bool) -> Result<(), Device>
 }
 
 /// Writes the line of another edge.
-#[tactic(auto, using(ether_wire::proofs::Appending::with_text_twice))]
 fn put_line<W: Out>(out: &mut W, number: u64, originator: Addr, is_away: bool) -> Result<(), Device>
     requires { IsOpen (W.end out.old) }
     ensures { Puts (W.end out.old) (W.end out.new) (peer_line number originator is_away) result }

@@ -53,7 +53,6 @@ fn is_of(asked: &Option<Vni>, vni: Vni) -> bool
 }
 
 /// Writes the seconds since the station's last frame, or that it is pinned.
-#[tactic(auto, using(ether_wire::proofs::Appending::with_text_twice))]
 fn put_age<W: Out>(out: &mut W, edge: &Edge, entry: &Entry) -> Result<(), Device>
     requires { IsOpen (W.end out.old) }
     ensures { Puts (W.end out.old) (W.end out.new) (age_words edge.now entry.now) result }
@@ -66,7 +65,6 @@ fn put_age<W: Out>(out: &mut W, edge: &Edge, entry: &Entry) -> Result<(), Device
 }
 
 /// Writes the port of a station, if it is learnt.
-#[tactic(auto, using(ether_wire::proofs::Appending::with_text_twice))]
 fn put_place<W: Out>(out: &mut W, edge: &Edge, entry: &Option<Entry>) -> Result<(), Device>
     requires { IsOpen (W.end out.old) }
     ensures { Puts (W.end out.old) (W.end out.new) (place_words edge.now entry.now) result }
@@ -91,7 +89,6 @@ fn put_frozen<W: Out>(out: &mut W, frozen: bool) -> Result<(), Device>
 }
 
 /// Writes the station of a line.
-#[tactic(auto, using(ether_wire::proofs::Appending::with_text_twice))]
 fn put_subject<W: Out>(out: &mut W, number: u64, station: &Station) -> Result<(), Device>
     requires { IsOpen (W.end out.old) }
     ensures { Puts (W.end out.old) (W.end out.new) (subject_words number station.now) result }
@@ -104,7 +101,6 @@ fn put_subject<W: Out>(out: &mut W, number: u64, station: &Station) -> Result<()
 }
 
 /// Writes the line of a station: its port, if it is learnt, and whether it is frozen.
-#[tactic(auto, using(ether_wire::proofs::Appending::with_text_twice))]
 fn put_station<W: Out>(
     out: &mut W,
     number: u64,
@@ -158,7 +154,6 @@ fn put_asked<W: Out>(
 }
 
 /// Writes the stations that an edge has learnt or frozen, of one VNI or of all.
-#[tactic(auto, using(ether_wire::proofs::Appending::with_text_twice, ether_wire::proofs::Appending::with_text_none))]
 pub(crate) fn put_stations<W: Out>(
     out: &mut W,
     number: u64,

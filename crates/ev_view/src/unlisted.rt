@@ -12,7 +12,6 @@ use std::alloc::{AllocError, Global};
 const MOST: usize = 64;
 
 /// Writes the line of an edge that the configuration doesn't name.
-#[tactic(auto, using(ether_wire::proofs::Appending::with_text_twice))]
 fn put_line<W: Out>(out: &mut W, number: u64, originator: Addr) -> Result<(), Device>
     requires { IsOpen (W.end out.old) }
     ensures { Puts (W.end out.old) (W.end out.new) (unlisted_line number originator) result }
@@ -35,7 +34,6 @@ fn put_lines<W: Out>(out: &mut W, number: u64, unlisted: &[Addr]) -> Result<(), 
 }
 
 /// Writes that there may be more edges than those that have a line.
-#[tactic(auto, using(ether_wire::proofs::Appending::with_text_twice))]
 fn put_more<W: Out>(out: &mut W, number: u64) -> Result<(), Device>
     requires { IsOpen (W.end out.old) }
     ensures { Puts (W.end out.old) (W.end out.new) (more_line number) result }
@@ -56,7 +54,6 @@ fn put_full<W: Out>(out: &mut W, number: u64, unlisted: &[Addr]) -> Result<(), D
 }
 
 /// Writes a text, and these edges after it.
-#[tactic(auto, using(ether_wire::proofs::Appending::with_text_twice))]
 fn put_after<W: Out>(out: &mut W, number: u64, text: &[u8], unlisted: &[Addr]) -> Result<(), Device>
     requires { IsOpen (W.end out.old) }
     ensures { Puts (W.end out.old) (W.end out.new)

@@ -34,7 +34,6 @@ pub enum EdgeQuestion {
 /// # Errors
 ///
 /// `Device` exactly if a call of the writer failed; then no further call is made.
-#[tactic(auto, using(ether_wire::proofs::Appending::with_text_none))]
 pub fn put_edge_view<W: Out>(
     out: &mut W,
     number: u64,

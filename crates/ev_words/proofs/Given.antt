@@ -36,8 +36,9 @@ use Rattle.clap.proofs.WalkLemmas.{both}
 use Rattle.ev_words.specs.declared.subcommand.Subcommand.{Subcommand}
 use Rattle.ev_words.specs.declared.subcommand.Subcommand.TheVariants.{Report, Migrate, Check, Simulate, Play}
 use Rattle.ev_words.specs.declared.subcommand.Subcommand.TheVariants.{Run, Serve, Version}
-use Rattle.ev_words.specs.declared.subcommand.Given.{Given}
-use Rattle.ev_words.specs.declared.subcommand.Given.TheVariants.{Originators, Config, Script, ForRun, ForServe}
+use Rattle.ev_words.specs.declared.subcommand.ParsedOptions.{ParsedOptions}
+use Rattle.ev_words.specs.declared.subcommand.ParsedOptions.TheVariants.{Originators, Config, Script, ForRun, ForServe}
+use Rattle.ev_words.specs.declared.subcommand.ParsedOptions.TheVariants.{Degraded}
 use Rattle.ev_words.specs.declared.subcommand.Aim.{Aim}
 use Rattle.ev_words.specs.Args.{Parts, subcommands, name_of, option_name, needs_of, takes_of, with_option, with_flag}
 use Rattle.ev_words.specs.Args.{aim_in, subcommand_app, program, named, needed_in, given_in, invocation_in}
@@ -450,13 +451,13 @@ abbrev help_leaf : Shape
 help_leaf = built_leaf (inherited (record above { disable_help_subcommand = false }) help_shape)
 
 -- a subcommand of this name, with an option that has to be given, and perhaps one and two flags that may be
-abbrev leaf_of : Text → Given → Option Given → Option Given → Option Given → Shape
+abbrev leaf_of : Text → ParsedOptions → Option ParsedOptions → Option ParsedOptions → Option ParsedOptions → Shape
 leaf_of name needs takes flag other =
     built_leaf (inherited above (with_flag other (with_flag flag
     (with_option false takes (with_option true (Some needs) (new_app name))))).top)
 
 -- if its level passes, the required option has a value
-one_given : (name : Text) (needs : Given) (words : List Text)
+one_given : (name : Text) (needs : ParsedOptions) (words : List Text)
     → level_fault (leaf_of name needs None None None) [] nothing_held words false [] ≡ []
     → is_some (first_of (option_name needs) (rows_after (leaf_of name needs None None None).rules [] words)) ≡ true
 one_given name needs words f =
@@ -473,8 +474,30 @@ one_given name needs words f =
     go true b f = refl
     go false b f = cc
 
+-- the result for a subcommand with an optional flag
+one_of_two : (name : Text) (needs flag : ParsedOptions) (words : List Text)
+    → level_fault (leaf_of name needs None (Some flag) None) [] nothing_held words false [] ≡ []
+    → is_some (first_of (option_name needs)
+    (rows_after (leaf_of name needs None (Some flag) None).rules [] words)) ≡ true
+one_of_two name needs flag words f =
+    let s = leaf_of name needs None (Some flag) None in
+    let p = level_passes s [] words false [] f in
+    let fine = walk_fine s refl [] words (walk_from nothing_held) p.0 (refl, refl) in
+    let rows = rows_after s.rules [] words in
+    let full : AreFull rows =
+    defaults_full s.rules _ (settled_full s refl (walk s.rules [] nothing_held words).held p.2 fine.0) in
+    given_first (option_name needs) rows
+    (go (is_given (option_name needs) rows) (is_given (option_name flag) rows) (is_given (codes "help") rows) p.3)
+    full
+  where
+    go : (a c b : Bool)
+        → check_kinds false false (not a || ((false && not c) || ((false && not b) || false))) ≡ []
+        → a ≡ true
+    go true c b f = refl
+    go false c b f = cc
+
 -- the result for a subcommand with one and two optional flags
-one_of_four : (name : Text) (needs takes flag other : Given) (words : List Text)
+one_of_four : (name : Text) (needs takes flag other : ParsedOptions) (words : List Text)
     → level_fault (leaf_of name needs (Some takes) (Some flag) (Some other)) [] nothing_held words false [] ≡ []
     → is_some (first_of (option_name needs)
     (rows_after (leaf_of name needs (Some takes) (Some flag) (Some other)).rules [] words)) ≡ true
@@ -506,8 +529,8 @@ option_given Migrate words f = one_given (codes "migrate") Originators words f
 option_given Check words f = one_of_four (codes "check") Config Script ForRun ForServe words f
 option_given Simulate words f = one_given (codes "simulate") Config words f
 option_given Play words f = one_given (codes "play") Config words f
-option_given Run words f = one_given (codes "run") Config words f
-option_given Serve words f = one_given (codes "serve") Config words f
+option_given Run words f = one_of_two (codes "run") Config Degraded words f
+option_given Serve words f = one_of_two (codes "serve") Config Degraded words f
 option_given Version words f = refl
 
 -- each subcommand's name names it

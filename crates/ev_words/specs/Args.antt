@@ -13,8 +13,9 @@ use Rattle.clap.specs.declared.parser.matches.ArgMatches.{ArgMatches}
 use Rattle.ev_words.specs.declared.subcommand.Subcommand.{Subcommand}
 use Rattle.ev_words.specs.declared.subcommand.Subcommand.TheVariants.{Report, Migrate, Check, Simulate, Play}
 use Rattle.ev_words.specs.declared.subcommand.Subcommand.TheVariants.{Run, Serve, Version}
-use Rattle.ev_words.specs.declared.subcommand.Given.{Given}
-use Rattle.ev_words.specs.declared.subcommand.Given.TheVariants.{Originators, Config, Script, ForRun, ForServe}
+use Rattle.ev_words.specs.declared.subcommand.ParsedOptions.{ParsedOptions}
+use Rattle.ev_words.specs.declared.subcommand.ParsedOptions.TheVariants.{Originators, Config, Script, ForRun, ForServe}
+use Rattle.ev_words.specs.declared.subcommand.ParsedOptions.TheVariants.{Degraded}
 use Rattle.ev_words.specs.declared.subcommand.Aim.{Aim}
 use Rattle.ev_words.specs.declared.subcommand.Aim.TheVariants as aim
 use Rattle.ev_words.specs.declared.args.Invocation.{Invocation}
@@ -37,15 +38,16 @@ name_of Run = codes "run"
 name_of Serve = codes "serve"
 name_of Version = codes "version"
 
-abbrev pub option_name : Given → Text
+abbrev pub option_name : ParsedOptions → Text
 option_name Originators = codes "originators"
 option_name Config = codes "config"
 option_name Script = codes "script"
 option_name ForRun = codes "run"
 option_name ForServe = codes "serve"
+option_name Degraded = codes "degraded"
 
 -- the option that a subcommand requires
-abbrev pub needs_of : Subcommand → Option Given
+abbrev pub needs_of : Subcommand → Option ParsedOptions
 needs_of Report = Some Originators
 needs_of Migrate = Some Originators
 needs_of Check = Some Config
@@ -56,7 +58,7 @@ needs_of Serve = Some Config
 needs_of Version = None
 
 -- the option that a subcommand allows besides
-abbrev pub takes_of : Subcommand → Option Given
+abbrev pub takes_of : Subcommand → Option ParsedOptions
 takes_of Report = None
 takes_of Migrate = None
 takes_of Check = Some Script
@@ -67,18 +69,18 @@ takes_of Serve = None
 takes_of Version = None
 
 -- the flag that a subcommand allows
-abbrev pub flag_of : Subcommand → Option Given
+abbrev pub flag_of : Subcommand → Option ParsedOptions
 flag_of Report = None
 flag_of Migrate = None
 flag_of Check = Some ForRun
 flag_of Simulate = None
 flag_of Play = None
-flag_of Run = None
-flag_of Serve = None
+flag_of Run = Some Degraded
+flag_of Serve = Some Degraded
 flag_of Version = None
 
 -- another flag that a subcommand allows
-abbrev pub other_flag_of : Subcommand → Option Given
+abbrev pub other_flag_of : Subcommand → Option ParsedOptions
 other_flag_of Report = None
 other_flag_of Migrate = None
 other_flag_of Check = Some ForServe
@@ -95,11 +97,11 @@ abbrev pub option_rule : Bool → Text → Rule
 option_rule is_required name =
     record (new_rule name) { long = Some name; action = Some Set; value_names = 1; required = is_required }
 
-abbrev pub option_rules : Bool → Option Given → List Rule
+abbrev pub option_rules : Bool → Option ParsedOptions → List Rule
 option_rules is_required None = []
 option_rules is_required (Some option) = option_rule is_required (option_name option) ∷ []
 
-abbrev pub with_option : Bool → Option Given → App → App
+abbrev pub with_option : Bool → Option ParsedOptions → App → App
 with_option is_required option a =
     record a { top = record a.top { rules = a.top.rules ++ option_rules is_required option } }
 
@@ -107,11 +109,11 @@ with_option is_required option a =
 abbrev pub flag_rule : Text → Rule
 flag_rule name = record (new_rule name) { long = Some name; action = Some SetTrue }
 
-abbrev pub flag_rules : Option Given → List Rule
+abbrev pub flag_rules : Option ParsedOptions → List Rule
 flag_rules None = []
 flag_rules (Some flag) = flag_rule (option_name flag) ∷ []
 
-abbrev pub with_flag : Option Given → App → App
+abbrev pub with_flag : Option ParsedOptions → App → App
 with_flag flag a = record a { top = record a.top { rules = a.top.rules ++ flag_rules flag } }
 
 -- a subcommand
@@ -136,26 +138,35 @@ abbrev pub named : Text → Option Subcommand
 named name = find (λ s. bytes_eq name (name_of s)) subcommands
 
 -- the text of a required option among the matches; empty if no option is required
-abbrev pub needed_in : Option Given → List Row → Option Text
+abbrev pub needed_in : Option ParsedOptions → List Row → Option Text
 needed_in None rows = Some []
 needed_in (Some option) rows = first_of (option_name option) rows
 
 -- the text of an optional option
-abbrev pub given_in : Option Given → List Row → Option Text
+abbrev pub given_in : Option ParsedOptions → List Row → Option Text
 given_in None rows = None
 given_in (Some option) rows = first_of (option_name option) rows
 
 -- whether a flag is among the matches
-abbrev pub is_flagged : Option Given → List Row → Bool
+abbrev pub is_flagged : Option ParsedOptions → List Row → Bool
 is_flagged flag rows = option_map_or (λ text. bytes_eq text (codes "true")) (given_in flag rows) false
 
--- the purpose of a check, by its two flags: `--serve` includes the other one
-abbrev pub aim_of : Bool → Bool → Aim
-aim_of is_run is_served = if is_served then aim.Serve else if is_run then aim.Run else aim.Any
+-- the aim of a flag
+abbrev pub aim_of : Option ParsedOptions → Aim
+aim_of None = aim.Any
+aim_of (Some Originators) = aim.Any
+aim_of (Some Config) = aim.Any
+aim_of (Some Script) = aim.Any
+aim_of (Some ForRun) = aim.Run
+aim_of (Some ForServe) = aim.Serve
+aim_of (Some Degraded) = aim.Degraded
 
--- the purpose of a check, by a subcommand's flags among the matches
+-- the aim of a subcommand, by its flags among the matches: `--serve` includes `--run`
 abbrev pub aim_in : Subcommand → List Row → Aim
-aim_in s rows = aim_of (is_flagged (flag_of s) rows) (is_flagged (other_flag_of s) rows)
+aim_in s rows =
+    if is_flagged (other_flag_of s) rows then aim_of (other_flag_of s)
+    else if is_flagged (flag_of s) rows then aim_of (flag_of s)
+    else aim.Any
 
 -- a subcommand, the value of its required option, that of its optional one, and its flags
 abbrev pub Parts : Type 0

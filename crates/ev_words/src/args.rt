@@ -4,7 +4,7 @@ ghost use Rattle.clap.specs.Words.{app_of, found_of, kind_of, rows_of, rule_of, 
 ghost use Rattle.clap.specs.declared.builder.command.Command.TheViews.{out-Command};
 ghost use Rattle.ev_words.specs.Args.{option_name, needed_in, given_in, is_flagged, aim_of, aim_in, invocation_in, parts_of, IsAnswer, Parses, Invokes, parser_refusals, program, subcommand_app, option_rule, with_option, flag_rule, with_flag};
 
-use crate::subcommand::{Aim, Given, Subcommand, named};
+use crate::subcommand::{Aim, ParsedOptions, Subcommand, named};
 use clap::error::ErrorKind;
 use clap::{Arg, ArgAction, ArgMatches, Command, Error};
 use std::alloc::{AllocError, Global};
@@ -17,7 +17,7 @@ pub struct Invocation<'a> {
     pub value: &'a str,
     /// The value of its optional option, if given.
     pub more: Option<&'a str>,
-    /// The purpose of a check.
+    /// Its aim, by its flags.
     pub aim: Aim,
 }
 
@@ -31,7 +31,7 @@ pub enum ArgsError {
 }
 
 /// Returns an option, required or optional.
-fn option_arg<'a>(alloc: Global, option: Given, is_required: bool) -> Arg<'a>
+fn option_arg<'a>(alloc: Global, option: ParsedOptions, is_required: bool) -> Arg<'a>
     ensures rule { rule_of result ≡ option_rule is_required (option_name option) }
     ensures local { result.global ≡ false }
 {
@@ -47,7 +47,7 @@ fn option_arg<'a>(alloc: Global, option: Given, is_required: bool) -> Arg<'a>
 fn with_option<'a>(
     alloc: Global,
     command: Command<'a>,
-    option: Option<Given>,
+    option: Option<ParsedOptions>,
     is_required: bool,
 ) -> Result<Command<'a>, AllocError>
     requires { (out-Command command).has_globals ≡ false }
@@ -65,7 +65,7 @@ fn with_option<'a>(
 fn with_flag<'a>(
     alloc: Global,
     command: Command<'a>,
-    flag: Option<Given>,
+    flag: Option<ParsedOptions>,
 ) -> Result<Command<'a>, AllocError>
     requires { (out-Command command).has_globals ≡ false }
     ensures app { IfOk result (λ c. app_of c ≡ with_flag flag (app_of command.entry)) }
@@ -78,7 +78,7 @@ fn with_flag<'a>(
 }
 
 /// Returns a flag.
-fn flag_arg<'a>(alloc: Global, flag: Given) -> Arg<'a>
+fn flag_arg<'a>(alloc: Global, flag: ParsedOptions) -> Arg<'a>
     ensures rule { rule_of result ≡ flag_rule (option_name flag) }
     ensures local { result.global ≡ false }
 {
@@ -241,7 +241,7 @@ fn args_error_of(error: Error) -> ArgsError
 }
 
 /// Returns the value of the required option, or an empty text if there is none.
-fn needed_in<'a>(option: Option<Given>, matches: &ArgMatches<'a>) -> Option<&'a str>
+fn needed_in<'a>(option: Option<ParsedOptions>, matches: &ArgMatches<'a>) -> Option<&'a str>
     ensures { option_map (λ s. s.now) result
         ≡ needed_in option (rows_of (found_of matches.now)) }
 {
@@ -252,7 +252,7 @@ fn needed_in<'a>(option: Option<Given>, matches: &ArgMatches<'a>) -> Option<&'a 
 }
 
 /// Returns the value of the optional option, if it was given.
-fn given_in<'a>(option: Option<Given>, matches: &ArgMatches<'a>) -> Option<&'a str>
+fn given_in<'a>(option: Option<ParsedOptions>, matches: &ArgMatches<'a>) -> Option<&'a str>
     ensures { option_map (λ s. s.now) result
         ≡ given_in option (rows_of (found_of matches.now)) }
 {
@@ -263,7 +263,7 @@ fn given_in<'a>(option: Option<Given>, matches: &ArgMatches<'a>) -> Option<&'a s
 }
 
 /// Returns `true` if the optional flag was given.
-fn is_flagged<'a>(flag: Option<Given>, matches: &ArgMatches<'a>) -> bool
+fn is_flagged<'a>(flag: Option<ParsedOptions>, matches: &ArgMatches<'a>) -> bool
     ensures { result ≡ is_flagged flag (rows_of (found_of matches.now)) }
 {
     match given_in(flag, matches) {
@@ -272,26 +272,29 @@ fn is_flagged<'a>(flag: Option<Given>, matches: &ArgMatches<'a>) -> bool
     }
 }
 
-/// Returns the purpose of a check, by its two flags.
-fn aim_of(is_run: bool, is_served: bool) -> Aim
-    ensures { result ≡ aim_of is_run is_served }
+/// Returns the aim of a flag.
+fn aim_of(flag: Option<ParsedOptions>) -> Aim
+    ensures { result ≡ aim_of flag }
 {
-    if is_served {
-        Aim::Serve
-    } else if is_run {
-        Aim::Run
-    } else {
-        Aim::Any
+    match flag {
+        Some(ParsedOptions::ForRun) => Aim::Run,
+        Some(ParsedOptions::ForServe) => Aim::Serve,
+        Some(ParsedOptions::Degraded) => Aim::Degraded,
+        _ => Aim::Any,
     }
 }
 
-/// Returns the purpose of a check, by the flags of a subcommand.
+/// Returns the aim of a subcommand, by its flags. The other flag includes the first.
 fn aim_in<'a>(subcommand: Subcommand, matches: &ArgMatches<'a>) -> Aim
     ensures { result ≡ aim_in subcommand (rows_of (found_of matches.now)) }
 {
-    let is_run = is_flagged(subcommand.flag(), matches);
-    let is_served = is_flagged(subcommand.other_flag(), matches);
-    aim_of(is_run, is_served)
+    if is_flagged(subcommand.other_flag(), matches) {
+        aim_of(subcommand.other_flag())
+    } else if is_flagged(subcommand.flag(), matches) {
+        aim_of(subcommand.flag())
+    } else {
+        Aim::Any
+    }
 }
 
 /// Returns the invocation at the subcommand that was used.

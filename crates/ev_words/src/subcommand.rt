@@ -15,9 +15,9 @@ pub enum Subcommand {
     Simulate,
     /// `evpnd play --config FILE`
     Play,
-    /// `evpnd run --config FILE`
+    /// `evpnd run --config FILE`, perhaps with `--degraded`
     Run,
-    /// `evpnd serve --config FILE`
+    /// `evpnd serve --config FILE`, perhaps with `--degraded`
     Serve,
     /// `evpnd version`
     Version,
@@ -25,7 +25,7 @@ pub enum Subcommand {
 
 /// The options of a subcommand.
 #[derive(Clone, Copy, Debug, PartialEq, Eq)]
-pub(crate) enum Given {
+pub(crate) enum ParsedOptions {
     /// `--originators LIST`
     Originators,
     /// `--config FILE`
@@ -36,17 +36,21 @@ pub(crate) enum Given {
     ForRun,
     /// `--serve`
     ForServe,
+    /// `--degraded`
+    Degraded,
 }
 
-/// The purpose of a check.
+/// The aim of a subcommand, by its flags.
 #[derive(Clone, Copy, Debug, PartialEq, Eq)]
 pub enum Aim {
-    /// Anything.
+    /// Nothing besides.
     Any,
-    /// A run: `--run`.
+    /// A check for a run: `--run`.
     Run,
-    /// A run whose edges answer queries meanwhile: `--serve`.
+    /// A check for a run whose edges answer queries meanwhile: `--serve`.
     Serve,
+    /// A run that begins even if the system refuses threads: `--degraded`.
+    Degraded,
 }
 
 impl Subcommand {
@@ -67,46 +71,47 @@ impl Subcommand {
     }
 
     /// Returns the option that it requires, if there is one.
-    pub(crate) fn needs(self) -> Option<Given>
+    pub(crate) fn needs(self) -> Option<ParsedOptions>
         ensures { result ≡ needs_of self }
     {
         match self {
-            Subcommand::Report | Subcommand::Migrate => Some(Given::Originators),
+            Subcommand::Report | Subcommand::Migrate => Some(ParsedOptions::Originators),
             Subcommand::Check
             | Subcommand::Simulate
             | Subcommand::Play
             | Subcommand::Run
-            | Subcommand::Serve => Some(Given::Config),
+            | Subcommand::Serve => Some(ParsedOptions::Config),
             Subcommand::Version => None,
         }
     }
 
     /// Returns the option that it allows besides, if there is one.
-    pub(crate) fn takes(self) -> Option<Given>
+    pub(crate) fn takes(self) -> Option<ParsedOptions>
         ensures { result ≡ takes_of self }
     {
         match self {
-            Subcommand::Check => Some(Given::Script),
+            Subcommand::Check => Some(ParsedOptions::Script),
             _ => None,
         }
     }
 
     /// Returns the flag that it allows, if there is one.
-    pub(crate) fn flag(self) -> Option<Given>
+    pub(crate) fn flag(self) -> Option<ParsedOptions>
         ensures { result ≡ flag_of self }
     {
         match self {
-            Subcommand::Check => Some(Given::ForRun),
+            Subcommand::Check => Some(ParsedOptions::ForRun),
+            Subcommand::Run | Subcommand::Serve => Some(ParsedOptions::Degraded),
             _ => None,
         }
     }
 
     /// Returns the other flag that it allows, if there is one.
-    pub(crate) fn other_flag(self) -> Option<Given>
+    pub(crate) fn other_flag(self) -> Option<ParsedOptions>
         ensures { result ≡ other_flag_of self }
     {
         match self {
-            Subcommand::Check => Some(Given::ForServe),
+            Subcommand::Check => Some(ParsedOptions::ForServe),
             _ => None,
         }
     }
@@ -231,8 +236,11 @@ Runs the edges that FILE configures, as docs/configuration.md describes it; each
 and `remote`. Each edge takes and sends VXLAN datagrams at its address, UDP port 4789; each port takes
 frames at `local`, one a datagram, and sends them to `remote`. It ends when standard input ends, whose
 content is ignored. Then standard output has for each edge the line `edge E` and its report.
-Standard error has `lost N` where N sends failed; or which address can't be bound, and why, or which
-standard stream is closed: then no edge has begun.
+Standard error has `lost N` where N sends failed; or which address can't be bound, and why, which
+standard stream is closed, or how many threads the system refuses: then no edge has begun.
+
+With --degraded the edges begin even if the system starts too few threads. Standard error says so
+at once, ports or edges without their threads carry nothing, and the status at the end is 3.
 
 Status, the greatest that applies:
   0  the edges ran until standard input ended
@@ -281,37 +289,41 @@ Example:
     }
 }
 
-impl Given {
+impl ParsedOptions {
     /// Returns the option's name.
     pub(crate) fn name<'a>(self) -> &'a str
         ensures { result.now ≡ option_name self }
     {
         match self {
-            Given::Originators => "originators",
-            Given::Config => "config",
-            Given::Script => "script",
-            Given::ForRun => "run",
-            Given::ForServe => "serve",
+            ParsedOptions::Originators => "originators",
+            ParsedOptions::Config => "config",
+            ParsedOptions::Script => "script",
+            ParsedOptions::ForRun => "run",
+            ParsedOptions::ForServe => "serve",
+            ParsedOptions::Degraded => "degraded",
         }
     }
 
     /// Returns the name of its value in the help text.
     pub(crate) fn value_name<'a>(self) -> &'a str {
         match self {
-            Given::Originators => "LIST",
-            Given::Config | Given::Script => "FILE",
-            Given::ForRun | Given::ForServe => "",
+            ParsedOptions::Originators => "LIST",
+            ParsedOptions::Config | ParsedOptions::Script => "FILE",
+            ParsedOptions::ForRun | ParsedOptions::ForServe | ParsedOptions::Degraded => "",
         }
     }
 
     /// Returns the description of its value.
     pub(crate) fn value_help<'a>(self) -> &'a str {
         match self {
-            Given::Originators => "1 to 64 different IPv4 addresses with commas between them",
-            Given::Config => "The path of a configuration, a TOML document",
-            Given::Script => "The path of a script, whose lines are checked too",
-            Given::ForRun => "Check what `run` needs too, and tell what it takes at its beginning",
-            Given::ForServe => "So of `serve`, with its keys `control` and `peer`",
+            ParsedOptions::Originators =>
+                "1 to 64 different IPv4 addresses with commas between them",
+            ParsedOptions::Config => "The path of a configuration, a TOML document",
+            ParsedOptions::Script => "The path of a script, whose lines are checked too",
+            ParsedOptions::ForRun =>
+                "Check what `run` needs too, and tell what it takes at its beginning",
+            ParsedOptions::ForServe => "So of `serve`, with its keys `control` and `peer`",
+            ParsedOptions::Degraded => "Begin even if the system starts too few threads",
         }
     }
 }

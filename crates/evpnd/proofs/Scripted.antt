@@ -12,7 +12,7 @@ use Rattle.ev_report.specs.Ends.{devices, has_failed, Holds, Tells}
 use Rattle.ev_report.specs.Notes.{status_of}
 use Rattle.ev_report.proofs.Finishing.{put_holds, put_failed}
 use Rattle.ev_report.proofs.Silence.{status_as}
-use Rattle.ev_script.specs.declared.checking.Found.{Found}
+use Rattle.ev_script.specs.declared.checking.CheckedLines.{CheckedLines}
 use Rattle.ev_script.specs.Faults.{faults_text, ChecksLines}
 use Rattle.evpnd.specs.Files.{Text, Shelf, HasRoom, IsTextOf}
 use Rattle.ev_config.specs.Summary.{summary_text}
@@ -35,7 +35,7 @@ noted a b false t h =
     (record { written = λ e. absurd (omega arith); failures = inr one }, grind (arith, nat_tests))
 
 -- the lines of a script were checked, and counted on the output
-pub looks : (name script : Text) (out out' notes notes' : End) (found : Found) (r : Result (Unit {0}) Device)
+pub looks : (name script : Text) (out out' notes notes' : End) (found : CheckedLines) (r : Result (Unit {0}) Device)
     (status : ℕ) → ChecksLines name script notes notes' found → Puts out out' (lines_text found.are_good found.count) r
     → status ≡ status_of (not (is_ok r) || not found.are_told) false (not found.are_good)
     → Looks name script out out' notes notes' status

@@ -16,7 +16,7 @@ use Rattle.ev_config.specs.declared.whole.Use.{Use}
 use Rattle.ev_config.specs.Told.{AreFaultLines}
 use Rattle.ev_config.specs.Summary.{summary_text}
 use Rattle.ev_config.specs.declared.whole.Use.TheVariants.{Any, Run, Serve}
-use Rattle.ev_run.specs.declared.obstacles.Limits.{Limits}
+use Rattle.ev_run.specs.declared.obstacles.ProcessLimits.{ProcessLimits}
 use Rattle.ev_run.specs.declared.obstacles.Obstacle.{Obstacle}
 use Rattle.ev_run.specs.Needs.{needs_of, asked_text}
 use Rattle.ev_run.specs.Obstacles.{obstacles_of, obstacles_text}
@@ -98,14 +98,14 @@ TellsObstacles (one ∷ more) text out out' notes notes' status =
 
 -- The obstacles of a configuration's run, or its summary and resources, served or not, given the limits of the process;
 -- or there was no memory for the obstacles.
-abbrev pub SumsRun : Bool → Limits → Config → End → End → End → End → ℕ → Type 0
+abbrev pub SumsRun : Bool → ProcessLimits → Config → End → End → End → End → ℕ → Type 0
 SumsRun is_asked limits config out out' notes notes' status =
     TellsObstacles (obstacles_of config.edges.items config.links.items is_asked limits)
     (run_text is_asked config.edges.items) out out' notes notes' status
     ⊎ ((out' ≡ out) × (notes' ≡ notes) × (status ≡ 3))
 
 -- the summary of a configuration for a use; for a run, its obstacles or its resources
-abbrev pub SumsFor : Use → Limits → Config → End → End → End → End → ℕ → Type 0
+abbrev pub SumsFor : Use → ProcessLimits → Config → End → End → End → End → ℕ → Type 0
 SumsFor Any limits config out out' notes notes' status =
     (notes' ≡ notes) × Sums (summary_text config.edges.items) out out' status
 SumsFor Run limits config out out' notes notes' status = SumsRun false limits config out out' notes notes' status

@@ -26,6 +26,8 @@ use Rattle.ev_config.specs.Config.{ConfigOf, ServedOf}
 use Rattle.evpnd.specs.Used.{SimulatesFound, RunsFound, ServesFound}
 use Rattle.evpnd.specs.declared.streams.Stream.{Stream}
 use Rattle.evpnd.specs.declared.host.Descriptors.{Descriptors}
+use Rattle.ev_run.specs.declared.thread_check.ThreadPolicy.{ThreadPolicy}
+use Rattle.ev_run.specs.declared.thread_check.ThreadPolicy.TheVariants.{RequireAll, RunWithout}
 use Rattle.evpnd.specs.declared.check.Purpose.{Purpose}
 use Rattle.evpnd.specs.Streams.{Unclosed}
 use Rattle.ev_report.specs.Failures.{failures_of, TellsFailed}
@@ -47,19 +49,28 @@ not_text = codes "error: a word isn't UTF-8\n"
 -- ---- invocations
 
 -- the edges of a file run; with `true` they answer queries meanwhile
-abbrev pub RunsFile : Bool → Text → Desk → Desk → ℕ → Type 0
-RunsFile false = OfFile (ConfigOf true) RunsFound
-RunsFile true = OfFile ServedOf ServesFound
+abbrev pub RunsFile : Bool → ThreadPolicy → Text → Desk → Desk → ℕ → Type 0
+RunsFile false policy = OfFile (ConfigOf true) (RunsFound policy)
+RunsFile true policy = OfFile ServedOf (ServesFound policy)
 
 -- the edges run, if no standard stream was closed
-abbrev pub RunsOpen : Bool → Option Stream → Text → Desk → Desk → ℕ → Type 0
-RunsOpen is_asked closed path before after status = Unclosed (RunsFile is_asked path) closed before after status
+abbrev pub RunsOpen : Bool → ThreadPolicy → Option Stream → Text → Desk → Desk → ℕ → Type 0
+RunsOpen is_asked policy closed path before after status =
+    Unclosed (RunsFile is_asked policy path) closed before after status
+
+-- what a run does if the system refuses threads, by the aim of its flags
+abbrev pub policy_of : Aim → ThreadPolicy
+policy_of aim.Any = RequireAll
+policy_of aim.Run = RequireAll
+policy_of aim.Serve = RequireAll
+policy_of aim.Degraded = RunWithout
 
 -- the purpose of a configuration, by the aim of a check
 abbrev pub use_of : Aim → Use
 use_of aim.Any = used.Any
 use_of aim.Run = used.Run
 use_of aim.Serve = used.Serve
+use_of aim.Degraded = used.Any
 
 -- the subject of a check
 abbrev pub purpose_of : Aim → Descriptors → Purpose
@@ -77,8 +88,10 @@ FollowsAs given Simulate path more aim before after status = OfFile (ConfigOf fa
     (SimulatesFound mode.Simulate) path before after status
 FollowsAs given Play path more aim before after status = OfFile (ConfigOf false)
     (SimulatesFound mode.Play) path before after status
-FollowsAs given Run path more aim before after status = RunsOpen false given.closed path before after status
-FollowsAs given Serve path more aim before after status = RunsOpen true given.closed path before after status
+FollowsAs given Run path more aim before after status = RunsOpen false (policy_of aim) given.closed path before after
+    status
+FollowsAs given Serve path more aim before after status = RunsOpen true (policy_of aim) given.closed path before after
+    status
 FollowsAs given Version nothing more aim before after status = (after.shelf ≡ before.shelf)
     × TellsVersion before.devices after.devices status
 

@@ -16,7 +16,7 @@ use crate::files::{Files, Named, text_at};
 use ether_wire::{Device, Out};
 use ev_config::{Config, ConfigRefusal, Use, config_for, put_refusal, put_summary};
 use ev_report::{DEVICE, DONE, MEMORY, usage_status};
-use ev_run::{Limits, Obstacle, needs_of, obstacles_of, put_asked_needs, put_obstacles};
+use ev_run::{Obstacle, ProcessLimits, needs_of, obstacles_of, put_asked_needs, put_obstacles};
 use std::alloc::Global;
 
 /// The purpose of a check.
@@ -25,12 +25,12 @@ pub(crate) struct Purpose {
     /// The use of the configuration.
     pub(crate) wanted: Use,
     /// The limits of a run, as far as they are known.
-    pub(crate) limits: Limits,
+    pub(crate) limits: ProcessLimits,
 }
 
 /// The subject of a check.
 #[derive(Clone, Copy, Debug)]
-pub(crate) struct Wanted<'a> {
+pub(crate) struct CheckTarget<'a> {
     /// The path of a configuration.
     pub(crate) path: &'a str,
     /// The path of a script, if there is one.
@@ -50,7 +50,6 @@ pub(crate) fn done_status(written: Result<(), Device>) -> u8
 }
 
 /// Writes the summary of a configuration.
-#[tactic(auto, using(crate::proofs::Telling::sums_put))]
 fn sum_up<W: Out>(config: &Config, out: &mut W) -> u8
     requires { IsOpen (W.end out.old) }
     ensures { Sums (summary_text config.now.edges.items) (W.end out.old) (W.end out.new) result }
@@ -59,7 +58,6 @@ fn sum_up<W: Out>(config: &Config, out: &mut W) -> u8
 }
 
 /// Writes the summary of a configuration, and the resources of its run.
-#[tactic(auto, using(ether_wire::proofs::Appending::with_text_twice))]
 fn put_sums<W: Out>(config: &Config, is_asked: bool, out: &mut W) -> Result<(), Device>
     requires { IsOpen (W.end out.old) }
     ensures { Puts (W.end out.old) (W.end out.new)
@@ -70,7 +68,6 @@ fn put_sums<W: Out>(config: &Config, is_asked: bool, out: &mut W) -> Result<(), 
 }
 
 /// Writes the summary of a configuration, and the resources of its run, and returns the status.
-#[tactic(auto, using(crate::proofs::Telling::sums_put))]
 fn sum_up_run<W: Out>(config: &Config, is_asked: bool, out: &mut W) -> u8
     requires { IsOpen (W.end out.old) }
     ensures { Sums (run_text is_asked config.now.edges.items) (W.end out.old) (W.end out.new)
@@ -112,7 +109,7 @@ struct Run {
     /// Whether clients may query the edges meanwhile.
     is_asked: bool,
     /// The limits, as far as they are known.
-    limits: Limits,
+    limits: ProcessLimits,
 }
 
 /// Writes the resources of a configuration's run, or reports its obstacles.
@@ -202,7 +199,7 @@ fn check_text<W: Out, N: Out>(
 fn check<F: Files, W: Out, N: Out>(
     alloc: Global,
     files: &mut F,
-    wanted: Wanted<'_>,
+    wanted: CheckTarget<'_>,
     out: &mut W,
     notes: &mut N,
 ) -> u8
@@ -225,7 +222,7 @@ fn check<F: Files, W: Out, N: Out>(
 pub(crate) fn check_all<F: Files, W: Out, N: Out>(
     alloc: Global,
     files: &mut F,
-    wanted: Wanted<'_>,
+    wanted: CheckTarget<'_>,
     out: &mut W,
     notes: &mut N,
 ) -> u8

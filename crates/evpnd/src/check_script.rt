@@ -19,7 +19,6 @@ fn lines_word(count: u64) -> &'static [u8]
 }
 
 /// Writes the number of lines, if each is a command.
-#[tactic(auto, using(ether_wire::proofs::Appending::with_text_twice, ether_wire::proofs::Appending::with_text_none))]
 fn put_lines<W: Out>(are_good: bool, count: u64, out: &mut W) -> Result<(), Device>
     requires { IsOpen (W.end out.old) }
     ensures { Puts (W.end out.old) (W.end out.new) (lines_text are_good count) result }

@@ -13,12 +13,13 @@ ghost use Rattle.evpnd.specs.Inner.Configured.{use_for, TextGives, FileGives};
 
 use crate::files::{Files, Named, text_at};
 use ether_wire::{Device, Out};
-use ev_config::{Config, ConfigRefusal, Served, Use, config_of, put_refusal, served_config_of};
+use ev_config::{
+    Config, ConfigRefusal, ServedConfig, Use, config_of, put_refusal, served_config_of,
+};
 use ev_report::{MEMORY, usage_status};
 use std::alloc::Global;
 
 /// Writes `config KEY`.
-#[tactic(auto, using(ether_wire::proofs::Appending::with_text_twice))]
 fn put_key<N: Out>(notes: &mut N, key: &[u8]) -> Result<(), Device>
     requires { IsOpen (N.end notes.old) }
     ensures { Puts (N.end notes.old) (N.end notes.new) (config_text key.now) result }
@@ -30,14 +31,14 @@ fn put_key<N: Out>(notes: &mut N, key: &[u8]) -> Result<(), Device>
 
 /// A text that is no configuration for a use.
 #[derive(Clone, Copy)]
-struct Refused<'a> {
+struct RefusedText<'a> {
     alloc: Global,
     wanted: Use,
     text: &'a str,
 }
 
 /// Writes `config KEY`, and then a line for each fault, as `evpnd check` writes them.
-fn put_faults<N: Out>(refused: Refused<'_>, key: &str, notes: &mut N) -> Result<(), Device>
+fn put_faults<N: Out>(refused: RefusedText<'_>, key: &str, notes: &mut N) -> Result<(), Device>
     requires { IsOpen (N.end notes.old) }
     ensures { (more : Text) × AreFaultLines refused.entry.wanted refused.entry.text.now more
         × Puts (N.end notes.old) (N.end notes.new) (config_text key.now ++ more) result }
@@ -53,7 +54,7 @@ fn put_faults<N: Out>(refused: Refused<'_>, key: &str, notes: &mut N) -> Result<
 }
 
 /// Reports which key of a configuration is faulty, and its faults, and returns the status.
-fn tell_key<N: Out>(refused: Refused<'_>, key: &str, notes: &mut N) -> u8
+fn tell_key<N: Out>(refused: RefusedText<'_>, key: &str, notes: &mut N) -> u8
     requires { IsOpen (N.end notes.old) }
     ensures { (more : Text) × AreFaultLines refused.entry.wanted refused.entry.text.now more
         × IsTold (config_text key.now ++ more) (N.end notes.old) (N.end notes.new) result }
@@ -62,7 +63,7 @@ fn tell_key<N: Out>(refused: Refused<'_>, key: &str, notes: &mut N) -> u8
 }
 
 /// Reports why a text is no configuration, and returns the status.
-fn tell_refusal<N: Out>(refused: Refused<'_>, refusal: &ConfigRefusal, notes: &mut N) -> u8
+fn tell_refusal<N: Out>(refused: RefusedText<'_>, refusal: &ConfigRefusal, notes: &mut N) -> u8
     requires { IsOpen (N.end notes.old) }
     ensures { (input : Source) → (out : End) → Refuses refused.entry.wanted
         refused.entry.text.now refusal.now (devices input out (N.end notes.old))
@@ -91,7 +92,7 @@ fn configured_by<N: Out>(
         Ok(config) => Ok(config),
         Err(refusal) => {
             let wanted = if for_run { Use::Run } else { Use::Any };
-            let refused = Refused {
+            let refused = RefusedText {
                 alloc,
                 wanted,
                 text,
@@ -103,7 +104,7 @@ fn configured_by<N: Out>(
 
 /// Returns the configuration of a text for edges that answer queries while they run, or the status
 /// if it has none, after a report.
-fn served_by<N: Out>(alloc: Global, text: &str, notes: &mut N) -> Result<Served, u8>
+fn served_by<N: Out>(alloc: Global, text: &str, notes: &mut N) -> Result<ServedConfig, u8>
     requires { IsOpen (N.end notes.old) }
     ensures value { TextGives Serve ServedOf text.now (N.end notes.old) (N.end notes.new) result }
     ensures opens { IfOk result (λ s. AreConfigs s.config.edges.items) }
@@ -111,7 +112,7 @@ fn served_by<N: Out>(alloc: Global, text: &str, notes: &mut N) -> Result<Served,
     match served_config_of(alloc, text) {
         Ok(served) => Ok(served),
         Err(refusal) => {
-            let refused = Refused {
+            let refused = RefusedText {
                 alloc,
                 wanted: Use::Serve,
                 text,
@@ -156,7 +157,7 @@ pub(crate) fn served<F: Files, N: Out>(
     files: &mut F,
     path: &str,
     notes: &mut N,
-) -> Result<Served, u8>
+) -> Result<ServedConfig, u8>
     requires files { HasRoom (F.shelf files.old) }
     requires notes { IsOpen (N.end notes.old) }
     ensures value { FileGives Serve ServedOf path.now (F.shelf files.old) (F.shelf files.new)

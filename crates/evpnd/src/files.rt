@@ -160,7 +160,6 @@ impl Named {
 }
 
 /// Writes which file can't be read, and why.
-#[tactic(auto, using(ether_wire::proofs::Appending::with_text_twice))]
 pub(crate) fn put_unread<N: Out>(
     notes: &mut N,
     named: Named,

@@ -1,7 +1,7 @@
 //! The system that the program runs on.
 
 use crate::streams::Stream;
-use ev_run::Limits;
+use ev_run::ProcessLimits;
 use std::alloc::Global;
 
 /// The standard streams and the limits of the process when the program begins.
@@ -10,7 +10,7 @@ pub(crate) struct Descriptors {
     /// The first standard stream that is closed, if one is.
     pub(crate) closed: Option<Stream>,
     /// The limits, as far as they are known.
-    pub(crate) limits: Limits,
+    pub(crate) limits: ProcessLimits,
 }
 
 /// The system's resources.

@@ -1,5 +1,5 @@
 //! EVPN edge bridges: the program.
-#![tactic(auto)]
+#![tactic(auto, using(ether_wire::proofs::Appending::with_text_twice, ether_wire::proofs::Appending::with_text_none, crate::proofs::Telling::sums_put))]
 
 ghost use Rattle.ether_wire.specs.Ends.{IsOpen};
 
@@ -23,7 +23,7 @@ use crate::program::{Argv, run};
 use crate::streams::{Stream, first_closed};
 use ether_wire::{Device, Out, Reader, Writer, put_decimal};
 use ev_report::{DEVICE, Devices, MEMORY};
-use ev_run::Limits;
+use ev_run::ProcessLimits;
 use ev_words::ClapParser;
 use std::os::fd::AsFd;
 use std::os::unix::fs::MetadataExt;
@@ -128,14 +128,14 @@ fn is_root(rt: &HostRuntime) -> bool {
 }
 
 /// Returns the limits of the process, as Linux gives them in `/proc/self/limits`.
-fn limits_of(rt: &HostRuntime) -> Limits {
+fn limits_of(rt: &HostRuntime) -> ProcessLimits {
     let Ok(limits) = fs::read_to_string(rt, "/proc/self/limits") else {
-        return Limits {
+        return ProcessLimits {
             descriptors: None,
             threads: None,
         };
     };
-    Limits {
+    ProcessLimits {
         descriptors: limit_of(limits.as_str(), "Max open files"),
         threads: if is_root(rt) {
             None

@@ -9,10 +9,10 @@ ghost use Rattle.evpnd.specs.Checks.{desk};
 ghost use Rattle.evpnd.specs.Scripts.{ChecksAll};
 ghost use Rattle.evpnd.specs.Streams.{Unclosed, IsClosed};
 ghost use Rattle.ev_report.specs.Failures.{failures_of};
-ghost use Rattle.evpnd.specs.Program.{world, use_of, purpose_of, not_text, RunsOpen, FollowsAs, Follows, FollowsTelling, RunsWords, RunsProgram};
+ghost use Rattle.evpnd.specs.Program.{world, use_of, policy_of, purpose_of, not_text, RunsOpen, FollowsAs, Follows, FollowsTelling, RunsWords, RunsProgram};
 ghost use Rattle.evpnd.specs.Inner.Program.{TellsFault};
 
-use crate::check::{Purpose, Wanted, check_all};
+use crate::check::{CheckTarget, Purpose, check_all};
 use crate::files::Files;
 use crate::host::{Descriptors, Host};
 use crate::records::{migrate, report};
@@ -25,6 +25,7 @@ use clap::Error;
 use ether_wire::{In, Out};
 use ev_config::Use;
 use ev_report::{Devices, Failures, MEMORY, tell, tell_failed, tell_words};
+use ev_run::{ThreadPolicy, UdpTable};
 use ev_script::Mode;
 use ev_words::{Aim, ArgsError, Invocation, Parser, Subcommand, invocation_of};
 use std::alloc::Global;
@@ -62,7 +63,7 @@ fn tell_fault<P: Parser, N: Out>(parser: &mut P, error: &Error, notes: &mut N) -
 fn check_on<F: Files, R: In, W: Out, N: Out>(
     alloc: Global,
     files: &mut F,
-    wanted: Wanted<'_>,
+    wanted: CheckTarget<'_>,
     devices: Devices<R, W, N>,
 ) -> (u8, Devices<R, W, N>)
     requires files { HasRoom (F.shelf files.old) }
@@ -81,19 +82,29 @@ fn use_of(aim: Aim) -> Use
     ensures { result ≡ use_of aim }
 {
     match aim {
-        Aim::Any => Use::Any,
+        Aim::Any | Aim::Degraded => Use::Any,
         Aim::Run => Use::Run,
         Aim::Serve => Use::Serve,
     }
 }
 
+/// Returns what a run does if the system refuses threads, by the aim of its flags.
+fn policy_of(aim: Aim) -> ThreadPolicy
+    ensures { result ≡ policy_of aim }
+{
+    match aim {
+        Aim::Degraded => ThreadPolicy::RunWithout,
+        _ => ThreadPolicy::RequireAll,
+    }
+}
+
 /// Returns the subject of an invocation's check.
-fn wanted_of<'a>(descriptors: Descriptors, invocation: &Invocation<'a>) -> Wanted<'a>
+fn wanted_of<'a>(descriptors: Descriptors, invocation: &Invocation<'a>) -> CheckTarget<'a>
     ensures path { result.path ≡ invocation.now.value }
     ensures script { result.script ≡ invocation.now.more }
     ensures purpose { result.purpose ≡ purpose_of invocation.now.aim descriptors }
 {
-    Wanted {
+    CheckTarget {
         path: invocation.value,
         script: invocation.more,
         purpose: Purpose {
@@ -106,7 +117,7 @@ fn wanted_of<'a>(descriptors: Descriptors, invocation: &Invocation<'a>) -> Wante
 /// Runs the edges of the configuration in the file at a path, with or without clients, if no
 /// standard stream was closed: a socket would get its number.
 fn run_open<
-    H: Threads + Wait + Net + SocketFiles + Clock + Sync,
+    H: Threads + Wait + Net + SocketFiles + UdpTable + Clock + Sync,
     F: Files,
     R: In,
     W: Out,
@@ -114,25 +125,26 @@ fn run_open<
 >(
     host: &Host<'_, H>,
     is_asked: bool,
+    policy: ThreadPolicy,
     files: &mut F,
     path: &str,
     devices: Devices<R, W, N>,
 ) -> (u8, Devices<R, W, N>)
     requires files { HasRoom (F.shelf files.old) }
     requires devices { AreOpen devices }
-    ensures { RunsOpen is_asked host.now.descriptors.closed path.now
+    ensures { RunsOpen is_asked policy host.now.descriptors.closed path.now
         (desk (F.shelf files.old) devices) (desk (F.shelf files.new) result.1) result.0 }
 {
     match host.descriptors.closed {
-        None if is_asked => serve_file(host.rt, host.alloc, files, path, devices),
-        None => run_file(host.rt, host.alloc, files, path, devices),
+        None if is_asked => serve_file(host.rt, host.alloc, policy, files, path, devices),
+        None => run_file(host.rt, host.alloc, policy, files, path, devices),
         Some(stream) => tell_closed(stream, devices),
     }
 }
 
 /// Executes an invocation.
 fn follow<
-    H: Threads + Wait + Net + SocketFiles + Clock + Sync,
+    H: Threads + Wait + Net + SocketFiles + UdpTable + Clock + Sync,
     F: Files,
     R: In,
     W: Out,
@@ -150,6 +162,7 @@ fn follow<
         (desk (F.shelf files.new) result.1) result.0 }
 {
     let alloc = host.alloc;
+    let policy = policy_of(invocation.aim);
     match invocation.subcommand {
         Subcommand::Report => report(alloc, invocation.value, devices),
         Subcommand::Migrate => migrate(alloc, invocation.value, devices),
@@ -165,11 +178,11 @@ fn follow<
         Subcommand::Play => simulate(alloc, Mode::Play, files, invocation.value, devices),
         Subcommand::Run => {
             let is_asked = false;
-            run_open(host, is_asked, files, invocation.value, devices)
+            run_open(host, is_asked, policy, files, invocation.value, devices)
         }
         Subcommand::Serve => {
             let is_asked = true;
-            run_open(host, is_asked, files, invocation.value, devices)
+            run_open(host, is_asked, policy, files, invocation.value, devices)
         }
         Subcommand::Version => version(devices),
     }
@@ -177,7 +190,7 @@ fn follow<
 
 /// Executes an invocation, and reports whether reading or writing failed.
 fn follow_telling<
-    H: Threads + Wait + Net + SocketFiles + Clock + Sync,
+    H: Threads + Wait + Net + SocketFiles + UdpTable + Clock + Sync,
     F: Files,
     R: In,
     W: Out,
@@ -200,7 +213,7 @@ fn follow_telling<
 
 /// Runs the program with these arguments.
 fn run_words<
-    H: Threads + Wait + Net + SocketFiles + Clock + Sync,
+    H: Threads + Wait + Net + SocketFiles + UdpTable + Clock + Sync,
     P: Parser,
     F: Files,
     R: In,
@@ -240,7 +253,7 @@ fn run_words<
 // (its frame is large: in `main`, which names a small stack, it would not fit that stack)
 #[inline(never)]
 pub(crate) fn run<
-    H: Threads + Wait + Net + SocketFiles + Clock + Sync,
+    H: Threads + Wait + Net + SocketFiles + UdpTable + Clock + Sync,
     P: Parser,
     F: Files,
     R: In,

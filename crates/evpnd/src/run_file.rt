@@ -10,7 +10,7 @@ use crate::configured::configured;
 use crate::files::Files;
 use ether_wire::{In, Out};
 use ev_report::Devices;
-use ev_run::run_buffered;
+use ev_run::{System, ThreadPolicy, UdpTable, run_buffered};
 use std::alloc::Global;
 use std::fs::Files as SocketFiles;
 use std::net::Net;
@@ -20,7 +20,7 @@ use std::time::Clock;
 
 /// Runs the edges that the file at a path configures.
 pub(crate) fn run_file<
-    H: Threads + Wait + Net + SocketFiles + Clock + Sync,
+    H: Threads + Wait + Net + SocketFiles + UdpTable + Clock + Sync,
     F: Files,
     R: In,
     W: Out,
@@ -28,18 +28,19 @@ pub(crate) fn run_file<
 >(
     rt: &H,
     alloc: Global,
+    policy: ThreadPolicy,
     files: &mut F,
     path: &str,
     devices: Devices<R, W, N>,
 ) -> (u8, Devices<R, W, N>)
     requires files { HasRoom (F.shelf files.old) }
     requires devices { AreOpen devices }
-    ensures { OfFile (ConfigOf true) RunsFound path.now
+    ensures { OfFile (ConfigOf true) (RunsFound policy) path.now
         (desk (F.shelf files.old) devices) (desk (F.shelf files.new) result.1) result.0 }
 {
     let mut devices = devices;
     match configured(alloc, files, path, true, &mut devices.notes) {
-        Ok(config) => run_buffered(rt, alloc, config, devices),
+        Ok(config) => run_buffered(&System { rt, alloc, policy }, config, devices),
         Err(status) => (status, devices),
     }
 }

@@ -9,7 +9,7 @@ use crate::configured::served;
 use crate::files::Files;
 use ether_wire::{In, Out};
 use ev_report::Devices;
-use ev_run::serve_buffered;
+use ev_run::{System, ThreadPolicy, UdpTable, serve_buffered};
 use std::alloc::Global;
 use std::fs::Files as SocketFiles;
 use std::net::Net;
@@ -19,7 +19,7 @@ use std::time::Clock;
 
 /// Runs the edges that the file at a path configures. They answer queries meanwhile.
 pub(crate) fn serve_file<
-    H: Threads + Wait + Net + SocketFiles + Clock + Sync,
+    H: Threads + Wait + Net + SocketFiles + UdpTable + Clock + Sync,
     F: Files,
     R: In,
     W: Out,
@@ -27,18 +27,19 @@ pub(crate) fn serve_file<
 >(
     rt: &H,
     alloc: Global,
+    policy: ThreadPolicy,
     files: &mut F,
     path: &str,
     devices: Devices<R, W, N>,
 ) -> (u8, Devices<R, W, N>)
     requires files { HasRoom (F.shelf files.old) }
     requires devices { AreOpen devices }
-    ensures { OfFile ServedOf ServesFound path.now (desk (F.shelf files.old) devices)
+    ensures { OfFile ServedOf (ServesFound policy) path.now (desk (F.shelf files.old) devices)
         (desk (F.shelf files.new) result.1) result.0 }
 {
     let mut devices = devices;
     match served(alloc, files, path, &mut devices.notes) {
-        Ok(found) => serve_buffered(rt, alloc, found, devices),
+        Ok(found) => serve_buffered(&System { rt, alloc, policy }, found, devices),
         Err(status) => (status, devices),
     }
 }

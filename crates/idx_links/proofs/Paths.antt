@@ -1,5 +1,5 @@
 -- paths and rings, before and after a link changes
-use Rattle.std.proofs.Common.{ℕ, zero, suc, ◌+◌, ◌-◌, ◌≤◌, ◌≡◌, ◌≢◌, ◌⊎◌, inl, inr, Bool, true, false, cond, ◌||◌, eqb}
+use Rattle.std.proofs.Common.{ℕ, zero, suc, ◌+◌, ◌-◌, ◌≤◌, ◌≡◌, ◌≢◌, ◌⊎◌, inl, inr, true, false, cond, ◌||◌, eqb}
 use Rattle.std.proofs.Common.{Option, Some, None, slice_get, List, [], ◌∷◌, ◌++◌, length, map, refl, ap, sym, ◌∙◌}
 use Rattle.std.proofs.Common.{arith}
 use Rattle.std.proofs.lemmas.Bool.{cases_eq, eq-eqb, ne_eqb, false≢true, or_cases, or_right}
@@ -7,6 +7,7 @@ use Rattle.std.proofs.lemmas.Bool.Decides.{nat_tests}
 use Rattle.idx_links.specs.Links.{has, without, Apart}
 use Rattle.std.specs.Option.{option_map}
 use Rattle.idx_links.specs.Inner.Ring.{walk, Path}
+use Rattle.std.proofs.Math.Bool.{or-true as or_true}
 
 -- the node after the node
 abbrev pub after : List ℕ → ℕ → Option ℕ
@@ -224,10 +225,6 @@ has-left (x ∷ xs) n y h =
             | inr s ↦ or_right (eqb x y) (has xs y) (has-left xs n y s)
           ]
     ]
-
-or_true : (b : Bool) → (b || true) ≡ true
-or_true true = refl
-or_true false = refl
 
 pub first-minus : (c : ℕ) (xs : List ℕ) → slice_get (map (λ x. x - c) xs) 0 ≡ option_map (λ x. x - c) (slice_get xs 0)
 first-minus c [] = refl

@@ -13,7 +13,7 @@ const LIMIT: usize = 0xffff_ffff;
 // one or two cache lines of 64: the fewer octets a large table has, the more of it stays in the
 // caches.
 #[derive(Clone, Copy)]
-struct Link {
+struct PlaceLinks {
     next: u32,
     prev: u32,
     // Of a list's own place, how many nodes the list has. Of a node's place, one more than the list
@@ -26,7 +26,7 @@ struct Link {
 #[derive(Drop)]
 pub(crate) struct Places {
     lists: usize,
-    links: Vec<Link>,
+    links: Vec<PlaceLinks>,
 }
 
 impl Model for Places {
@@ -182,7 +182,7 @@ impl Places {
 }
 
 /// Grows up to this number of places; each new one leads to itself.
-fn add_lone(links: &mut Vec<Link>, places: usize)
+fn add_lone(links: &mut Vec<PlaceLinks>, places: usize)
     requires more { vec_len links.old ≤ places }
     requires room { places ≤ vec_capacity links.old }
     requires small { places < 2 ^ 32 }
@@ -194,7 +194,7 @@ fn add_lone(links: &mut Vec<Link>, places: usize)
         ++ replicate (places - vec_len links.old) 0 }
 {
     for place in links.len()..places {
-        links.push_reserved(Link {
+        links.push_reserved(PlaceLinks {
             next: place as u32,
             prev: place as u32,
             mark: 0,

@@ -14,6 +14,7 @@ use Rattle.mac_arena.specs.ListsName.{ListsName, stands, AreOnce, Rises, is_on, 
 use Rattle.mac_arena.specs.Laws.{is_due, due_among, due_in, unpinned_among, unpinned_on, GoesFirst}
 use Rattle.mac_arena.proofs.Entries.{same_true, same_self, eq_same, ne_same}
 use Rattle.mac_arena.proofs.Looking.{removal_entry}
+use Rattle.std.proofs.Math.Bool.{or-true as or_true}
 
 -- ---- by age: exactly those who were last heard early enough
 
@@ -27,10 +28,6 @@ late limit (Some e) a d = grind (arith, nat_tests)
 late_not : (limit : ℕ) (o : Option Entry) → limit < last_at o → is_due limit o ≡ false
 late_not limit None l = refl
 late_not limit (Some e) l = grind (arith, nat_tests)
-
-or_true : (b : Bool) → (b || true) ≡ true
-or_true true = refl
-or_true false = refl
 
 behind_too : (x : Station) (xs : List Station) (q : Station) → stands xs q ≡ true → stands (x ∷ xs) q ≡ true
 behind_too x xs q h = ap (λ b. is_same x q || b) h ∙ or_true (is_same x q)

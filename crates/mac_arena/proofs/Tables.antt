@@ -9,7 +9,7 @@ use Rattle.std.specs.FinMap.{empty, get, insert, len, len-empty}
 use Rattle.std.proofs.Math.Seq.{map-set_same}
 use Rattle.std.proofs.lemmas.List.{get_or_past, get_or_default, get_or-replicate, length-replicate, length-set}
 use Rattle.std.proofs.lemmas.List.{get_or-map, map-append, length-map}
-use Rattle.std.proofs.lemmas.Bool.{cases_eq, cases_lt, eq-eqb, ne_eqb, false≢true}
+use Rattle.std.proofs.lemmas.Bool.{cases_eq, cases_lt, eq-eqb, ne_eqb, false≢true, and_parts as both_true}
 use Rattle.std.proofs.lemmas.Option.{slice_get-map}
 use Rattle.std.proofs.lemmas.List.Sums.{count_by-le-length, sum_by-cons}
 use Rattle.std.proofs.lemmas.Bool.Decides.{nat_tests}
@@ -57,11 +57,6 @@ slot_seen o slots salt alone n = elim (cases_lt n (length slots)) [
 is_there : (o : Option Learned) → is_none o ≡ true → o ≡ None
 is_there None e = refl
 is_there (Some x) e = absurd (false≢true e)
-
-both_true : (a b : Bool) → (a && b) ≡ true → (a ≡ true) × (b ≡ true)
-both_true true true e = (refl, refl)
-both_true true false e = absurd (false≢true e)
-both_true false b e = absurd (false≢true e)
 
 and_false : (a : Bool) → (a && false) ≡ false
 and_false true = refl

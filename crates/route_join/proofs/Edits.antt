@@ -75,31 +75,33 @@ kept_put os us new u f k e h = record {
 }
 
 -- ---- the result of a call of `place`
-pub found_at : (us ds : List Fields) (q r : Register) (at : ℕ) → ds ≡ us → r ≡ q → Ok at ≡ place_of ds r
+pub found_at : {us ds : List Fields} {q r : Register} {at : ℕ} → ds ≡ us → r ≡ q → Ok at ≡ place_of ds r
     → IsPlace us q at
-found_at us ds q r at d e h = placed us q at (ap (λ x. place_of x q) (sym d) ∙ ap (place_of ds) (sym e) ∙ sym h)
+found_at {us} {ds} {q} {r} {at} d e h = placed us q at
+    (ap (λ x. place_of x q) (sym d) ∙ ap (place_of ds) (sym e) ∙ sym h)
 
-pub gap_at : (us ds : List Fields) (q r : Register) (at : ℕ) → IsOrdered us → ds ≡ us → r ≡ q → Err at ≡ place_of ds r
+pub gap_at : {us ds : List Fields} {q r : Register} {at : ℕ} → IsOrdered us → ds ≡ us → r ≡ q → Err at ≡ place_of ds r
     → IsGap us q at
-gap_at us ds q r at s d e h = gapped us q at s (ap (λ x. place_of x q) (sym d) ∙ ap (place_of ds) (sym e) ∙ sym h)
+gap_at {us} {ds} {q} {r} {at} s d e h = gapped us q at s
+    (ap (λ x. place_of x q) (sym d) ∙ ap (place_of ds) (sym e) ∙ sym h)
 
 -- likewise for a group with the view `now`
-module _ (us ds now : List Fields) (view : us ≡ now) (q r : Register) (at : ℕ) (d : ds ≡ us) (e : r ≡ q) where
-  pub told_at : (v : Fields) → Ok at ≡ place_of ds r → v ≡ get_or us at v
+module _ {us ds now : List Fields} (view : us ≡ now) {q r : Register} {at : ℕ} (d : ds ≡ us) (e : r ≡ q) where
+  pub told_at : {v : Fields} → Ok at ≡ place_of ds r → v ≡ get_or us at v
       → find register_cmp q (entries_of now) ≡ Some v.value
-  told_at v h is = ap (λ xs. find register_cmp q (entries_of xs)) (sym view) ∙ (found_at us ds q r at d e h).value v
+  told_at {v} h is = ap (λ xs. find register_cmp q (entries_of xs)) (sym view) ∙ (found_at d e h).value v
       ∙ ap (λ (x : Fields). Some x.value) (sym is)
 
   pub new_at : IsOrdered us → Err at ≡ place_of ds r → find register_cmp q (entries_of now) ≡ None
-  new_at s h = ap (λ xs. find register_cmp q (entries_of xs)) (sym view) ∙ (gap_at us ds q r at s d e h).value
+  new_at s h = ap (λ xs. find register_cmp q (entries_of xs)) (sym view) ∙ (gap_at s d e h).value
 
 pub inserted : (new x y : List Fields) (b : Bool) → new ≡ cond b x y → b ≡ true → new ≡ x
 inserted new x y b e t = e ∙ ap (λ z. cond z x y) t
 
 -- ---- an update of a listed originator
-pub listed_by : (os ds : List ℕ) (q r : Register) → ds ≡ os → r ≡ q → true ≡ list_any (λ y. eqb y r.originator) ds
+pub listed_by : {os ds : List ℕ} {q r : Register} → ds ≡ os → r ≡ q → true ≡ list_any (λ y. eqb y r.originator) ds
     → list_any (λ x. eqb x q.originator) os ≡ true
-listed_by os ds q r d e h = ap (list_any (λ x. eqb x q.originator)) (sym d)
+listed_by {os} {ds} {q} {r} d e h = ap (list_any (λ x. eqb x q.originator)) (sym d)
     ∙ ap (λ (k : Register). list_any (λ x. eqb x k.originator) ds) (sym e) ∙ sym h
 
 pub not_unknown : {X : Type 0} (r : Result X TakeError) (b : Bool) → b ≡ true → (r ≡ Err UnknownOriginator → ⊥)

@@ -12,7 +12,7 @@ use Rattle.std.specs.Cmp.{tied_itself, nat_cmp_total}
 use Rattle.std.specs.Set.{is_member}
 use Rattle.std.proofs.lemmas.Map.Keys.{IsDistinct-from_apart, below_from_sorted, IsStrictlyIncreasing-from_sorted}
 use Rattle.std.proofs.lemmas.Map.Made.{length-le_from_is_member, is_member-Decides}
-use Rattle.std.proofs.lemmas.Bool.{eq-eqb, eqb-true}
+use Rattle.std.proofs.lemmas.Bool.{eq-eqb, eqb-true, and_parts as both}
 use Rattle.std.proofs.lemmas.Bool.Decides.{Decides-eqb}
 use Rattle.std.specs.FinMap.{entries, entries_sorted}
 use Rattle.std.specs.FinMap.Entries.{find, is_sorted, below_all}
@@ -25,7 +25,7 @@ use Rattle.route_wire.specs.Order.{register_cmp, ip_cmp}
 use Rattle.route_join.specs.Table.{Table, register_of, value_at, IsListed, AreOriginators}
 use Rattle.route_join.specs.Owner.{advert_in, advert_of, advert_at}
 use Rattle.route_join.specs.Flood.{IsFloodList, is_flood, floods, flooding, flood_of}
-use Rattle.route_join.proofs.Orders.{less, both, from_T}
+use Rattle.route_join.proofs.Orders.{less, from_T}
 use Rattle.route_join.proofs.Tables.{same_or_other, itself_register, other_register, below_none}
 use Rattle.route_join.proofs.Owners.{in_list, in_table}
 

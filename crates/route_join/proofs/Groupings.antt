@@ -54,7 +54,7 @@ before_all s [] b k = tt
 before_all s (g ∷ gs) b k = all_append s Less (entries_of g.1) (entries_in gs)
     (about_all s g.0 Less (entries_of g.1) k.0 b.0) (before_all s gs b.1 k.3)
 
-before_later : (s t : Subject) (gs : Groups) → subject_cmp s t ≡ Less → IsBefore t gs → IsBefore s gs
+pub before_later : (s t : Subject) (gs : Groups) → subject_cmp s t ≡ Less → IsBefore t gs → IsBefore s gs
 before_later s t [] l b = tt
 before_later s t (g ∷ gs) l b = (subject_total.trans s t g.0 l b.0, before_later s t gs l b.1)
 
@@ -104,7 +104,7 @@ module _ (r : Register) (v : Value) where
       ∙ ap (λ x. e ∷ x) (put_after es fs h.1)
 
 -- ---- the group of a subject
-group_none : (s : Subject) (gs : Groups) → IsBefore s gs → group_at s gs ≡ None
+pub group_none : (s : Subject) (gs : Groups) → IsBefore s gs → group_at s gs ≡ None
 group_none s [] b = refl
 group_none s (g ∷ gs) b = ap (λ o. cond (is_eq o) (Some g.1) (group_at s gs)) b.0 ∙ group_none s gs b.1
 

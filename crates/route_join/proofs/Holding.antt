@@ -134,7 +134,7 @@ module _ (os : List ℕ) (gs : Groups) (k : IsGrouped os gs) (vni mac : ℕ) whe
 
   pub owned_by : (us : List Fields) → group_at (address vni mac) gs ≡ Some us → (o : Option ℕ)
       → MatchOption o (IsSilent us) (IsLeader us) → Owned (table_from os (updates_in gs)) vni mac o
-  owned_by us h o q = led_by (table_from os (updates_in gs)) vni mac us (about_there (address vni mac) gs us k.groups h)
+  owned_by us h o q = led_by (table_from os (updates_in gs)) vni mac us (about_there _ _ _ k.groups h)
       (λ p ip. ap advert_of (value_there os gs k (register_of p (Mac vni mac ip)) us h)) o q
 
 -- ---- flood lists

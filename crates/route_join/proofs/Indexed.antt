@@ -115,9 +115,9 @@ module _ (s : Subject) (w : List Fields) (gs hs : Groups) (h : (q : Subject)
 
 module _ (s : Subject) (w : List Fields) (gs hs : Groups) (h : (q : Subject)
     → group_in hs q ≡ cond (subject_eq s q) (Some w) (group_in gs q)) where
-  pub set_indexed : (ss : List Subject) (us : List Fields) → Some us ≡ group_in gs s → AreIndexed ss gs
+  pub set_indexed : {ss : List Subject} {us : List Fields} → Some us ≡ group_in gs s → AreIndexed ss gs
       → AreIndexed ss hs
-  set_indexed ss us is k = record {
+  set_indexed {ss} {us} is k = record {
     ascend = k.ascend;
     same = λ q. elim (is_at (subject_cmp s) q) as (λ b. is_at (subject_cmp s) q ≡ b
         → is_among ss q ≡ is_some (group_in hs q)) [
@@ -141,23 +141,22 @@ module _ (s : Subject) (w : List Fields) (gs hs : Groups) (h : (q : Subject)
   }
 
 -- ---- in terms of the groups in their order
-module _ (ss : List Subject) (gs now : Groups) (k : AreIndexed ss gs) (is : groups_along ss gs ≡ now) where
-  pub found_as : (s t : Subject) (o : Option (List Fields)) → s ≡ t → o ≡ group_in gs s → group_at t now ≡ o
-  found_as s t o same at = ap (group_at t) (sym is) ∙ sym (found t ss gs k) ∙ ap (group_in gs) (sym same) ∙ sym at
+module _ {ss : List Subject} {gs now : Groups} (k : AreIndexed ss gs) (is : groups_along ss gs ≡ now) where
+  pub found_as : {s t : Subject} {o : Option (List Fields)} → s ≡ t → o ≡ group_in gs s → group_at t now ≡ o
+  found_as {s} {t} same at = ap (group_at t) (sym is) ∙ sym (found t ss gs k) ∙ ap (group_in gs) (sym same) ∙ sym at
 
   -- if the subject is that of a register
-  pub found_of : (s : Subject) (r q : Register) (o : Option (List Fields)) → s ≡ subject_of r.key → r ≡ q
+  pub found_of : {s : Subject} {r q : Register} {o : Option (List Fields)} → s ≡ subject_of r.key → r ≡ q
       → o ≡ group_in gs s → group_at (subject_of q.key) now ≡ o
-  found_of s r q o named same at = found_as s (subject_of q.key) o (named
-      ∙ ap (λ (x : Register). subject_of x.key) same) at
+  found_of named same at = found_as (named ∙ ap (λ (x : Register). subject_of x.key) same) at
 
   pub not_among : (s : Subject) → group_at s now ≡ None → is_among ss s ≡ false
   not_among s none = k.same s ∙ ap is_some (found s ss gs k ∙ ap (group_at s) is ∙ none)
 
-  pub written_as : (s t : Subject) (w : List Fields) (hs : Groups) → s ≡ t
+  pub written_as : {s t : Subject} (w : List Fields) (hs : Groups) → s ≡ t
       → ((q : Subject) → group_in hs q ≡ cond (subject_eq s q) (Some w) (group_in gs q))
       → groups_along ss hs ≡ set_value (is_at (subject_cmp t)) now w
-  written_as s t w hs same h = written s w gs hs h ss k.ascend
+  written_as {s} w hs same h = written s w gs hs h ss k.ascend
       ∙ (λ i. set_value (is_at (subject_cmp (same i))) (is i) w)
 
 pub some_is : (us : List Fields) (o : Option (List Fields)) → Some us ≡ o → IsSome o

@@ -6,7 +6,7 @@ use Rattle.std.proofs.lemmas.List.Elements.{Contains-push, Contains-push_cases}
 use Rattle.std.specs.declared.cmp.Ordering.{Ordering}
 use Rattle.std.specs.declared.cmp.Ordering.TheVariants.{Less, Equal, Greater}
 use Rattle.std.specs.Ordering.{is_lt, is_gt, ordering_reverse, eq_by_cmp}
-use Rattle.std.proofs.lemmas.Bool.{false_from_ne_true}
+use Rattle.std.proofs.lemmas.Bool.{false_from_ne_true, and_parts as both}
 use Rattle.std.proofs.lemmas.Cmp.{upto}
 use Rattle.std.specs.FinMap as map
 use Rattle.std.specs.FinMap.Entries.{find, is_sorted, below_all}
@@ -20,7 +20,7 @@ use Rattle.route_join.specs.Table.{IsTableOf}
 use Rattle.route_join.specs.Joins.{newer_of, IsJoin, with_entries, join}
 use Rattle.route_join.specs.Laws.{NoneTaken, OneTaken, AllTaken, OneJoined, JoinIs, JoinCommutes, JoinAssociates}
 use Rattle.route_join.specs.Laws.{JoinRepeats, JoinOfTables, NewerStands, OthersStay}
-use Rattle.route_join.proofs.Orders.{less, both, from_T}
+use Rattle.route_join.proofs.Orders.{less, from_T}
 use Rattle.route_join.proofs.Tables.{same_register, itself_register, same_or_other, other_register, below_none, at_same}
 use Rattle.route_join.proofs.Tables.{at_other, not_newer_itself, one_table}
 use Rattle.route_join.proofs.Edits.{found}

@@ -9,7 +9,7 @@ use Rattle.std.specs.declared.alloc.AllocError.{AllocError}
 use Rattle.std.specs.declared.cmp.Ordering.TheVariants.{Equal}
 use Rattle.std.specs.FinMap.Entries.{find, put, find-put, is_sorted}
 use Rattle.std.specs.Prelude.{is_some, nat_le, IfSome, OnOk, Result, Ok, Err}
-use Rattle.std.specs.Result.{is_err, IsErrAnd}
+use Rattle.std.specs.Result.{is_err}
 use Rattle.std.proofs.lemmas.Bool.{not-true}
 use Rattle.std.proofs.lemmas.Bool.Decides.{nat_tests}
 use Rattle.std.proofs.lemmas.List.{map-append, take-append-drop}
@@ -22,7 +22,6 @@ use Rattle.route_wire.specs.Fields.{Fields}
 use Rattle.route_wire.specs.Order.{register_cmp, is_newer}
 use Rattle.route_wire.specs.declared.update.Key.TheVariants.{Flood}
 use Rattle.route_wire.specs.declared.update.Content.TheVariants.{Withdrawn}
-use Rattle.route_join.specs.declared.table.Taken.{Taken}
 use Rattle.route_join.specs.declared.table.Taken.TheVariants.{Newer, Known}
 use Rattle.route_wire.specs.Inner.Totals.{register_total}
 use Rattle.route_join.specs.Table.{entries_of, IsOrdered, is_news}
@@ -327,8 +326,8 @@ some_update = record {
 }
 
 -- ---- the effect of an update on a group
-module _ (us : List Fields) (u : Fields) (v : Value) (there : find register_cmp u.register (entries_of us) ≡ Some v)
-    (b : Bool) (n : b ≡ is_newer u.value v) (held : ℕ) where
+module _ (us : List Fields) (u : Fields) {v : Value} (there : find register_cmp u.register (entries_of us) ≡ Some v)
+    {b : Bool} (n : b ≡ is_newer u.value v) (held : ℕ) where
   news_at : is_news (find register_cmp u.register (entries_of us)) u.value ≡ b
   news_at = ap (λ o. is_news o u.value) there ∙ sym n
 
@@ -359,10 +358,10 @@ module _ (us : List Fields) (u : Fields) (v : Value) (there : find register_cmp 
     uncounted = tt;
   }
 
-module _ (es : List (Register × Value)) (u : Fields) (none : find register_cmp u.register es ≡ None) (held : ℕ) where
-  pub new_takes : (new : List (Register × Value)) → new ≡ put register_cmp u.register u.value es
-      → (more : ℕ) → more ≡ held + 1 → more < 2 ^ 64 → Takes es u held (Ok Newer) new more
-  new_takes new w more one few = record {
+module _ {es : List (Register × Value)} {u : Fields} (none : find register_cmp u.register es ≡ None) {held : ℕ} where
+  pub new_takes : {new : List (Register × Value)} → new ≡ put register_cmp u.register u.value es
+      → {more : ℕ} → more ≡ held + 1 → more < 2 ^ 64 → Takes es u held (Ok Newer) new more
+  new_takes w one few = record {
     taken = sym (ap (λ o. cond (is_news o u.value) Newer Known) none);
     entries = w ∙ sym (ap (λ o. cond (is_news o u.value) (put register_cmp u.register u.value es) es) none);
     counted = one ∙ ap (λ o. held + cond (is_some o) 0 1) (sym none);
@@ -371,8 +370,8 @@ module _ (es : List (Register × Value)) (u : Fields) (none : find register_cmp 
     uncounted = tt;
   }
 
-  pub refused_takes : (x : AllocError) (new : List (Register × Value)) → Takes es u held (Err x) new held
-  refused_takes x new = record {
+  pub refused_takes : {x : AllocError} {new : List (Register × Value)} → Takes es u held (Err x) new held
+  refused_takes = record {
     taken = tt;
     entries = tt;
     counted = tt;
@@ -380,11 +379,6 @@ module _ (es : List (Register × Value)) (u : Fields) (none : find register_cmp 
     absent = none;
     uncounted = refl;
   }
-
-  pub refused_by : (r : Result Taken AllocError) (x : AllocError) (new : List (Register × Value))
-      → IsErrAnd r (λ y. y ≡ x) → Takes es u held r new held
-  refused_by (Ok t) x new h = absurd h
-  refused_by (Err y) x new h = refused_takes y new
 
 -- a fact that holds if a call succeeded
 pub on_ok : {X E : Type 0} (r : Result X E) (P : Type 0) → OnOk r P → is_err r ≡ false → P

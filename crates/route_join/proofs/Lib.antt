@@ -1,3 +1,4 @@
+pub mod Basics
 pub mod Stations
 pub mod Orders
 pub mod Numbers
@@ -16,8 +17,12 @@ pub mod Holding
 pub mod Joins
 pub mod Lines
 pub mod Merging
-pub mod Sames
 pub mod WinnerTrees
 pub mod Trees
 pub mod Abouts
 pub mod HexGroups
+pub mod Entries
+pub mod Afters
+pub mod Pages
+pub mod PageLaws
+pub mod RunningReports

@@ -27,13 +27,14 @@ use Rattle.route_join.specs.Table.{Table, IsOrdered, is_listed, is_news, value_a
 use Rattle.route_join.specs.Table.{with_updates, entries_of, table_from}
 use Rattle.route_join.specs.Updates.{update_from, all_updates}
 use Rattle.route_join.specs.Joins.{newer_of, with_entries, join, IsPartJoin}
-use Rattle.route_join.proofs.Orders.{both, from_T}
+use Rattle.route_join.proofs.Orders.{from_T}
 use Rattle.route_join.proofs.Tables.{itself_register, other_register}
 use Rattle.route_join.proofs.Edits.{found, listed_as}
 use Rattle.route_join.proofs.Within.{below_at}
 use Rattle.route_join.proofs.Owners.{not_less_itself}
 use Rattle.route_join.proofs.Groupings.{Groups}
 use Rattle.route_join.proofs.Joins.{newer_of-same, newer_of-assoc, entries_at, join_is}
+use Rattle.std.proofs.lemmas.Bool.{and_parts as both}
 
 -- the first k updates were taken, and the register of the next one is new
 pub record StopsAt (t : Table) (us : List Fields) (k : ℕ) (new : Table) : Type 0 where
@@ -180,7 +181,7 @@ all_counted s os gs done us rest held k view whole =
     omega (arith, k.counted, all, first, second)
 
 -- ---- a second merge completes the first
-below_front : (q : Register) (k : ℕ) (es : List (Register × Value)) → below_all register_cmp q es ≡ true
+pub below_front : (q : Register) (k : ℕ) (es : List (Register × Value)) → below_all register_cmp q es ≡ true
     → below_all register_cmp q (take k es) ≡ true
 below_front q zero es h = refl
 below_front q (suc k) [] h = refl
@@ -188,7 +189,7 @@ below_front q (suc k) (e ∷ es) h =
     let parts = both (is_lt (register_cmp q e.0)) (below_all register_cmp q es) h in
     ap (λ b. b && below_all register_cmp q (take k es)) parts.0 ∙ below_front q k es parts.1
 
-sorted_front : (k : ℕ) (es : List (Register × Value)) → is_sorted register_cmp es ≡ true
+pub sorted_front : (k : ℕ) (es : List (Register × Value)) → is_sorted register_cmp es ≡ true
     → is_sorted register_cmp (take k es) ≡ true
 sorted_front zero es h = refl
 sorted_front (suc k) [] h = refl

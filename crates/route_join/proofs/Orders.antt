@@ -1,5 +1,5 @@
 -- Lemmas on tests and orders.
-use Rattle.std.proofs.Common.{◌≡◌, Bool, true, false, ◌&&◌, T, refl, sym, subst}
+use Rattle.std.proofs.Common.{◌≡◌, Bool, true, false, T, refl, sym, subst}
 use Rattle.std.specs.declared.cmp.Ordering.{Ordering}
 use Rattle.std.specs.declared.cmp.Ordering.TheVariants.{Less, Equal, Greater}
 use Rattle.std.specs.Ordering.{is_lt}
@@ -8,10 +8,6 @@ pub less : (o : Ordering) → is_lt o ≡ true → o ≡ Less
 less Less h = refl
 less Equal h = cc
 less Greater h = cc
-
-pub both : (a b : Bool) → a && b ≡ true → (a ≡ true) × (b ≡ true)
-both true b p = (refl, p)
-both false b p = cc
 
 pub to_T : (b : Bool) → b ≡ true → T b
 to_T b e = subst T (sym e) tt

@@ -26,9 +26,10 @@ use Rattle.route_join.specs.Owner.{advert_in, advert_of, IsBetterBy, IsBetter, I
 use Rattle.route_join.specs.Owner.{is_better, is_about, said_of, better_of, best_among, owner}
 use Rattle.route_join.specs.Laws.{OneOwner, OwnerAlong}
 use Rattle.route_join.specs.Subject.{subject_of}
-use Rattle.route_join.proofs.Orders.{less, both, from_T}
+use Rattle.route_join.proofs.Orders.{less, from_T}
 use Rattle.route_join.proofs.Subjects.{address_key, about_address, about_itself}
 use Rattle.route_join.proofs.Tables.{itself_register, same_or_other, other_register}
+use Rattle.std.proofs.lemmas.Bool.{and_parts as both}
 
 -- ---- better is before in a total order, and of two registers one is better
 later_by_number : (m n : ℕ) (o : Ordering) → ((n ≤ m) × (m ≡ n → o ≡ Less)) ↔ (ordering_then (nat_cmp n m) o ≡ Less)

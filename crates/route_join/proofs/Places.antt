@@ -1,7 +1,8 @@
 -- Updates in the order of their registers: the meaning of a register's place, and the effect of an edit there.
-use Rattle.std.proofs.Common.{◌≡◌, ℕ, zero, suc, ◌+◌, ◌<◌, ◌≤◌, true, cond, List, [], ◌∷◌, ◌++◌, length}
+use Rattle.std.proofs.Common.{◌≡◌, ℕ, zero, suc, ◌+◌, ◌<◌, ◌≤◌, true, false, cond, List, [], ◌∷◌, ◌++◌, length}
 use Rattle.std.proofs.Common.{get_or, set, Some, None, Result, Ok, Err, refl, sym, ap, subst, ◌∙◌, arith}
 use Rattle.std.specs.List.{insert}
+use Rattle.std.specs.Result.{is_err}
 use Rattle.std.proofs.Math.Seq.{take-length, drop-length}
 use Rattle.std.specs.declared.cmp.Ordering.TheVariants.{Less, Equal, Greater}
 use Rattle.std.specs.Ordering.{is_lt, is_eq}
@@ -15,16 +16,17 @@ use Rattle.route_join.specs.Table.{entries_of, IsOrdered}
 use Rattle.route_join.specs.Subject.{Subject, subject_of}
 use Rattle.route_join.specs.Group.{AreAbout}
 use Rattle.route_join.specs.Inner.Place.{place_of, later_by}
-use Rattle.route_join.proofs.Orders.{less, both}
+use Rattle.route_join.proofs.Orders.{less}
+use Rattle.std.proofs.lemmas.Bool.{and_parts as both}
 
 -- ---- a register with an update at a place
 
 -- the result that `later_by 1` was applied to
-came_ok : (r : Result ℕ ℕ) (at : ℕ) → later_by 1 r ≡ Ok at → (n : ℕ) × (r ≡ Ok n) × (at ≡ 1 + n)
+pub came_ok : (r : Result ℕ ℕ) (at : ℕ) → later_by 1 r ≡ Ok at → (n : ℕ) × (r ≡ Ok n) × (at ≡ 1 + n)
 came_ok (Ok n) at h = (n, refl, cc)
 came_ok (Err n) at h = cc
 
-came_err : (r : Result ℕ ℕ) (at : ℕ) → later_by 1 r ≡ Err at → (n : ℕ) × (r ≡ Err n) × (at ≡ 1 + n)
+pub came_err : (r : Result ℕ ℕ) (at : ℕ) → later_by 1 r ≡ Err at → (n : ℕ) × (r ≡ Err n) × (at ≡ 1 + n)
 came_err (Ok n) at h = cc
 came_err (Err n) at h = (n, refl, cc)
 
@@ -71,6 +73,13 @@ placed (v ∷ us) q at h =
       | Equal ↦ λ e p. at_front v us q at (cc) e
       | Greater ↦ λ e p. let m = came_ok (place_of us q) at p in at_next v us q m.0 at m.2 e (placed us q m.0 m.1)
     ] refl h
+
+-- a place in a list of one update is the first
+pub at_only : (v : Fields) (q : Register) (r : Result ℕ ℕ) → r ≡ place_of (v ∷ []) q → is_err r ≡ false
+    → IsPlace (v ∷ []) q 0
+at_only v q (Ok zero) e h = placed (v ∷ []) q 0 (sym e)
+at_only v q (Ok (suc n)) e h = let w = (placed (v ∷ []) q (suc n) (sym e)).within in absurd (omega (arith, w))
+at_only v q (Err n) e h = cc
 
 -- ---- a register without an update
 

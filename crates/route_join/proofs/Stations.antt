@@ -40,13 +40,13 @@ none_behind v m (g ∷ gs) b k = none_append v m (entries_of g.1) (entries_in gs
 said_none : (v m : ℕ) (r : Register) (x : Value) → is_about v m r.key ≡ false → said_of v m r x ≡ None
 said_none v m r x h = ap (λ b. cond b (advert_in x.content) None) h
 
-best_skip : (v m : ℕ) (es : Entries) (best : Option (Register × Advert)) → NoneAbout v m es
+pub best_skip : (v m : ℕ) (es : Entries) (best : Option (Register × Advert)) → NoneAbout v m es
     → best_among v m es best ≡ best
 best_skip v m [] best n = refl
 best_skip v m (e ∷ es) best n = ap (λ s. best_among v m es (better_of e.0 s best)) (said_none v m e.0 e.1 n.0)
     ∙ best_skip v m es best n.1
 
-best_append : (v m : ℕ) (xs ys : Entries) (best : Option (Register × Advert))
+pub best_append : (v m : ℕ) (xs ys : Entries) (best : Option (Register × Advert))
     → best_among v m (xs ++ ys) best ≡ best_among v m ys (best_among v m xs best)
 best_append v m [] ys best = refl
 best_append v m (x ∷ xs) ys best = best_append v m xs ys (better_of x.0 (said_of v m x.0 x.1) best)

@@ -1,7 +1,7 @@
 -- The order of registers is that of their subjects first.
 use Rattle.std.proofs.Common.{◌≡◌, ℕ, ◌+◌, true, Option, Some, None, refl, sym, ap, ◌∙◌, arith}
 use Rattle.std.specs.Prelude.{◌==◌}
-use Rattle.std.proofs.lemmas.Bool.{eq-eqb}
+use Rattle.std.proofs.lemmas.Bool.{eq-eqb, and_parts as both}
 use Rattle.std.proofs.lemmas.Bool.Decides.{nat_tests}
 use Rattle.std.specs.declared.cmp.Ordering.{Ordering}
 use Rattle.std.specs.declared.cmp.Ordering.TheVariants.{Less, Equal, Greater}
@@ -16,7 +16,6 @@ use Rattle.route_wire.specs.Order.{vni_of, place_of, ip_of, ip_cmp, register_cmp
 use Rattle.route_join.specs.Subject.{Subject, subject_cmp, subject_of}
 use Rattle.route_join.proofs.Numbers.{by_one}
 use Rattle.route_join.specs.Owner.{is_about}
-use Rattle.route_join.proofs.Orders.{both}
 
 same_places : (a b : Key) → nat_cmp (place_of a) (place_of b) ≡ option_cmp nat_cmp (subject_of a).mac (subject_of b).mac
 same_places (Flood v) (Flood w) = refl

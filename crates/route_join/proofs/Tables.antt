@@ -13,8 +13,9 @@ use Rattle.route_wire.specs.Order.{register_cmp, is_newer}
 use Rattle.route_wire.specs.Inner.Totals.{register_total, register_exact, value_total, neither_newer}
 use Rattle.route_join.specs.Table.{Table, value_at, update_at, with_value}
 use Rattle.std.specs.FinMap.Entries.{find, below_all}
-use Rattle.route_join.proofs.Orders.{less, both}
+use Rattle.route_join.proofs.Orders.{less}
 use Rattle.route_join.specs.Laws.{OneTable}
+use Rattle.std.proofs.lemmas.Bool.{and_parts as both}
 
 -- ---- registers
 pub same_register : (a b : Register) → eq_by_cmp register_cmp a b ≡ true → a ≡ b

@@ -25,7 +25,7 @@ use Rattle.route_join.specs.Inner.Groups.{group_at}
 use Rattle.route_join.proofs.Leaders.{new_takes}
 use Rattle.route_join.proofs.Orders.{to_T}
 
-about_with : (s : Subject) (es : Entries) (u : Fields) → AreAbout s es → subject_of u.register.key ≡ s
+pub about_with : (s : Subject) (es : Entries) (u : Fields) → AreAbout s es → subject_of u.register.key ≡ s
     → AreAbout s (entries_with es u)
 about_with s es u k h = elim (is_news (find register_cmp u.register es) u.value) as (λ b. AreAbout s
     (cond b (put register_cmp u.register u.value es) es)) [ true ↦ about_put s u.register u.value es k h | false ↦ k ]
@@ -71,7 +71,7 @@ module _ (gs : Groups) (u : Fields) (us new : List Fields) (k : AreGroups gs)
     groups_after (Ok t) held more took n = subst AreGroups (sym w) (groups_set (subject_of u.register.key) new
         (subst (AreAbout (subject_of u.register.key)) (sym took.entries)
         (about_with (subject_of u.register.key) (entries_of us) u
-        (about_there (subject_of u.register.key) gs us k h) refl))
+        (about_there _ _ _ k h) refl))
         (subst IsSome (sym took.entries) (some_with (entries_of us) u (some_there (subject_of u.register.key) gs us k
         h))) gs k)
     groups_after (Err x) held more took n = subst AreGroups (sym (unchanged_in n)) k
@@ -115,7 +115,7 @@ module _ (gs : Groups) (u : Fields) (k : AreGroups gs) (h : group_at (subject_of
 
     pub made_takes : (held more : ℕ) → more ≡ held + 1 → more < 2 ^ 64
         → Takes (entries_of (updates_in gs)) u held (Ok Newer) (entries_of (updates_in after)) more
-    made_takes held = new_takes (entries_of (updates_in gs)) u absent_in held (entries_of (updates_in after)) made_in
+    made_takes held more one few = new_takes absent_in made_in one few
 
     pub groups_made : AreGroups after
     groups_made = subst AreGroups (sym w) (groups_insert (subject_of u.register.key) new
@@ -154,3 +154,11 @@ pub counted_with : (us new : List Fields) (u : Fields) (held more : ℕ) → IsO
 counted_with us new u held more s e h m =
     m ∙ ap (λ n. n + added (entries_of us) u) (h ∙ sym (length-map us (λ (v : Fields). (v.register, v.value))))
     ∙ sym (length_with (entries_of us) u s) ∙ ap length (sym e) ∙ length-map new (λ (v : Fields). (v.register, v.value))
+
+-- ---- an update of a group's subject leaves the group about it
+pub about_taken : (s : Subject) (us new : List Fields) (u : Fields) (r : Result Taken AllocError) (held more : ℕ)
+    → AreAbout s (entries_of us) → subject_of u.register.key ≡ s
+    → Takes (entries_of us) u held r (entries_of new) more → OnErr r (new ≡ us) → AreAbout s (entries_of new)
+about_taken s us new u (Ok t) held more k h took e = subst (AreAbout s) (sym took.entries)
+    (about_with s (entries_of us) u k h)
+about_taken s us new u (Err x) held more k h took e = subst (λ y. AreAbout s (entries_of y)) (sym e) k

@@ -28,12 +28,13 @@ use Rattle.route_join.specs.Inner.WinnerTree.{owns, AreSettled, said_at, Wins, I
 use Rattle.route_join.specs.Inner.LargeGroup.{place_at, value_in, update_at, updates_along, large_updates}
 use Rattle.route_join.specs.Inner.LargeGroup.{register_at, ArePlaced}
 use Rattle.route_join.specs.Inner.LargeGroup.{IsLargeGroup}
-use Rattle.route_join.proofs.Orders.{less, both, to_T}
+use Rattle.route_join.proofs.Orders.{less, to_T}
 use Rattle.route_join.proofs.Tables.{itself_register, other_register, same_or_other}
 use Rattle.route_join.proofs.Owners.{not_better_is}
 use Rattle.route_join.proofs.Leaders.{first_more, split}
 use Rattle.route_join.proofs.WinnerTrees.{last, either, nat_same, set_here, set_there}
 use Rattle.route_join.proofs.Merging.{updates_back, get_before}
+use Rattle.std.proofs.lemmas.Bool.{and_parts as both}
 
 abbrev Entries : Type 0
 Entries = List (Register × Value)
@@ -125,39 +126,26 @@ module _ (us : List Fields) where
         let later = all_placed fs (λ k d l. a (suc k) d (omega (arith, l))) in
         (placed f.0 f.1 (a 0 f (omega arith)), later)
 
--- a register without a value has no place
-pub absent_place : (es : Places) (bs : List WinnerNode) (q : Register)
-    → find register_cmp q (entries_of (large_updates es bs)) ≡ None → place_at es q ≡ None
-absent_place es bs q none = go (place_at es q) refl (sym (found_along (owns bs) es q) ∙ none)
-  where
-    go : (o : Option ℕ) → place_at es q ≡ o → option_map (λ p. value_in (slice_get (owns bs) p)) o ≡ None
-        → place_at es q ≡ None
-    go None e h = e
-    go (Some p) e h = cc
-
 -- the value of a register in a group with the view `now`, by the register's place
-module _ (es : Places) (bs : List WinnerNode) (now : List Fields) (m : IsLargeGroup es bs)
-    (view : large_updates es bs ≡ now) (q r : Register) (same : r ≡ q) where
-  pub found_now : (o : Option ℕ) → o ≡ place_at es r
+module _ {es : Places} {bs : List WinnerNode} {now : List Fields} (m : IsLargeGroup es bs)
+    (view : large_updates es bs ≡ now) {q r : Register} (same : r ≡ q) where
+  pub found_now : {o : Option ℕ} → o ≡ place_at es r
       → find register_cmp q (entries_of now) ≡ option_map (λ p. value_in (slice_get (owns bs) p)) o
-  found_now o e = ap (λ xs. find register_cmp q (entries_of xs)) (sym view) ∙ found_along (owns bs) es q
+  found_now e = ap (λ xs. find register_cmp q (entries_of xs)) (sym view) ∙ found_along (owns bs) es q
       ∙ ap (λ x. option_map (λ p. value_in (slice_get (owns bs) p)) (place_at es x)) (sym same)
       ∙ ap (option_map (λ p. value_in (slice_get (owns bs) p))) (sym e)
 
-  module _ (p : ℕ) (e : Some p ≡ place_at es r) where
+  module _ {p : ℕ} (e : Some p ≡ place_at es r) where
     pub has_place : place_at es q ≡ Some p
     has_place = ap (place_at es) (sym same) ∙ sym e
 
     stands : slice_get (owns bs) p ≡ Some (update_at (owns bs) (q, p))
     stands = at_place (owns bs) q p (m.placed q p has_place)
 
-    pub told_now : find register_cmp q (entries_of now) ≡ Some (value_in (slice_get (owns bs) p))
-    told_now = found_now (Some p) e
-
-    pub compared : (b : Bool) (v : Value) (cs : List WinnerNode) → cs ≡ bs
+    pub compared : (b : Bool) (v : Value) {cs : List WinnerNode} → cs ≡ bs
         → IfSome (slice_get (owns cs) p) (λ was. b ≡ is_newer v was.value)
         → b ≡ is_newer v (value_in (slice_get (owns bs) p))
-    compared b v cs is h = subst (λ o. IfSome o (λ was. b ≡ is_newer v was.value)) stands
+    compared b v is h = subst (λ o. IfSome o (λ was. b ≡ is_newer v was.value)) stands
         (subst (λ xs. IfSome (slice_get (owns xs) p) (λ was. b ≡ is_newer v was.value)) is h)
 
     pub within : p < length bs
@@ -199,7 +187,7 @@ module _ (es : Places) (bs cs : List WinnerNode) (u : Fields) (m : IsLargeGroup 
           (same_or_other q u.register)
 
   -- another update of a register
-  module _ (p : ℕ) (there : place_at es u.register ≡ Some p) (own : vs ≡ set us p u) where
+  module _ {p : ℕ} (there : place_at es u.register ≡ Some p) (own : vs ≡ set us p u) where
     own_here : slice_get vs p ≡ Some u
     own_here = ap (λ xs. slice_get xs p) own ∙ set_here us p u (slice_get_within us p
         (update_at us (u.register, p)) (at_place us u.register p (m.placed u.register p there)))

@@ -23,9 +23,10 @@ use Rattle.route_join.specs.Table.{entries_of, IsOrdered}
 use Rattle.route_join.specs.Inner.Place.{place_of, later_by}
 use Rattle.route_join.specs.Owner.{is_better_by}
 use Rattle.route_join.specs.Inner.Group.{candidate_in, candidate_at, said_in, said_at, wins, wins_by}
-use Rattle.route_join.proofs.Orders.{less, both}
+use Rattle.route_join.proofs.Orders.{less}
 use Rattle.route_join.specs.Inner.Ranks.{subject_total}
 use Rattle.route_join.proofs.Subjects.{by_subject}
+use Rattle.std.proofs.lemmas.Bool.{and_parts as both}
 
 -- ---- IP addresses
 pub none_first : (x : Ip) → ip_cmp None (Some x) ≡ Less

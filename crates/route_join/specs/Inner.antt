@@ -1,3 +1,4 @@
+pub mod PackedUpdate
 pub mod Equals
 pub mod Group
 pub mod Groups

@@ -9,4 +9,7 @@ pub mod Subject
 pub mod Group
 pub mod LargeGroup
 pub mod Updates
+pub mod After
+pub mod RunningReport
+pub mod PageLaws
 pub mod Inner

@@ -6,11 +6,15 @@ ghost use Rattle.route_wire.specs.Order.{register_cmp};
 ghost use Rattle.route_join.specs.Table.{entries_of, IsOrdered};
 ghost use Rattle.route_join.specs.Subject.{subject_of};
 ghost use Rattle.route_join.specs.Group.{AreAbout};
+ghost use Rattle.route_join.specs.After.{updates_after};
 ghost use Rattle.route_join.specs.Inner.Group.{Takes, update_among, IsLeader, IsSilent};
 
+use crate::after::rest_after;
 use crate::large_group::LargeGroup;
+use crate::packed_update::PackedUpdate;
 use crate::place::place;
 use crate::small_group::{SmallGroup, best_place, owner_at};
+use crate::subject::{Subject, subject_of};
 use crate::table::Taken;
 use crate::updates::UpdatesOf;
 use ether_wire::Addr;
@@ -23,7 +27,7 @@ use std::slice;
 #[derive(Drop)]
 enum Storage {
     /// A single update, without memory of its own.
-    One(Update),
+    One(PackedUpdate),
     /// In one list.
     SmallGroup(SmallGroup),
     /// In a tree. The box keeps small groups small.
@@ -31,10 +35,11 @@ enum Storage {
 }
 
 /// Returns the same updates in a tree, if there is memory for it.
-fn spread(alloc: Global, few: &SmallGroup) -> Result<Box<LargeGroup>, AllocError>
+fn spread(alloc: Global, subject: &Subject, few: &SmallGroup) -> Result<Box<LargeGroup>, AllocError>
+    requires { AreAbout subject.now (entries_of few.now) }
     ensures { IfOk result (λ many. many.value ≡ few.now) }
 {
-    let many = LargeGroup::of(alloc, few.updates())?;
+    let many = LargeGroup::of(alloc, subject, few.updates())?;
     match Box::new(alloc, many) {
         Ok(many) => Ok(many),
         Err(_) => Err(AllocError),
@@ -43,7 +48,7 @@ fn spread(alloc: Global, few: &SmallGroup) -> Result<Box<LargeGroup>, AllocError
 
 /// Takes an update of the only register, which then has the newer one. Returns `None` if the update
 /// is of another register.
-fn take_one(own: &mut Update, update: &Update) -> Option<Taken>
+fn take_one(own: &mut PackedUpdate, update: &Update) -> Option<Taken>
     requires { AreAbout (subject_of update.now.register.key) (entries_of (own.old ∷ [])) }
     ensures some { (held : ℕ) → IfSome result (λ taken. Takes (entries_of (own.old ∷ []))
         update.now held (Ok taken) (entries_of (own.new ∷ [])) held) }
@@ -54,10 +59,10 @@ fn take_one(own: &mut Update, update: &Update) -> Option<Taken>
     if place(slice::from_ref(own), &update.register()).is_err() {
         return None;
     }
-    if !update.is_newer(own) {
+    if !own.is_older(update) {
         return Some(Taken::Known);
     }
-    *own = *update;
+    *own = PackedUpdate::of(update);
     Some(Taken::Newer)
 }
 
@@ -87,19 +92,39 @@ impl Group {
         ensures { result ≡ update.now ∷ [] }
     {
         Group {
-            kept: Storage::One(*update),
+            kept: Storage::One(PackedUpdate::of(update)),
         }
     }
 
-    /// Returns the updates, in the order of their registers.
-    pub(crate) fn updates(&self) -> UpdatesOf<'_>
+    /// Returns the updates, which are about this subject, in the order of their registers.
+    pub(crate) fn updates(&self, subject: &Subject) -> UpdatesOf<'_>
+        requires { AreAbout subject.now (entries_of self.now) }
         ensures value { result ≡ self.now }
         ensures ordered { IsOrdered self.now }
     {
         match &self.kept {
-            Storage::One(own) => UpdatesOf::few(slice::from_ref(own)),
-            Storage::SmallGroup(few) => UpdatesOf::few(few.updates()),
-            Storage::LargeGroup(many) => UpdatesOf::many(many.updates()),
+            Storage::One(own) => UpdatesOf::few(subject, slice::from_ref(own)),
+            Storage::SmallGroup(few) => UpdatesOf::few(subject, few.updates()),
+            Storage::LargeGroup(many) => UpdatesOf::many(subject, many.updates()),
+        }
+    }
+
+    /// Returns the updates of the registers after this one, in the order of their registers. The
+    /// updates before them aren't passed one by one, unless there are few.
+    #[tactic(auto, using(crate::proofs::Afters::about_rest))]
+    pub(crate) fn updates_after(&self, register: &Register) -> UpdatesOf<'_>
+        requires { AreAbout (subject_of register.now.key) (entries_of self.now) }
+        ensures { result ≡ updates_after register.now self.now }
+    {
+        let subject = subject_of(&register.key);
+        match &self.kept {
+            Storage::One(own) => {
+                UpdatesOf::few(&subject, rest_after(slice::from_ref(own), register))
+            }
+            Storage::SmallGroup(few) => {
+                UpdatesOf::few(&subject, rest_after(few.updates(), register))
+            }
+            Storage::LargeGroup(many) => UpdatesOf::many(&subject, many.updates_after(register)),
         }
     }
 
@@ -110,7 +135,7 @@ impl Group {
     {
         match &self.kept {
             Storage::One(own) => match place(slice::from_ref(own), register) {
-                Ok(_) => Some(*own),
+                Ok(_) => Some(own.about(&subject_of(&register.key))),
                 Err(_) => None,
             },
             Storage::SmallGroup(few) => few.register(register),
@@ -131,11 +156,12 @@ impl Group {
 
     /// Puts the updates of a list into a tree. If there is no memory for it, they stay in the list.
     #[inline(never)]
-    fn grow(&mut self, alloc: Global)
+    fn grow(&mut self, alloc: Global, subject: &Subject)
+        requires { AreAbout subject.now (entries_of self.old) }
         ensures { self.new ≡ self.old }
     {
         if let Storage::SmallGroup(few) = &self.kept {
-            if let Ok(many) = spread(alloc, few) {
+            if let Ok(many) = spread(alloc, subject, few) {
                 self.kept = Storage::LargeGroup(many);
             }
         }
@@ -143,7 +169,8 @@ impl Group {
 
     /// Puts the updates into a tree if there are too many for a list.
     #[inline(always)]
-    fn settle(&mut self, alloc: Global)
+    fn settle(&mut self, alloc: Global, subject: &Subject)
+        requires { AreAbout subject.now (entries_of self.old) }
         ensures { self.new ≡ self.old }
     {
         let is_large = match &self.kept {
@@ -152,7 +179,7 @@ impl Group {
             Storage::LargeGroup(_) => false,
         };
         if is_large {
-            self.grow(alloc);
+            self.grow(alloc, subject);
         }
     }
 
@@ -173,6 +200,7 @@ impl Group {
             Storage::One(own) => match take_one(own, update) {
                 Some(taken) => Ok(taken),
                 None => {
+                    let own = own.again(&subject_of(&update.register().key));
                     let mut few = SmallGroup::new(alloc, own)?;
                     let taken = few.take(held, guess, update)?;
                     self.kept = Storage::SmallGroup(few);
@@ -202,7 +230,7 @@ impl Group {
         let before = *held;
         let taken = self.take_stored(alloc, held, guess, update);
         if *held != before {
-            self.settle(alloc);
+            self.settle(alloc, &subject_of(&update.register().key));
         }
         taken
     }

@@ -1,10 +1,14 @@
 //! A table's groups in an index: an update goes into the group of its subject, and groups are
 //! reported one after the other in the order of their subjects.
 ghost use Rattle.std.specs.Prelude.{◌≡◌, [], OnErr};
-ghost use Rattle.std.specs.Option.{option_copied};
+ghost use Rattle.std.specs.List.{filter};
+ghost use Rattle.std.specs.Option.{option_copied, unwrap_or};
+ghost use Rattle.std.specs.Ordering.{is_lt};
 ghost use Rattle.std.specs.Iterator.{YieldsFirstBy, item_count};
 ghost use Rattle.ether_wire.specs.Ends.{IsOpen, Puts};
 ghost use Rattle.route_join.specs.Table.{entries_of};
+ghost use Rattle.route_join.specs.Subject.{subject_cmp, subject_of};
+ghost use Rattle.route_join.specs.After.{updates_after};
 ghost use Rattle.route_join.specs.Group.{AreAbout, IsSome, AreGroups, updates_in};
 ghost use Rattle.route_join.specs.Inner.Group.{Takes};
 ghost use Rattle.route_join.specs.Inner.Groups.{group_at, groups_along, AreIndexed};
@@ -17,12 +21,14 @@ use crate::report::{LINE, put_owner, put_updates, subject_text};
 use crate::salt::Salted;
 use crate::subject::{Subject, subject_of};
 use crate::table::Taken;
+use crate::updates::UpdatesOf;
 use ether_wire::{Device, Out};
-use route_wire::Update;
+use route_wire::{Register, Update};
 use std::alloc::{AllocError, Global};
 use std::collections::hash_map::Entry;
 use std::collections::{BTreeSet, HashMap, btree_set};
 use std::marker::Model;
+use std::ops::Bound;
 
 /// Groups by their subjects, and the subjects in the order of a report: a look-up needs only the
 /// hash map, and only a new subject changes the order. Contracts see the groups in that order.
@@ -114,7 +120,31 @@ impl Groups {
         ensures { result ≡ self.now }
     {
         GroupsIter {
-            order: self.order.iter(),
+            order: self.order.range(..),
+            index: &self.index,
+        }
+    }
+
+    /// Returns the updates of the registers after this one, of its own subject.
+    pub(crate) fn rest_after(&self, register: &Register) -> UpdatesOf<'_>
+        requires { AreGroups self.now }
+        ensures { result ≡ updates_after register.now
+            (unwrap_or (group_at (subject_of register.now.key) self.now) []) }
+    {
+        match self.get(&subject_of(&register.key)) {
+            None => UpdatesOf::none(),
+            Some(group) => group.updates_after(register),
+        }
+    }
+
+    /// Returns the groups of the subjects after this one, in the order of their subjects.
+    pub(crate) fn after(&self, subject: &Subject) -> GroupsIter<'_>
+        ensures { result ≡ filter (λ g. is_lt (subject_cmp subject.now g.0)) self.now }
+    {
+        GroupsIter {
+            order: self
+                .order
+                .range((Bound::Excluded(*subject), Bound::Unbounded)),
             index: &self.index,
         }
     }
@@ -142,7 +172,7 @@ impl Groups {
 /// The groups in the order of their subjects, seen as the list of those that are left.
 #[derive(Drop)]
 pub(crate) struct GroupsIter<'a> {
-    order: btree_set::Iter<'a, Subject>,
+    order: btree_set::Range<'a, Subject>,
     index: &'a HashMap<Subject, Group, Salted>,
 }
 
@@ -189,7 +219,7 @@ fn put_group<O: Out>(
     ensures { Puts (O.end out.old) (O.end out.new) (report_lines (entries_of group.now)) result }
 {
     let text = subject_text(subject);
-    put_updates(out, line, names, &text, group.updates())?;
+    put_updates(out, line, names, &text, group.updates(subject))?;
     match subject.mac() {
         None => Ok(()),
         Some(_) => put_owner(out, line, names, &text, group.owner()),

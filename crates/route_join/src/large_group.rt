@@ -6,11 +6,15 @@ ghost use Rattle.std.specs.List.{slice_get};
 ghost use Rattle.std.specs.Iterator.{YieldsFirstBy, item_count};
 ghost use Rattle.route_wire.specs.Order.{is_newer, register_cmp};
 ghost use Rattle.route_join.specs.Table.{entries_of, IsOrdered};
+ghost use Rattle.route_join.specs.Group.{AreAbout};
+ghost use Rattle.route_join.specs.After.{updates_after};
 ghost use Rattle.route_join.specs.Inner.Group.{Takes, update_among, IsLeader, IsSilent};
 ghost use Rattle.route_join.specs.Inner.WinnerTree.{owns};
 ghost use Rattle.route_join.specs.Inner.LargeGroup.{IsLargeGroup, place_at, large_updates};
 
+use crate::packed_update::PackedUpdate;
 use crate::register_key::RegisterKey;
+use crate::subject::Subject;
 use crate::table::Taken;
 use crate::winner_tree::{WinnerNode, best, own_at, push, replace, reserve, said_at};
 use ether_wire::Addr;
@@ -18,6 +22,7 @@ use route_wire::{Register, Update};
 use std::alloc::{AllocError, Global};
 use std::collections::{BTreeMap, btree_map};
 use std::marker::Model;
+use std::ops::Bound;
 
 /// Returns the place of a register, if it has one.
 fn place_at(tree: &BTreeMap<RegisterKey, u32>, register: &Register) -> Option<u32>
@@ -29,33 +34,6 @@ fn place_at(tree: &BTreeMap<RegisterKey, u32>, register: &Register) -> Option<u3
     }
 }
 
-/// Enters the first update of a register. It reserves the memory for each growth before anything
-/// changes.
-fn enter(
-    tree: &mut BTreeMap<RegisterKey, u32>,
-    nodes: &mut Vec<WinnerNode>,
-    update: &Update,
-) -> Result<(), AllocError>
-    requires kept { IsLargeGroup tree.old.entries nodes.old.items }
-    requires new { place_at tree.old.entries update.now.register ≡ None }
-    ensures kept { IsLargeGroup tree.new.entries nodes.new.items }
-    ensures ok { OnOk result (entries_of (large_updates tree.new.entries nodes.new.items)
-        ≡ put register_cmp update.now.register update.now.value
-        (entries_of (large_updates tree.old.entries nodes.old.items))) }
-    ensures err { OnErr result (large_updates tree.new.entries nodes.new.items
-        ≡ large_updates tree.old.entries nodes.old.items) }
-{
-    let place = reserve(nodes)?;
-    if tree
-        .insert(RegisterKey::new(update.register()), place)
-        .is_err()
-    {
-        return Err(AllocError);
-    }
-    push(nodes, place, update);
-    Ok(())
-}
-
 /// Returns `true` if an update is newer than the one at the place of its register.
 fn is_newer_there(nodes: &[WinnerNode], place: u32, update: &Update) -> bool
     ensures { IfSome (slice_get (owns nodes.now) place)
@@ -64,6 +42,47 @@ fn is_newer_there(nodes: &[WinnerNode], place: u32, update: &Update) -> bool
     match own_at(nodes, place) {
         None => false,
         Some(was) => update.is_newer(was),
+    }
+}
+
+/// Takes an update into the place of its register, which is sought once. A new register gets the
+/// next place, and all memory for it is reserved before anything changes.
+fn take_in(
+    tree: &mut BTreeMap<RegisterKey, u32>,
+    nodes: &mut Vec<WinnerNode>,
+    held: &mut usize,
+    update: &Update,
+) -> Result<Taken, AllocError>
+    requires { IsLargeGroup tree.old.entries nodes.old.items }
+    ensures kept { IsLargeGroup tree.new.entries nodes.new.items }
+    ensures takes { Takes (entries_of (large_updates tree.old.entries nodes.old.items))
+        update.now held.old result
+        (entries_of (large_updates tree.new.entries nodes.new.items)) held.new }
+    ensures err { OnErr result (large_updates tree.new.entries nodes.new.items
+        ≡ large_updates tree.old.entries nodes.old.items) }
+{
+    match tree.entry(RegisterKey::new(update.register())) {
+        Ok(btree_map::Entry::Occupied(own)) => {
+            let place = *own.get();
+            if !is_newer_there(nodes, place, update) {
+                return Ok(Taken::Known);
+            }
+            replace(nodes, place, update);
+            Ok(Taken::Newer)
+        }
+        Ok(btree_map::Entry::Vacant(gap)) => {
+            let Some(more) = held.checked_add(1) else {
+                return Err(AllocError);
+            };
+            let Ok(place) = reserve(nodes) else {
+                return Err(AllocError);
+            };
+            gap.insert(place);
+            push(nodes, place, update);
+            *held = more;
+            Ok(Taken::Newer)
+        }
+        Err(_) => Err(AllocError),
     }
 }
 
@@ -91,15 +110,21 @@ impl Model for LargeGroup {
 }
 
 impl LargeGroup {
-    /// Returns the same updates in a tree.
-    pub(crate) fn of(alloc: Global, updates: &[Update]) -> Result<Self, AllocError>
-        requires { IsOrdered updates.now }
+    /// Returns the same updates, which are about this subject, in a tree.
+    pub(crate) fn of(
+        alloc: Global,
+        subject: &Subject,
+        updates: &[PackedUpdate],
+    ) -> Result<Self, AllocError>
+        requires ordered { IsOrdered updates.now }
+        requires about { AreAbout subject.now (entries_of updates.now) }
         ensures { IfOk result (λ m. m ≡ updates.now) }
     {
         let mut tree = BTreeMap::new(alloc);
         let mut nodes = Vec::new(alloc);
+        let mut held = 0;
         for update in updates {
-            enter(&mut tree, &mut nodes, update)?;
+            take_in(&mut tree, &mut nodes, &mut held, &update.about(subject))?;
         }
         Ok(LargeGroup { tree, nodes })
     }
@@ -110,7 +135,18 @@ impl LargeGroup {
         ensures ordered { IsOrdered self.now }
     {
         LargeUpdates {
-            places: self.tree.iter(),
+            places: self.tree.range(..),
+            nodes: &self.nodes,
+        }
+    }
+
+    /// Returns the updates of the registers after this one, in the order of their registers.
+    pub(crate) fn updates_after(&self, register: &Register) -> LargeUpdates<'_>
+        ensures { result ≡ updates_after register.now self.now }
+    {
+        let after = Bound::Excluded(RegisterKey::new(*register));
+        LargeUpdates {
+            places: self.tree.range((after, Bound::Unbounded)),
             nodes: &self.nodes,
         }
     }
@@ -142,32 +178,14 @@ impl LargeGroup {
             (entries_of self.new) held.new }
         ensures err { OnErr result (self.new ≡ self.old) }
     {
-        match place_at(&self.tree, &update.register()) {
-            Some(place) => {
-                if !is_newer_there(&self.nodes, place, update) {
-                    return Ok(Taken::Known);
-                }
-                replace(&mut self.nodes, place, update);
-                Ok(Taken::Newer)
-            }
-            None => {
-                let Some(more) = held.checked_add(1) else {
-                    return Err(AllocError);
-                };
-                if enter(&mut self.tree, &mut self.nodes, update).is_err() {
-                    return Err(AllocError);
-                }
-                *held = more;
-                Ok(Taken::Newer)
-            }
-        }
+        take_in(&mut self.tree, &mut self.nodes, held, update)
     }
 }
 
 /// The updates in the order of their registers, seen as the list of those that are left.
 #[derive(Drop)]
 pub(crate) struct LargeUpdates<'a> {
-    places: btree_map::Iter<'a, RegisterKey, u32>,
+    places: btree_map::Range<'a, RegisterKey, u32>,
     nodes: &'a [WinnerNode],
 }
 

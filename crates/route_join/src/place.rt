@@ -6,7 +6,8 @@ ghost use Rattle.route_join.specs.Inner.Place.{place_of};
 ghost use Rattle.route_join.specs.Subject.{subject_of};
 ghost use Rattle.route_join.specs.Table.{entries_of, IsOrdered};
 
-use route_wire::{Ip, Register, Update};
+use crate::packed_update::PackedUpdate;
+use route_wire::{Ip, Register};
 use std::cmp::Ordering;
 
 /// Returns the order of two IP addresses. Those of one version are compared by their numbers alone.
@@ -55,15 +56,31 @@ pub(crate) fn cmp_within(one: &Register, other: &Register) -> Ordering
     }
 }
 
+/// Returns the order of a register and that of an entry about its subject, as `cmp_within` does.
+#[inline(always)]
+#[tactic(auto, using(crate::proofs::Within::within, crate::proofs::Within::behind_lower))]
+fn cmp_entry(one: &Register, other: &PackedUpdate) -> Ordering
+    requires { subject_of one.now.key ≡ subject_of other.now.register.key }
+    ensures { result ≡ register_cmp one.now other.now.register }
+{
+    if other.originator().number() < one.originator.number() {
+        return Ordering::Greater;
+    }
+    match one.originator.cmp(&other.originator()) {
+        Ordering::Equal => cmp_ips(one.key.ip(), other.ip()),
+        order => order,
+    }
+}
+
 /// Returns the place of a register among updates of its subject in the order of their registers, or
 /// as `Err` the place at which it would be inserted.
 #[inline(always)]
-pub(crate) fn place(updates: &[Update], register: &Register) -> Result<usize, usize>
+pub(crate) fn place(updates: &[PackedUpdate], register: &Register) -> Result<usize, usize>
     requires { AreAbout (subject_of register.now.key) (entries_of updates.now) }
     ensures { result ≡ place_of updates.now register.now }
 {
     for (i, update) in updates.iter().enumerate() {
-        match cmp_within(register, &update.register()) {
+        match cmp_entry(register, update) {
             Ordering::Less => return Err(i),
             Ordering::Equal => return Ok(i),
             Ordering::Greater => {}
@@ -77,7 +94,7 @@ pub(crate) fn place(updates: &[Update], register: &Register) -> Result<usize, us
 #[inline(always)]
 #[tactic(auto, using(crate::proofs::Within::found_near))]
 pub(crate) fn place_near(
-    updates: &[Update],
+    updates: &[PackedUpdate],
     register: &Register,
     guess: usize,
 ) -> Result<usize, usize>
@@ -85,7 +102,7 @@ pub(crate) fn place_near(
     requires ordered { IsOrdered updates.now }
     ensures { result ≡ place_of updates.now register.now }
 {
-    if guess < updates.len() && cmp_within(register, &updates[guess].register()).is_eq() {
+    if guess < updates.len() && cmp_entry(register, &updates[guess]).is_eq() {
         return Ok(guess);
     }
     place(updates, register)

@@ -11,7 +11,9 @@ ghost use Rattle.route_join.specs.Group.{AreAbout};
 ghost use Rattle.route_join.specs.Inner.Group.{told, Takes, update_among, said_at, wins_by, better_place, stays_best, moved, HasWinner, IsLeader, IsSilent};
 
 use crate::owner::{advert_in, is_better};
+use crate::packed_update::PackedUpdate;
 use crate::place::{place, place_near};
+use crate::subject::subject_of;
 use crate::table::Taken;
 use ether_wire::Addr;
 use route_wire::{Advert, Register, Update};
@@ -20,7 +22,7 @@ use std::cmp::Ordering;
 use std::marker::Model;
 
 /// Returns the advert of the update at a place.
-fn said_at(updates: &[Update], at: usize) -> Option<Advert>
+fn said_at(updates: &[PackedUpdate], at: usize) -> Option<Advert>
     ensures { result ≡ said_at updates.now at }
 {
     let update = updates.get(at)?;
@@ -42,7 +44,7 @@ pub(crate) fn wins(one: &Option<Advert>, other: &Option<Advert>, order: Ordering
 /// Returns the winner's place, once the update at a place may win too. The order of registers is
 /// that of their places.
 #[tactic(auto, using(crate::proofs::Within::wins_alone, crate::proofs::Within::wins_at))]
-fn better_place(updates: &[Update], at: usize, winner: Option<usize>) -> Option<usize>
+fn better_place(updates: &[PackedUpdate], at: usize, winner: Option<usize>) -> Option<usize>
     requires { IsOrdered updates.now }
     ensures { result ≡ better_place updates.now at winner }
 {
@@ -58,7 +60,7 @@ fn better_place(updates: &[Update], at: usize, winner: Option<usize>) -> Option<
 }
 
 /// Returns the place of the best advert among updates in the order of their registers.
-pub(crate) fn best_place(updates: &[Update]) -> Option<usize>
+pub(crate) fn best_place(updates: &[PackedUpdate]) -> Option<usize>
     requires { IsOrdered updates.now }
     ensures { HasWinner updates.now (told updates.now) result }
 {
@@ -70,13 +72,13 @@ pub(crate) fn best_place(updates: &[Update]) -> Option<usize>
 }
 
 /// Returns the originator of the winner, if there is one.
-pub(crate) fn owner_at(updates: &[Update], winner: Option<usize>) -> Option<Addr>
+pub(crate) fn owner_at(updates: &[PackedUpdate], winner: Option<usize>) -> Option<Addr>
     requires { HasWinner updates.now (told updates.now) winner }
     ensures { MatchOption result (IsSilent updates.now) (IsLeader updates.now) }
 {
     match winner {
         None => None,
-        Some(at) => Some(updates[at].register().originator),
+        Some(at) => Some(updates[at].originator()),
     }
 }
 
@@ -91,19 +93,34 @@ fn stays_best(was: &Option<Advert>, now: &Option<Advert>) -> bool
     }
 }
 
+/// Returns `true` if the advert of this update is no worse than that of the update which it
+/// replaces.
+#[inline(never)]
+fn stays_there(updates: &[PackedUpdate], at: usize, update: &Update) -> bool
+    ensures { result ≡ stays_best (said_at updates.now at) (advert_in update.now.value.content) }
+{
+    stays_best(&said_at(updates, at), &advert_in(&update.value().content))
+}
+
 /// Returns `true` only if the winner stays the best one where this update replaces it. Nothing is
 /// compared if the winner is at another place.
-fn stays_winner(updates: &[Update], at: usize, winner: Option<usize>, update: &Update) -> bool
+#[inline(always)]
+fn stays_winner(updates: &[PackedUpdate], at: usize, winner: Option<usize>, update: &Update) -> bool
     ensures { result ≡ true
         → stays_best (said_at updates.now at) (advert_in update.now.value.content) ≡ true }
 {
-    winner == Some(at) && stays_best(&said_at(updates, at), &advert_in(&update.value().content))
+    winner == Some(at) && stays_there(updates, at, update)
 }
 
 /// Returns the winner's place after the update at a place was replaced. It searches for the winner
 /// again only if the winner's update was replaced and the new one is worse.
 #[inline(always)]
-fn winner_after(updates: &[Update], at: usize, winner: Option<usize>, stays: bool) -> Option<usize>
+fn winner_after(
+    updates: &[PackedUpdate],
+    at: usize,
+    winner: Option<usize>,
+    stays: bool,
+) -> Option<usize>
     requires ordered { IsOrdered updates.now }
     requires other { winner ≢ Some at
         → HasWinner updates.now (told updates.now) (better_place updates.now at winner) }
@@ -135,20 +152,24 @@ fn moved(at: usize, winner: Option<usize>) -> Option<usize>
 /// doubling each would leave a third of a large table's memory unused. At the end, where more than
 /// half of the updates come, `insert` would copy the update three times more.
 #[tactic(auto, using(crate::proofs::Places::at_end))]
-fn insert_at(updates: &mut Vec<Update>, at: usize, update: &Update) -> Result<(), AllocError>
+fn insert_at(
+    updates: &mut Vec<PackedUpdate>,
+    at: usize,
+    update: PackedUpdate,
+) -> Result<(), AllocError>
     requires { at ≤ vec_len updates.old }
     ensures { updates.new.items
-        ≡ (if is_ok result then insert updates.old.items at update.now else updates.old.items) }
+        ≡ (if is_ok result then insert updates.old.items at update else updates.old.items) }
 {
     let len = updates.len();
     if len == updates.capacity() {
         updates.reserve_exact(len / 16 + 1)?;
     }
     if at == len {
-        updates.push_reserved(*update);
+        updates.push_reserved(update);
         return Ok(());
     }
-    match updates.insert(at, *update) {
+    match updates.insert(at, update) {
         Ok(()) => Ok(()),
         Err(_) => Err(AllocError),
     }
@@ -162,7 +183,7 @@ const SMALL_GROUP: usize = 32;
 /// among them, if anything is advertised.
 #[derive(Drop)]
 pub(crate) struct SmallGroup {
-    updates: Vec<Update>,
+    updates: Vec<PackedUpdate>,
     winner: Option<usize>,
 }
 
@@ -183,18 +204,18 @@ impl Model for SmallGroup {
 
 impl SmallGroup {
     /// Returns a group of this update only, with room for a second one.
-    pub(crate) fn new(alloc: Global, update: &Update) -> Result<Self, AllocError>
-        ensures { IfOk result (λ g. g ≡ update.now ∷ []) }
+    pub(crate) fn new(alloc: Global, update: PackedUpdate) -> Result<Self, AllocError>
+        ensures { IfOk result (λ g. g ≡ update ∷ []) }
     {
         let mut updates = Vec::new(alloc);
         updates.reserve_exact(2)?;
-        insert_at(&mut updates, 0, update)?;
+        updates.push_reserved(update);
         let winner = best_place(&updates);
         Ok(SmallGroup { updates, winner })
     }
 
     /// Returns the updates, in the order of their registers.
-    pub(crate) fn updates(&self) -> &[Update]
+    pub(crate) fn updates(&self) -> &[PackedUpdate]
         ensures value { result.now ≡ self.now }
         ensures ordered { IsOrdered self.now }
     {
@@ -212,7 +233,7 @@ impl SmallGroup {
         ensures { result ≡ update_among self.now register.now }
     {
         match place(&self.updates, register) {
-            Ok(at) => Some(self.updates[at]),
+            Ok(at) => Some(self.updates[at].about(&subject_of(&register.key))),
             Err(_) => None,
         }
     }
@@ -232,7 +253,7 @@ impl SmallGroup {
             (entries_of self.old) }
     {
         let stays = stays_winner(&self.updates, at, self.winner, update);
-        self.updates[at] = *update;
+        self.updates[at] = PackedUpdate::of(update);
         self.winner = winner_after(&self.updates, at, self.winner, stays);
     }
 
@@ -244,7 +265,7 @@ impl SmallGroup {
             (entries_of self.old)) }
         ensures err { OnErr result (self.new ≡ self.old) }
     {
-        if insert_at(&mut self.updates, at, update).is_err() {
+        if insert_at(&mut self.updates, at, PackedUpdate::of(update)).is_err() {
             return Err(AllocError);
         }
         self.winner = better_place(&self.updates, at, moved(at, self.winner));
@@ -268,7 +289,7 @@ impl SmallGroup {
     {
         match place_near(&self.updates, &update.register(), guess) {
             Ok(at) => {
-                if !update.is_newer(&self.updates[at]) {
+                if !self.updates[at].is_older(update) {
                     return Ok(Taken::Known);
                 }
                 self.replace(at, update);

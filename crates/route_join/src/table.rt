@@ -12,6 +12,7 @@ ghost use Rattle.route_join.specs.Joins.{join, IsJoin, IsPartJoin};
 ghost use Rattle.route_join.specs.Flood.{flood_of, IsFloodList};
 ghost use Rattle.route_join.specs.Taken.{taken_of, number_of};
 ghost use Rattle.route_join.specs.Updates.{all_updates, updates_of, AreAllUpdates, AreUpdatesOf};
+ghost use Rattle.route_join.specs.After.{updates_after};
 ghost use Rattle.route_wire.specs.declared.update.Value.{Value};
 
 use crate::flood::put_flood;
@@ -253,9 +254,10 @@ impl Table {
         ensures value { result ≡ updates_of self.now vni mac }
         ensures exact { AreUpdatesOf self.now vni mac result }
     {
-        match self.groups.get(&Subject::address(vni, mac)) {
+        let subject = Subject::address(vni, mac);
+        match self.groups.get(&subject) {
             None => UpdatesOf::none(),
-            Some(group) => group.updates(),
+            Some(group) => group.updates(&subject),
         }
     }
 
@@ -265,6 +267,14 @@ impl Table {
         ensures exact { AreAllUpdates self.now result }
     {
         Updates::of(&self.groups)
+    }
+
+    /// Returns the updates of the registers after this one, in the order of a report. It takes no
+    /// memory, and finds the first one by a search.
+    pub fn updates_after(&self, register: &Register) -> Updates<'_>
+        ensures { result ≡ updates_after register.now (all_updates self.now) }
+    {
+        Updates::after(&self.groups, register)
     }
 
     /// Returns the originators that advertise a network's flood list (RFC 7432, section 7.3),
@@ -285,9 +295,10 @@ impl Table {
         ensures list { IsFloodList self.now vni flood.new.items }
     {
         flood.clear();
-        match self.groups.get(&Subject::flood(vni)) {
+        let subject = Subject::flood(vni);
+        match self.groups.get(&subject) {
             None => {}
-            Some(group) => put_flood(group.updates(), vni, flood),
+            Some(group) => put_flood(group.updates(&subject), vni, flood),
         }
     }
 

@@ -1,29 +1,39 @@
 //! The updates of a table, one after the other in the order of a report. They take no memory.
 ghost use Rattle.std.specs.Prelude.{◌≡◌, [], Some};
 ghost use Rattle.std.specs.Iterator.{YieldsFirst, item_count};
-ghost use Rattle.route_join.specs.Group.{AreGroups, updates_in};
+ghost use Rattle.route_join.specs.Table.{entries_of};
+ghost use Rattle.route_join.specs.Group.{AreAbout, AreGroups, updates_in};
 ghost use Rattle.route_join.specs.LargeGroup.{left_in_tree};
+ghost use Rattle.route_join.specs.After.{updates_after};
 
 use crate::groups::{Groups, GroupsIter};
 use crate::large_group::LargeUpdates;
-use route_wire::Update;
+use crate::packed_update::PackedUpdate;
+use crate::subject::{Subject, subject_of};
+use ether_wire::Vni;
+use route_wire::{Register, Update};
 use std::marker::Model;
 
 /// The updates of a MAC address, seen as the list of those that are left.
 #[derive(Drop)]
 pub struct UpdatesOf<'a> {
-    few: &'a [Update],
+    subject: Subject,
+    few: &'a [PackedUpdate],
     many: Option<LargeUpdates<'a>>,
 }
 
 impl<'a> Model for UpdatesOf<'a> {
     ghost use Rattle.std.specs.Prelude.{List, ◌++◌};
     ghost use Rattle.route_wire.specs.Fields.{Fields};
+    ghost use Rattle.route_join.specs.Table.{entries_of};
+    ghost use Rattle.route_join.specs.Group.{AreAbout};
     ghost use Rattle.route_join.specs.LargeGroup.{left_in_tree};
 
     ghost Value = { List Fields };
 
     ghost view = { λ it. it.few.now ++ left_in_tree it.many };
+
+    ghost invariant = { λ it. AreAbout it.subject (entries_of it.few.now) };
 }
 
 impl<'a> UpdatesOf<'a> {
@@ -31,24 +41,27 @@ impl<'a> UpdatesOf<'a> {
     pub(crate) fn none() -> Self
         ensures { result ≡ [] }
     {
-        UpdatesOf::few(&[])
+        UpdatesOf::few(&Subject::flood(Vni::new(0)), &[])
     }
 
-    /// Returns the updates of a list.
-    pub(crate) fn few(updates: &'a [Update]) -> Self
+    /// Returns the updates of a list, which are about this subject.
+    pub(crate) fn few(subject: &Subject, updates: &'a [PackedUpdate]) -> Self
+        requires { AreAbout subject.now (entries_of updates.now) }
         ensures { result ≡ updates.now }
     {
         UpdatesOf {
+            subject: *subject,
             few: updates,
             many: None,
         }
     }
 
     /// Returns the updates of a tree.
-    pub(crate) fn many(updates: LargeUpdates<'a>) -> Self
+    pub(crate) fn many(subject: &Subject, updates: LargeUpdates<'a>) -> Self
         ensures { result ≡ updates.entry }
     {
         UpdatesOf {
+            subject: *subject,
             few: &[],
             many: Some(updates),
         }
@@ -67,7 +80,7 @@ impl<'a> Iterator for UpdatesOf<'a> {
     fn next(&mut self) -> Option<Update> {
         if let Some((first, others)) = self.few.split_first() {
             self.few = others;
-            return Some(*first);
+            return Some(first.about(&self.subject));
         }
         match &mut self.many {
             None => None,
@@ -109,6 +122,17 @@ impl<'a> Updates<'a> {
             groups: groups.iter(),
         }
     }
+
+    /// Returns the updates of the registers after this one.
+    pub(crate) fn after(groups: &'a Groups, register: &Register) -> Self
+        requires { AreGroups groups.now }
+        ensures { result ≡ updates_after register.now (updates_in groups.now) }
+    {
+        Updates {
+            first: groups.rest_after(register),
+            groups: groups.after(&subject_of(&register.key)),
+        }
+    }
 }
 
 impl<'a> Iterator for Updates<'a> {
@@ -122,8 +146,8 @@ impl<'a> Iterator for Updates<'a> {
         if let Some(update) = self.first.next() {
             return Some(update);
         }
-        let (_, group) = self.groups.next()?;
-        self.first = group.updates();
+        let (subject, group) = self.groups.next()?;
+        self.first = group.updates(subject);
         self.first.next()
     }
 }

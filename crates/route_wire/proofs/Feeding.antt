@@ -98,7 +98,7 @@ reads_one_more newest s [] r n x h w a = (
 )
 reads_one_more newest s (y ∷ ys) r n x h w a = (h.0, h.1, h.2, reads_one_more newest (drop h.0 s) ys r n x h.3 w a)
 
-never : {b : Bool} → b ≡ true → b ≡ false → ⊥
+pub never : {b : Bool} → b ≡ true → b ≡ false → ⊥
 never e g = cc
 
 -- octets after a fault change nothing

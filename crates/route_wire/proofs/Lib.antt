@@ -1,3 +1,4 @@
+pub mod Records
 pub mod Newer
 mod Digits
 pub mod Wholes

@@ -1,8 +1,7 @@
 -- The octets after a record do not change how it is read.
-use Rattle.std.proofs.Common.{◌≡◌, ℕ, ◌+◌, ◌<◌, ◌≤◌, false, nat_lt, cond, List, length, take, slice_index, None, sym}
+use Rattle.std.proofs.Common.{◌≡◌, ℕ, ◌+◌, ◌<◌, ◌≤◌, nat_lt, cond, List, length, take, slice_index, None, sym}
 use Rattle.std.proofs.Common.{ap, ◌∙◌, arith, lit<}
-use Rattle.std.proofs.lemmas.Bool.{lt-ltb}
-use Rattle.std.proofs.lemmas.Bool.Decides.{nat_tests}
+use Rattle.std.proofs.lemmas.Bool.{lt-ltb, le-ltb as not_less}
 use Rattle.std.proofs.lemmas.List.{length-take-le, get_or-take, get_or-drop}
 use Rattle.route_wire.specs.declared.stream.Whole.{Whole}
 use Rattle.route_wire.specs.declared.stream.Whole.TheVariants.{Rest, Fault, Length}
@@ -28,9 +27,6 @@ same_follow s t at =
     let d0 = get_or-drop 4 t 0 0 ∙ at 4 (lit< tt) ∙ sym (get_or-drop 4 s 0 0) in
     let d1 = get_or-drop 4 t 1 0 ∙ at 5 (lit< tt) ∙ sym (get_or-drop 4 s 1 0) in
     cc
-
-pub not_less : (a b : ℕ) → b ≤ a → nat_lt a b ≡ false
-not_less a b h = grind (arith, nat_tests)
 
 pub is_whole : (newest : ℕ) (t : List ℕ) → fault_of newest t ≡ None → 6 ≤ length t → 6 + follow_of t ≤ length t
     → whole_up_to newest t ≡ Length (6 + follow_of t)

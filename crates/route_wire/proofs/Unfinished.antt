@@ -2,13 +2,13 @@
 use Rattle.std.proofs.Common.{◌≡◌, ℕ, ◌+◌, ◌<◌, ◌≤◌, Bool, true, false, not, ◌&&◌, ◌||◌, ◌==◌, nat_lt, cond, List, ◌++◌}
 use Rattle.std.proofs.Common.{length, slice_index, Option, Some, None, refl, sym, ap, ◌∙◌, arith, length-append}
 use Rattle.std.proofs.Math.ListN.{get_or-append}
-use Rattle.std.proofs.lemmas.Bool.{lt-ltb}
+use Rattle.std.proofs.lemmas.Bool.{lt-ltb, le-ltb as not_less}
 use Rattle.std.proofs.lemmas.Bool.Decides.{nat_tests}
 use Rattle.route_wire.specs.declared.stream.Whole.TheVariants.{Rest, Fault, Length}
 use Rattle.route_wire.specs.Stream.{follow_of, least_of, fault_tests, fault_of, whole_or_rest, whole_up_to}
 use Rattle.route_wire.specs.Feed.{is_rest, is_fault, IsHeld}
 use Rattle.route_wire.proofs.Wholes.{unmet, ends_whole, found_long}
-use Rattle.route_wire.proofs.Prefixes.{same_fault, same_follow, is_whole, not_less, whole_front}
+use Rattle.route_wire.proofs.Prefixes.{same_fault, same_follow, is_whole, whole_front}
 use Rattle.route_wire.proofs.Spelt.{none_of}
 
 -- ---- faults

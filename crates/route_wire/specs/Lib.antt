@@ -1,3 +1,4 @@
+pub mod Records
 pub mod Octets
 pub mod Fields
 pub mod Order

@@ -8,9 +8,9 @@ use std::fmt;
 
 /// Two octets of an IPv6 address: four lower case hexadecimal digits.
 #[derive(Clone, Copy)]
-struct Group(u16);
+struct HexGroup(u16);
 
-impl fmt::Display for Group {
+impl fmt::Display for HexGroup {
     ghost output = { λ g. Some (hex_group g.0) };
 
     fn fmt<W: fmt::Write>(&self, f: &mut fmt::Formatter<W>) -> fmt::Result {
@@ -29,10 +29,10 @@ impl fmt::Display for Half {
 
     #[tactic(auto, unfolding(crate::specs::Text::groups_text))]
     fn fmt<W: fmt::Write>(&self, f: &mut fmt::Formatter<W>) -> fmt::Result {
-        let a = Group((self.0 / 0x1_0000_0000_0000 % 0x1_0000) as u16);
-        let b = Group((self.0 / 0x1_0000_0000 % 0x1_0000) as u16);
-        let c = Group((self.0 / 0x1_0000 % 0x1_0000) as u16);
-        let d = Group((self.0 % 0x1_0000) as u16);
+        let a = HexGroup((self.0 / 0x1_0000_0000_0000 % 0x1_0000) as u16);
+        let b = HexGroup((self.0 / 0x1_0000_0000 % 0x1_0000) as u16);
+        let c = HexGroup((self.0 / 0x1_0000 % 0x1_0000) as u16);
+        let d = HexGroup((self.0 % 0x1_0000) as u16);
         write!(f, "{a}:{b}:{c}:{d}")
     }
 }

@@ -2,6 +2,6 @@ pub mod BridgeDetection
 pub mod Class
 pub mod Information
 pub mod Migration
-pub mod Receive
+pub mod PortReceive
 pub mod TopologyChange
 pub mod Transmit

@@ -9,7 +9,7 @@ ghost use Rattle.rstp_machines.specs.BridgeDetection.{
   not_edge_effect,
 };
 
-use rstp_state::port::PortState;
+use rstp_state::PortState;
 
 /// Returns `true` if the port requested an agreement and no bridge answered in time (17.25).
 fn finds_no_bridge(port: &PortState) -> bool

@@ -4,8 +4,7 @@ ghost use Rattle.std.specs.Prelude.{◌≡◌};
 ghost use Rattle.rstp_machines.specs.Class.{designated_class, answering_class, is_answer, rst_class, class_of};
 
 use bpdu_wire::{Bpdu, Message, SenderRole};
-use rstp_state::port::PortState;
-use rstp_state::vector::{Times, Vector, superior as is_superior_to};
+use rstp_state::{PortState, Times, Vector, superior as is_superior_to};
 
 /// The class of a received message at its port (17.21.8).
 #[derive(Clone, Copy, Debug, PartialEq, Eq)]

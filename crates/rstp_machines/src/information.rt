@@ -48,8 +48,7 @@ use crate::class::class_of;
 use bpdu_wire::{
     AGREEMENT, Bpdu, CHANGE_ACKNOWLEDGEMENT, LEARNING, Message, PROPOSAL, TOPOLOGY_CHANGE,
 };
-use rstp_state::port::{InfoIs, Information, PortState, has_flag};
-use rstp_state::vector::{Times, Vector};
+use rstp_state::{InfoIs, Information, PortState, Times, Vector, has_flag};
 
 /// Returns `true` if the machine is in its state Disabled.
 pub fn is_out(state: Information) -> bool

@@ -13,7 +13,7 @@ ghost use Rattle.rstp_machines.specs.Migration.{
   to_stp_guard,
 };
 
-use rstp_state::port::{Migration, PortState};
+use rstp_state::{Migration, PortState};
 
 /// Returns `true` if the machine is in its state Checking.
 pub fn is_checking(state: Migration) -> bool

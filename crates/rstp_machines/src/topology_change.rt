@@ -36,7 +36,7 @@ ghost use Rattle.rstp_machines.specs.TopologyChange.{
   flush_effect,
 };
 
-use rstp_state::port::{PortState, Timing, Topology};
+use rstp_state::{PortState, Timing, Topology};
 
 /// Returns `true` if the machine is in its state Inactive.
 fn is_inactive(state: Topology) -> bool

@@ -27,7 +27,7 @@ use bpdu_wire::{
     AGREEMENT, ALTERNATE_OR_BACKUP_ROLE, Bpdu, CHANGE_ACKNOWLEDGEMENT, DESIGNATED_ROLE, FORWARDING,
     LEARNING, MOST_TIME, Message, PROPOSAL, ROLE_BITS, ROOT_ROLE, TIME_UNITS, TOPOLOGY_CHANGE,
 };
-use rstp_state::port::{PortState, Role, Timing};
+use rstp_state::{PortState, Role, Timing};
 
 /// Returns seconds in the units of a message. A value that doesn't fit the field becomes the
 /// field's greatest number.

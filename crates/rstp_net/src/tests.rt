@@ -4,9 +4,8 @@
 
 use arrayvec::ArrayVec;
 use bpdu_wire::{Bpdu, BridgeId};
-use rstp_run::bridge::{Bridge, BridgeConfig};
-use rstp_run::event::{Event, Outcome};
-use rstp_state::start::{PortSettings, Settings};
+use rstp_run::{Bridge, BridgeConfig, Event, Outcome};
+use rstp_state::{PortSettings, Settings};
 use std::test::Fail;
 
 /// A port of the ring: the place of its bridge, and its number there, 1 or 2.

@@ -17,7 +17,7 @@ ghost use Rattle.rstp_roles.specs.RoleTransitions.{
   may_go_on,
 };
 
-use rstp_state::port::{PortState, Role, Timing};
+use rstp_state::{PortState, Role, Timing};
 
 /// Returns `true` if the role is Backup.
 fn is_backup(role: Role) -> bool

@@ -12,7 +12,7 @@ ghost use Rattle.rstp_roles.specs.AllPorts.{
 };
 
 use crate::acting::has_role;
-use rstp_state::port::PortState;
+use rstp_state::PortState;
 
 /// Requests the port to come in step: sync.
 fn want_sync(port: &mut PortState)

@@ -20,7 +20,7 @@ use crate::state_transitions::{
     to_discarding, to_discarding_guard, to_forwarding, to_forwarding_guard, to_learning,
     to_learning_guard,
 };
-use rstp_state::port::{PortState, Timing};
+use rstp_state::{PortState, Timing};
 
 /// Returns `true` if the rule's guard holds at the port at place `p`.
 pub fn role_is_enabled(timing: &Timing, ports: &[PortState], rule: RoleRule, p: usize) -> bool

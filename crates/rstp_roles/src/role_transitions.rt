@@ -53,7 +53,7 @@ use crate::acting::{
     may_go_on, may_go_on_as_root, must_discard,
 };
 use crate::all_ports::{set_re_root, set_sync};
-use rstp_state::port::{PortState, Role, Timing};
+use rstp_state::{PortState, Role, Timing};
 
 /// Returns `true` if the port has to become Disabled.
 pub fn disable_guard(port: &PortState) -> bool

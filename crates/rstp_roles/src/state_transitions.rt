@@ -10,7 +10,7 @@ ghost use Rattle.rstp_roles.specs.StateTransitions.{
   to_discarding_effect,
 };
 
-use rstp_state::port::PortState;
+use rstp_state::PortState;
 
 /// Returns `true` if the port should learn and doesn't.
 pub fn to_learning_guard(port: &PortState) -> bool

@@ -1,9 +1,9 @@
 -- If candidates for the root leave that aren't the best one, the best one and the root stay.
-use Rattle.std.proofs.Common.{◌≡◌, ℕ, zero, suc, ◌+◌, ◌≤◌, ◌⊎◌, inl, inr, Bool, true, false, not, ◌&&◌, ◌==◌, cond}
+use Rattle.std.proofs.Common.{◌≡◌, ℕ, zero, suc, ◌+◌, ◌≤◌, ◌⊎◌, inl, inr, Bool, true, false, not, ◌==◌, cond}
 use Rattle.std.proofs.Common.{List}
 use Rattle.std.proofs.Common.{[], ◌∷◌, Contains, Option, Some, None, slice_get, refl, sym, ap, subst, ◌∙◌}
 use Rattle.std.proofs.Common.{arith}
-use Rattle.std.proofs.lemmas.Bool.{eqb-true}
+use Rattle.std.proofs.lemmas.Bool.{eqb-true, and_from as both}
 use Rattle.std.proofs.lemmas.Bool.Decides.{nat_tests}
 use Rattle.std.specs.List.{cons_option, enumerate_from, filter_map, list_all}
 use Rattle.std.specs.Option.{option_map_or}
@@ -16,7 +16,7 @@ use Rattle.rstp_state.specs.Selection.{best_path, candidates, is_told, is_throug
 use Rattle.rstp_state.specs.Selection.{root_along, times_beyond, IsLeastOf}
 use Rattle.rstp_state.specs.Start.{own_times}
 use Rattle.rstp_state.proofs.Paths.{least_is_best, least_of_candidates}
-use Rattle.rstp_run.proofs.Sound.{left, right}
+use Rattle.rstp_state.proofs.Basics.{no, and_left as left, and_right as right}
 
 -- the relation holds between each port of one list and the port at its place in the other; the first place is n
 abbrev pub AtEach : (ℕ → PortState → PortState → Type 0) → ℕ → List PortState → List PortState → Type 0
@@ -30,13 +30,6 @@ abbrev pub Remains : Settings → Path → ℕ → PortState → PortState → T
 Remains s path n x y =
     ((path_at s (n, y) ≡ path_at s (n, x)) × (y.port_times ≡ x.port_times))
     ⊎ ((path_at s (n, y) ≡ None) × (is_through path n ≡ false))
-
-no : {A : Type 0} → false ≡ true → A
-no h = let e : ⊥ = cc in absurd e
-
-both : (a b : Bool) → a ≡ true → b ≡ true → a && b ≡ true
-both true b h k = k
-both false b h k = no h
 
 itself : (n : ℕ) → (n == n) ≡ true
 itself n = grind (arith, nat_tests)

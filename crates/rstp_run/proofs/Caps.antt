@@ -32,7 +32,6 @@ use Rattle.rstp_run.specs.Sweep.{Going, main_order, pass, tries, tries_all}
 use Rattle.rstp_run.proofs.Costs.{Paid, Within, many, paid-as, unselected, visit}
 use Rattle.rstp_run.proofs.Dues.{discard-keeps, late, migration-keeps, role-falls, state-falls}
 use Rattle.rstp_run.proofs.Fixed.{IsFixed, fits, fixed-fits, fixed-goes, spread-fixed}
-use Rattle.rstp_run.proofs.Informed.{no}
 use Rattle.rstp_run.proofs.Inputs.{inputs}
 use Rattle.rstp_run.proofs.Inputs.{owed}
 use Rattle.rstp_run.proofs.Kept.{OneRoot, roles_of}
@@ -55,6 +54,8 @@ use Rattle.rstp_run.proofs.Whole.{tries-cases}
 use Rattle.rstp_run.proofs.Steps.{length-ports_after}
 use Rattle.rstp_run.proofs.Shares.{Held, by-visits, held-as, selecting, total-spare}
 use Rattle.rstp_run.proofs.Parts.{informed-role, inputs-part, is_role, turn-part, turn_list}
+use Rattle.rstp_state.proofs.Basics.{no}
+use Rattle.rstp_run.proofs.Basics.{if-is}
 
 -- ---- a pass in which roles are taken
 
@@ -227,10 +228,10 @@ informed_fresh information_rule.Superior x r =
     info_fresh x.message (info.with_superior_flags (info.with_change_flags (info.with_proposal x))) r
 informed_fresh information_rule.Repeated x r = r
 informed_fresh information_rule.Inferior x r =
-    levels.if-is IsFresh (info.rst_has 0x10 x.message)
+    if-is IsFresh (info.rst_has 0x10 x.message)
     (record x { disputed = true; agreed = false; received_message = false }) (record x { received_message = false }) r r
 informed_fresh information_rule.NotDesignated x r =
-    levels.if-is (λ y. IsFresh (info.handled (info.with_change_flags y)))
+    if-is (λ y. IsFresh (info.handled (info.with_change_flags y)))
     (x.point_to_point && info.message_has 0x40 x.message) (record x { agreed = true; proposing = false })
     (record x { agreed = false }) r r
 informed_fresh information_rule.Other x r = r

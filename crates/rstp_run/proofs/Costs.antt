@@ -12,12 +12,12 @@ use Rattle.rstp_run.specs.declared.rule.Rule.TheVariants as rules
 use Rattle.rstp_run.specs.Lasting.{is_select}
 use Rattle.rstp_run.specs.Rules.{Tree, after, asks, guard, ports_after, timing_in}
 use Rattle.rstp_run.specs.Sweep.{Going, pass, tries, tries_all, tries_below}
-use Rattle.rstp_run.proofs.Informed.{no}
 use Rattle.rstp_run.proofs.Ordered.{tries-full, tries-off, tries-on}
 use Rattle.rstp_run.proofs.Own.{Spread, after-at, own, spread_by, spread_of}
 use Rattle.rstp_run.proofs.Places.{AtAll, select-later}
 use Rattle.rstp_run.proofs.Steps.{length-ports_after}
 use Rattle.rstp_run.proofs.Totals.{tested_at}
+use Rattle.rstp_state.proofs.Basics.{no}
 
 -- ---- sums over places
 

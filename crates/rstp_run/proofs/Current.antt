@@ -43,8 +43,9 @@ use Rattle.rstp_run.proofs.Kept.{IsKept}
 use Rattle.rstp_run.proofs.Lasting.{has_selected}
 use Rattle.rstp_run.proofs.Quiet.{IsQuiet, Known, answer_quiet, inferior_quiet, known_of}
 use Rattle.rstp_run.proofs.Roots.{is_selected}
-use Rattle.rstp_run.proofs.Sound.{left, right}
 use Rattle.rstp_run.proofs.Walk.{Walks, comes_holds}
+use Rattle.rstp_state.proofs.Basics.{no, and_left as left, and_right as right}
+use Rattle.std.proofs.lemmas.Bool.{and_from as both}
 
 -- ---- a port's choice
 
@@ -110,15 +111,8 @@ updated c = record c {
 abbrev IsUpdate : Choice → Choice → Type 0
 IsUpdate a b = (a.update_info ≡ true) × (b ≡ updated a)
 
-no : {A : Type 0} → false ≡ true → A
-no h = let e : ⊥ = cc in absurd e
-
 itself : (n : ℕ) → (n == n) ≡ true
 itself n = grind (arith, nat_tests)
-
-both : (a b : Bool) → a ≡ true → b ≡ true → a && b ≡ true
-both true b h k = k
-both false b h k = no h
 
 vector_itself : (v : Vector) → same_vector v v ≡ true
 vector_itself v = both _ _ (itself v.root) (both _ _ (itself v.cost) (both _ _ (itself v.bridge) (itself v.port)))

@@ -33,8 +33,8 @@ use Rattle.rstp_run.proofs.Candidates.{AtEach, Remains, best_stays, root_stays}
 use Rattle.rstp_run.proofs.Current.{choice_in, path_in}
 use Rattle.rstp_run.proofs.Each.{Each, each_map, each_then}
 use Rattle.rstp_run.proofs.Quiet.{IsStill, Known, Still, still_of}
-use Rattle.rstp_run.proofs.Sound.{left, right}
 use Rattle.rstp_run.proofs.Walk.{is_plain, still_after}
+use Rattle.rstp_state.proofs.Basics.{no, and_left as left, and_right as right}
 
 -- ---- places
 
@@ -74,9 +74,6 @@ module _ (R : ℕ → PortState → PortState → Type 0) (same : (n : ℕ) (x :
       subst (λ k. R k port (does port)) next (h port at)))
 
 -- ---- truth values
-
-no : {A : Type 0} → false ≡ true → A
-no h = let e : ⊥ = cc in absurd e
 
 yes : {A : Type 0} → true ≡ false → A
 yes h = let e : ⊥ = cc in absurd e

@@ -6,8 +6,6 @@ use Rattle.std.specs.Option.{option_map_or}
 use Rattle.rstp_state.specs.declared.port.PortState.{PortState}
 use Rattle.rstp_state.specs.declared.port.InfoIs.{InfoIs}
 use Rattle.rstp_state.specs.declared.port.InfoIs.TheVariants as info_is
-use Rattle.rstp_state.specs.declared.port.Information.{Information}
-use Rattle.rstp_state.specs.declared.port.Information.TheVariants as information
 use Rattle.rstp_state.specs.Port.{is_current, is_designated, is_out, is_received, is_root}
 use Rattle.rstp_state.specs.Selection.{best_path, is_better, is_own, is_through, role_by}
 use Rattle.rstp_machines.specs.Class.{class_of}
@@ -28,23 +26,13 @@ use Rattle.rstp_run.proofs.Lasting.{has_selected}
 use Rattle.rstp_run.proofs.Reached.{IsReached}
 use Rattle.rstp_run.proofs.Resting.{informed, kept_yet, taken_by, updated, waits_not}
 use Rattle.rstp_run.proofs.Roots.{is_off}
-
-no : {A : Type 0} → false ≡ true → A
-no h = let e : ⊥ = cc in absurd e
-
-and_off : (a b : Bool) → a && b ≡ false → a ≡ true → b ≡ false
-and_off true b h k = h
-and_off false b h k = no k
+use Rattle.rstp_state.proofs.Basics.{no, and_second_off as and_off}
+use Rattle.rstp_run.proofs.Basics.{current_not_out as current_in}
 
 up_is : (e o : Bool) → not e && not o ≡ false → o ≡ false → e ≡ true
 up_is true o h k = refl
 up_is false true h k = no (sym k)
 up_is false false h k = no (sym h)
-
-current_in : (i : Information) → is_current i ≡ true → is_out i ≡ false
-current_in information.Disabled h = no h
-current_in information.Aged h = no h
-current_in information.Current h = refl
 
 through_root : (i : InfoIs) (b o : Bool) → is_received i ≡ true → is_root (role_by i true b o) ≡ true
 through_root info_is.Disabled b o h = no h

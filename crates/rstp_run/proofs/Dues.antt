@@ -15,16 +15,14 @@ use Rattle.rstp_roles.specs.declared.rule.RoleRule.{RoleRule}
 use Rattle.rstp_roles.specs.declared.rule.RoleRule.TheVariants as role_rule
 use Rattle.rstp_roles.specs.declared.rule.StateRule.{StateRule}
 use Rattle.rstp_roles.specs.declared.rule.StateRule.TheVariants as state_rule
-use Rattle.rstp_machines.specs.Receive as receiving
+use Rattle.rstp_machines.specs.PortReceive as receiving
 use Rattle.rstp_run.specs.Machines.{migration_asks, migration_does}
 use Rattle.rstp_run.specs.declared.rule.MigrationRule.{MigrationRule}
 use Rattle.rstp_run.specs.declared.rule.MigrationRule.TheVariants as migration_rule
 use Rattle.rstp_run.specs.declared.rule.Rule.TheVariants as rules
 use Rattle.rstp_run.specs.Rules.{Tree, asks, timing_in}
 use Rattle.rstp_run.proofs.Fixed.{IsFixed, fits, fixed-fits}
-use Rattle.rstp_run.proofs.Informed.{no}
 use Rattle.rstp_run.proofs.Inputs.{inputs, moves-on, moving, moving-few, moving-unheard}
-use Rattle.rstp_run.proofs.Levels as levels
 use Rattle.rstp_run.proofs.Measure.{waiting, waiting-le}
 use Rattle.rstp_run.proofs.Own.{own_role, spread_of}
 use Rattle.rstp_run.proofs.Paces.{pays}
@@ -34,8 +32,9 @@ use Rattle.rstp_run.proofs.RoleKinds.{as-designated, as-root, as_blocked, as_dis
 use Rattle.rstp_run.proofs.RoleKinds.{same-test}
 use Rattle.rstp_run.proofs.RoleParts.{on_both, one_agrees, other_role}
 use Rattle.rstp_run.proofs.RoleParts.{same_number, unless, waiting-blocked, waiting-disabled}
-use Rattle.rstp_run.proofs.Sound.{left, right}
 use Rattle.rstp_run.proofs.Totals.{if_so, if_so-le, if_so-on}
+use Rattle.rstp_state.proofs.Basics.{no, and_left as left, and_right as right}
+use Rattle.std.proofs.lemmas.Bool.{not-true}
 
 -- ---- the number
 
@@ -191,7 +190,7 @@ Falls timing x does = inputs (does x) + late timing (does x) < inputs x + late t
 -- a port that has its selected role doesn't take another
 pub taken-yet : (test : Role → Bool) (r s : Role) → same_role r s ≡ true → test s && not (test r) ≡ true → ⊥
 taken-yet test r s same g =
-    no (sym (other_role test r s (left (test s) (not (test r)) g) (levels.not-true (test r) (right (test s) _ g)))
+    no (sym (other_role test r s (left (test s) (not (test r)) g) (not-true (test r) (right (test s) _ g)))
     ∙ same)
 
 pub taking : (m s r : Bool) → m && s && r ≡ true → s && r ≡ true
@@ -324,7 +323,7 @@ module _ (s : Tree) (p : ℕ) (x : PortState) where
       let a = poses.forward-lowers x g in
       designated_falls roles.designated_forward_effect (as-designated x.selected_role k) refl (omega (arith, a))
   falls role_rule.Block r g k f =
-      no (sym (levels.not-true (has_role x) (right _ (not (has_role x)) g)) ∙ r.1.0)
+      no (sym (not-true (has_role x) (right _ (not (has_role x)) g)) ∙ r.1.0)
   falls role_rule.Alternate r g k f =
       let selected = as_blocked x.selected_role k in
       let unrested = right _ (roles.is_unrested x (forward_delay time x)) g in

@@ -17,7 +17,7 @@ use Rattle.rstp_roles.specs.declared.rule.StateRule.TheVariants as state_rule
 use Rattle.rstp_machines.specs.BridgeDetection as detection
 use Rattle.rstp_machines.specs.Information as info
 use Rattle.rstp_machines.specs.Migration as moves
-use Rattle.rstp_machines.specs.Receive as receiving
+use Rattle.rstp_machines.specs.PortReceive as receiving
 use Rattle.rstp_machines.specs.TopologyChange as change
 use Rattle.rstp_machines.specs.Transmit as sends
 use Rattle.rstp_run.specs.declared.rule.Rule.{Rule}

@@ -22,7 +22,6 @@ use Rattle.rstp_run.proofs.Costs.{sum}
 use Rattle.rstp_run.proofs.Dues.{late-few}
 use Rattle.rstp_run.proofs.Each.{EachIs}
 use Rattle.rstp_run.proofs.Falls.{IsAfterDiscard}
-use Rattle.rstp_run.proofs.Informed.{no}
 use Rattle.rstp_run.proofs.Inputs.{owed, update-costs}
 use Rattle.rstp_run.proofs.Kept.{IsKept, OneRoot, kept_walks, roles_of}
 use Rattle.rstp_run.proofs.Levels.{IsCalm, IsChosen, IsFirst, IsTaken, IsYoung}
@@ -42,7 +41,6 @@ use Rattle.rstp_run.proofs.Sound as sound
 use Rattle.rstp_run.proofs.Sound.{Keeps}
 use Rattle.rstp_run.proofs.Steps.{length-ports_after}
 use Rattle.rstp_run.proofs.Steady.{IsBase, IsSteady}
-use Rattle.rstp_run.proofs.Sound.{right}
 use Rattle.rstp_run.proofs.Takes.{IsRested, IsTakenUp, visit-takes}
 use Rattle.rstp_run.proofs.Flags.{Bits, after_roles, core1, core2, due, first_visit, second_visit, shut}
 use Rattle.rstp_run.proofs.Fixed.{IsFixed}
@@ -52,6 +50,7 @@ use Rattle.rstp_run.proofs.Late.{IsLate, late-after}
 use Rattle.rstp_run.proofs.Tells.{late-bound, late-falls, remains}
 use Rattle.rstp_run.proofs.Walk.{direct_holds, rule_holds}
 use Rattle.rstp_run.proofs.Whole.{all-keeps, pass-keeps, tries-cases}
+use Rattle.rstp_state.proofs.Basics.{no, and_right as right}
 
 -- ---- facts of the whole sweep
 

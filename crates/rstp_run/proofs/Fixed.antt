@@ -17,15 +17,15 @@ use Rattle.rstp_run.specs.declared.rule.TopologyRule.{TopologyRule}
 use Rattle.rstp_run.specs.declared.rule.TopologyRule.TheVariants as topology_rule
 use Rattle.rstp_run.specs.Lasting.{is_select}
 use Rattle.rstp_run.specs.Rules.{Tree, asks, timing_in}
-use Rattle.rstp_run.proofs.Informed.{no}
 use Rattle.rstp_run.proofs.Measure.{has_to_turn}
 use Rattle.rstp_run.proofs.Own.{Nothing, Spread, Tells, own, spread_by}
 use Rattle.rstp_run.proofs.Own.{spread_of}
-use Rattle.rstp_run.proofs.Sound.{is_down, left, or_right}
+use Rattle.rstp_run.proofs.Sound.{is_down, or_right}
 use Rattle.rstp_run.proofs.Steady.{IsSteady, steady-acts}
 use Rattle.rstp_run.proofs.RoleKinds.{as-designated, kind, role-kind, same-test}
 use Rattle.rstp_run.proofs.Placed.{IsPlaced, spread-goes, steady-goes}
 use Rattle.rstp_run.proofs.Takes.{designated-acts}
+use Rattle.rstp_state.proofs.Basics.{no, and_left as left}
 
 -- ---- a port that has taken its role
 

@@ -4,8 +4,7 @@ use Rattle.std.proofs.Common.{refl, sym, if◌then◌else◌}
 use Rattle.rstp_state.specs.declared.port.PortState.{PortState}
 use Rattle.rstp_state.specs.declared.port.Topology.{Topology}
 use Rattle.rstp_state.specs.Port.{is_active, is_inactive}
-use Rattle.rstp_run.proofs.Informed.{no}
-use Rattle.rstp_run.proofs.Sound.{left, right}
+use Rattle.rstp_state.proofs.Basics.{no, and_left as left, and_right as right}
 
 -- ---- all values of some flags
 
@@ -248,10 +247,6 @@ if_off false x y h k = k
 pub pick : (t : Bits → Bool) (f : Bool → Bits) (w : Bool) → t (f true) && t (f false) ≡ true → t (f w) ≡ true
 pick t f true h = left _ _ h
 pick t f false h = right (t (f true)) _ h
-
-pub off_two : (a b : Bool) → a && b ≡ false → a ≡ true → b ≡ false
-off_two true b h k = h
-off_two false b h k = no k
 
 pub off_three : (a b c : Bool) → a && b && c ≡ false → a ≡ true → b && c ≡ false
 off_three true b c h k = h

@@ -19,20 +19,20 @@ use Rattle.rstp_run.specs.declared.rule.TopologyRule.TheVariants as topology_rul
 use Rattle.rstp_run.specs.Lasting.{is_select}
 use Rattle.rstp_run.specs.Rules.{Tree, asks, timing_in}
 use Rattle.rstp_run.specs.Sweep.{Going, main_order, tries, tries_all}
-use Rattle.rstp_run.proofs.Informed.{no}
 use Rattle.rstp_run.proofs.Own.{Nothing, Now, Reroots, Spread, Syncs, Tells, all_keep, own, spread_by}
 use Rattle.rstp_run.proofs.Own.{step, steps}
 use Rattle.rstp_run.proofs.Places.{Stage, Zone, main_rest, stage-as}
-use Rattle.rstp_run.proofs.Sound.{left, neither, or_true, right}
+use Rattle.rstp_run.proofs.Sound.{neither, or_true}
 use Rattle.rstp_run.proofs.Visits.{all_then, one_then}
 use Rattle.rstp_run.proofs.Placed.{IsEven}
 use Rattle.rstp_run.proofs.Flags.{Bits, after_discard, after_edge, after_forward, after_learn, after_retired}
 use Rattle.rstp_run.proofs.Flags.{after_roles, after_synced, bits_of, discarded, discards, due}
-use Rattle.rstp_run.proofs.Flags.{forwards, if_off, if_on, learns, learnt, off_four, off_three, off_two}
+use Rattle.rstp_run.proofs.Flags.{forwards, if_off, if_on, learns, learnt, off_four, off_three}
 use Rattle.rstp_run.proofs.Flags.{on_four, on_three, passing, pick, shut, syncs}
 use Rattle.rstp_run.proofs.Fixed.{IsFixed, acts, enabled, fits, fixed-fits, fixed-goes, in_tree, spread-fixed}
 use Rattle.rstp_run.proofs.Heard.{apart, Before, Tested, active_shut, edge_shut, hear_off, hear_on}
 use Rattle.rstp_run.proofs.Heard.{heard_off, is_apart, not_active, out_or_edge, timed}
+use Rattle.rstp_state.proofs.Basics.{no, and_left as left, and_right as right, and_second_off as off_two}
 
 -- ---- the visit of a port
 

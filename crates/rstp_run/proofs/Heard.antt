@@ -17,7 +17,6 @@ use Rattle.rstp_run.specs.declared.rule.Rule.TheVariants as rules
 use Rattle.rstp_run.specs.declared.rule.TransmitRule.TheVariants as transmit_rule
 use Rattle.rstp_run.specs.Laws.{is_orderly}
 use Rattle.rstp_run.specs.Rules.{Tree, asks, timing_in}
-use Rattle.rstp_run.proofs.Informed.{no}
 use Rattle.rstp_run.proofs.Levels as levels
 use Rattle.rstp_run.proofs.Own.{own}
 use Rattle.rstp_run.proofs.Sound.{or_right}
@@ -26,6 +25,8 @@ use Rattle.rstp_run.proofs.RoleKinds.{kind, role-kind, rule_kind}
 use Rattle.rstp_run.proofs.Placed.{IsEven}
 use Rattle.rstp_run.proofs.Flags.{Bits, bits_of, or_false}
 use Rattle.rstp_run.proofs.Fixed.{IsFixed}
+use Rattle.rstp_state.proofs.Basics.{no}
+use Rattle.rstp_run.proofs.Basics.{if-is}
 
 -- ---- tests of a designated port
 
@@ -166,4 +167,4 @@ pub timed : (P : PortState → Type 0) (timing : Timing) (x : PortState)
     → P (record x { topology_change_while = timing.max_age + timing.forward_delay }) → P x
     → P (with_change_timer timing x)
 timed P timing x a b c =
-    levels.if-is P (x.topology_change_while == 0) _ x (levels.if-is P x.send_rstp _ _ a b) c
+    if-is P (x.topology_change_while == 0) _ x (if-is P x.send_rstp _ _ a b) c

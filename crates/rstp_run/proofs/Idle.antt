@@ -3,7 +3,7 @@ use Rattle.std.proofs.Common.{◌≡◌, ℕ, Bool, true, false, not, ◌&&◌, 
 use Rattle.std.proofs.Common.{slice_get, refl}
 use Rattle.std.specs.List.{list_any, list_all}
 use Rattle.std.specs.Option.{option_map_or}
-use Rattle.std.proofs.lemmas.Bool.{and_parts, and_right, or_parts}
+use Rattle.std.proofs.lemmas.Bool.{and_parts, and_right, or_parts, not-true}
 use Rattle.rstp_state.specs.declared.port.PortState.{PortState}
 use Rattle.rstp_state.specs.declared.port.Role.{Role}
 use Rattle.rstp_state.specs.declared.port.Role.TheVariants as roles
@@ -45,7 +45,7 @@ use Rattle.rstp_run.specs.Rules.{Tree, asks, guard, wants_selection, timing_in}
 use Rattle.rstp_run.specs.Runs.{AreOffAt}
 use Rattle.rstp_run.specs.Inner.Runs.{rules_of}
 use Rattle.rstp_machines.specs.Transmit.{is_ready}
-use Rattle.rstp_run.proofs.Settled.{not-true, not-false}
+use Rattle.rstp_run.proofs.Settled.{not-false}
 
 -- neither of two tests holds
 left : (x y : Bool) → (x || y) ≡ false → x ≡ false

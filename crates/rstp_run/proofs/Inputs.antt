@@ -6,7 +6,6 @@ use Rattle.std.proofs.lemmas.Bool.{and_parts, not-true}
 use Rattle.bpdu_wire.specs.declared.bpdu.Bpdu.{Bpdu}
 use Rattle.bpdu_wire.specs.declared.bpdu.Bpdu.TheVariants.{Config, Rst, Tcn}
 use Rattle.rstp_state.specs.declared.port.Information.{Information}
-use Rattle.rstp_state.specs.declared.port.Information.TheVariants as information
 use Rattle.rstp_state.specs.declared.port.Migration.{Migration}
 use Rattle.rstp_state.specs.declared.port.Migration.TheVariants as migration
 use Rattle.rstp_state.specs.declared.port.PortState.{PortState}
@@ -14,20 +13,19 @@ use Rattle.rstp_state.specs.declared.port.Timing.{Timing}
 use Rattle.rstp_state.specs.Port.{is_current, is_inactive, is_out, is_received}
 use Rattle.rstp_machines.specs.BridgeDetection as detection
 use Rattle.rstp_machines.specs.Information as info
-use Rattle.rstp_machines.specs.Receive as receiving
+use Rattle.rstp_machines.specs.PortReceive as receiving
 use Rattle.rstp_machines.specs.Transmit as sends
 use Rattle.rstp_run.specs.Machines.{information_asks, information_does, migration_asks, migration_does}
 use Rattle.rstp_run.specs.declared.rule.InformationRule.{InformationRule}
 use Rattle.rstp_run.specs.declared.rule.InformationRule.TheVariants as information_rule
 use Rattle.rstp_run.specs.declared.rule.MigrationRule.{MigrationRule}
 use Rattle.rstp_run.specs.declared.rule.MigrationRule.TheVariants as migration_rule
-use Rattle.rstp_run.proofs.Informed.{no}
-use Rattle.rstp_run.proofs.Levels as levels
 use Rattle.rstp_run.proofs.LowersPorts as of_port
 use Rattle.rstp_run.proofs.Measure.{has_to_turn, may_turn_edge, migrating}
-use Rattle.rstp_run.proofs.Sound.{left, right}
 use Rattle.rstp_run.proofs.Totals.{if_so, if_so-le, if_so-off, if_so-on}
 use Rattle.rstp_run.proofs.Turns.{change_of, held}
+use Rattle.rstp_state.proofs.Basics.{no, and_left as left, and_right as right}
+use Rattle.rstp_run.proofs.Basics.{current_not_out as ages, if-is, not_zero}
 
 -- ---- the number
 
@@ -211,11 +209,6 @@ turns_up false false h = no h
 same_turn : (e : Bool) (i : Information) → is_out i ≡ false → has_to_turn e (is_out i) ≡ has_to_turn e false
 same_turn e i h = ap (has_to_turn e) h
 
-ages : (i : Information) → is_current i ≡ true → is_out i ≡ false
-ages information.Disabled h = no h
-ages information.Aged h = no h
-ages information.Current h = refl
-
 aged_one : (r o : Bool) → r ≡ true → o ≡ false → if_so 1 (r && not o) ≡ 1
 aged_one true true h k = no (sym k)
 aged_one true false h k = refl
@@ -272,7 +265,7 @@ informs-fall information_rule.Repeated x n h =
     omega (arith, a, d, e)
 informs-fall information_rule.Inferior x n h =
     let a = waits x (left _ _ h) in
-    levels.if-is (λ y. owed y < owed x) (info.rst_has 0x10 x.message)
+    if-is (λ y. owed y < owed x) (info.rst_has 0x10 x.message)
     (record x { disputed = true; agreed = false; received_message = false }) (record x { received_message = false })
     (omega (arith, a)) (omega (arith, a))
 informs-fall information_rule.NotDesignated x n h =
@@ -282,7 +275,7 @@ informs-fall information_rule.NotDesignated x n h =
     && ((x.received_topology_change || info.message_has 0x01 x.message) || x.received_notification)) in
     let e = if_so-le 1 (not (is_inactive x.topology)
     && (x.received_acknowledgement || info.message_has 0x80 x.message)) in
-    levels.if-is (λ y. owed (info.handled (info.with_change_flags y)) < owed x)
+    if-is (λ y. owed (info.handled (info.with_change_flags y)) < owed x)
     (x.point_to_point && info.message_has 0x40 x.message) (record x { agreed = true; proposing = false })
     (record x { agreed = false }) (omega (arith, a, b, d, e)) (omega (arith, a, d, e))
 informs-fall information_rule.Other x n h =
@@ -312,7 +305,7 @@ pub periodic-falls : (timing : Timing) (x : PortState) → 1 ≤ timing.hello �
     → Falls x (sends.periodic_effect timing)
 periodic-falls timing x some h =
     let a = if_so-on 1 (x.hello_when == 0) (and_parts _ _ h).1 in
-    let b = if_so-off 1 (timing.hello == 0) (of_port.not_zero timing.hello some) in
+    let b = if_so-off 1 (timing.hello == 0) (not_zero timing.hello some) in
     omega (arith, a, b)
 
 both_on : (a b : Bool) → a ≡ true → b ≡ true → if_so 1 (a && b) ≡ 1
@@ -326,7 +319,7 @@ sending-falls timing message x some h =
     let (first, known) = and_parts _ _ h in
     let (second, up) = and_parts _ _ first in
     let a = both_on (is_none x.slot) x.enabled (and_parts _ _ second).1 up in
-    let b = if_so-off 1 (timing.hello == 0) (of_port.not_zero timing.hello some) in
+    let b = if_so-off 1 (timing.hello == 0) (not_zero timing.hello some) in
     omega (arith, a, b)
 
 -- ---- its bound

@@ -22,12 +22,11 @@ use Rattle.rstp_run.specs.declared.rule.TopologyRule.TheVariants as topology_rul
 use Rattle.rstp_run.specs.declared.rule.TransmitRule.TheVariants as transmit_rule
 use Rattle.rstp_run.specs.Lasting.{is_select}
 use Rattle.rstp_run.specs.Rules.{Tree, asks, guard, ports_after, timing_in}
-use Rattle.rstp_run.proofs.Informed.{no}
 use Rattle.rstp_run.proofs.Levels as levels
 use Rattle.rstp_run.proofs.Own.{Nothing, Reroots, Spread, Syncs, Tells, after-at, own, spread_by, spread_of}
 use Rattle.rstp_run.proofs.Places.{AtAll}
 use Rattle.rstp_run.proofs.RoleParts.{other_role}
-use Rattle.rstp_run.proofs.Sound.{left, or_true, right}
+use Rattle.rstp_run.proofs.Sound.{or_true}
 use Rattle.rstp_run.proofs.Totals.{tested_at}
 use Rattle.rstp_run.proofs.Steady.{steady-informs}
 use Rattle.rstp_run.proofs.RoleKinds.{kind, of-designated, role-kind, rule_kind}
@@ -37,6 +36,7 @@ use Rattle.rstp_run.proofs.Flags.{syncs}
 use Rattle.rstp_run.proofs.Fixed.{IsFixed, enabled, fits, fixed-fits, fixed-goes, in_tree, spread-fixed}
 use Rattle.rstp_run.proofs.Heard.{Tested, active_shut, edge_shut, not_active, out_or_edge, timed}
 use Rattle.rstp_run.proofs.Gates.{IsNoted}
+use Rattle.rstp_state.proofs.Basics.{no, and_left as left, and_right as right}
 
 -- ---- the facts of a port
 

@@ -2,7 +2,7 @@
 -- pass, `IsTaken` after it, `IsYoung` after the second, `IsCalm` after selection in the third. And what a single rule
 -- does to these facts.
 use Rattle.std.proofs.Common.{◌≡◌, ◌==◌, Bool, true, false, not, ◌&&◌, ◌||◌, Option, Some, None, refl, sym}
-use Rattle.std.proofs.Common.{subst, ◌∙◌, if◌then◌else◌}
+use Rattle.std.proofs.Common.{subst, ◌∙◌}
 use Rattle.bpdu_wire.specs.declared.bpdu.Bpdu.{Bpdu}
 use Rattle.bpdu_wire.specs.declared.bpdu.Bpdu.TheVariants.{Config, Rst, Tcn}
 use Rattle.rstp_state.specs.declared.port.Information.{Information}
@@ -11,15 +11,17 @@ use Rattle.rstp_state.specs.declared.port.PortState.{PortState}
 use Rattle.rstp_state.specs.Port.{is_current, is_out, is_received}
 use Rattle.rstp_machines.specs.Class.{class_of}
 use Rattle.rstp_machines.specs.Information as info
-use Rattle.rstp_machines.specs.Receive.{discard_guard, discard_effect, receive_guard, receive_effect}
+use Rattle.rstp_machines.specs.PortReceive.{discard_guard, discard_effect, receive_guard, receive_effect}
 use Rattle.rstp_run.specs.declared.rule.InformationRule.{InformationRule}
 use Rattle.rstp_run.specs.declared.rule.InformationRule.TheVariants as information_rule
 use Rattle.rstp_run.specs.Machines.{information_asks}
-use Rattle.rstp_run.proofs.Informed.{no}
 use Rattle.rstp_run.proofs.Measure.{has_to_turn}
 use Rattle.rstp_run.proofs.Quiet.{IsStill, Still, still_of}
 use Rattle.rstp_run.proofs.Resting.{kept_yet, taken_by, waits_not}
-use Rattle.rstp_run.proofs.Sound.{left, or_left, right}
+use Rattle.rstp_run.proofs.Sound.{or_left}
+use Rattle.rstp_state.proofs.Basics.{no, and_left as left, and_right as right}
+use Rattle.std.proofs.lemmas.Bool.{not-true}
+use Rattle.rstp_run.proofs.Basics.{current_not_out, if-is, discard_off, down_off}
 
 -- ---- the facts
 
@@ -83,20 +85,11 @@ out_not_current information.Disabled h k = let e : ⊥ = cc in e
 out_not_current information.Aged h k = let e : ⊥ = cc in e
 out_not_current information.Current h k = let e : ⊥ = cc in e
 
-current_not_out : (i : Information) → is_current i ≡ true → is_out i ≡ false
-current_not_out information.Disabled h = no h
-current_not_out information.Aged h = refl
-current_not_out information.Current h = refl
-
 -- the machine was not out, and still isn't
 same_turn : (e o : Bool) → o ≡ false → has_to_turn e o ≡ false → has_to_turn e false ≡ false
 same_turn true o h k = refl
 same_turn false true h k = no (sym h)
 same_turn false false h k = k
-
-pub not-true : (b : Bool) → not b ≡ true → b ≡ false
-not-true true h = no h
-not-true false h = refl
 
 false_not-true : {A : Type 0} (b : Bool) → b ≡ false → b ≡ true → A
 false_not-true b h k = no (sym h ∙ k)
@@ -217,11 +210,6 @@ aged-off port (h, young) g =
 abbrev pub IsHeard : PortState → Type 0
 IsHeard x = IsFirst x × (x.enabled ≡ false → x.received_bpdu ≡ false)
 
-discard_off : (b d e : Bool) → (b || d) && not e ≡ false → e ≡ false → b ≡ false
-discard_off true d true g h = no (sym h)
-discard_off true d false g h = no (sym g)
-discard_off false d e g h = refl
-
 pub discard-fires : (port : PortState) → IsFirst port → IsHeard (discard_effect port)
 discard-fires port h = ((h.0, h.1, refl, h.3, h.4, λ b. no b), λ e. refl)
 
@@ -278,11 +266,6 @@ IsDown port = IsDownOf (still_of port)
 
 pub disabled-fires : (port : PortState) → IsFaced port → IsDown (info.disabled_effect port)
 disabled-fires port h = (h.0, λ m. no m, λ e. refl, refl, λ r. no r)
-
-down_off : (e o : Bool) → not e && not o ≡ false → e ≡ false → o ≡ true
-down_off true o g h = no (sym h)
-down_off false true g h = refl
-down_off false false g h = no (sym g)
 
 pub disabled-stays : (port : PortState) → info.disabled_guard port ≡ false → IsFaced port → IsDown port
 disabled-stays port g h = (
@@ -356,10 +339,6 @@ IsFree port = IsOpen port × (port.received_message ≡ false)
 
 pub free-taken : (port : PortState) → IsFree port → IsTaken port
 free-taken port (h, none) = (h.0, none, h.2, h.3, h.4)
-
-pub if-is : (P : PortState → Type 0) (b : Bool) (x y : PortState) → P x → P y → P (if b then x else y)
-if-is P true x y h k = h
-if-is P false x y h k = k
 
 pub superior-fires : (port : PortState) → info.superior_guard port ≡ true → IsOpen port
     → IsFree (info.superior_effect port)

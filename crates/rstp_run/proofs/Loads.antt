@@ -8,17 +8,17 @@ use Rattle.rstp_state.specs.declared.port.Topology.{Topology}
 use Rattle.rstp_state.specs.declared.port.Topology.TheVariants as topology
 use Rattle.rstp_state.specs.Port.{is_active, is_designated, is_inactive, is_learning, is_root}
 use Rattle.rstp_machines.specs.BridgeDetection as detection
-use Rattle.rstp_machines.specs.Receive as receiving
+use Rattle.rstp_machines.specs.PortReceive as receiving
 use Rattle.rstp_machines.specs.TopologyChange as change
 use Rattle.rstp_run.proofs.Dues.{late}
 use Rattle.rstp_run.proofs.Flags.{every, holds, imply}
 use Rattle.rstp_run.proofs.Heard.{timed}
-use Rattle.rstp_run.proofs.Informed.{no}
 use Rattle.rstp_run.proofs.Inputs.{inputs, wait}
 use Rattle.rstp_run.proofs.LowersPorts as of_port
 use Rattle.rstp_run.proofs.Measure.{may_turn_edge}
 use Rattle.rstp_run.proofs.RoleParts.{on_both}
 use Rattle.rstp_run.proofs.Totals.{if_so, if_so-le, if_so-off, if_so-on}
+use Rattle.rstp_state.proofs.Basics.{no}
 
 -- ---- the parts
 

@@ -1,5 +1,5 @@
 -- The rules of topology change, of the states and of the role's requests at other ports lower the measure.
-use Rattle.std.proofs.Common.{◌≡◌, ℕ, ◌+◌, ◌*◌, ◌≤◌, ◌<◌, Bool, true, false, not, ◌&&◌, ◌||◌, ◌==◌, if◌then◌else◌}
+use Rattle.std.proofs.Common.{◌≡◌, ℕ, ◌+◌, ◌*◌, ◌≤◌, ◌<◌, Bool, true, false, not, ◌&&◌, ◌||◌, ◌==◌}
 use Rattle.std.proofs.Common.{refl, arith}
 use Rattle.std.proofs.lemmas.Bool.{and_parts, not-true}
 use Rattle.rstp_state.specs.declared.port.PortState.{PortState}
@@ -18,6 +18,7 @@ use Rattle.rstp_roles.specs.StateTransitions.{to_learning_guard, to_learning_eff
 use Rattle.rstp_roles.specs.StateTransitions.{to_forwarding_effect, to_discarding_guard, to_discarding_effect}
 use Rattle.rstp_run.proofs.Totals.{if_so, if_so-on, if_so-le}
 use Rattle.rstp_run.proofs.Measure.{acting, selecting, changing, is_outside, stepping}
+use Rattle.rstp_run.proofs.Basics.{if-is as pick}
 
 pub or_first : (a b : Bool) → a ≡ true → (a || b) ≡ true
 or_first true b h = refl
@@ -112,10 +113,6 @@ tc_back_lowers n timing port h =
     let (state, outside) = and_parts _ _ h in
     let a = from_active (2 * n + 2) port.topology (is_outside port) port.learn state outside in
     omega (arith, a)
-
-pick : (P : PortState → Type 0) (b : Bool) (x y : PortState) → P x → P y → P (if b then x else y)
-pick P true x y h k = h
-pick P false x y h k = k
 
 -- whatever the timer of a change does
 timed : (P : PortState → Type 0) (timing : Timing) (port : PortState)

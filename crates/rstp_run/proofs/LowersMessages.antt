@@ -1,5 +1,5 @@
 -- The rules of the information machine, apart from Update, lower the first level of the measure.
-use Rattle.std.proofs.Common.{◌≡◌, ◌<◌, Bool, true, false, not, ◌&&◌, if◌then◌else◌, refl, arith}
+use Rattle.std.proofs.Common.{◌≡◌, ◌<◌, Bool, true, false, not, ◌&&◌, refl, arith}
 use Rattle.std.proofs.Common.{ap}
 use Rattle.std.proofs.lemmas.Bool.{and_parts}
 use Rattle.bpdu_wire.specs.declared.bpdu.Bpdu.{Bpdu}
@@ -16,6 +16,7 @@ use Rattle.rstp_state.specs.Vector.{vector_of, times_of}
 use Rattle.rstp_machines.specs.Information as info
 use Rattle.rstp_run.proofs.Totals.{if_so, if_so-on, if_so-le}
 use Rattle.rstp_run.proofs.Measure.{selecting, has_to_turn}
+use Rattle.rstp_run.proofs.Basics.{if-is as pick}
 
 -- the effect of a rule lowers the first level of the measure
 abbrev pub Selects : (PortState → PortState) → PortState → Type 0
@@ -69,10 +70,6 @@ aged_selects port h =
 taken : (port : PortState) → info.may_take port ≡ true → if_so 4 port.received_message ≡ 4
 taken port h =
     let (first, free) = and_parts _ _ h in if_so-on 4 port.received_message (and_parts _ _ first).1
-
-pick : (P : PortState → Type 0) (b : Bool) (x y : PortState) → P x → P y → P (if b then x else y)
-pick P true x y h k = h
-pick P false x y h k = k
 
 -- whatever information a message has
 informed : (P : PortState → Type 0) (message : Option Bpdu) (port : PortState)

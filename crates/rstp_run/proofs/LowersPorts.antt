@@ -2,7 +2,7 @@
 -- measure and don't raise the first. All other rules of the information machine lower the first level.
 use Rattle.std.proofs.Common.{◌≡◌, ℕ, ◌+◌, ◌*◌, ◌≤◌, Bool, true, false, not, ◌&&◌, ◌||◌, ◌==◌}
 use Rattle.std.proofs.Common.{is_none, refl, ap, arith}
-use Rattle.std.proofs.lemmas.Bool.{and_parts, not-true, or_parts, eqb-true, ne_eqb, not-false}
+use Rattle.std.proofs.lemmas.Bool.{and_parts, not-true, or_parts, eqb-true, not-false}
 use Rattle.bpdu_wire.specs.declared.bpdu.Bpdu.{Bpdu}
 use Rattle.bpdu_wire.specs.declared.bpdu.Bpdu.TheVariants as bpdus
 use Rattle.rstp_state.specs.declared.port.PortState.{PortState}
@@ -12,7 +12,7 @@ use Rattle.rstp_state.specs.declared.port.Migration.{Migration}
 use Rattle.rstp_state.specs.declared.port.Migration.TheVariants as migration
 use Rattle.rstp_state.specs.declared.port.Timing.{Timing}
 use Rattle.rstp_state.specs.Port.{is_checking, is_selecting, is_sensing, is_out}
-use Rattle.rstp_machines.specs.Receive.{discard_guard, discard_effect, receive_guard, receive_effect, is_rst}
+use Rattle.rstp_machines.specs.PortReceive.{discard_guard, discard_effect, receive_guard, receive_effect, is_rst}
 use Rattle.rstp_machines.specs.Migration as moves
 use Rattle.rstp_machines.specs.BridgeDetection.{edge_guard, edge_effect, not_edge_guard, not_edge_effect}
 use Rattle.rstp_machines.specs.BridgeDetection.{finds_no_bridge}
@@ -22,6 +22,7 @@ use Rattle.rstp_run.proofs.Totals.{if_so, if_so-on, if_so-off, if_so-le}
 use Rattle.rstp_run.proofs.Measure.{selecting, has_to_turn, migrating, may_turn_edge}
 use Rattle.rstp_run.proofs.Measure.{changing-le, going_on-le, waiting-le, is_held, is_outside}
 use Rattle.rstp_run.proofs.LowersRoles.{Lowers}
+use Rattle.rstp_run.proofs.Basics.{not_zero}
 
 -- the effect of a rule doesn't raise the first level of the measure
 abbrev pub Stays : (PortState → PortState) → PortState → Type 0
@@ -252,9 +253,6 @@ pub sends_stay : (timing : Timing) (port : PortState)
     → Stays (sends.periodic_effect timing) port × Stays (sends.send_config_effect timing) port
     × Stays (sends.send_tcn_effect timing) port × Stays (sends.send_rst_effect timing) port
 sends_stay timing port = (omega arith, omega arith, omega arith, omega arith)
-
-pub not_zero : (n : ℕ) → 1 ≤ n → (n == 0) ≡ false
-not_zero n h = ne_eqb n 0 (λ e. omega (arith, h, e))
 
 pub periodic_lowers : (n : ℕ) (timing : Timing) (port : PortState) → 1 ≤ timing.hello
     → sends.periodic_guard port ≡ true → Lowers n timing (sends.periodic_effect timing) port

@@ -56,16 +56,9 @@ use Rattle.rstp_run.specs.Rules.{Tree, guard, ports_after, timing_in}
 use Rattle.rstp_run.specs.Runs.{Firing, Run}
 use Rattle.rstp_machines.specs.TopologyChange.{detected_at, is_in_tree, notified_at, notified_tcn_at, telling_others}
 use Rattle.rstp_machines.specs.TopologyChange.{with_change_timer, with_propagation}
+use Rattle.rstp_state.proofs.Basics.{and_left, and_right}
 
 -- lemmas on tests
-
-pub and_left : (a b : Bool) → a && b ≡ true → a ≡ true
-and_left true b h = refl
-and_left false b h = h
-
-pub and_right : (a b : Bool) → a && b ≡ true → b ≡ true
-and_right true b h = h
-and_right false b h = cc
 
 -- if the port is in the tree (t), the conditions x and y don't matter
 pub in_tree : (a t x y : Bool) → t ≡ true → a && (t || x) ≡ true → a && (t || y) ≡ true

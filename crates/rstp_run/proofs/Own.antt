@@ -1,7 +1,7 @@
 -- The effects of a firing on its own port, and on each other port.
 use Rattle.std.proofs.Common.{◌≡◌, ℕ, ◌⊎◌, inl, inr, Bool, true, false, not, List, [], ◌∷◌, ◌&&◌, Some, map}
 use Rattle.std.proofs.Common.{slice_get, slice_set, refl, sym, ap, subst, ◌∙◌, arith}
-use Rattle.std.proofs.lemmas.Bool.{and_parts, cases_lt}
+use Rattle.std.proofs.lemmas.Bool.{and_parts, cases_lt, not-true}
 use Rattle.std.specs.Option.{option_map_or}
 use Rattle.rstp_state.specs.declared.port.PortState.{PortState}
 use Rattle.rstp_state.specs.declared.port.Timing.{Timing}
@@ -22,7 +22,6 @@ use Rattle.rstp_run.specs.Machines.{detection_does, information_does, migration_
 use Rattle.rstp_run.specs.Machines.{transmit_does}
 use Rattle.rstp_run.specs.Rules.{Tree, asks, guard, ports_after, timing_in}
 use Rattle.rstp_run.specs.Sweep.{Going, tries, tries_all}
-use Rattle.rstp_run.proofs.Levels as levels
 use Rattle.rstp_run.proofs.Places.{AtAll, Stage, Zone, at_change, at_map, stage-tries}
 use Rattle.rstp_run.proofs.Totals.{slice_get-map, tested_at, told}
 
@@ -311,6 +310,6 @@ module _ (R V U : PortState → Type 0) (c n limit p : ℕ) where
     steps H keeps fires (rule ∷ rest) ok g h =
         let kept = and_parts (not (is_select rule) && keeps rule) (all_keep keeps rest) ok in
         let first = and_parts (not (is_select rule)) (keeps rule) kept.0 in
-        let other = levels.not-true (is_select rule) first.0 in
+        let other = not-true (is_select rule) first.0 in
         steps H keeps fires rest kept.1 (tries rule p limit g)
         (step H H rule other (λ s x r off k. k) (λ s x r on k. fires rule s x other first.1 r on k) g h)

@@ -13,14 +13,13 @@ use Rattle.rstp_roles.specs.declared.rule.StateRule.{StateRule}
 use Rattle.rstp_roles.specs.declared.rule.StateRule.TheVariants as state_rule
 use Rattle.rstp_run.specs.declared.rule.Rule.TheVariants as rules
 use Rattle.rstp_run.specs.Rules.{Tree, asks, timing_in}
-use Rattle.rstp_run.proofs.Informed.{no}
 use Rattle.rstp_run.proofs.Inputs.{inputs, offers, wait}
 use Rattle.rstp_run.proofs.Measure.{is_held}
 use Rattle.rstp_run.proofs.Own.{own_role}
 use Rattle.rstp_run.proofs.RoleKinds.{as-designated, kind, role-kind, rule_kind}
 use Rattle.rstp_run.proofs.RoleParts.{not_held, on_both, retired_held}
-use Rattle.rstp_run.proofs.Sound.{left, right}
 use Rattle.rstp_run.proofs.Totals.{if_so}
+use Rattle.rstp_state.proofs.Basics.{no, and_left as left, and_right as right}
 
 -- ---- the flags
 

@@ -9,7 +9,7 @@ use Rattle.rstp_state.specs.declared.port.Timing.{Timing}
 use Rattle.rstp_state.specs.declared.port.Topology.TheVariants as topology
 use Rattle.rstp_machines.specs.BridgeDetection as detection
 use Rattle.rstp_machines.specs.Information as info
-use Rattle.rstp_machines.specs.Receive as receiving
+use Rattle.rstp_machines.specs.PortReceive as receiving
 use Rattle.rstp_machines.specs.TopologyChange.{notified_at}
 use Rattle.rstp_run.specs.declared.rule.DetectionRule.TheVariants as detection_rule
 use Rattle.rstp_run.specs.declared.rule.InformationRule.{InformationRule}
@@ -26,10 +26,8 @@ use Rattle.rstp_run.specs.Machines.{information_asks, information_does, migratio
 use Rattle.rstp_run.specs.Rules.{Tree, asks, timing_in}
 use Rattle.rstp_run.specs.Sweep.{Going, tries, tries_all}
 use Rattle.rstp_run.proofs.Costs.{Paid, many, one, paid-as, unselected}
-use Rattle.rstp_run.proofs.Informed.{no}
 use Rattle.rstp_run.proofs.Inputs.{discard-falls, edge-falls, informs-fall, inputs, is_update, migration-falls}
 use Rattle.rstp_run.proofs.Inputs.{not_edge-falls, owed, receive-falls, unrested}
-use Rattle.rstp_run.proofs.Levels as levels
 use Rattle.rstp_run.proofs.Heard.{timed}
 use Rattle.rstp_run.proofs.Ordered.{tries_all-append}
 use Rattle.rstp_run.proofs.Own.{Spread, own, own_topology, spread_by}
@@ -37,6 +35,8 @@ use Rattle.rstp_run.proofs.Own.{spread_of}
 use Rattle.rstp_run.proofs.Places.{main_rest}
 use Rattle.rstp_run.proofs.Totals.{if_so-off}
 use Rattle.rstp_run.proofs.Turns.{asked, asked-is, change_of, few-turns, turned, turned-is, turns}
+use Rattle.rstp_state.proofs.Basics.{no}
+use Rattle.rstp_run.proofs.Basics.{if-is}
 
 -- ---- a visit
 
@@ -350,11 +350,11 @@ informed-role information_rule.Superior x g =
     info_role x.message (info.with_superior_flags (info.with_change_flags (info.with_proposal x)))
 informed-role information_rule.Repeated x g = refl
 informed-role information_rule.Inferior x g =
-    levels.if-is (λ y. y.selected_role ≡ x.selected_role) (info.rst_has 0x10 x.message)
+    if-is (λ y. y.selected_role ≡ x.selected_role) (info.rst_has 0x10 x.message)
     (record x { disputed = true; agreed = false; received_message = false }) (record x { received_message = false })
     refl refl
 informed-role information_rule.NotDesignated x g =
-    levels.if-is (λ y. (info.handled (info.with_change_flags y)).selected_role ≡ x.selected_role)
+    if-is (λ y. (info.handled (info.with_change_flags y)).selected_role ≡ x.selected_role)
     (x.point_to_point && info.message_has 0x40 x.message) (record x { agreed = true; proposing = false })
     (record x { agreed = false }) refl refl
 informed-role information_rule.Other x g = refl

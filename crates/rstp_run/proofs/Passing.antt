@@ -8,7 +8,8 @@ use Rattle.rstp_run.specs.Events.{Learns, Passes}
 use Rattle.rstp_run.specs.Laws.{AreOrderly, IsInTree, IsOrderly}
 use Rattle.rstp_run.specs.Rules.{Tree}
 use Rattle.rstp_machines.specs.TopologyChange.{is_in_tree}
-use Rattle.rstp_run.proofs.Orderly.{and_right, at_place}
+use Rattle.rstp_run.proofs.Orderly.{at_place}
+use Rattle.rstp_state.proofs.Basics.{and_right}
 
 learning_from : (e f l x : Bool) → e && f ≡ true → (not f || l) && x ≡ true → e && l ≡ true
 learning_from true true true x test order = refl

@@ -25,15 +25,16 @@ use Rattle.rstp_run.specs.declared.rule.TransmitRule.{TransmitRule}
 use Rattle.rstp_run.specs.declared.rule.TransmitRule.TheVariants as transmit_rule
 use Rattle.rstp_run.specs.Lasting.{is_select}
 use Rattle.rstp_run.specs.Rules.{Tree, asks, timing_in}
-use Rattle.rstp_run.proofs.Informed.{no}
 use Rattle.rstp_run.proofs.Levels as levels
 use Rattle.rstp_run.proofs.Own.{Nothing, Reroots, Spread, Syncs, Tells, own, own_role, own_topology, spread_by}
 use Rattle.rstp_run.proofs.Quiet.{IsStill, Still}
 use Rattle.rstp_run.proofs.RoleParts.{same_designated, same_disabled, same_itself, same_root}
-use Rattle.rstp_run.proofs.Sound.{left, or_left, or_true, right}
+use Rattle.rstp_run.proofs.Sound.{or_left, or_true}
 use Rattle.rstp_run.proofs.Walk.{is_plain}
 use Rattle.rstp_run.proofs.Steady.{IsSteady, IsSteadyOf, steady-informs}
 use Rattle.rstp_run.proofs.RoleKinds.{kind, role-kind, rule_kind}
+use Rattle.rstp_state.proofs.Basics.{no, and_left as left, and_right as right}
+use Rattle.rstp_run.proofs.Basics.{if-is}
 
 -- ---- a port that has taken its role
 
@@ -155,7 +156,7 @@ IsEven x = states.to_discarding_guard x ≡ false
 
 timer_even : (timing : Timing) (x : PortState) → IsEven x → IsEven (with_change_timer timing x)
 timer_even timing x h =
-    levels.if-is IsEven (x.topology_change_while == 0) _ x (levels.if-is IsEven x.send_rstp _ _ h h) h
+    if-is IsEven (x.topology_change_while == 0) _ x (if-is IsEven x.send_rstp _ _ h h) h
 
 pub topology-even : (rule : TopologyRule) (timing : Timing) (x : PortState) → IsEven x
     → IsEven (own_topology rule timing x)

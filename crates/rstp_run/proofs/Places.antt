@@ -3,7 +3,7 @@ use Rattle.std.proofs.Common.{◌≡◌, ℕ, zero, suc, ◌+◌, ◌≤◌, ◌
 use Rattle.std.proofs.Common.{◌∷◌, Option, Some, None, length, map, slice_get, slice_set, refl, sym, ap, subst, ◌∙◌}
 use Rattle.std.proofs.Common.{arith, drop}
 use Rattle.std.proofs.lemmas.Bool.{and_parts, cases_lt, ne_eqb}
-use Rattle.std.proofs.lemmas.Option.{slice_get_within}
+use Rattle.std.proofs.lemmas.Option.{slice_get_within, same_Some as some_is}
 use Rattle.std.specs.List.{enumerate_from, list_any}
 use Rattle.std.specs.Option.{option_map_or}
 use Rattle.rstp_state.specs.declared.port.PortState.{PortState}
@@ -30,9 +30,6 @@ use Rattle.rstp_run.proofs.Walk.{is_plain, still_after}
 
 abbrev pub AtAll : (ℕ → PortState → Type 0) → List PortState → Type 0
 AtAll P ports = (q : ℕ) (x : PortState) → slice_get ports q ≡ Some x → P q x
-
-some_is : (a b : PortState) → Some a ≡ Some b → a ≡ b
-some_is a b h = cc
 
 at_cons : (Q : ℕ → PortState → Type 0) (x : PortState) (xs : List PortState) → Q zero x → AtAll (λ q. Q (suc q)) xs
     → AtAll Q (x ∷ xs)

@@ -3,14 +3,13 @@
 -- the flags are tried.
 use Rattle.std.proofs.Common.{◌≡◌, ℕ, ◌+◌, ◌≤◌, ◌<◌, Bool, true, false, not, ◌&&◌, ◌||◌, ◌==◌}
 use Rattle.std.proofs.Common.{nat_lt, refl}
-use Rattle.std.proofs.lemmas.Bool.{ltb-false, ltb-true}
+use Rattle.std.proofs.lemmas.Bool.{ltb-false, ltb-true, not-true}
 use Rattle.rstp_state.specs.declared.port.PortState.{PortState}
 use Rattle.rstp_state.specs.Port.{is_discarding}
 use Rattle.rstp_roles.specs.RoleTransitions as roles
 use Rattle.rstp_roles.specs.declared.rule.RoleRule.{RoleRule}
 use Rattle.rstp_roles.specs.declared.rule.RoleRule.TheVariants as role_rule
 use Rattle.rstp_run.proofs.Flags.{Test, every, holds, imply}
-use Rattle.rstp_run.proofs.Levels as levels
 use Rattle.rstp_run.proofs.Totals.{if_so}
 
 -- ---- the flags
@@ -155,11 +154,11 @@ to-discarding = work_by (λ l f lg fg. (lg && not l) || (fg && not f)) (λ l f l
 
 pub work-few : (l f lg fg : Bool) → work l f lg fg ≤ 6
 work-few l f lg fg =
-    ltb-false 6 (work l f lg fg) (levels.not-true _ (holds 4 (λ a b c d. not (nat_lt 6 (work a b c d))) refl l f lg fg))
+    ltb-false 6 (work l f lg fg) (not-true _ (holds 4 (λ a b c d. not (nat_lt 6 (work a b c d))) refl l f lg fg))
 
 pub place-few : (c : Pose) → place c ≤ 8
 place-few c =
-    ltb-false 8 (place c) (levels.not-true _
+    ltb-false 8 (place c) (not-true _
     (holds 9 (λ a b c d e f g h i. not (nat_lt 8 (place (pose a b c d e f g h i)))) refl c.synced c.none c.sync
     c.re_root
     c.learn c.forward c.learning c.forwarding c.disputed))

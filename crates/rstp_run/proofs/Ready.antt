@@ -34,15 +34,16 @@ use Rattle.rstp_run.specs.RootPort.{Comes}
 use Rattle.rstp_run.specs.Rules.{Tree}
 use Rattle.rstp_run.specs.Runs.{IsSettled}
 use Rattle.rstp_run.proofs.Each.{EachIs, each_is}
-use Rattle.rstp_run.proofs.Informed.{no}
-use Rattle.rstp_run.proofs.Levels.{IsFirst, if-is}
+use Rattle.rstp_run.proofs.Levels.{IsFirst}
 use Rattle.rstp_run.proofs.Places.{AtAll, at_change, at_map}
 use Rattle.rstp_run.proofs.Quiet.{IsQuiet, Known, answer_quiet, inferior_quiet, known_of}
 use Rattle.rstp_run.proofs.Reached.{IsReached}
 use Rattle.rstp_run.proofs.Resting.{informed, taken_by, updated, waits_not}
 use Rattle.rstp_run.proofs.Roots.{is_off, is_selected, unasked}
-use Rattle.rstp_run.proofs.Sound.{is_down, left}
+use Rattle.rstp_run.proofs.Sound.{is_down}
 use Rattle.rstp_run.proofs.Walk.{Walks, comes_holds}
+use Rattle.rstp_state.proofs.Basics.{no, and_left as left}
+use Rattle.rstp_run.proofs.Basics.{if-is, discard_off as none_discarded, down_off as out_of_use}
 
 -- ---- the invariant
 
@@ -207,11 +208,6 @@ in_use information.Disabled false old off h = no h
 in_use information.Aged e old off h = absurd (old refl)
 in_use information.Current e old off h = refl
 
-out_of_use : (e o : Bool) → not e && not o ≡ false → e ≡ false → o ≡ true
-out_of_use true o off h = no (sym h)
-out_of_use false true off h = refl
-out_of_use false false off h = no (sym off)
-
 none_dropped : (o m : Bool) → o && m ≡ false → o ≡ true → m ≡ false
 none_dropped true m off h = off
 none_dropped false m off h = no h
@@ -221,11 +217,6 @@ none_received false e m off h k = refl
 none_received true false m off h k = no h
 none_received true true true off h k = no (sym k)
 none_received true true false off h k = no (sym off)
-
-none_discarded : (b d e : Bool) → (b || d) && not e ≡ false → e ≡ false → b ≡ false
-none_discarded true d true off h = no (sym h)
-none_discarded true d false off h = no (sym off)
-none_discarded false d e off h = refl
 
 module _ (s : Tree) (reached : IsReached s) (ready : AreReady s) (settled : IsSettled s) (p : ℕ) (x : PortState)
     (at : slice_get s.ports p ≡ Some x) where

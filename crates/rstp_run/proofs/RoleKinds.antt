@@ -11,9 +11,8 @@ use Rattle.rstp_roles.specs.declared.rule.RoleRule.{RoleRule}
 use Rattle.rstp_roles.specs.declared.rule.RoleRule.TheVariants as role_rule
 use Rattle.rstp_run.specs.declared.rule.Rule.TheVariants as rules
 use Rattle.rstp_run.specs.Rules.{Tree, asks}
-use Rattle.rstp_run.proofs.Informed.{no}
 use Rattle.rstp_run.proofs.RoleParts.{blocked_too, other_role, same_designated, same_disabled, same_root}
-use Rattle.rstp_run.proofs.Sound.{left, right}
+use Rattle.rstp_state.proofs.Basics.{no, and_left as left, and_right as right}
 
 -- ---- kinds of roles
 

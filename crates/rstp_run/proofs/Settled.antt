@@ -151,10 +151,6 @@ both-ways b P is_so not_so = (is_so, from b not_so)
 pub found : (r b : Bool) → r ≡ b → r ≡ true → b ≡ false → ⊥
 found r b is is_so not_so = cc
 
-pub not-true : (b : Bool) → not b ≡ true → b ≡ false
-not-true true h = cc
-not-true false h = refl
-
 pub not-false : (b : Bool) → not b ≡ false → b ≡ true
 not-false true h = refl
 not-false false h = cc

@@ -16,13 +16,13 @@ use Rattle.rstp_run.specs.declared.rule.Rule.TheVariants as rules
 use Rattle.rstp_run.specs.Rules.{asks, timing_in}
 use Rattle.rstp_run.specs.Sweep.{Going, fired, main_order, pass, tries, tries_all, tries_below}
 use Rattle.rstp_run.proofs.Costs.{Shares, Within, many, one, pass-within, sum}
-use Rattle.rstp_run.proofs.Informed.{no}
 use Rattle.rstp_run.proofs.Kept.{OneRoot, roles_of}
 use Rattle.rstp_run.proofs.Ordered.{tries-off}
 use Rattle.rstp_run.proofs.Places.{AtAll, at_selected, main_rest}
 use Rattle.rstp_run.proofs.Totals.{if_so, if_so-le, if_so-off, total}
 use Rattle.rstp_run.proofs.Whole.{tries-cases}
 use Rattle.rstp_run.proofs.Steps.{length-ports_after}
+use Rattle.rstp_state.proofs.Basics.{no}
 
 -- ---- the shares of the ports
 

@@ -14,6 +14,7 @@ use Rattle.rstp_machines.specs.Information.{rst_has, message_has, with_info_of, 
 use Rattle.rstp_machines.specs.Information.{with_proposal}
 use Rattle.rstp_run.specs.Machines.{information_asks, information_does}
 use Rattle.rstp_run.proofs.Quiet.{IsQuiet, Known, answer_quiet, inferior_quiet, known_of}
+use Rattle.rstp_state.proofs.Basics.{and_left as left}
 
 -- the port has no information, because it is not enabled
 abbrev pub is_down : InfoIs → Bool
@@ -44,14 +45,6 @@ keeps_quiet port next h = (λ s. subst IsSoundOf (sym h) s, ap (λ k. k.selected
 pub or_true : (b : Bool) → b || true ≡ true
 or_true true = refl
 or_true false = refl
-
-pub left : (a b : Bool) → a && b ≡ true → a ≡ true
-left true b h = refl
-left false b h = cc
-
-pub right : (a b : Bool) → a && b ≡ true → b ≡ true
-right true b h = h
-right false b h = cc
 
 pub or_left : (a b : Bool) → a ≡ true → a || b ≡ true
 or_left true b h = refl

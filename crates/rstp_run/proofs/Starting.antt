@@ -1,9 +1,8 @@
 -- At its start a bridge is settled if its Hello time isn't 0.
 use Rattle.std.proofs.Common.{◌≡◌, ℕ, ◌+◌, ◌≤◌, ◌==◌, ◌&&◌, ◌||◌, not, Bool, true, false, List, [], ◌∷◌, refl, inl, inr}
-use Rattle.std.proofs.Common.{arith}
 use Rattle.std.specs.Prelude.{All}
 use Rattle.std.specs.List.{list_any}
-use Rattle.std.proofs.lemmas.Bool.{eqb-true, eqb-false}
+use Rattle.std.proofs.lemmas.Bool.{eqb-false}
 use Rattle.std.proofs.lemmas.List.Elements.{All-nil, All-cons}
 use Rattle.std.proofs.lemmas.Option.{slice_get_cases}
 use Rattle.rstp_state.specs.declared.port.PortState.{PortState}
@@ -27,6 +26,7 @@ use Rattle.rstp_run.specs.Rules.{asks, timing_in, wants_selection}
 use Rattle.rstp_run.specs.Runs.{IsSettled}
 use Rattle.rstp_machines.specs.Transmit.{may_send}
 use Rattle.rstp_run.proofs.Orderly.{at_place}
+use Rattle.rstp_run.proofs.Basics.{not_zero}
 
 and_off : (a b : Bool) → b ≡ false → a && b ≡ false
 and_off true b e = e
@@ -38,13 +38,6 @@ same_number n = from (n == n) refl
     from : (b : Bool) → (n == n) ≡ b → (n == n) ≡ true
     from true is = is
     from false is = absurd (eqb-false n n is refl)
-
-not_zero : (n : ℕ) → 1 ≤ n → (n == 0) ≡ false
-not_zero n h = from (n == 0) refl
-  where
-    from : (b : Bool) → (n == 0) ≡ b → (n == 0) ≡ false
-    from true is = let none : n ≡ 0 = eqb-true n 0 is in absurd (omega arith)
-    from false is = is
 
 edge_off : (a b : Bool) → not a && ((not false && a) || ((((3 == 0) && b) && true) && false)) ≡ false
 edge_off true b = refl

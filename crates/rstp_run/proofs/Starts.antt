@@ -22,15 +22,15 @@ use Rattle.rstp_run.specs.Runs.{IsSettled}
 use Rattle.rstp_run.proofs.Shares.{Held}
 use Rattle.rstp_run.proofs.Costs.{put, put-apart, put-there, sum, sum-below, sum-put}
 use Rattle.rstp_run.proofs.Inputs.{inputs-few, inputs-most, mail, owed, turn, wait}
-use Rattle.rstp_run.proofs.Levels.{if-is}
 use Rattle.rstp_run.proofs.Measure.{has_to_turn}
-use Rattle.rstp_run.proofs.Informed.{no}
 use Rattle.rstp_run.proofs.Places.{AtAll, at_change, at_map}
 use Rattle.rstp_run.proofs.Reached.{IsReached}
 use Rattle.rstp_run.proofs.Ready.{AreReady, at-rest}
 use Rattle.rstp_run.proofs.Roots.{is_off}
 use Rattle.rstp_run.proofs.Sound.{neither}
 use Rattle.rstp_run.proofs.Totals.{if_so, if_so-le, if_so-off}
+use Rattle.rstp_state.proofs.Basics.{no}
+use Rattle.rstp_run.proofs.Basics.{if-is}
 
 -- ---- a port of a settled bridge
 

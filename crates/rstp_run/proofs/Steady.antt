@@ -8,12 +8,12 @@ use Rattle.rstp_machines.specs.Information as info
 use Rattle.rstp_run.specs.declared.rule.InformationRule.{InformationRule}
 use Rattle.rstp_run.specs.declared.rule.InformationRule.TheVariants as information_rule
 use Rattle.rstp_run.specs.Machines.{information_asks}
-use Rattle.rstp_run.proofs.Informed.{no}
 use Rattle.rstp_run.proofs.Levels as levels
 use Rattle.rstp_run.proofs.Levels.{IsCalmOf, IsTaken}
 use Rattle.rstp_run.proofs.Quiet.{Still, still_of}
 use Rattle.rstp_run.proofs.Ready.{IsReadyOf}
-use Rattle.rstp_run.proofs.Sound.{IsSoundOf, right}
+use Rattle.rstp_run.proofs.Sound.{IsSoundOf}
+use Rattle.rstp_state.proofs.Basics.{no, and_right as right}
 
 -- ---- information rests
 

@@ -14,7 +14,6 @@ use Rattle.rstp_run.specs.Lasting.{is_select}
 use Rattle.rstp_run.specs.Rules.{Tree, asks, timing_in}
 use Rattle.rstp_run.specs.Sweep.{Going, main_order, tries, tries_all}
 use Rattle.rstp_run.proofs.Costs.{Paid, many, one, paid-as, unselected}
-use Rattle.rstp_run.proofs.Informed.{no}
 use Rattle.rstp_run.proofs.Inputs.{owed}
 use Rattle.rstp_run.proofs.Ordered.{tries_all-append}
 use Rattle.rstp_run.proofs.Own.{Spread, own, spread_by, spread_of}
@@ -24,6 +23,7 @@ use Rattle.rstp_run.proofs.RoleKinds.{kind, rule_kind}
 use Rattle.rstp_run.proofs.Spans.{Fits, Numbers, at_forward, at_learn, at_rest, at_states, by_kind, follows, greater}
 use Rattle.rstp_run.proofs.Spans.{greater-one, greater-two, numbered, role-lowers, state-fires, state-rests, state_list}
 use Rattle.rstp_run.proofs.Totals.{if_so}
+use Rattle.rstp_state.proofs.Basics.{no}
 
 -- ---- numbers by kind
 

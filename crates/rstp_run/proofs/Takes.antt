@@ -18,7 +18,6 @@ use Rattle.rstp_run.specs.Lasting.{is_select}
 use Rattle.rstp_run.specs.Machines.{information_does}
 use Rattle.rstp_run.specs.Rules.{Tree, asks, timing_in}
 use Rattle.rstp_run.specs.Sweep.{Going, main_order, tries, tries_all}
-use Rattle.rstp_run.proofs.Informed.{no}
 use Rattle.rstp_run.proofs.Levels as levels
 use Rattle.rstp_run.proofs.Own.{Nothing, Now, Reroots, Spread, Syncs, Tells, own, spread_by}
 use Rattle.rstp_run.proofs.Own.{all_keep, step, steps}
@@ -33,6 +32,7 @@ use Rattle.rstp_run.proofs.RoleKinds.{both_root, kind, kind_lt, role-kind, same-
 use Rattle.rstp_run.proofs.Placed.{IsEven, IsPlaced, plain-moves, spread-goes, spread_same, steady-goes}
 use Rattle.rstp_run.proofs.Placed.{topology-even}
 use Rattle.rstp_run.proofs.Walk.{is_plain}
+use Rattle.rstp_state.proofs.Basics.{no}
 
 -- ---- a rule that would fire if the fact didn't hold
 

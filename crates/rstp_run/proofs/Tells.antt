@@ -15,7 +15,7 @@ use Rattle.rstp_roles.specs.declared.rule.RoleRule.TheVariants as role_rule
 use Rattle.rstp_roles.specs.declared.rule.StateRule.TheVariants as state_rule
 use Rattle.rstp_machines.specs.BridgeDetection as detection
 use Rattle.rstp_machines.specs.Migration as moves
-use Rattle.rstp_machines.specs.Receive as receiving
+use Rattle.rstp_machines.specs.PortReceive as receiving
 use Rattle.rstp_machines.specs.TopologyChange as change
 use Rattle.rstp_machines.specs.TopologyChange.{telling_others, with_propagation}
 use Rattle.rstp_machines.specs.Transmit as sends
@@ -32,7 +32,6 @@ use Rattle.rstp_run.specs.Lasting.{is_select}
 use Rattle.rstp_run.specs.Machines.{migration_asks, migration_does, topology_does}
 use Rattle.rstp_run.specs.Rules.{Tree, after, asks, guard, ports_after, timing_in}
 use Rattle.rstp_run.proofs.Falls.{IsAfterDiscard}
-use Rattle.rstp_run.proofs.Informed.{no}
 use Rattle.rstp_run.proofs.Caps.{left_due}
 use Rattle.rstp_run.proofs.Shares.{total-shares, total-spare}
 use Rattle.rstp_run.proofs.Costs.{sum}
@@ -45,13 +44,15 @@ use Rattle.rstp_run.proofs.Loads.{load}
 use Rattle.rstp_run.proofs.Own.{own_role, spread_of}
 use Rattle.rstp_run.proofs.Places.{AtAll}
 use Rattle.rstp_run.proofs.RoleParts.{other_role}
-use Rattle.rstp_run.proofs.Sound.{left, neither, or_left, or_right, right}
+use Rattle.rstp_run.proofs.Sound.{neither, or_left, or_right}
 use Rattle.rstp_run.proofs.Totals.{if_so, slice_get-map, tested_at, told, total, total-change}
 use Rattle.rstp_run.proofs.Totals.{total-map, total-set}
 use Rattle.rstp_run.proofs.Steady.{steady-informs}
 use Rattle.rstp_run.proofs.RoleKinds.{as-designated, as-root, kind, role-kind, rule_kind}
 use Rattle.rstp_run.proofs.Fixed.{fits, fixed-fits}
 use Rattle.rstp_run.proofs.Late.{IsLate, notes, notes_too, root_tells}
+use Rattle.rstp_state.proofs.Basics.{no, and_left as left, and_right as right}
+use Rattle.std.proofs.lemmas.Bool.{not-true}
 
 -- ---- the number that each firing lowers
 
@@ -144,7 +145,7 @@ module _ (n : ℕ) (s : Tree) (p : ℕ) (x : PortState) (at : slice_get s.ports 
     role_falls role_rule.DesignatedForward g k f =
         by role_rule.DesignatedForward roles.designated_forward_effect g refl refl
     role_falls role_rule.Block g k f =
-        no (sym (levels.not-true (has_role x) (right _ (not (has_role x)) g)) ∙ late.0.1.0)
+        no (sym (not-true (has_role x) (right _ (not (has_role x)) g)) ∙ late.0.1.0)
     role_falls role_rule.Alternate g k f =
         by role_rule.Alternate (roles.alternate_effect (timing_in s)) g refl refl
     role_falls role_rule.AlternateProposed g k f = no f
@@ -175,7 +176,7 @@ module _ (n : ℕ) (s : Tree) (p : ℕ) (x : PortState) (at : slice_get s.ports 
     topology_falls topology_rule.TcInactive g =
         fall change.tc_inactive_effect (loads.tc_inactive-falls n (timing_in s) x
         (tree_of x.role x.selected_role late.0.1.0
-        (levels.not-true (change.is_in_tree x) (right _ (not (change.is_in_tree x))
+        (not-true (change.is_in_tree x) (right _ (not (change.is_in_tree x))
         (left _ _ (left _ _ (left _ _ g)))))) g)
     topology_falls topology_rule.TcBack g =
         fall change.tc_back_effect (loads.tc_back-falls n (timing_in s) x

@@ -6,6 +6,7 @@ use Rattle.std.specs.List.{enumerate_from, list_any}
 use Rattle.rstp_state.specs.declared.port.PortState.{PortState}
 use Rattle.rstp_state.specs.Port.{change_at, test_at}
 use Rattle.rstp_machines.specs.TopologyChange.{telling_others, with_propagation}
+use Rattle.std.proofs.lemmas.Option.{same_Some as some_is}
 
 -- the sum of a number of each port
 abbrev pub total : (PortState → ℕ) → List PortState → ℕ
@@ -28,9 +29,6 @@ if_so-off n false h = refl
 pub if_so-le : (n : ℕ) (b : Bool) → if_so n b ≤ n
 if_so-le n true = omega arith
 if_so-le n false = omega arith
-
-some_is : (a b : PortState) → Some a ≡ Some b → a ≡ b
-some_is a b h = cc
 
 pub total-set : (f : PortState → ℕ) (ports : List PortState) (p : ℕ) (port new : PortState)
     → slice_get ports p ≡ Some port → total f (slice_set ports p new) + f port ≡ total f ports + f new

@@ -1,7 +1,7 @@
 -- In a visit of a port the rules of topology change fire at most twice, and once more for each pending change.
 use Rattle.std.proofs.Common.{◌≡◌, ℕ, suc, ◌+◌, ◌≤◌, Bool, true, false, not, ◌&&◌, ◌||◌, ◌==◌, List, [], ◌∷◌, drop}
 use Rattle.std.proofs.Common.{nat_lt, refl, ap, if◌then◌else◌}
-use Rattle.std.proofs.lemmas.Bool.{ltb-false}
+use Rattle.std.proofs.lemmas.Bool.{ltb-false, not-true}
 use Rattle.rstp_state.specs.declared.port.PortState.{PortState}
 use Rattle.rstp_state.specs.declared.port.Timing.{Timing}
 use Rattle.rstp_state.specs.declared.port.Topology.{Topology}
@@ -16,9 +16,9 @@ use Rattle.rstp_run.specs.declared.rule.TopologyRule.TheVariants as topology_rul
 use Rattle.rstp_run.specs.Machines.{topology_asks}
 use Rattle.rstp_run.specs.Sweep.{main_order}
 use Rattle.rstp_run.proofs.Flags.{every, holds}
-use Rattle.rstp_run.proofs.Levels as levels
 use Rattle.rstp_run.proofs.Own.{own_topology}
 use Rattle.rstp_run.proofs.Totals.{if_so}
+use Rattle.rstp_run.proofs.Basics.{if-is}
 
 -- ---- the flags of topology change
 
@@ -113,8 +113,8 @@ asked-is topology_rule.Flush x = refl
 
 timer_keeps : (timing : Timing) (x : PortState) → change_of (with_change_timer timing x) ≡ change_of x
 timer_keeps timing x =
-    levels.if-is (λ y. change_of y ≡ change_of x) (x.topology_change_while == 0) _ x
-    (levels.if-is (λ y. change_of y ≡ change_of x) x.send_rstp _ _ refl refl) refl
+    if-is (λ y. change_of y ≡ change_of x) (x.topology_change_while == 0) _ x
+    (if-is (λ y. change_of y ≡ change_of x) x.send_rstp _ _ refl refl) refl
 
 pub turned-is : (rule : TopologyRule) (timing : Timing) (x : PortState)
     → change_of (own_topology rule timing x) ≡ turned rule (change_of x)
@@ -200,5 +200,5 @@ few_at topology.Learning a b c d e f g h i j =
 
 pub few-turns : (c : Change) → turns (drop 44 main_order) c ≤ held c + 2
 few-turns c =
-    ltb-false (held c + 2) (turns (drop 44 main_order) c) (levels.not-true _
+    ltb-false (held c + 2) (turns (drop 44 main_order) c) (not-true _
     (few_at c.state c.tree c.learn c.forward c.learning c.edge c.tell c.changed c.noticed c.acknowledged c.flush))

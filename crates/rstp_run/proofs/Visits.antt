@@ -12,8 +12,7 @@ use Rattle.rstp_run.specs.declared.rule.InformationRule.TheVariants as informati
 use Rattle.rstp_run.specs.Machines.{information_asks, information_does, receive_asks, receive_does}
 use Rattle.rstp_run.specs.Sweep.{Going, main_order, tries, tries_all}
 use Rattle.rstp_machines.specs.Information as info
-use Rattle.rstp_machines.specs.Receive.{discard_effect}
-use Rattle.rstp_run.proofs.Informed.{no}
+use Rattle.rstp_machines.specs.PortReceive.{discard_effect}
 use Rattle.rstp_run.proofs.Levels as levels
 use Rattle.rstp_run.proofs.Levels.{IsCalm, IsCalmOf, IsChosen, IsChosenOf, IsDown, IsFaced, IsFacedOf, IsFirst}
 use Rattle.rstp_run.proofs.Levels.{IsFirstOf, IsHeard, IsHeldOf, IsOpen, IsTaken, IsTakenOf, IsTried, IsYoung}
@@ -22,6 +21,7 @@ use Rattle.rstp_run.proofs.Levels.{Off1, Off2, Off3, Off4, is_idle, stays}
 use Rattle.rstp_run.proofs.Ordered.{tries_all-append}
 use Rattle.rstp_run.proofs.Places.{Stage, Zone, all_plain, main_rest, stage-plain, zone-local}
 use Rattle.rstp_run.proofs.Quiet.{Still, still_of}
+use Rattle.rstp_state.proofs.Basics.{no}
 
 -- ---- lists of rules
 

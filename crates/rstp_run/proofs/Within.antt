@@ -19,14 +19,11 @@ use Rattle.rstp_run.specs.Laws.{AreNumberedFrom}
 use Rattle.rstp_run.specs.Rules.{Tree, guard, asks}
 use Rattle.rstp_run.specs.Runs.{Firing, Run, is_flush}
 use Rattle.rstp_run.proofs.Steps.{length-ports_after}
+use Rattle.rstp_state.proofs.Basics.{and_right as right}
 
 either : (a b : Bool) → a || b ≡ true → (a ≡ true) ⊎ (b ≡ true)
 either true b h = inl refl
 either false b h = inr h
-
-right : (a b : Bool) → a && b ≡ true → b ≡ true
-right true b h = h
-right false b h = cc
 
 -- a rule is enabled only at a place that has a port
 place_within : (rule : Rule) (s : Tree) (p : ℕ) → guard rule s p ≡ true → p < length s.ports

@@ -15,7 +15,7 @@ use Rattle.rstp_run.specs.declared.rule.TopologyRule.{TopologyRule}
 use Rattle.rstp_run.specs.declared.rule.TopologyRule.TheVariants as topology_rule
 use Rattle.rstp_run.specs.declared.rule.TransmitRule.{TransmitRule}
 use Rattle.rstp_run.specs.declared.rule.TransmitRule.TheVariants as transmit_rule
-use Rattle.rstp_machines.specs.Receive as receive
+use Rattle.rstp_machines.specs.PortReceive as receive
 use Rattle.rstp_machines.specs.Migration as migration
 use Rattle.rstp_machines.specs.BridgeDetection as detection
 use Rattle.rstp_machines.specs.Information as information

@@ -21,8 +21,7 @@ use crate::engine::Engine;
 use crate::event::{Effect, Event, Outcome};
 use arrayvec::ArrayVec;
 use bpdu_wire::Bpdu;
-use rstp_state::port::PortState;
-use rstp_state::start::{PortSettings, Settings};
+use rstp_state::{PortSettings, PortState, Settings};
 use std::marker::Model;
 
 /// The configuration of a bridge and its ports.

@@ -27,11 +27,11 @@ use crate::rule::{MAIN, Part, Rule, SENDS};
 use arrayvec::ArrayVec;
 use bpdu_wire::Bpdu;
 use ether_wire::place_of_port;
-use rstp_roles::firing::{fire_role, fire_state, role_is_enabled, state_is_enabled};
-use rstp_state::direct::{ask_migration_check, clear_slot, pass_second, set_enabled, store};
-use rstp_state::port::{PortState, Timing};
-use rstp_state::selection::{Root, select_roles};
-use rstp_state::start::{PortSettings, Settings, start_ports};
+use rstp_roles::{fire_role, fire_state, role_is_enabled, state_is_enabled};
+use rstp_state::{
+    PortSettings, PortState, Root, Settings, Timing, ask_migration_check, clear_slot, pass_second,
+    select_roles, set_enabled, start_ports, store,
+};
 use std::marker::Model;
 
 /// A bridge that doesn't record whether it is settled.

@@ -2,13 +2,26 @@
 //! the names of all rules, and the sweep that fires them in their order.
 #![tactic(auto)]
 
-pub mod bridge;
+mod bridge;
 mod count;
 mod engine;
-pub mod event;
+mod event;
 mod firing;
-pub mod laws;
+mod laws;
 mod rest;
-pub mod rule;
+mod rule;
 #[cfg(test)]
 mod tests;
+
+pub use bridge::{Bridge, BridgeConfig};
+pub use event::{Effect, Event, Outcome};
+pub use laws::{
+    designated_port_has, edge_rests, event_ends_settled, events_are_short, events_settle,
+    every_event_settles, lasting_is_reached, losing_keeps_tree, one_outcome, one_root_port,
+    passing_is_in_tree, ports_are_numbered, roles_last, root_port_is_followed, runs_happen,
+    selection_is_current, selects_twice, settled_by_lists, settled_port_sends, stays_settled,
+};
+pub use rule::{
+    DetectionRule, InformationRule, MAIN, MigrationRule, ReceiveRule, Rule, SENDS, TopologyRule,
+    TransmitRule,
+};

@@ -2,7 +2,7 @@
 
 ghost use Rattle.std.specs.Prelude.{◌≡◌};
 
-use rstp_roles::rule::{RoleRule, StateRule};
+use rstp_roles::{RoleRule, StateRule};
 
 /// A rule of the receive machine.
 #[derive(Clone, Copy, Debug, PartialEq, Eq)]

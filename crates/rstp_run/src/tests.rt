@@ -9,7 +9,7 @@ use crate::bridge::{Bridge, BridgeConfig};
 use crate::event::{Event, Outcome};
 use arrayvec::ArrayVec;
 use bpdu_wire::{BridgeId, read, write};
-use rstp_state::start::{PortSettings, Settings};
+use rstp_state::{PortSettings, Settings};
 
 /// The first message of a designated port of bridge 8000.02:aa:00:00:00:01: the bridge is its own
 /// root, and the port proposes.

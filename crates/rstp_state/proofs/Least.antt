@@ -6,6 +6,7 @@ use Rattle.std.specs.List.{list_all}
 use Rattle.std.specs.Ordering.{is_lt, ord_min, ordering_reverse}
 use Rattle.std.specs.declared.cmp.Ordering.{Ordering}
 use Rattle.std.specs.declared.cmp.Ordering.TheVariants.{Less, Equal, Greater}
+use Rattle.std.proofs.lemmas.Bool.{not-true as not_true, and_from as of_both, and_parts as both}
 
 abbrev pub least : {X : Type 0} → (X → X → Ordering) → X → List X → X
 least R best [] = best
@@ -22,18 +23,6 @@ contains_later y xs x (k, within, at) = (suc k, omega arith, at)
 contains_past_second : {X : Type 0} (y z : X) (xs : List X) (x : X) → Contains (y ∷ xs) x → Contains (y ∷ z ∷ xs) x
 contains_past_second y z xs x (zero, within, at) = (0, omega arith, at)
 contains_past_second y z xs x (suc k, within, at) = (suc (suc k), omega arith, at)
-
-both : (a b : Bool) → a && b ≡ true → (a ≡ true) × (b ≡ true)
-both true b h = (refl, h)
-both false b h = cc
-
-of_both : (a b : Bool) → a ≡ true → b ≡ true → a && b ≡ true
-of_both true b h k = k
-of_both false b h k = h
-
-not_true : (b : Bool) → not b ≡ true → b ≡ false
-not_true true h = cc
-not_true false h = refl
 
 true_not : (b : Bool) → b ≡ false → not b ≡ true
 true_not b h = ap not h

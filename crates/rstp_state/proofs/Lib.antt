@@ -1,3 +1,4 @@
+pub mod Basics
 pub mod Least
 pub mod Paths
 pub mod Places

@@ -1,5 +1,5 @@
 -- The order of vectors is total: two vectors are equal if neither of them is less.
-use Rattle.std.proofs.Common.{◌≡◌, true, false, refl, sym, ap, ◌∙◌}
+use Rattle.std.proofs.Common.{◌≡◌, false, refl, sym, ap, ◌∙◌}
 use Rattle.std.specs.Cmp.{IsTotalOrder}
 use Rattle.std.specs.FinMap.{nat_cmp-IsAntisymmetric}
 use Rattle.std.specs.Ordering.{nat_cmp, ordering_then, ordering_reverse, is_lt}
@@ -8,6 +8,7 @@ use Rattle.std.specs.declared.cmp.Ordering.TheVariants.{Less, Equal, Greater}
 use Rattle.std.proofs.lemmas.Cmp.{nat_cmp_total, on_total, then_total}
 use Rattle.rstp_state.specs.declared.vector.Vector.{Vector}
 use Rattle.rstp_state.specs.Vector.{is_less, vector_cmp}
+use Rattle.rstp_state.proofs.Basics.{no}
 
 pub vector_total : IsTotalOrder vector_cmp
 vector_total =
@@ -29,9 +30,6 @@ same_vector a b h =
     let bridge = nat_cmp-IsAntisymmetric a.bridge b.bridge h3.0 in
     let port = nat_cmp-IsAntisymmetric a.port b.port h3.1 in
     λ i. record { root = root i; cost = cost i; bridge = bridge i; port = port i }
-
-no : {A : Type 0} → false ≡ true → A
-no h = let e : ⊥ = cc in absurd e
 
 neither_at : (a b : Vector) (o : Ordering) → o ≡ vector_cmp a b → is_lt o ≡ false → is_less b a ≡ false → o ≡ Equal
 neither_at a b Less e h k = no (sym h)

@@ -45,7 +45,6 @@ impl Out for Calls {
 }
 
 /// Puts the texts one after the other.
-#[tactic(auto, using(crate::proofs::Appending::with_text_twice))]
 fn put_both<O: Out>(out: &mut O, first: &[u8], second: &[u8]) -> Result<(), Device>
     requires { IsOpen (O.end out.old) }
     ensures { Puts (O.end out.old) (O.end out.new) (first.now ++ second.now) result }

@@ -8,15 +8,15 @@ use Rattle.toml.specs.Data.{Items, no_items}
 use Rattle.toml.specs.View.{array_view}
 use Rattle.toml.specs.declared.value.Value.{Value}
 use Rattle.ev_config.specs.declared.schema.Row.{Row as CodeRow}
-use Rattle.ev_config.specs.declared.place.Place.{Place}
-use Rattle.ev_config.specs.declared.place.Place.TheVariants as place
+use Rattle.ev_config.specs.declared.document_table.DocumentTable.{DocumentTable}
+use Rattle.ev_config.specs.declared.document_table.DocumentTable.TheVariants as place
 use Rattle.ev_config.specs.declared.faults.FaultyKey.{FaultyKey}
-use Rattle.ev_config.specs.declared.names.Names.{Names as CodeNames}
-use Rattle.ev_config.specs.declared.place.Context.{Context as CodeContext}
+use Rattle.ev_config.specs.declared.seen_names.SeenNames.{SeenNames as CodeNames}
+use Rattle.ev_config.specs.declared.document_table.Context.{Context as CodeContext}
 use Rattle.ev_config.specs.Schema.{Row}
-use Rattle.ev_config.specs.Faults.{Spot, File, Edge, Port, Peer, Faulty, Names, Context}
+use Rattle.ev_config.specs.Faults.{Spot, File, Edge, Port, Peer, Faulty, SeenNames, Context}
 
-abbrev pub spot_of : Place → Spot
+abbrev pub spot_of : DocumentTable → Spot
 spot_of (place.File t) = File
 spot_of (place.Edge n t) = Edge n
 spot_of (place.Port n m t) = Port n m
@@ -37,7 +37,7 @@ Adds more old new (Err any) = Unit {0}
 abbrev pub row_of : CodeRow → Row
 row_of row = (row.0.now, row.1)
 
-abbrev pub names_view : CodeNames → Names
+abbrev pub names_view : CodeNames → SeenNames
 names_view n = record { addresses = n.addresses.items; bridges = n.bridges.items }
 
 abbrev pub context_view : CodeContext → Context

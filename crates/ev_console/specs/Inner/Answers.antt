@@ -1,28 +1,24 @@
 -- The requests that a line of the console makes to edges that run, and its answer.
-use Rattle.std.specs.Prelude.{◌≡◌, ℕ, List, ◌++◌, codes, Option, Result}
-use Rattle.std.specs.Global.{Vec}
-use Rattle.std.specs.declared.alloc.AllocError.{AllocError}
+use Rattle.std.specs.Prelude.{◌≡◌, ℕ, if◌then◌else◌, List, ◌++◌, codes, Option, None, Result, Ok, Err}
 use Rattle.ether_wire.specs.Ends.{End, Puts}
 use Rattle.ether_wire.specs.declared.ends.Device.{Device}
-use Rattle.route_wire.specs.Fields.{Fields}
+use Rattle.route_wire.specs.declared.update.Register.{Register}
+use Rattle.route_join.specs.After.{is_last, last_from, IsPage}
 use Rattle.ev_links.specs.Coming.{behind}
-use Rattle.ev_console.specs.Asking.{Asked, TableSeen}
-use Rattle.ev_console.specs.Answers.{TellsUpdates, TellsShown, TellsTable, AnswersLine}
+use Rattle.ev_console.specs.Asking.{Asked, PageSeen}
+use Rattle.ev_console.specs.Answers.{AnswersLine}
 
--- A text of this kind was written, or a call of the writer failed.
-pub record PutsOne (tells : List ℕ → Type 0) (old new : End) (result : Result (Unit {0}) Device) : Type 0 where
-  pub text : List ℕ
-  pub told : tells text
-  pub written : Puts old new text result
+-- an answer that is a page is at most 256 updates in order, after the register at which it begins
+abbrev pub IsShown : PageSeen → Type 0
+IsShown (Ok (Ok page)) = IsPage page.after page.updates
+IsShown (Ok (Err refused)) = Unit {0}
+IsShown (Err unreached) = Unit {0}
 
-abbrev pub PutsUpdates : ℕ → List Fields → End → End → Result (Unit {0}) Device → Type 0
-PutsUpdates e updates old new result = PutsOne (TellsUpdates e updates) old new result
-
-abbrev pub PutsShown : ℕ → Result (Vec Fields) AllocError → End → End → Result (Unit {0}) Device → Type 0
-PutsShown e shown old new result = PutsOne (TellsShown e shown) old new result
-
-abbrev pub PutsTable : ℕ → TableSeen → End → End → Result (Unit {0}) Device → Type 0
-PutsTable e answer old new result = PutsOne (TellsTable e answer) old new result
+-- the register after which the next page begins, if a page follows
+abbrev pub next_after : PageSeen → Option Register
+next_after (Ok (Ok page)) = if is_last page.updates then None else last_from page.after page.updates
+next_after (Ok (Err refused)) = None
+next_after (Err unreached) = None
 
 -- These requests were made and answered, and no others; this text was written, or a call of the writer failed.
 pub record Does (says : List Asked → List ℕ → Type 0) (before after : Option (List Asked)) (old new : End)

@@ -6,7 +6,7 @@ use Rattle.ev_edge.specs.Edge.{Edge}
 use Rattle.ev_edge.specs.Steps.{Steps}
 use Rattle.ev_book.specs.declared.refusal.BookRefusal.{BookRefusal}
 use Rattle.ev_book.specs.declared.refusal.BookRefusal.TheVariants.{PassStrange, PassSpent, NoRoom, Edge as OfEdge}
-use Rattle.ev_history.specs.declared.entry.Entry.{Entry}
+use Rattle.ev_history.specs.declared.log_entry.LogEntry.{LogEntry}
 use Rattle.ev_history.specs.Standing.{Stands}
 
 -- whether a call of the book was a step of its edge
@@ -34,8 +34,8 @@ EdgeMoves e event (Err PassStrange) e' = e' ≡ e
 EdgeMoves e event (Err PassSpent) e' = e' ≡ e
 
 -- an edge that stood at the end of a history has gone on by one call of its book
-pub record GoesOn (place : ℕ) (log : List Entry) (event : Event) (result : Result (Unit {0}) BookRefusal) (later : Edge)
-    : Type 0 where
+pub record GoesOn (place : ℕ) (log : List LogEntry) (event : Event) (result : Result (Unit {0}) BookRefusal)
+    (later : Edge) : Type 0 where
   pub before : Edge
   pub stood : Stands place log before
   pub moves : EdgeMoves before event result later

@@ -2,7 +2,7 @@
 use Rattle.std.specs.Prelude.{◌≡◌, ℕ, ◌<◌, ◌==◌, true, List, length, Contains, MatchBool}
 use Rattle.logbook.specs.Pages.{Cell, cell, Step, View}
 use Rattle.route_wire.specs.Fields.{Fields}
-use Rattle.ev_history.specs.declared.entry.Entry.{Entry}
+use Rattle.ev_history.specs.declared.log_entry.LogEntry.{LogEntry}
 use Rattle.ev_history.specs.Log.{World, IsHistory, world, count}
 use Rattle.ev_history.specs.Rule.{IsAdded}
 
@@ -14,15 +14,15 @@ pub record IsLater (place : ℕ) (w z : World) : Type 0 where
   pub pool : (u : Fields) → Contains w.pool u → Contains z.pool u
 
 -- the word of each edge holds the number of its entries, and the log is a history
-pub record IsKept (cells : List Cell) (log : List Entry) : Type 0 where
+pub record IsKept (cells : List Cell) (log : List LogEntry) : Type 0 where
   pub words : (n : ℕ) → n < length cells → cell cells n ≡ (count n log, true)
   pub seats : length cells ≡ length (world log).configs
   pub legal : IsHistory log
 
 -- the entry was added, or the edge has more entries than were known; the seen log is a history
-abbrev pub Adds : Step Entry → View Entry ℕ → ℕ → View Entry ℕ → Type 0
+abbrev pub Adds : Step LogEntry → View LogEntry ℕ → ℕ → View LogEntry ℕ → Type 0
 Adds s v found w = MatchBool (found == s.old) (IsAdded s.key s.old v.0 s.ask w.0) (IsHistory w.0)
 
 -- the edge has this number of entries in the seen log
-abbrev pub Looks : Step Entry → View Entry ℕ → ℕ → View Entry ℕ → Type 0
+abbrev pub Looks : Step LogEntry → View LogEntry ℕ → ℕ → View LogEntry ℕ → Type 0
 Looks s v found w = (count s.key w.0 ≡ found) × IsHistory w.0

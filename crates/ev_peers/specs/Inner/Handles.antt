@@ -3,7 +3,7 @@ use Rattle.std.specs.Prelude.{◌≡◌, ℕ, ◌+◌, List, [], ◌∷◌, leng
 use Rattle.std.specs.declared.alloc.AllocError.{AllocError}
 use Rattle.std.specs.declared.thread.PromisedHandle.{PromisedHandle}
 use Rattle.ev_history.specs.Rule.{SeatState}
-use Rattle.ev_peers.specs.declared.outcome.Outcome.{Outcome}
+use Rattle.ev_peers.specs.declared.edge_outcome.EdgeOutcome.{EdgeOutcome}
 use Rattle.ev_peers.specs.declared.run.OfEdge.{OfEdge}
 use Rattle.ev_peers.specs.EdgeThreads.{EdgeSetup}
 
@@ -14,7 +14,7 @@ pub record Numbered (O : Type 0) : Type 0 where
 
 -- the thread of an edge, or none if it was refused
 abbrev pub Handle : Type 0
-Handle = Option (PromisedHandle (Result (Outcome × SeatState) AllocError) OfEdge)
+Handle = Option (PromisedHandle (Result (EdgeOutcome × SeatState) AllocError) OfEdge)
 
 -- the thread promises the result of the edge with this number and setup
 abbrev pub IsHandle : {O : Type 0} → ℕ → EdgeSetup O → Handle → Type 0

@@ -3,7 +3,14 @@ use Rattle.std.specs.Prelude.{ℕ, ◌+◌, List, [], ◌∷◌, length, map, re
 use Rattle.ev_edge.specs.declared.config.PortConfig.{PortConfig}
 use Rattle.ev_peers.specs.declared.edge_links.Link.{Link}
 use Rattle.ev_peers.specs.declared.plan.Task.{Task}
-use Rattle.ev_peers.specs.declared.plan.Task.TheVariants.{Port, Tunnel, Clock}
+use Rattle.ev_peers.specs.declared.plan.Task.TheVariants.{Port, Tunnel, Clock, Peer}
+
+-- the place of the link over which a task's datagrams come
+abbrev pub source_of : {I : Type 0} → Task I → ℕ
+source_of (Port port vni link) = port
+source_of (Tunnel link) = 0
+source_of (Clock clock) = 0
+source_of Peer = 0
 
 -- the network of a port, or network 0 if the port doesn't exist
 abbrev pub vni_in : Option PortConfig → ℕ

@@ -6,7 +6,6 @@ use crate::script::Mode;
 use ether_wire::{Device, Out};
 
 /// Writes the line of a command or a query if the script is played: `> LINE`.
-#[tactic(auto, using(ether_wire::proofs::Appending::with_text_twice, ether_wire::proofs::Appending::with_text_none))]
 pub(crate) fn put_shown<W: Out>(out: &mut W, mode: Mode, line: &[u8]) -> Result<(), Device>
     requires { IsOpen (W.end out.old) }
     ensures { Puts (W.end out.old) (W.end out.new) (shown_text mode line.now) result }

@@ -14,7 +14,7 @@ use ev_fabric::FabricRefusal;
 use ev_mobility::Alert;
 use ev_tunnel::Decision;
 use route_join::{Table, Taken};
-use rstp_state::port::{PortState, Role};
+use rstp_state::{PortState, Role};
 
 /// The lower case hexadecimal digits.
 const DIGITS: &[u8; 16] = b"0123456789abcdef";
@@ -33,7 +33,6 @@ pub fn put_report<W: Out>(out: &mut W, table: &Table) -> Result<(), Device>
 }
 
 /// Writes the edge's number and a text after it.
-#[tactic(auto, using(ether_wire::proofs::Appending::with_text_twice))]
 pub fn put_words<W: Out>(out: &mut W, edge: u64, words: &[u8]) -> Result<(), Device>
     requires { IsOpen (W.end out.old) }
     ensures { Puts (W.end out.old) (W.end out.new) (words_text edge words.now) result }
@@ -43,7 +42,6 @@ pub fn put_words<W: Out>(out: &mut W, edge: u64, words: &[u8]) -> Result<(), Dev
 }
 
 /// Writes a line of the edge's number, a word and a number.
-#[tactic(auto, using(ether_wire::proofs::Appending::with_text_twice))]
 pub fn put_number<W: Out>(out: &mut W, edge: u64, word: &[u8], number: u64) -> Result<(), Device>
     requires { IsOpen (W.end out.old) }
     ensures { Puts (W.end out.old) (W.end out.new) (number_text edge word.now number) result }
@@ -83,7 +81,6 @@ fn put_hex<W: Out>(out: &mut W, octets: &[u8]) -> Result<(), Device>
 }
 
 /// Writes `bpdu P HEX`.
-#[tactic(auto, using(ether_wire::proofs::Appending::with_text_twice))]
 fn put_bpdu<W: Out>(out: &mut W, edge: u64, sent: &(u8, Bpdu)) -> Result<(), Device>
     requires { IsOpen (W.end out.old) }
     ensures { Puts (W.end out.old) (W.end out.new) (bpdu_line edge sent.now) result }
@@ -108,7 +105,6 @@ pub(crate) fn put_bpdus<W: Out>(out: &mut W, edge: u64, bpdus: &[(u8, Bpdu)]) ->
 }
 
 /// Writes a comma and an address.
-#[tactic(auto, using(ether_wire::proofs::Appending::with_text_twice))]
 fn put_later_one<W: Out>(out: &mut W, address: Addr) -> Result<(), Device>
     requires { IsOpen (W.end out.old) }
     ensures { Puts (W.end out.old) (W.end out.new) (later_words address) result }
@@ -129,7 +125,6 @@ fn put_later<W: Out>(out: &mut W, addresses: &[Addr]) -> Result<(), Device>
 }
 
 /// Writes addresses with commas between, or a dash if there is none.
-#[tactic(auto, using(ether_wire::proofs::Appending::with_text_twice))]
 fn put_addresses<W: Out>(out: &mut W, addresses: &[Addr]) -> Result<(), Device>
     requires { IsOpen (W.end out.old) }
     ensures { Puts (W.end out.old) (W.end out.new) (addresses_text addresses.now) result }
@@ -144,7 +139,6 @@ fn put_addresses<W: Out>(out: &mut W, addresses: &[Addr]) -> Result<(), Device>
 }
 
 /// Writes `local L remote R`.
-#[tactic(auto, using(ether_wire::proofs::Appending::with_text_twice))]
 fn put_decision<W: Out>(out: &mut W, edge: u64, decision: &Decision) -> Result<(), Device>
     requires { IsOpen (W.end out.old) }
     ensures { Puts (W.end out.old) (W.end out.new) (decision_line edge decision.now) result }
@@ -157,7 +151,6 @@ fn put_decision<W: Out>(out: &mut W, edge: u64, decision: &Decision) -> Result<(
 }
 
 /// Writes where a frame goes, if the reply has it.
-#[tactic(auto, using(ether_wire::proofs::Appending::with_text_none))]
 fn put_place<W: Out>(out: &mut W, edge: u64, decision: &Option<Decision>) -> Result<(), Device>
     requires { IsOpen (W.end out.old) }
     ensures { Puts (W.end out.old) (W.end out.new) (place_text edge decision.now) result }
@@ -169,7 +162,6 @@ fn put_place<W: Out>(out: &mut W, edge: u64, decision: &Option<Decision>) -> Res
 }
 
 /// Writes `newer` or `known`, if an update was taken.
-#[tactic(auto, using(ether_wire::proofs::Appending::with_text_none))]
 fn put_taken<W: Out>(out: &mut W, edge: u64, taken: Option<Taken>) -> Result<(), Device>
     requires { IsOpen (W.end out.old) }
     ensures { Puts (W.end out.old) (W.end out.new) (taken_text edge taken) result }
@@ -182,7 +174,6 @@ fn put_taken<W: Out>(out: &mut W, edge: u64, taken: Option<Taken>) -> Result<(),
 }
 
 /// Writes `alert N`, if there is one.
-#[tactic(auto, using(ether_wire::proofs::Appending::with_text_none))]
 fn put_alert<W: Out>(out: &mut W, edge: u64, alert: Option<Alert>) -> Result<(), Device>
     requires { IsOpen (W.end out.old) }
     ensures { Puts (W.end out.old) (W.end out.new) (alert_text edge alert) result }
@@ -227,7 +218,6 @@ pub fn put_refusal<W: Out>(out: &mut W, edge: u64, refusal: &FabricRefusal) -> R
 
 /// Writes the results of a step: BPDUs, then where a frame goes, then whether an update was newer
 /// or known, then an alert.
-#[tactic(auto, using(ether_wire::proofs::Appending::with_text_twice))]
 pub fn put_reply<W: Out>(out: &mut W, edge: u64, reply: &Reply) -> Result<(), Device>
     requires { IsOpen (W.end out.old) }
     ensures { Puts (W.end out.old) (W.end out.new) (reply_text edge reply.now) result }
@@ -272,7 +262,6 @@ fn passing<'a>(passes: bool) -> &'a [u8]
 }
 
 /// Writes `port P ROLE STATE passes`, or `blocks`.
-#[tactic(auto, using(ether_wire::proofs::Appending::with_text_twice))]
 pub fn put_port<W: Out>(
     out: &mut W,
     edge: u64,

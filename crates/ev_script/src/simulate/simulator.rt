@@ -17,7 +17,7 @@ use crate::simulate::viewing::{edge_of, put_view};
 use ether_wire::{Addr, Device, Out};
 use ev_edge::{Edge, EdgeRefusal, Reply};
 use ev_fabric::{Fabric, FabricRefusal, LocalEvent, Step};
-use rstp_state::port::PortState;
+use rstp_state::PortState;
 
 /// The number of the refusal and of the alert that report refused memory.
 const NO_MEMORY: u8 = 15;
@@ -79,7 +79,6 @@ fn put_answer<W: Out>(
 
 /// Prints the result of a second, the first one (0) or a later one. Prints a refusal only for the
 /// first one.
-#[tactic(auto, using(ether_wire::proofs::Appending::with_text_none))]
 fn put_second<W: Out>(
     out: &mut W,
     edge: u64,

@@ -63,7 +63,6 @@ pub(crate) fn edge_of(fabric: &Fabric, edge: u64) -> Option<&Edge>
 }
 
 /// Writes the refusal for an edge that doesn't exist.
-#[tactic(auto, using(ether_wire::proofs::Appending::with_text_twice))]
 fn put_no_edge<W: Out>(out: &mut W, number: u64) -> Result<(), Device>
     requires { IsOpen (W.end out.old) }
     ensures { Puts (W.end out.old) (W.end out.new) (no_edge_text number) result }

@@ -1,5 +1,5 @@
 -- Addresses, keys and registers that differ by `==` are those that differ in report order.
-use Rattle.std.proofs.Common.{◌≡◌, ℕ, ◌==◌, ◌&&◌, Bool, true, false, Some, None, refl, sym, ap, ◌∙◌, eq-eqb}
+use Rattle.std.proofs.Common.{◌≡◌, ℕ, ◌==◌, ◌&&◌, true, false, Some, None, refl, sym, ap, ◌∙◌, eq-eqb}
 use Rattle.std.specs.Cmp.{both_ways, tied_itself}
 use Rattle.std.specs.Cmp.Lexicographic.{pointwise, bytes_decides}
 use Rattle.std.proofs.lemmas.Map.Lookups.{exact_unsigned}
@@ -23,14 +23,7 @@ use Rattle.route_wire.specs.Order.{addr6_cmp, ip_order, key_cmp, register_cmp}
 use Rattle.route_wire.specs.Inner.Totals.{addr6_total, ip_order_total, ip_order_exact, key_total, key_exact}
 use Rattle.route_wire.specs.Inner.Totals.{register_total}
 use Rattle.route_wire.specs.Inner.Totals.{register_exact}
-
-each : (a b : Bool) → a && b ≡ true → (a ≡ true) × (b ≡ true)
-each true b e = (refl, e)
-each false b e = cc
-
-all : (a b : Bool) → a ≡ true → b ≡ true → a && b ≡ true
-all true b e f = f
-all false b e f = cc
+use Rattle.std.proofs.lemmas.Bool.{and_parts as each, and_from as all}
 
 pub equal_from : (o : Ordering) → is_eq o ≡ true → o ≡ Equal
 equal_from Less e = cc

@@ -9,7 +9,7 @@ use Rattle.rstp_machines.specs.BridgeDetection.{edge_guard, not_edge_guard}
 use Rattle.rstp_machines.specs.Information.{disabled_guard, drop_guard, enabled_guard, update_guard}
 use Rattle.rstp_machines.specs.Information.{aged_guard, may_take}
 use Rattle.rstp_machines.specs.Migration.{recheck_guard, checked_guard, selected_guard, to_rstp_guard, to_stp_guard}
-use Rattle.rstp_machines.specs.Receive.{discard_guard, receive_guard}
+use Rattle.rstp_machines.specs.PortReceive.{discard_guard, receive_guard}
 use Rattle.rstp_run.specs.Rules.{wants_selection}
 use Rattle.rstp_run.specs.declared.rule.Part.{Part}
 use Rattle.rstp_run.specs.declared.rule.Part.TheVariants as part

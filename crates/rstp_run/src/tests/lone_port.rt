@@ -5,7 +5,7 @@ use super::{
 use crate::bridge::{Bridge, BridgeConfig};
 use crate::event::Event;
 use bpdu_wire::BridgeId;
-use rstp_state::start::{PortSettings, Settings};
+use rstp_state::{PortSettings, Settings};
 use std::test::Fail;
 
 const FIRST: u64 = 0x02aa_0000_0001;

@@ -9,11 +9,8 @@ use crate::event::{Event, Outcome};
 use crate::rule::{MAIN, SENDS};
 use arrayvec::ArrayVec;
 use bpdu_wire::{BridgeId, write};
-use rstp_machines::information::is_out;
-use rstp_machines::migration::is_checking;
-use rstp_machines::topology_change::is_active;
-use rstp_state::port::Role;
-use rstp_state::start::{PortSettings, Settings};
+use rstp_machines::{is_active, is_checking, is_out};
+use rstp_state::{PortSettings, Role, Settings};
 use std::test::Fail;
 
 /// A message of the older protocol, from bridge 8000.02:aa:00:00:00:01 as the root.

@@ -2,7 +2,7 @@
 use super::{FIRST_PROPOSAL, USUAL_PORT, bridge_of_one, happen, passes, receive, sent_by};
 use crate::bridge::Bridge;
 use crate::event::Event;
-use rstp_state::port::Role;
+use rstp_state::Role;
 use std::test::Fail;
 
 const SECOND: u64 = 0x02aa_0000_0002;

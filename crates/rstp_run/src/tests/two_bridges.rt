@@ -4,8 +4,7 @@ use crate::bridge::{Bridge, BridgeConfig};
 use crate::event::{Event, Outcome};
 use arrayvec::ArrayVec;
 use bpdu_wire::{Bpdu, BridgeId};
-use rstp_state::port::Role;
-use rstp_state::start::Settings;
+use rstp_state::{Role, Settings};
 use std::test::Fail;
 
 fn bridge_of_two(address: u64) -> Bridge {

@@ -4,9 +4,10 @@ use Rattle.route_wire.specs.Fields.{Fields}
 use Rattle.route_wire.specs.Record.{Reads}
 use Rattle.route_wire.specs.Encode.{spelling_of}
 use Rattle.ether_wire.proofs.Appending.{with_text_twice}
-use Rattle.ev_book.specs.Journal.{records_of}
-use Rattle.ev_book.proofs.Again.{ReadAgain, records-push, reads_more, answered}
+use Rattle.ev_book.proofs.Again.{ReadAgain, reads_more, answered}
 use Rattle.ev_book.proofs.journal.put_records.Goals as goal
+use Rattle.route_wire.specs.Records.{records_of}
+use Rattle.route_wire.proofs.Records.{records-push}
 
 pub loop-update-preserved : goal.loop-update-preserved
 loop-update-preserved g c =

@@ -1,8 +1,8 @@
 use Rattle.std.proofs.Common.{◌≡◌, take}
 use Rattle.ether_wire.specs.Ends.{with_text}
-use Rattle.ev_book.specs.Journal.{records_of}
 use Rattle.ev_book.proofs.Again.{ReadAgain}
 use Rattle.ev_book.proofs.journal.put_records.Given as goal
+use Rattle.route_wire.specs.Records.{records_of}
 
 abbrev pub invariant-loop-update : goal.invariant-loop-update
 invariant-loop-update g l = record {

@@ -1,7 +1,7 @@
 use Rattle.std.proofs.Common.{◌≡◌, ℕ, List, [], sym, ap, subst, ◌∙◌}
 use Rattle.toml.specs.View.{table_view}
 use Rattle.ev_fabric.specs.Opening.{AreConfigs}
-use Rattle.ev_config.specs.Faults.{Names, edge_items, faults_in, names_in}
+use Rattle.ev_config.specs.Faults.{SeenNames, edge_items, faults_in, names_in}
 use Rattle.ev_config.specs.Config.{Whole, view_of, edges_of, whole_of}
 use Rattle.ev_config.specs.Inner.Faults.{faults_view}
 use Rattle.ev_config.proofs.Opening.{opens}
@@ -14,7 +14,7 @@ returns-clause-opens c =
     let none : faults_in w t ≡ [] =
     sym c.in_ok-found.ensures.faults ∙ ap faults_view (sym c.as_slice.ensures.value) ∙ c.in_ok-refuse.ensures in
     let listed : c.in_ok-found.found.names.addresses.items ≡ (names_in w t).addresses =
-    ap (λ (n : Names). n.addresses) c.in_ok-found.ensures.names in
+    ap (λ (n : SeenNames). n.addresses) c.in_ok-found.ensures.names in
     let whole : view_of c.in_ok-edges_in.field-0 ≡ whole_of w t =
     c.in_ok-edges_in.ensures ∙ ap (λ (ns : List ℕ). edges_of ns (edge_items t)) listed in
     subst (λ (x : Whole). AreConfigs x.0) (sym whole) (opens w t none)

@@ -1,6 +1,6 @@
 use Rattle.std.proofs.Common.{ap, ◌∙◌}
 use Rattle.toml.specs.View.{table_view}
-use Rattle.ev_config.specs.Faults.{Names, after_all, edge_names}
+use Rattle.ev_config.specs.Faults.{SeenNames, after_all, edge_names}
 use Rattle.ev_config.specs.Inner.Faults.{items_at, names_view}
 use Rattle.ev_config.proofs.Adding.{names_of_edges, tables_of_peers, all_added}
 use Rattle.ev_config.proofs.walk.walk.Goals as goal
@@ -22,7 +22,7 @@ returns-clause-names c =
     let es = items_at c.tables_at-edges.result in
     let ps = items_at c.peers_at-peers.result in
     c.in_ok-add_peers_at.ensures.names
-    ∙ ap (λ (n : Names). after_all n ps)
+    ∙ ap (λ (n : SeenNames). after_all n ps)
     (names_of_edges t (names_view c.new-names.result) (names_view c.add_edges_at.new.names) es c.new-names.ensures
     c.tables_at-edges.ensures.value c.in_ok-add_edges_at.ensures.names)
     ∙ ap (after_all (edge_names t))

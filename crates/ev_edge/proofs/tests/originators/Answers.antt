@@ -1,8 +1,6 @@
-use Rattle.std.proofs.Common.{◌≡◌, ◌∷◌, ◌++◌, [], ℕ, List, ◌∙◌}
+use Rattle.std.proofs.Common.{[]}
 use Rattle.ev_edge.proofs.tests.originators.Goals as goal
-
-pushed : (xs ys new : List ℕ) (a b : ℕ) → new ≡ xs ++ a ∷ [] → xs ≡ ys → a ≡ b → new ≡ ys ++ b ∷ []
-pushed xs ys new a b e p q = e ∙ λ i. p i ++ q i ∷ []
+use Rattle.route_join.proofs.Basics.{pushed}
 
 pub returns : goal.returns
 returns c =

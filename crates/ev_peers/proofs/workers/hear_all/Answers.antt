@@ -3,12 +3,12 @@ use Rattle.ev_links.specs.Links.{Call}
 use Rattle.ev_links.specs.Inner.Coming.{DoesOne}
 use Rattle.ev_peers.specs.Working.{standing, Hearing, hearing, Answers}
 use Rattle.ev_peers.specs.Inner.Working.{TurnsOnce}
-use Rattle.ev_peers.specs.declared.workers.Source.{Source}
+use Rattle.ev_peers.specs.declared.workers.Inlet.{Inlet}
 use Rattle.ev_links.proofs.Coming.{goes_on}
 use Rattle.ev_peers.proofs.workers.hear_all.Goals as goal
 
 -- if it wasn't the end, a call was answered
-answered : (b : Bool) (now bridge : ℕ) (source : Source) (came : Option (List (Option Call))) (h : Hearing)
+answered : (b : Bool) (now bridge : ℕ) (source : Inlet) (came : Option (List (Option Call))) (h : Hearing)
     (came' : Option (List (Option Call))) (h' : Hearing) → b ≡ true → now ≡ bridge
     → TurnsOnce b now source came h came' h' → DoesOne (Answers bridge source) came h came' h'
 answered b now bridge source came h came' h' e same t = subst (λ (x : ℕ). DoesOne (Answers x source) came h came' h')

@@ -7,7 +7,7 @@ use Rattle.evpnd.proofs.run_file.run_file.Goals as goal
 
 pub returns-in-Ok : goal.returns-in-Ok
 returns-in-Ok g c =
-    of_used Run (RunsEdges false) (ConfigOf true) c.args.path.now (g.F.Files.shelf c.args.files.now)
+    of_used Run (RunsEdges false c.args.policy) (ConfigOf true) c.args.path.now (g.F.Files.shelf c.args.files.now)
     (g.F.Files.shelf c.configured.new.files) c.args.devices (g.R.In.end c.devices.inside.reader)
     (g.W.Out.end c.devices.inside.out) (g.N.Out.end c.devices.inside.notes) (g.N.Out.end c.configured.new.notes)
     c.devices.view_is c.run_buffered.result.0 c.in-Ok.config c.run_buffered.result.1 c.in-Ok.ensures.value
@@ -15,7 +15,7 @@ returns-in-Ok g c =
 
 pub returns-in-Err : goal.returns-in-Err
 returns-in-Err g c =
-    of_never Run (RunsEdges false) (ConfigOf true) c.args.path.now (g.F.Files.shelf c.args.files.now)
+    of_never Run (RunsEdges false c.args.policy) (ConfigOf true) c.args.path.now (g.F.Files.shelf c.args.files.now)
     (g.F.Files.shelf c.configured.new.files) c.args.devices (g.R.In.end c.devices.inside.reader)
     (g.W.Out.end c.devices.inside.out) (g.N.Out.end c.devices.inside.notes) (g.N.Out.end c.configured.new.notes)
     c.devices.view_is c.in-Err.status c.in-Err.ensures.value

@@ -1,5 +1,5 @@
 use Rattle.std.proofs.Common.{rules, refl, ◌∙◌, ◌≤◌, map, vec_len}
-use Rattle.idx_links.specs.declared.places.Link.{Link}
+use Rattle.idx_links.specs.declared.places.PlaceLinks.{PlaceLinks}
 use Rattle.idx_links.proofs.Columns.{range_step, same_step}
 use Rattle.idx_links.proofs.places.add_lone.Goals as goal
 
@@ -14,11 +14,14 @@ loop-place-preserved c =
     let new = c.push_reserved.new.self.items in
     let more = c.push_reserved.ensures.items in
     record {
-      next = range_step (λ (x : Link). x.next) (map (λ (x : Link). x.next) old) now new _ start at low kept.next more
+      next = range_step (λ (x : PlaceLinks). x.next)
+          (map (λ (x : PlaceLinks). x.next) old) now new _ start at low kept.next more
           refl;
-      prev = range_step (λ (x : Link). x.prev) (map (λ (x : Link). x.prev) old) now new _ start at low kept.prev more
+      prev = range_step (λ (x : PlaceLinks). x.prev)
+          (map (λ (x : PlaceLinks). x.prev) old) now new _ start at low kept.prev more
           refl;
-      marks = same_step (λ (x : Link). x.mark) (map (λ (x : Link). x.mark) old) now new _ 0 start at low kept.marks more
+      marks = same_step (λ (x : PlaceLinks). x.mark)
+          (map (λ (x : PlaceLinks). x.mark) old) now new _ 0 start at low kept.marks more
           refl;
       len = search rules;
       room = c.push_reserved.ensures.capacity ∙ kept.room;

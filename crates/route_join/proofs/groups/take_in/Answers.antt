@@ -8,8 +8,6 @@ use Rattle.route_join.specs.Subject.{Subject, subject_cmp, subject_of}
 use Rattle.route_join.specs.Inner.Groups.{group_at, group_in, groups_along}
 use Rattle.route_join.specs.Inner.Subject.{subject_eq}
 use Rattle.route_join.proofs.Groupings.{about_there}
-use Rattle.route_join.specs.Group.{updates_in}
-use Rattle.route_join.specs.Table.{entries_of}
 use Rattle.route_join.proofs.Indexed.{found_as, found_of, written_as, set_indexed, new_indexed, entered, not_among}
 use Rattle.route_join.proofs.Leaders.{on_ok, refused_takes}
 use Rattle.route_join.proofs.Taking.{groups_after, takes_after, err_after, absent_in, made_takes, groups_made}
@@ -17,13 +15,10 @@ use Rattle.route_join.proofs.groups.take_in.Goals as goal
 
 pub take-requires : goal.take-requires
 take-requires c =
-    let ss = c.args.order.now.keys in
-    let gs = c.args.index.now.entries in
-    let at : Some c.into_mut.result.now ≡ group_in gs c.subject_of-subject.result =
+    let at : Some c.into_mut.result.now ≡ group_in c.args.index.now.entries c.subject_of-subject.result =
     sym c.into_mut.ensures.value ∙ ap entry_value (sym c.in-Ok-Occupied.field-0-is) ∙ c.in-Ok-Occupied.ensures.value in
-    about_there (subject_of c.args.update.now.register.key) (groups_along ss gs) c.into_mut.result.now c.requires.groups
-    (found_of ss gs (groups_along ss gs) c.requires.indexed refl c.subject_of-subject.result _
-    c.args.update.now.register (Some c.into_mut.result.now) c.subject_of-subject.ensures c.register.ensures at)
+    about_there _ _ _ c.requires.groups
+    (found_of c.requires.indexed refl c.subject_of-subject.ensures c.register.ensures at)
 
 -- ---- a subject that has a group
 module _ (c : goal.After-index-in-Ok-Occupied-1) where
@@ -38,9 +33,7 @@ module _ (c : goal.After-index-in-Ok-Occupied-1) where
       ∙ c.in-Ok-Occupied.ensures.value
 
   there : group_at (subject_of c.args.update.now.register.key) before ≡ Some c.into_mut.result.now
-  there = found_of c.args.order.now.keys c.args.index.now.entries before c.requires.indexed refl
-      c.subject_of-subject.result _ c.args.update.now.register (Some c.into_mut.result.now)
-      c.subject_of-subject.ensures c.register.ensures at
+  there = found_of c.requires.indexed refl c.subject_of-subject.ensures c.register.ensures at
 
   each : (q : Subject) → group_in changed q
       ≡ cond (subject_eq c.subject_of-subject.result q) (Some c.take.new.self) (group_in c.args.index.now.entries q)
@@ -48,14 +41,13 @@ module _ (c : goal.After-index-in-Ok-Occupied-1) where
 
   written : groups_along c.args.order.now.keys changed
       ≡ set_value (is_at (subject_cmp (subject_of c.args.update.now.register.key))) before c.take.new.self
-  written = written_as c.args.order.now.keys c.args.index.now.entries before c.requires.indexed refl
-      c.subject_of-subject.result (subject_of c.args.update.now.register.key) c.take.new.self changed
+  written = written_as c.requires.indexed refl c.take.new.self changed
       (c.subject_of-subject.ensures ∙ ap (λ (r : Register). subject_of r.key) c.register.ensures) each
 
 pub returns-in-Ok-Occupied-clause-indexed : goal.returns-in-Ok-Occupied-clause-indexed
 returns-in-Ok-Occupied-clause-indexed c =
     let now = set_indexed c.subject_of-subject.result c.take.new.self c.args.index.now.entries (changed c) (each c)
-    c.args.order.now.keys c.into_mut.result.now (at c) c.requires.indexed in
+    (at c) c.requires.indexed in
     search rules
 
 pub returns-in-Ok-Occupied-clause-takes : goal.returns-in-Ok-Occupied-clause-takes
@@ -81,32 +73,19 @@ returns-in-Ok-Occupied-clause-err c =
 -- ---- memory is refused, or the count is full
 pub returns-in_default-clause-takes : goal.returns-in_default-clause-takes
 returns-in_default-clause-takes c =
-    let ss = c.args.order.now.keys in
-    let gs = c.args.index.now.entries in
-    let none : None ≡ group_in gs c.subject_of-subject.result = search rules in
-    refused_takes (entries_of (updates_in (groups_along ss gs))) c.args.update.now
-    (absent_in (groups_along ss gs) c.args.update.now c.requires.groups (found_of ss gs (groups_along ss gs)
-    c.requires.indexed refl c.subject_of-subject.result _ c.args.update.now.register None c.subject_of-subject.ensures
-    c.register.ensures none)) c.args.held.now _ _
+    let none : None ≡ group_in c.args.index.now.entries c.subject_of-subject.result = search rules in
+    refused_takes (absent_in _ c.args.update.now c.requires.groups
+    (found_of c.requires.indexed refl c.subject_of-subject.ensures c.register.ensures none))
 
 pub returns-then-is_err-clause-takes : goal.returns-then-is_err-clause-takes
 returns-then-is_err-clause-takes c =
-    let ss = c.args.order.now.keys in
-    let gs = c.args.index.now.entries in
-    let none : None ≡ group_in gs c.subject_of-subject.result = search rules in
-    refused_takes (entries_of (updates_in (groups_along ss gs))) c.args.update.now
-    (absent_in (groups_along ss gs) c.args.update.now c.requires.groups (found_of ss gs (groups_along ss gs)
-    c.requires.indexed refl c.subject_of-subject.result _ c.args.update.now.register None c.subject_of-subject.ensures
-    c.register.ensures none)) c.args.held.now _ _
+    let none : None ≡ group_in c.args.index.now.entries c.subject_of-subject.result = search rules in
+    refused_takes (absent_in _ c.args.update.now c.requires.groups
+    (found_of c.requires.indexed refl c.subject_of-subject.ensures c.register.ensures none))
 
 pub returns-in-Err-clause-takes : goal.returns-in-Err-clause-takes
-returns-in-Err-clause-takes c =
-    let ss = c.args.order.now.keys in
-    let gs = c.args.index.now.entries in
-    refused_takes (entries_of (updates_in (groups_along ss gs))) c.args.update.now
-    (absent_in (groups_along ss gs) c.args.update.now c.requires.groups (found_of ss gs (groups_along ss gs)
-    c.requires.indexed refl c.subject_of-subject.result _ c.args.update.now.register None c.subject_of-subject.ensures
-    c.register.ensures (sym c.in-Err.ensures.absent))) c.args.held.now _ _
+returns-in-Err-clause-takes c = refused_takes (absent_in _ c.args.update.now c.requires.groups
+    (found_of c.requires.indexed refl c.subject_of-subject.ensures c.register.ensures (sym c.in-Err.ensures.absent)))
 
 -- ---- a new subject
 module _ (c : goal.After-index-in-Ok-Vacant-2-1) where
@@ -120,9 +99,7 @@ module _ (c : goal.After-index-in-Ok-Vacant-2-1) where
   none = search rules
 
   absent : group_at (subject_of c.args.update.now.register.key) held_before ≡ None
-  absent = found_of c.args.order.now.keys c.args.index.now.entries held_before c.requires.indexed refl
-      c.subject_of-subject.result _ c.args.update.now.register None c.subject_of-subject.ensures c.register.ensures
-      none
+  absent = found_of c.requires.indexed refl c.subject_of-subject.ensures c.register.ensures none
 
   all : (q : Subject) → group_in grown q
       ≡ cond (subject_eq c.subject_of-subject.result q) (Some c.new.result) (group_in c.args.index.now.entries q)
@@ -134,9 +111,8 @@ module _ (c : goal.After-index-in-Ok-Vacant-2-1) where
   made : groups_along c.insert.new.self.keys grown
       ≡ insert_entry subject_cmp held_before (subject_of c.args.update.now.register.key) (c.args.update.now ∷ [])
   made =
-      let new = not_among c.args.order.now.keys c.args.index.now.entries held_before c.requires.indexed refl
-      c.subject_of-subject.result (found_as c.args.order.now.keys c.args.index.now.entries held_before
-      c.requires.indexed refl c.subject_of-subject.result c.subject_of-subject.result None refl none) in
+      let new = not_among c.requires.indexed refl c.subject_of-subject.result
+      (found_as c.requires.indexed refl refl none) in
       ap (λ ks. groups_along ks grown) (on_ok c.insert.result _ c.insert.ensures.keys (sym c.is_err.ensures.value
       ∙ c.if-is_err.false))
       ∙ entered c.subject_of-subject.result c.new.result c.args.index.now.entries grown all c.args.order.now.keys new

@@ -1,13 +1,11 @@
 use Rattle.std.proofs.Common.{sym, ap, ◌∙◌}
-use Rattle.route_wire.specs.declared.update.Register.{Register}
 use Rattle.route_wire.specs.Fields.{Fields}
 use Rattle.route_join.specs.Subject.{subject_of}
 use Rattle.route_join.proofs.Places.{about_at}
 use Rattle.route_join.proofs.place.place.Goals as goal
 
-pub cmp_within-requires : goal.cmp_within-requires
-cmp_within-requires c =
+pub cmp_entry-requires : goal.cmp_entry-requires
+cmp_entry-requires c =
     let u = c.index-updates-i.result in
-    sym (ap (λ (r : Register). subject_of r.key) c.register.ensures
-    ∙ ap (λ (x : Fields). subject_of x.register.key) c.index-updates-i.is
+    sym (ap (λ (x : Fields). subject_of x.register.key) c.index-updates-i.is
     ∙ about_at (subject_of c.args.register.now.key) c.args.updates.now c.loop-i.i u c.requires c.loop-i-test.true)

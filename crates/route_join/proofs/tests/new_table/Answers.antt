@@ -1,7 +1,8 @@
-use Rattle.std.proofs.Common.{◌≡◌, ◌∷◌, ◌++◌, [], ℕ, List, refl, sym, subst, ◌∙◌, lit<, lit≤}
+use Rattle.std.proofs.Common.{◌≡◌, ◌∷◌, [], ℕ, List, refl, sym, subst, lit<, lit≤}
 use Rattle.std.specs.List.{IsDistinct}
 use Rattle.route_join.specs.Table.{AreOriginators}
 use Rattle.route_join.proofs.tests.new_table.Goals as goal
+use Rattle.route_join.proofs.Basics.{pushed}
 
 abbrev five : List ℕ
 five = 0x0a00_0001 ∷ 0x0a00_0002 ∷ 0x0a00_0003 ∷ 0x0a00_0004 ∷ 0x0a00_0009 ∷ []
@@ -19,9 +20,6 @@ five_listed = record {
     ),
   );
 }
-
-pushed : (xs ys new : List ℕ) (a b : ℕ) → new ≡ xs ++ a ∷ [] → xs ≡ ys → a ≡ b → new ≡ ys ++ b ∷ []
-pushed xs ys new a b e p q = e ∙ λ i. p i ++ q i ∷ []
 
 pub new-requires-6 : goal.new-requires-6
 new-requires-6 c =

@@ -1,9 +1,9 @@
 use Rattle.std.proofs.Common.{rules, ◌≡◌, [], List, OnOk, subst}
 use Rattle.route_wire.specs.Fields.{Fields}
 use Rattle.route_wire.specs.Record.{Answers}
-use Rattle.ev_book.specs.Journal.{records_of, all_ok}
 use Rattle.ev_book.proofs.Replaying.{reports_where_ok}
 use Rattle.ev_book.proofs.book.Book.write_journal.Goals as goal
+use Rattle.route_wire.specs.Records.{records_of, all_ok}
 
 pub returns-clause-report : goal.returns-clause-report
 returns-clause-report g c =

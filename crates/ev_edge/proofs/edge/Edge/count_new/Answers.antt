@@ -11,7 +11,7 @@ pub invariant_of-self : goal.invariant_of-self
 invariant_of-self c =
     let f = c.self.inside in
     let p = c.args.port in
-    let e = edge_of f.routes f.clock f.ageing f.bridge f.moves f.away.items f.quotas.items in
+    let e = edge_of f.routes f.clock f.ageing f.bridge f.moves f.away.items f.quotas.items f.storms.items in
     let few = subst (λ (x : Edge). is_met (limits_at x p).new_stations (count_in (quota_at x.quotas p) x.clock) ≡ false)
     (sym c.self.view_is) c.requires.few in
     subst (λ (qs : List Quota). IsEdge (record e { quotas = qs }) f.passing) (sym c.count_at.ensures)

@@ -7,7 +7,7 @@ use Rattle.ev_edge.proofs.edge.Edge.decide.Goals as goal
 pub returns : goal.returns
 returns c =
     let f = c.self.inside in
-    let e = edge_of f.routes f.clock f.ageing f.bridge f.moves f.away.items f.quotas.items in
+    let e = edge_of f.routes f.clock f.ageing f.bridge f.moves f.away.items f.quotas.items f.storms.items in
     let learnt : c.port_of.result ≡ port_of e c.args.vni c.args.destination = c.port_of.ensures.value
     ∙ ap (λ (x : Edge). port_of x c.args.vni c.args.destination) (sym c.self.view_is) in
     subst (λ (x : Edge). IsDecision x c.args.vni c.args.destination c.args.from c.decide_into.new.decision)

@@ -8,7 +8,7 @@ use Rattle.ev_edge.proofs.edge.Edge.goes_away.Goals as goal
 pub invariant_of-self : goal.invariant_of-self
 invariant_of-self c =
     let f = c.self.inside in
-    let e = edge_of f.routes f.clock f.ageing f.bridge f.moves f.away.items f.quotas.items in
+    let e = edge_of f.routes f.clock f.ageing f.bridge f.moves f.away.items f.quotas.items f.storms.items in
     let is : c.with_away-self-inside.result.items ≡ with_away (table_of e).originators e.away c.args.edge =
     c.with_away-self-inside.ensures
     ∙ ap (λ (x : Edge). with_away (table_of x).originators x.away c.args.edge) (sym c.self.view_is) in

@@ -11,7 +11,7 @@ pub invariant_of-self-then-is_counted : goal.invariant_of-self-then-is_counted
 invariant_of-self-then-is_counted c =
     let f = c.self.inside in
     let s = c.args.station.now in
-    let e = edge_of f.routes f.clock f.ageing f.bridge f.moves f.away.items f.quotas.items in
+    let e = edge_of f.routes f.clock f.ageing f.bridge f.moves f.away.items f.quotas.items f.storms.items in
     let next = subst (λ (x : Edge). seq_for (table_of x) (address_of x) s.vni s.mac ≡ Next 0) (sym c.self.view_is)
     c.requires.next in
     either e f.passing (after_advert f.routes s c.args.port f.clock 0) c.advertise.new.self c.advertise.result
@@ -23,7 +23,7 @@ pub invariant_of-self-else-is_counted : goal.invariant_of-self-else-is_counted
 invariant_of-self-else-is_counted c =
     let f = c.self.inside in
     let s = c.args.station.now in
-    let e = edge_of f.routes f.clock f.ageing f.bridge f.moves f.away.items f.quotas.items in
+    let e = edge_of f.routes f.clock f.ageing f.bridge f.moves f.away.items f.quotas.items f.storms.items in
     let next = subst (λ (x : Edge). seq_for (table_of x) (address_of x) s.vni s.mac ≡ Next 0) (sym c.self.view_is)
     c.requires.next in
     either e f.passing (after_advert f.routes s c.args.port f.clock 0) c.advertise.new.self c.advertise.result

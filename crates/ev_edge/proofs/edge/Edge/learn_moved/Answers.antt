@@ -11,8 +11,9 @@ pub invariant_of-self-then-is_counted : goal.invariant_of-self-then-is_counted
 invariant_of-self-then-is_counted c =
     let f = c.self.inside in
     let s = c.args.station.now in
-    let e = edge_of f.routes f.clock f.ageing f.bridge c.note.new.self f.away.items f.quotas.items in
-    let now = other_windows (edge_of f.routes f.clock f.ageing f.bridge f.moves f.away.items f.quotas.items) f.passing
+    let e = edge_of f.routes f.clock f.ageing f.bridge c.note.new.self f.away.items f.quotas.items f.storms.items in
+    let now = other_windows
+    (edge_of f.routes f.clock f.ageing f.bridge f.moves f.away.items f.quotas.items f.storms.items) f.passing
     c.note.new.self.windows c.self.invariant in
     let next = subst (λ (x : Edge). seq_for (table_of x) (address_of x) s.vni s.mac ≡ Next c.args.number)
     (sym c.self.view_is) c.requires.next in
@@ -25,8 +26,9 @@ pub invariant_of-self-else-is_counted : goal.invariant_of-self-else-is_counted
 invariant_of-self-else-is_counted c =
     let f = c.self.inside in
     let s = c.args.station.now in
-    let e = edge_of f.routes f.clock f.ageing f.bridge c.note.new.self f.away.items f.quotas.items in
-    let now = other_windows (edge_of f.routes f.clock f.ageing f.bridge f.moves f.away.items f.quotas.items) f.passing
+    let e = edge_of f.routes f.clock f.ageing f.bridge c.note.new.self f.away.items f.quotas.items f.storms.items in
+    let now = other_windows
+    (edge_of f.routes f.clock f.ageing f.bridge f.moves f.away.items f.quotas.items f.storms.items) f.passing
     c.note.new.self.windows c.self.invariant in
     let next = subst (λ (x : Edge). seq_for (table_of x) (address_of x) s.vni s.mac ≡ Next c.args.number)
     (sym c.self.view_is) c.requires.next in

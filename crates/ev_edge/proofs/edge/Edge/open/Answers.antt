@@ -18,10 +18,11 @@ invariant_of-result c =
     ∙ sym (ap length c.set_settings.ensures) ∙ ap (λ n. length (take n set)) (sym c.len.ensures.value) in
     let quotas = c.quotas_of-quotas.result.items in
     subst (λ (l : List ℕ). IsEdge
-    (edge_of c.in_ok-routes.routes 0 c.args.config.ageing c.new-bridge.result c.new.result l quotas) 0)
+    (edge_of c.in_ok-routes.routes 0 c.args.config.ageing c.new-bridge.result c.new.result l quotas
+    c.storms_of-storms.result.items) 0)
     (sym c.new-2.ensures)
     (opened _ c.in_ok-routes.routes c.args.config.tree (take c.len.result set) c.args.config.ageing c.new-bridge.result
-    c.new.result quotas c.in_ok-routes.ensures c.new-bridge.ensures.value size
+    c.new.result quotas c.storms_of-storms.result.items c.in_ok-routes.ensures c.new-bridge.ensures.value size
     (λ v in'. c.requires.served v (subst (λ l. Contains l v) c.vnis_of.ensures in')) (let some =
     c.requires.some_bucket in omega (arith, some))
     (subst (λ qs. AreKept qs 0) (sym c.quotas_of-quotas.ensures) (opened_kept ports)))

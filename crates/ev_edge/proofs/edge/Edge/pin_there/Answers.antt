@@ -11,7 +11,7 @@ use Rattle.ev_edge.proofs.edge.Edge.pin_there.Goals as goal
 pub invariant_of-self : goal.invariant_of-self
 invariant_of-self c =
     let f = c.self.inside in
-    let e = edge_of f.routes f.clock f.ageing f.bridge f.moves f.away.items f.quotas.items in
+    let e = edge_of f.routes f.clock f.ageing f.bridge f.moves f.away.items f.quotas.items f.storms.items in
     kept e f.passing (after_shift f.routes c.args.station.now c.args.port) c.shift.new.self c.self.invariant
     c.shift.ensures
     (shift_holds f.routes c.args.station.now c.args.port f.clock
@@ -22,7 +22,7 @@ pub invariant_of-self-in-Pin : goal.invariant_of-self-in-Pin
 invariant_of-self-in-Pin c =
     let f = c.self.inside in
     let s = c.args.station.now in
-    let e = edge_of f.routes f.clock f.ageing f.bridge f.moves f.away.items f.quotas.items in
+    let e = edge_of f.routes f.clock f.ageing f.bridge f.moves f.away.items f.quotas.items f.storms.items in
     let alone = subst (λ (x : Edge). is_static (seq_for (table_of x) (address_of x) s.vni s.mac) ≡ false)
     (sym c.self.view_is)
     (pinned_alone c.args.self.now s c.args.port (entry_at c.args.self.now.routes.learned s) (sym c.in-Pin.ensures)) in

@@ -12,7 +12,7 @@ use Rattle.ev_edge.proofs.edge.Edge.second.Goals as goal
 pub invariant_of-self : goal.invariant_of-self
 invariant_of-self c =
     let f = c.self.inside in
-    let e = edge_of f.routes f.clock f.ageing f.bridge f.moves f.away.items f.quotas.items in
+    let e = edge_of f.routes f.clock f.ageing f.bridge f.moves f.away.items f.quotas.items f.storms.items in
     let set = c.go_on-flush.result in
     let now = c.next_second-self-inside.result in
     let times = second_early f.clock c.self.invariant.keeps.early in
@@ -33,7 +33,7 @@ returns c =
     let f = c.self.inside in
     subst (λ (x : Edge). SecondSteps x (record c.clear.new.self { bpdus = c.go_on-flush.new.sent })
     (edge_of c.age.new.routes c.next_second-self-inside.result f.ageing c.go_on-flush.new.bridge f.moves
-    f.away.items f.quotas.items))
+    f.away.items f.quotas.items f.storms.items))
     c.self.view_is (record {
       flush = c.go_on-flush.result;
       goes = c.go_on-flush.ensures.goes;
@@ -45,6 +45,7 @@ returns c =
         windows = f.moves.windows;
         away = f.away.items;
         quotas = f.quotas.items;
+        storms = f.storms.items;
       };
       reply_is = ap (λ (r : Reply). record r { bpdus = c.go_on-flush.new.sent }) c.clear.ensures;
     })

@@ -8,7 +8,7 @@ pub invariant_of-self : goal.invariant_of-self
 invariant_of-self c =
     let f = c.self.inside in
     let u = c.args.update.now in
-    let e = edge_of f.routes f.clock f.ageing f.bridge f.moves f.away.items f.quotas.items in
+    let e = edge_of f.routes f.clock f.ageing f.bridge f.moves f.away.items f.quotas.items f.storms.items in
     either e f.passing (after_take f.routes u) c.import.new.self c.import.result c.self.invariant c.import.ensures.ok
     c.import.ensures.err
     (taken_holds f.routes u f.clock (holds_of e f.passing c.self.invariant)) (taken_ports f.routes u)

@@ -8,6 +8,6 @@ use Rattle.ev_edge.proofs.edge.Edge.unpin.Goals as goal
 pub invariant_of-self : goal.invariant_of-self
 invariant_of-self c =
     let f = c.self.inside in
-    let e = edge_of f.routes f.clock f.ageing f.bridge f.moves f.away.items f.quotas.items in
+    let e = edge_of f.routes f.clock f.ageing f.bridge f.moves f.away.items f.quotas.items f.storms.items in
     kept e f.passing (after_removal f.routes c.args.station.now) c.remove.new.self c.self.invariant c.remove.ensures
     (removal_holds f.routes c.args.station.now f.clock (holds_of e f.passing c.self.invariant)) refl refl

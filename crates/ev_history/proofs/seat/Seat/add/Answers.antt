@@ -1,5 +1,5 @@
 use Rattle.std.proofs.Common.{sym, subst}
-use Rattle.ev_history.specs.declared.entry.Entry.TheVariants.{Does}
+use Rattle.ev_history.specs.declared.log_entry.LogEntry.TheVariants.{Does}
 use Rattle.ev_history.specs.Log.{count}
 use Rattle.ev_history.specs.Rule.{SeatState, IsAdded}
 use Rattle.ev_history.proofs.Standing.{added_stands, added_seat}

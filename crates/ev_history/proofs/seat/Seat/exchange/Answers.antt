@@ -1,7 +1,7 @@
 use Rattle.std.proofs.Common.{◌≡◌, ◌==◌, Bool, MatchBool, ℕ, sym, ◌∙◌, ap, subst, List, length, ◌<◌}
 use mathlib.Core.List.{IsPrefix}
-use Rattle.ev_history.specs.declared.entry.Entry.{Entry}
-use Rattle.ev_history.specs.declared.entry.Entry.TheVariants.{Does}
+use Rattle.ev_history.specs.declared.log_entry.LogEntry.{LogEntry}
+use Rattle.ev_history.specs.declared.log_entry.LogEntry.TheVariants.{Does}
 use Rattle.ev_history.specs.Log.{World, IsHistory, world, count}
 use Rattle.ev_history.specs.Rule.{SeatState, IsAdded}
 use Rattle.ev_history.proofs.Prefixes.{prefix_trans}
@@ -26,7 +26,7 @@ compare_exchange-found-requires g c =
     (c.self.invariant.counted ∙ (ap (λ n. count n c.self.inside.front) place_is ∙ ap (count at) log_is)) in
     let seated : at < length (world v).configs =
     subst (λ (n : ℕ). n < length (world v).configs) place_is
-    (subst (λ (l : List Entry). c.self.inside.place < length (world l).configs) log_is c.self.invariant.seated) in
+    (subst (λ (l : List LogEntry). c.self.inside.place < length (world l).configs) log_is c.self.invariant.seated) in
     let pv : IsPrefix v c.both.inside.seen.log = rw (← log_is, c.both.view_is) both.this in
     let px : IsPrefix c.args.with.now c.both.inside.seen.log = rw c.both.view_is both.that in (
       ap (λ w. w.tracked) h,
@@ -61,7 +61,7 @@ returns-then-found-entries g c =
     taken_if (IsHistory new) c.compare_exchange-found.result c.self.inside.entries c.if-found-entries.true e.7 in
     let added : IsAdded at c.self.inside.entries b (Does at deed edge) new =
     subst (λ (n : ℕ). IsAdded n c.self.inside.entries b (Does at deed edge) new) key_is
-    (subst (λ (x : Entry). IsAdded c.self.inside.word.key c.self.inside.entries b x new) ask_is play) in (
+    (subst (λ (x : LogEntry). IsAdded c.self.inside.word.key c.self.inside.entries b x new) ask_is play) in (
       prefix_trans c.args.with.now b new px e.6,
       added_back v b new at c.self.inside.entries (Does at deed edge) pv
           had added,

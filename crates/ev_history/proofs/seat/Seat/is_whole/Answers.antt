@@ -1,7 +1,7 @@
 use Rattle.std.proofs.Common.{◌≡◌, ◌<◌, ℕ, List, [], sym, ◌∙◌, ap, subst, length}
 use Rattle.ev_edge.specs.declared.config.EdgeConfig.{EdgeConfig}
-use Rattle.ev_history.specs.declared.entry.Entry.{Entry}
-use Rattle.ev_history.specs.declared.entry.Entry.TheVariants.{Begins}
+use Rattle.ev_history.specs.declared.log_entry.LogEntry.{LogEntry}
+use Rattle.ev_history.specs.declared.log_entry.LogEntry.TheVariants.{Begins}
 use Rattle.ev_history.specs.Log.{world, count}
 use Rattle.ev_history.proofs.Extending.{looks_moves, whole_if}
 use Rattle.ev_history.proofs.Prefixes.{prefix_trans}

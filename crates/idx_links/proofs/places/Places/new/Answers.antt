@@ -1,18 +1,20 @@
 use Rattle.std.proofs.Common.{rules, ◌≡◌, ◌+◌, ◌∙◌, ap, map, replicate, take, arith}
 use Rattle.std.proofs.lemmas.List.{take-replicate}
-use Rattle.idx_links.specs.declared.places.Link.{Link}
+use Rattle.idx_links.specs.declared.places.PlaceLinks.{PlaceLinks}
 use Rattle.idx_links.specs.Inner.Columns.{owners}
 use Rattle.idx_links.proofs.Columns.{owners-none}
 use Rattle.idx_links.proofs.places.Places.new.Goals as goal
 
 pub returns-clause-owner : goal.returns-clause-owner
 returns-clause-owner c =
-    let marks : map (λ (x : Link). x.mark) c.add_lone.new.links.items ≡ replicate (c.args.lists + c.args.nodes) 0 =
+    let marks : map (λ (x : PlaceLinks). x.mark) c.add_lone.new.links.items
+    ≡ replicate (c.args.lists + c.args.nodes) 0 =
     search rules in
     ap (owners c.args.lists) marks ∙ owners-none c.args.lists c.args.nodes
 
 pub returns-clause-lens : goal.returns-clause-lens
 returns-clause-lens c =
-    let marks : map (λ (x : Link). x.mark) c.add_lone.new.links.items ≡ replicate (c.args.lists + c.args.nodes) 0 =
+    let marks : map (λ (x : PlaceLinks). x.mark) c.add_lone.new.links.items
+    ≡ replicate (c.args.lists + c.args.nodes) 0 =
     search rules in
     ap (take c.args.lists) marks ∙ take-replicate c.args.lists (c.args.lists + c.args.nodes) 0 (omega arith)

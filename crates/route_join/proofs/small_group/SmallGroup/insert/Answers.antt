@@ -12,18 +12,19 @@ use Rattle.route_join.proofs.Edits.{inserted, ordered_put}
 use Rattle.route_join.proofs.Leaders.{winner_inserted, winner_movable}
 use Rattle.route_join.proofs.small_group.SmallGroup.insert.Goals as goal
 
-module _ (us now : List Fields) (u : Fields) (at : ℕ) (k : IsOrdered us) (view : us ≡ now)
+-- the gap for an update, which is that of its entry e
+module _ {us now : List Fields} {u e : Fields} {at : ℕ} (k : IsOrdered us) (is : e ≡ u) (view : us ≡ now)
     (h : place_of now u.register ≡ Err at) where
-  gap : IsGap us u.register at
-  gap = gapped us u.register at k (ap (λ x. place_of x u.register) view ∙ h)
+  gap : IsGap us e.register at
+  gap = gapped us e.register at k ((λ i. place_of (view i) ((is i).register)) ∙ h)
 
-  in_order : IsOrdered (insert us at u)
-  in_order = ordered_put [] us (insert us at u) u k (gap.write u refl)
+  in_order : IsOrdered (insert us at e)
+  in_order = ordered_put [] us (insert us at e) e k (gap.write e refl)
 
 pub insert_at-requires : goal.insert_at-requires
 insert_at-requires c =
     let w : c.args.at ≤ length c.self.inside.updates.items =
-    (gap _ _ c.args.update.now c.args.at c.self.invariant.ordered c.self.view_is c.requires).within in
+    (gap c.self.invariant.ordered c.of.ensures c.self.view_is c.requires).within in
     omega arith
 
 pub moved-requires : goal.moved-requires
@@ -34,30 +35,31 @@ moved-requires c =
 
 pub better_place-self-inside-requires : goal.better_place-self-inside-requires
 better_place-self-inside-requires c =
-    let there = inserted c.insert_at.new.updates.items _ _ _ c.insert_at.ensures c.if-is_err.ensures.negation in
+    let there = inserted _ _ _ _ c.insert_at.ensures c.if-is_err.ensures.negation in
     subst IsOrdered (sym (c.deref.ensures.value ∙ there))
-    (in_order _ _ c.args.update.now c.args.at c.self.invariant.ordered c.self.view_is c.requires)
+    (in_order c.self.invariant.ordered c.of.ensures c.self.view_is c.requires)
 
 pub invariant_of-self-2 : goal.invariant_of-self-2
 invariant_of-self-2 c =
     let us = c.self.inside.updates.items in
-    let u = c.args.update.now in
-    let there : c.insert_at.new.updates.items ≡ insert us c.args.at u =
-    inserted c.insert_at.new.updates.items _ _ _ c.insert_at.ensures c.if-is_err.ensures.negation in
-    let place : c.better_place-self-inside.result ≡ better_place (insert us c.args.at u) c.args.at
+    let e = c.of.result in
+    let there : c.insert_at.new.updates.items ≡ insert us c.args.at e =
+    inserted _ _ _ _ c.insert_at.ensures c.if-is_err.ensures.negation in
+    let place : c.better_place-self-inside.result ≡ better_place (insert us c.args.at e) c.args.at
     (moved c.args.at c.self.inside.winner) =
     c.better_place-self-inside.ensures ∙ ap (λ x. better_place x c.args.at c.moved.result) (c.deref.ensures.value
-    ∙ there) ∙ ap (better_place (insert us c.args.at u) c.args.at) c.moved.ensures in
+    ∙ there) ∙ ap (better_place (insert us c.args.at e) c.args.at) c.moved.ensures in
     subst (λ x. IsGroup x c.better_place-self-inside.result) (sym there)
-    (subst (IsGroup (insert us c.args.at u)) (sym place) record {
-      ordered = in_order us _ u c.args.at c.self.invariant.ordered c.self.view_is c.requires;
-      winner = winner_inserted us c.args.at u c.self.inside.winner
-          (gap us _ u c.args.at c.self.invariant.ordered c.self.view_is c.requires) c.self.invariant.winner;
+    (subst (IsGroup (insert us c.args.at e)) (sym place) record {
+      ordered = in_order c.self.invariant.ordered c.of.ensures c.self.view_is c.requires;
+      winner = winner_inserted us c.args.at e c.self.inside.winner
+          (gap c.self.invariant.ordered c.of.ensures c.self.view_is c.requires)
+          c.self.invariant.winner;
     })
 
 pub returns-clause-ok : goal.returns-clause-ok
 returns-clause-ok c =
-    let u = c.args.update.now in
-    ap entries_of (inserted c.insert_at.new.updates.items _ _ _ c.insert_at.ensures c.if-is_err.ensures.negation)
-    ∙ (gap _ _ u c.args.at c.self.invariant.ordered c.self.view_is c.requires).write u refl
-    ∙ ap (λ x. put register_cmp u.register u.value (entries_of x)) c.self.view_is
+    let e = c.of.result in
+    ap entries_of (inserted _ _ _ _ c.insert_at.ensures c.if-is_err.ensures.negation)
+    ∙ (gap c.self.invariant.ordered c.of.ensures c.self.view_is c.requires).write e refl
+    ∙ (λ i. put register_cmp ((c.of.ensures i).register) ((c.of.ensures i).value) (entries_of (c.self.view_is i)))

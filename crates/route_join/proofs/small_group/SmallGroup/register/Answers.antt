@@ -1,4 +1,7 @@
-use Rattle.std.proofs.Common.{◌<◌, length, ap, refl, ◌∙◌, arith}
+use Rattle.std.proofs.Common.{◌<◌, Some, length, ap, refl, sym, ◌∙◌, arith}
+use Rattle.route_wire.specs.Fields.{Fields}
+use Rattle.route_wire.specs.declared.update.Register.{Register}
+use Rattle.route_join.specs.Subject.{subject_of}
 use Rattle.route_join.specs.Inner.Group.{update_among}
 use Rattle.route_join.proofs.Edits.{found_at, gap_at}
 use Rattle.route_join.proofs.Leaders.{among_there, among_none}
@@ -6,21 +9,25 @@ use Rattle.route_join.proofs.small_group.SmallGroup.register.Goals as goal
 
 pub index-requires : goal.index-requires
 index-requires c =
-    let p = found_at c.self.inside.updates.items _ c.args.register.now _ c.in-Ok.at c.deref.ensures.value refl
-    c.in-Ok.ensures in
+    let p = found_at c.deref.ensures.value refl c.in-Ok.ensures in
     let w : c.in-Ok.at < length c.self.inside.updates.items = p.within in
     omega (arith, c.deref.ensures.len, ap length c.deref.ensures.value)
 
+pub about-requires : goal.about-requires
+about-requires c =
+    let p = found_at c.deref.ensures.value refl c.in-Ok.ensures in
+    ap (λ (r : Register). subject_of r.key) (ap (λ (x : Fields). x.register) c.index.ensures
+    ∙ p.register c.index.result.now) ∙ sym c.subject_of.ensures
+
 pub returns-in-Ok : goal.returns-in-Ok
 returns-in-Ok c =
-    let p = found_at c.self.inside.updates.items _ c.args.register.now _ c.in-Ok.at c.deref.ensures.value refl
-    c.in-Ok.ensures in
-    among_there c.self.inside.updates.items c.args.register.now c.in-Ok.at c.index.result.now p c.index.ensures
+    let p = found_at c.deref.ensures.value refl c.in-Ok.ensures in
+    ap Some c.about.ensures
+    ∙ among_there c.self.inside.updates.items c.args.register.now c.in-Ok.at c.index.result.now p c.index.ensures
     ∙ ap (λ us. update_among us c.args.register.now) c.self.view_is
 
 pub returns-in-Err : goal.returns-in-Err
 returns-in-Err c =
-    let p = gap_at c.self.inside.updates.items _ c.args.register.now _ c.in-Err.field-0 c.self.invariant.ordered
-    c.deref.ensures.value refl c.in-Err.ensures in
+    let p = gap_at c.self.invariant.ordered c.deref.ensures.value refl c.in-Err.ensures in
     among_none c.self.inside.updates.items c.args.register.now c.in-Err.field-0 p
     ∙ ap (λ us. update_among us c.args.register.now) c.self.view_is

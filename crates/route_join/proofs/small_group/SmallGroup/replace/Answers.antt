@@ -1,4 +1,4 @@
-use Rattle.std.proofs.Common.{◌≡◌, ◌<◌, ℕ, Ok, List, [], length, ap, refl, sym, subst, ◌∙◌, arith, set}
+use Rattle.std.proofs.Common.{◌≡◌, ◌<◌, ℕ, Ok, List, [], length, refl, sym, subst, ◌∙◌, arith, set}
 use Rattle.std.specs.FinMap.Entries.{put}
 use Rattle.route_wire.specs.Fields.{Fields}
 use Rattle.route_wire.specs.Order.{register_cmp}
@@ -11,50 +11,52 @@ use Rattle.route_join.proofs.Edits.{ordered_put}
 use Rattle.route_join.proofs.Leaders.{winner_set, winner_stays}
 use Rattle.route_join.proofs.small_group.SmallGroup.replace.Goals as goal
 
-module _ (us now : List Fields) (u : Fields) (at : ℕ) (view : us ≡ now) (h : place_of now u.register ≡ Ok at) where
-  there : IsPlace us u.register at
-  there = placed us u.register at (ap (λ x. place_of x u.register) view ∙ h)
+-- the place of an update, which is that of its entry e
+module _ {us now : List Fields} {u e : Fields} {at : ℕ} (is : e ≡ u) (view : us ≡ now)
+    (h : place_of now u.register ≡ Ok at) where
+  there : IsPlace us e.register at
+  there = placed us e.register at ((λ i. place_of (view i) ((is i).register)) ∙ h)
 
-  in_order : IsOrdered us → IsOrdered (set us at u)
-  in_order k = ordered_put [] us (set us at u) u k (there.write u refl)
+  in_order : IsOrdered us → IsOrdered (set us at e)
+  in_order k = ordered_put [] us (set us at e) e k (there.write e refl)
 
 pub index_mut-requires : goal.index_mut-requires
 index_mut-requires c =
     let w : c.args.at < length c.self.inside.updates.items =
-    (there _ _ c.args.update.now c.args.at c.self.view_is c.requires).within in
+    (there {u = c.args.update.now} refl c.self.view_is c.requires).within in
     omega arith
 
 pub winner_after-self-inside-requires-clause-ordered : goal.winner_after-self-inside-requires-clause-ordered
 winner_after-self-inside-requires-clause-ordered c =
     subst IsOrdered (sym c.deref-2.ensures.value)
-    (in_order _ _ c.args.update.now c.args.at c.self.view_is c.requires c.self.invariant.ordered)
+    (in_order c.of.ensures c.self.view_is c.requires c.self.invariant.ordered)
 
 pub winner_after-self-inside-requires-clause-other : goal.winner_after-self-inside-requires-clause-other
 winner_after-self-inside-requires-clause-other c = λ ne.
     subst (λ x. HasWinner x (told x) (better_place x c.args.at c.self.inside.winner)) (sym c.deref-2.ensures.value)
-    (winner_set c.self.inside.updates.items c.args.at c.args.update.now c.self.inside.winner c.self.invariant.ordered
-    (there _ _ c.args.update.now c.args.at c.self.view_is c.requires) c.self.invariant.winner ne)
+    (winner_set c.self.inside.updates.items c.args.at c.of.result c.self.inside.winner c.self.invariant.ordered
+    (there c.of.ensures c.self.view_is c.requires) c.self.invariant.winner ne)
 
 pub winner_after-self-inside-requires-clause-same : goal.winner_after-self-inside-requires-clause-same
 winner_after-self-inside-requires-clause-same c = λ is stays.
     let us = c.self.inside.updates.items in
-    let u = c.args.update.now in
-    let test = ap (λ x. stays_best (said_at x c.args.at) (advert_in u.value.content)) (sym c.deref.ensures.value)
+    let e = c.of.result in
+    let seen = sym c.deref.ensures.value in
+    let test = (λ i. stays_best (said_at (seen i) c.args.at) (advert_in ((c.of.ensures i).value.content)))
     ∙ c.stays_winner-stays.ensures stays in
     subst (λ x. HasWinner x (told x) c.self.inside.winner) (sym c.deref-2.ensures.value)
-    (subst (HasWinner (set us c.args.at u) (told (set us c.args.at u))) (sym is)
-    (winner_stays us c.args.at u (there us _ u c.args.at c.self.view_is c.requires)
+    (subst (HasWinner (set us c.args.at e) (told (set us c.args.at e))) (sym is)
+    (winner_stays us c.args.at e (there c.of.ensures c.self.view_is c.requires)
     (subst (HasWinner us (told us)) is c.self.invariant.winner) test))
 
 pub invariant_of-self : goal.invariant_of-self
 invariant_of-self c = record {
-  ordered = in_order _ _ c.args.update.now c.args.at c.self.view_is c.requires c.self.invariant.ordered;
+  ordered = in_order c.of.ensures c.self.view_is c.requires c.self.invariant.ordered;
   winner = subst (λ x. HasWinner x (told x) c.winner_after-self-inside.result) c.deref-2.ensures.value
       c.winner_after-self-inside.ensures;
 }
 
 pub returns : goal.returns
 returns c =
-    let u = c.args.update.now in
-    (there _ _ u c.args.at c.self.view_is c.requires).write u refl
-    ∙ ap (λ x. put register_cmp u.register u.value (entries_of x)) c.self.view_is
+    (there c.of.ensures c.self.view_is c.requires).write c.of.result refl
+    ∙ (λ i. put register_cmp ((c.of.ensures i).register) ((c.of.ensures i).value) (entries_of (c.self.view_is i)))

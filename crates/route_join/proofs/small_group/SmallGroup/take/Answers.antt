@@ -1,51 +1,35 @@
 use Rattle.std.proofs.Common.{◌<◌, length, sym, ◌∙◌, arith}
-use Rattle.route_join.specs.Table.{entries_of}
 use Rattle.route_join.proofs.Edits.{found_at, told_at, new_at}
 use Rattle.route_join.proofs.Leaders.{known_takes, newer_takes, new_takes, refused_takes, on_ok}
 use Rattle.route_join.proofs.small_group.SmallGroup.take.Goals as goal
 
 pub index-requires : goal.index-requires
 index-requires c =
-    let p = found_at c.self.inside.updates.items _ c.args.update.now.register _ c.in-Ok.at c.deref.ensures.value
-    c.register.ensures c.in-Ok.ensures in
+    let p = found_at c.deref.ensures.value c.register.ensures c.in-Ok.ensures in
     let w : c.in-Ok.at < length c.self.inside.updates.items = p.within in
     omega arith
 
-pub returns-then-not-is_newer-clause-takes : goal.returns-then-not-is_newer-clause-takes
-returns-then-not-is_newer-clause-takes c =
-    let there = told_at c.self.inside.updates.items c.deref.result.now c.args.self.now c.self.view_is
-    c.args.update.now.register c.register.result c.in-Ok.at c.deref.ensures.value c.register.ensures c.index.result.now
-    c.in-Ok.ensures c.index.ensures in
-    known_takes c.args.self.now c.args.update.now c.index.result.now.value there c.is_newer.result c.is_newer.ensures
-    c.args.held.now c.if-not-is_newer.true
+pub returns-then-not-is_older-clause-takes : goal.returns-then-not-is_older-clause-takes
+returns-then-not-is_older-clause-takes c =
+    let there = told_at c.self.view_is c.deref.ensures.value c.register.ensures c.in-Ok.ensures c.index.ensures in
+    known_takes _ _ there c.is_older.ensures _ c.if-not-is_older.true
 
-pub returns-else-not-is_newer-clause-takes : goal.returns-else-not-is_newer-clause-takes
-returns-else-not-is_newer-clause-takes c =
-    let there = told_at c.self.inside.updates.items c.deref.result.now c.args.self.now c.self.view_is
-    c.args.update.now.register c.register.result c.in-Ok.at c.deref.ensures.value c.register.ensures c.index.result.now
-    c.in-Ok.ensures c.index.ensures in
-    newer_takes c.args.self.now c.args.update.now c.index.result.now.value there c.is_newer.result c.is_newer.ensures
-    c.args.held.now c.replace.new.self c.replace.ensures c.if-not-is_newer.false
+pub returns-else-not-is_older-clause-takes : goal.returns-else-not-is_older-clause-takes
+returns-else-not-is_older-clause-takes c =
+    let there = told_at c.self.view_is c.deref.ensures.value c.register.ensures c.in-Ok.ensures c.index.ensures in
+    newer_takes _ _ there c.is_older.ensures _ _ c.replace.ensures c.if-not-is_older.false
 
 pub returns-in_default-clause-takes : goal.returns-in_default-clause-takes
-returns-in_default-clause-takes c =
-    let none = new_at c.self.inside.updates.items c.deref.result.now c.args.self.now c.self.view_is
-    c.args.update.now.register c.register.result c.in-Err.at c.deref.ensures.value c.register.ensures
-    c.self.invariant.ordered c.in-Err.ensures in
-    refused_takes (entries_of c.args.self.now) c.args.update.now none c.args.held.now _ _
+returns-in_default-clause-takes c = refused_takes (new_at c.self.view_is c.deref.ensures.value c.register.ensures
+    c.self.invariant.ordered c.in-Err.ensures)
 
 pub returns-then-is_err-clause-takes : goal.returns-then-is_err-clause-takes
-returns-then-is_err-clause-takes c =
-    let none = new_at c.self.inside.updates.items c.deref.result.now c.args.self.now c.self.view_is
-    c.args.update.now.register c.register.result c.in-Err.at c.deref.ensures.value c.register.ensures
-    c.self.invariant.ordered c.in-Err.ensures in
-    refused_takes (entries_of c.args.self.now) c.args.update.now none c.args.held.now _ _
+returns-then-is_err-clause-takes c = refused_takes (new_at c.self.view_is c.deref.ensures.value c.register.ensures
+    c.self.invariant.ordered c.in-Err.ensures)
 
 pub returns-else-is_err-clause-takes : goal.returns-else-is_err-clause-takes
 returns-else-is_err-clause-takes c =
-    let none = new_at c.self.inside.updates.items c.deref.result.now c.args.self.now c.self.view_is
-    c.args.update.now.register c.register.result c.in-Err.at c.deref.ensures.value c.register.ensures
-    c.self.invariant.ordered c.in-Err.ensures in
+    let none = new_at c.self.view_is c.deref.ensures.value c.register.ensures c.self.invariant.ordered
+    c.in-Err.ensures in
     let e = on_ok c.insert.result _ c.insert.ensures.ok (sym c.is_err.ensures.value ∙ c.if-is_err.false) in
-    new_takes (entries_of c.args.self.now) c.args.update.now none c.args.held.now (entries_of c.insert.new.self) e
-    c.in-Some.more c.in-Some.ensures.1 (omega (arith, c.in-Some.ensures.0))
+    new_takes none e c.in-Some.ensures.1 (omega (arith, c.in-Some.ensures.0))

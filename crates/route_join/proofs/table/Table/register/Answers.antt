@@ -25,7 +25,5 @@ returns-in-Some c =
     ∙ ap (λ t. update_at t (register_of c.args.originator c.args.key)) c.self.view_is
 
 pub register-requires : goal.register-requires
-register-requires c =
-    let gs = c.self.inside.groups in
-    about_there (subject_of c.args.key) gs c.in-Some.group.now c.self.invariant.grouped.groups
-    (ap (λ s. group_at s gs) (sym c.subject_of.ensures) ∙ sym c.in-Some.ensures)
+register-requires c = about_there _ _ _ c.self.invariant.grouped.groups
+    (ap (λ s. group_at s c.self.inside.groups) (sym c.subject_of.ensures) ∙ sym c.in-Some.ensures)

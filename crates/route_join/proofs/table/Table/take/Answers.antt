@@ -13,7 +13,7 @@ use Rattle.route_join.proofs.table.Table.take.Goals as goal
 pub returns-in_default-clause-unknown : goal.returns-in_default-clause-unknown
 returns-in_default-clause-unknown c =
     subst (λ (t : Table). _ ↔ (is_listed t c.args.update.now.register.originator ≡ false)) c.self.view_is
-    (not_unknown _ _ (listed_by c.self.inside.originators.items _ c.args.update.now.register _ c.as_slice.ensures.value
+    (not_unknown _ _ (listed_by c.as_slice.ensures.value
     c.register-originator.ensures c.if-not-is_among.ensures) (λ h. cc))
 
 pub returns-in_default-clause-no_memory : goal.returns-in_default-clause-no_memory
@@ -27,7 +27,7 @@ invariant_of-self-2 c = record {
   grouped = record {
     kept = kept_with c.self.inside.originators.items (updates_in c.self.inside.groups) (updates_in c.take.new.self)
         c.args.update.now c.self.invariant.grouped.kept c.in-Ok.ensures.takes.entries c.always_well_formed.ensures
-        (listed_by c.self.inside.originators.items _ c.args.update.now.register _ c.as_slice.ensures.value
+        (listed_by c.as_slice.ensures.value
         c.register-originator.ensures c.if-not-is_among.ensures);
     groups = c.in-Ok.ensures.groups;
   };
@@ -52,7 +52,7 @@ pub returns-clause-unknown : goal.returns-clause-unknown
 returns-clause-unknown c =
     subst (λ (t : Table). (◌≡◌ {A = Result Taken TakeError} (Ok c.in-Ok.taken) (Err UnknownOriginator))
     ↔ (is_listed t c.args.update.now.register.originator ≡ false)) c.self.view_is
-    (not_unknown _ _ (listed_by c.self.inside.originators.items _ c.args.update.now.register _ c.as_slice.ensures.value
+    (not_unknown _ _ (listed_by c.as_slice.ensures.value
     c.register-originator.ensures c.if-not-is_among.ensures) (taken_known c.in-Ok.taken))
 
 -- an update of a listed originator at a known register is always taken

@@ -1,6 +1,7 @@
 use Rattle.rstp_run.specs.declared.rule.TheConstants.{MAIN, SENDS}
-use Rattle.rstp_run.proofs.Settled.{settled-off, off-settled, not-true, not-false}
+use Rattle.rstp_run.proofs.Settled.{settled-off, off-settled, not-false}
 use Rattle.rstp_run.proofs.engine.Engine.is_settled.Goals as goal
+use Rattle.std.proofs.lemmas.Bool.{not-true}
 
 pub returns-then-not-has_enabled-clause-yes : goal.returns-then-not-has_enabled-clause-yes
 returns-then-not-has_enabled-clause-yes c = λ is.
