@@ -287,7 +287,8 @@ class Together(unittest.TestCase):
 
     def test_function_that_the_check_does_not_find_is_tried_alone(self):
         found, sizes = self.tried(["200", "unknown", "202", "203"])
-        self.assertEqual((found[-1], sizes), ("pass 4", [4, 3, 1]))
+        # after the check of all four, two checks run side by side, so either may come first
+        self.assertEqual((found[-1], sizes[0], sorted(sizes[1:])), ("pass 4", 4, [1, 3]))
 
     def test_one_does_not_compile(self):
         found, sizes = self.tried([*(str(200 + it) for it in range(7)), "wrong"])
