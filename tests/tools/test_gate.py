@@ -660,6 +660,12 @@ class Chain(unittest.TestCase):
                 self.assertEqual(lanes.jobs_for(self.project(), "edge", is_in_chain), jobs)
                 self.assertEqual(lanes.jobs_for(self.project(), "words", is_in_chain), 1)
 
+    def test_proofs_on_two_processors_have_one_job(self):
+        state = {"at_work": lambda _: 1, "free_memory": lambda: 20_000}
+        for number, jobs in ((2, 1), (3, 2)):
+            with self.subTest(lanes=number), mock.patch.multiple(lanes, time=mock.DEFAULT, lanes=lambda found=number: found, **state):
+                self.assertEqual(lanes.jobs_for(self.project(), "edge", True), jobs)
+
     def test_crate_far_up_has_one_job(self):
         state = {"at_work": lambda _: 1, "free_memory": lambda: 20_000, "lanes": lambda: 4}
         for far, jobs in ((3, 1), (4, 2)):
@@ -934,22 +940,36 @@ class Gate(unittest.TestCase):
     def test_program_is_handed_over_as_both_compilers_build_it(self):
         self.program("four")
         status, said = self.gate()
-        self.assertEqual((status, said.splitlines()[-1]), (0, "9 passed, 0 failed"), said)
+        self.assertEqual((status, said.splitlines()[-1]), (0, "10 passed, 0 failed"), said)
         for name, word in (("top", "run"), ("top.by-rattle", "run.rattle")):
             with open(f"{self.top}/crates/top/out/{name}", encoding="utf-8") as it:
                 self.assertEqual(it.read(), f"{word}\n")
 
     def test_program_that_prints_something_else(self):
         self.program("five")
-        self.fails("top proof: as rattle builds it, it ended with status 0 and wrote 5 octets", 2 + 1, 8)
+        self.fails("top backend: as rattle builds it, it ended with status 0 and wrote 5 octets", passed=9)
+        self.assertFalse(os.path.exists(f"{self.top}/crates/top/out/top.by-rattle"))
+
+    def test_program_that_prints_something_else_as_it_is_proved(self):
+        self.program("four")
+        write(f"{self.stub}/top.run", "0\nfive\n")
+        self.fails("top proof: as llvm builds it, it ended with status 0 and wrote 5 octets", 4, 8)
         self.assertFalse(os.path.exists(f"{self.top}/crates/top/out/top"))
+
+    def test_resumed_gate_hands_over_both_builds_again(self):
+        self.program("four")
+        self.gate()
+        shutil.rmtree(f"{self.top}/crates/top/out")
+        status, said = self.gate(GATE_RESUME=f"{self.top}/.gate")
+        self.assertEqual((status, said.splitlines()[-1]), (0, "10 passed, 0 failed"), said)
+        self.assertEqual(sorted(os.listdir(f"{self.top}/crates/top/out")), ["top", "top.by-rattle"])
 
     def test_resumed_gate_does_only_what_changed(self):
         self.gate()
         write(f"{self.top}/crates/high/src/lib.rt", LIBRARY + "// changed\n" + TESTS)
         status, said = self.gate(GATE_RESUME=f"{self.top}/.gate")
         self.assertEqual((status, said.splitlines()[-1]), (0, "8 passed, 0 failed"), said)
-        self.assertEqual(sorted(re.findall(r"^(\w+ \w+): as before$", said, re.M)), [f"low {it}" for it in sorted(graph.RULES)])
+        self.assertEqual(sorted(re.findall(r"^(\w+ \w+): as before$", said, re.M)), [f"low {it}" for it in sorted(graph.RULES) if it != "backend"])
         self.assertIn("gate: high proof: proved over kept work\n", said)
 
     def test_gate_of_another_clone_goes_on(self):

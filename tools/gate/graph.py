@@ -1,7 +1,7 @@
 """The gate as a graph of files for ninja: which rule waits for which, and in which order they start.
 
 ninja starts what is ready in the order of its file. Proofs come first, that with the longest chain of other proofs behind it before
-all; edits, tests and looks fill what proofs leave free. Pools hold as many checks of large crates as memory does beside a proof of the
+all; second builds of programs, edits, tests and looks fill what proofs leave free. Pools hold as many checks of large crates as memory does beside a proof of the
 longest chain: one for other proofs, one for edits and searches. Proofs of the chain are in no pool. When they were in that of the
 proofs, the next one waited five minutes for a place, and with one pool for all ten.
 """
@@ -11,7 +11,7 @@ from concurrent.futures import FIRST_COMPLETED, ThreadPoolExecutor, wait
 from calls import free_memory
 
 # in the order in which tasks that are ready start
-RULES = ("proof", "edits", "tests", "house", "layout", "texts")
+RULES = ("proof", "backend", "edits", "tests", "house", "layout", "texts")
 # The memory in MiB of the largest crates' checks, as measured: of a proof with two jobs, as those of the longest chain have, and of
 # another check, which has one job.
 PROOF, CHECK = 5500, 3500
@@ -26,9 +26,15 @@ build always: phony
 """
 
 
+def steps(project, crates, rules):
+    """Returns the rules of these crates, each with its crate, in the order in which they start: a library has no second build."""
+    return [(rule, name) for rule in rules for name in longest_first(project, crates) if rule != "backend" or project.is_program(name)]
+
+
 def needs_of(project, rules, rule, name):
     """Returns the rules and crates that this rule of a crate waits for, if these are the rules that are done."""
-    needs = {"proof": [("proof", it) for it in project.below[name]], "edits": [("proof", name)], "house": [("proof", name), ("edits", name)]}
+    proof = ("proof", name)
+    needs = {"proof": [("proof", it) for it in project.below[name]], "backend": [proof], "edits": [proof], "house": [proof, ("edits", name)]}
     return [it for it in needs.get(rule, []) if it[0] in rules]
 
 
@@ -60,11 +66,11 @@ def longest_chain(project):
 def pool_of(project, rule, name, pools, chain):
     """Returns the pool of a rule that takes as much memory as a large crate's check, or None if the rule takes less. A proof of the
     longest chain has a pool only if this pool is for all large checks."""
-    if rule not in ("proof", "edits", "house") or len(project.reach(name)) <= MANY:
+    if rule not in ("proof", "backend", "edits", "house") or len(project.reach(name)) <= MANY:
         return None
     if rule == "proof" and name in chain and "all" not in pools:
         return None
-    kind = "proofs" if rule == "proof" else "edits"
+    kind = "proofs" if rule in ("proof", "backend") else "edits"
     return kind if kind in pools else next(iter(pools))
 
 
@@ -83,18 +89,17 @@ def ninja_file(project, crates, rules, command):
     pools, chain = pools_for(free_memory()), longest_chain(project)
     told = "\n".join(f"pool {name}\n  depth = {depth}" for name, depth in pools.items())
     parts = [HEAD.format(pools=told, command=command, folder=project.gate)]
-    for rule in rules:
-        for name in longest_first(project, crates):
-            waits = " ".join([*(f"{project.gate}/{crate}.{it}" for it, crate in needs_of(project, rules, rule, name)), "always"])
-            pool = pool_of(project, rule, name, pools, chain)
-            line = f"  pool = {pool}\n" if pool else ""
-            parts.append(f"build {project.gate}/{name}.{rule}: work | {waits}\n  rule = {rule}\n  crate = {name}\n{line}")
+    for rule, name in steps(project, crates, rules):
+        waits = " ".join([*(f"{project.gate}/{crate}.{it}" for it, crate in needs_of(project, rules, rule, name)), "always"])
+        pool = pool_of(project, rule, name, pools, chain)
+        line = f"  pool = {pool}\n" if pool else ""
+        parts.append(f"build {project.gate}/{name}.{rule}: work | {waits}\n  rule = {rule}\n  crate = {name}\n{line}")
     return "\n".join(parts)
 
 
 def run_without_ninja(project, crates, rules, command, jobs):
     """Does what ninja does, in the same order, where there is no ninja."""
-    left = [(rule, name) for rule in rules for name in longest_first(project, crates)]
+    left = steps(project, crates, rules)
     pools, chain, done, running = pools_for(free_memory()), longest_chain(project), set(), {}
 
     def can_start(step):

@@ -68,8 +68,8 @@ def niceness_of(rule, is_in_chain):
 
 def jobs_for(project, name, is_in_chain):
     """Returns how many jobs the crate's proof gets: two if it is neither small nor far up, memory is free, and the gate waits for it or a
-    lane is idle."""
-    if project.lines_of(name) < SMALL or len(project.reach(name)) >= FAR or lanes() < 2:
+    lane is idle. With two lanes it gets one: there the sum of all work is the limit and not the chain, and a second job adds a fifth."""
+    if project.lines_of(name) < SMALL or len(project.reach(name)) >= FAR or lanes() < 3:
         return 1
     # what can start beside it has started by then
     time.sleep(1)

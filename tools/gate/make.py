@@ -7,8 +7,9 @@ usage: tools/gate/make.py [CRATE..]      (at the top of the repository; CRATE: t
        tools/gate/make.py sum [CRATE..]        adds up what the rules found
        tools/gate/make.py tests [CRATE..]      runs the tests of these crates alone (default: all), which needs no proof
 
-Each crate has six rules. `proof` proves it from nothing and builds its library (`rt lib`), or builds a program by two compilers and
-runs it (`rt run`); each function of the sources has to be among those proved. `edits` tries its must-fail edits over what the proof
+Each crate has seven rules. `proof` proves it from nothing and builds its library (`rt lib`), or builds a program by LLVM and runs it
+(`rt run`); each function of the sources has to be among those proved. `backend` builds and runs a program by Rattle's own compiler,
+over what the proof kept. `edits` tries its must-fail edits over what the proof
 kept, many in one check. `tests` runs its tests, compiled with the kit's checks and not proved (`rt try --test`). `house` searches for
 contracts that no call can meet (`rt check --empty-contracts`), if no check of edits has done so. `layout` runs `rt fmt` on a copy.
 `texts` looks for what `rt ci` alone refuses. ninja runs them side by side. Each works in a room of its own, since `rt` locks the
@@ -80,6 +81,8 @@ def adopted(project, rule, name, inputs):
             room = f"{project.gate}/{name}.proof.room"
             shutil.rmtree(room, ignore_errors=True)
             rooms.fill(project, name, room, f"{folder}/{name}.proof.room/crates/{name}/out")
+        if rule == "backend" and folder != project.gate:
+            shutil.copy2(proofs.kept_program(folder, name, rule), proofs.kept_program(project.gate, name, rule))
         if folder != project.gate:
             facts.write(project.gate, name, rule, found)
         return True
@@ -97,7 +100,7 @@ def kept_of(project, name):
 
 def broken_below(project, rule, name):
     """Returns a crate whose proof this rule needs and that isn't proved, or None."""
-    needs = {"proof": project.reach(name), "house": [*project.reach(name), name], "edits": [*project.reach(name), name]}
+    needs = {"proof": project.reach(name), **{it: [*project.reach(name), name] for it in ("backend", "edits", "house")}}
     return next((it for it in needs.get(rule, []) if not facts.is_well(facts.read(project.gate, it, "proof"))), None)
 
 
@@ -117,6 +120,8 @@ def found_by(project, rule, name, calls):
     if rule == "proof":
         jobs = lanes.jobs_for(project, name, name in graph.longest_chain(project))
         return proofs.proof(project, name, calls, jobs, kept_of(project, name))
+    if rule == "backend":
+        return proofs.backend(project, name, calls)
     if rule == "edits":
         proved = facts.of_kind(facts.read(project.gate, name, "proof"), "proved")
         return edits.Trial(project, name, calls, project.proof_out(name), project.proof_out, proved).all()
@@ -125,7 +130,8 @@ def found_by(project, rule, name, calls):
 
 def tidy(project, name):
     """Deletes what the crate's proof kept, if no rule reads it any more: it may be a gigabyte."""
-    if all(os.path.exists(facts.path_of(project.gate, name, it)) for it in ("proof", "edits", "house")):
+    over = ("proof", "edits", "house", *["backend"] * project.is_program(name))
+    if all(os.path.exists(facts.path_of(project.gate, name, it)) for it in over):
         shutil.rmtree(f"{project.proof_out(name)}/{proofs.KEPT}", ignore_errors=True)
 
 
@@ -147,8 +153,8 @@ def work(project, rule, name):
         print(f"{name} {rule}: " + "; ".join(it for it in found if not it.startswith(("proved ", "inputs ", "left ")))[:1000], flush=True)
     if os.environ.get("GATE_TIDY"):
         tidy(project, name)
-    if rule == "proof" and project.is_program(name) and facts.is_well(facts.read(project.gate, name, rule)):
-        proofs.hand_over(project, name)
+    if rule in ("proof", "backend") and project.is_program(name) and facts.is_well(facts.read(project.gate, name, rule)):
+        proofs.hand_over(project, name, rule)
     return 0
 
 

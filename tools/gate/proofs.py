@@ -1,4 +1,6 @@
-"""The rule `proof`: proves a crate and builds its library, or builds and runs a program by two compilers."""
+"""The rules `proof` and `backend`. The first proves a crate and builds its library, or builds and runs a program by LLVM. The second builds
+and runs a program by Rattle's own compiler. No proof waits for it."""
+import contextlib
 import os
 import re
 import shutil
@@ -8,7 +10,6 @@ import rooms
 import sources
 from calls import RESULT, text_of
 
-BACKENDS = ("llvm", "rattle")
 # the files of kept work, below a crate's out/
 KEPT = "incremental"
 # what `rt` prints if a check doesn't begin with nothing
@@ -57,24 +58,38 @@ def judged(project, name, status, said):
 
 
 def program(project, name, folder, calls, jobs):
-    """Builds and runs a program by each compiler. The build by LLVM is the proof. Leaves both programs in the crate's out/."""
-    found, given = [], {it: read_of(project, name, it) for it in ("args", "stdout", "status")}
-    wanted = int(given["status"] or 0), given["stdout"]
-    for backend in BACKENDS:
-        path = f"{project.folder(name)}/stdin"
-        words = ["--backend", backend], ["--", *given["args"].decode().split()]
-        with open(path if os.path.exists(path) else os.devnull, "rb") as stdin:
-            status, out, err = calls.check(folder, "run", *words[0], jobs=jobs, stdin=stdin, after=words[1])
-        if backend == BACKENDS[0]:
-            is_proved = RESULT.findall(text_of(err))[-1:] == ["proved"]
-            found += judged(project, name, 0 if is_proved else status or 1, text_of(err))
-        if (status, out) != wanted:
-            found.append(f"fail as {backend} builds it, it ended with status {status} and wrote {len(out)} octets: {text_of(err)[-300:]}")
-        elif os.path.exists(f"{folder}/out/{name}"):
-            shutil.copy2(f"{folder}/out/{name}", f"{folder}/out/{name}.by-{backend}")
-        else:
-            found.append(f"fail {backend} left no program out/{name}")
-    return found
+    """Proves a program, builds it by LLVM and runs it. Leaves it in the crate's out/. Returns the facts."""
+    status, out, err = run_as(project, name, folder, calls, "llvm", jobs)
+    is_proved = RESULT.findall(text_of(err))[-1:] == ["proved"]
+    return judged(project, name, 0 if is_proved else status or 1, text_of(err)) + differing(project, name, "llvm", folder, (status, out, err))
+
+
+def backend(project, name, calls):
+    """Builds a program by Rattle's own compiler, over what its proof kept, and runs it. Keeps it in the gate's folder. Returns the facts."""
+    with rooms.room_for(project, name, "backend", project.proof_out(name), project.proof_out) as folder:
+        built = f"{folder}/out/{name}"
+        with contextlib.suppress(FileNotFoundError):
+            os.unlink(built)
+        found = differing(project, name, "rattle", folder, run_as(project, name, folder, calls, "rattle"))
+        if not found:
+            shutil.copy2(built, kept_program(project.gate, name, "backend"))
+    return found or ["pass 1"]
+
+
+def run_as(project, name, folder, calls, compiler, jobs=1):
+    """Builds a program in this folder by a compiler, and runs it on the crate's input. Returns its status, output and errors."""
+    path = f"{project.folder(name)}/stdin"
+    words = ["--", *read_of(project, name, "args").decode().split()]
+    with open(path if os.path.exists(path) else os.devnull, "rb") as stdin:
+        return calls.check(folder, "run", "--backend", compiler, jobs=jobs, stdin=stdin, after=words)
+
+
+def differing(project, name, compiler, folder, ended):
+    """Returns as facts how a run ended otherwise than the crate's files say, and that it left no program."""
+    (status, out, err), wanted = ended, (int(read_of(project, name, "status") or 0), read_of(project, name, "stdout"))
+    if (status, out) != wanted:
+        return [f"fail as {compiler} builds it, it ended with status {status} and wrote {len(out)} octets: {text_of(err)[-300:]}"]
+    return [] if os.path.exists(f"{folder}/out/{name}") else [f"fail {compiler} left no program out/{name}"]
 
 
 def read_of(project, name, file):
@@ -86,10 +101,15 @@ def read_of(project, name, file):
         return it.read()
 
 
-def hand_over(project, name):
-    """Copies what the proof built of a program to crates/NAME/out/: NAME by LLVM, and NAME.by-rattle."""
+def kept_program(gate, name, rule):
+    """Returns the path at which a gate keeps the program that this rule built."""
+    return f"{gate}/{name}.proof.room/crates/{name}/out/{name}" if rule == "proof" else f"{gate}/{name}.by-rattle"
+
+
+def hand_over(project, name, rule):
+    """Copies the program that this rule built to crates/NAME/out/: NAME by LLVM, and NAME.by-rattle."""
     to = f"{project.folder(name)}/out"
     os.makedirs(to, exist_ok=True)
-    for backend, target in ((BACKENDS[0], name), (BACKENDS[1], f"{name}.by-{BACKENDS[1]}")):
-        shutil.copy2(f"{project.proof_out(name)}/{name}.by-{backend}", f"{to}/{target}.new")
-        os.replace(f"{to}/{target}.new", f"{to}/{target}")
+    target = f"{to}/{name}" if rule == "proof" else f"{to}/{name}.by-rattle"
+    shutil.copy2(kept_program(project.gate, name, rule), f"{target}.new")
+    os.replace(f"{target}.new", target)

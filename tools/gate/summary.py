@@ -2,10 +2,11 @@
 import collections
 
 import facts
+import graph
 from calls import processors
 from project import kit_version
 
-COLUMNS = {"proof": "proof", "house": "looks", "layout": "looks", "texts": "looks", "tests": "tests", "edits": "edits"}
+COLUMNS = {"proof": "proof", "backend": "proof", "house": "looks", "layout": "looks", "texts": "looks", "tests": "tests", "edits": "edits"}
 TOLD = {"fail": "FAILED ", "note": "", "weak": "an edit that shows little: "}
 KINDS = ("proof", "looks", "tests", "edits")
 MOST_SLOW = 12
@@ -43,7 +44,7 @@ def print_room(found):
 
 def print_total(project, crates, rules):
     """Prints what these rules of these crates found. The last line is 'N passed, M failed'. Returns `True` if none failed."""
-    found = {(name, rule): facts.read(project.gate, name, rule) for name in crates for rule in rules}
+    found = {(name, rule): facts.read(project.gate, name, rule) for rule, name in graph.steps(project, crates, rules)}
     if "texts" in rules:
         found["repository", "files"] = facts.read(project.gate, "repository", "files")
     print_costs(found)
