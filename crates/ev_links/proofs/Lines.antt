@@ -2,7 +2,7 @@
 use Rattle.std.proofs.Common.{◌≡◌, ◌≢◌, ℕ, zero, suc, ◌+◌, ◌-◌, ◌^◌, ◌≤◌, ◌<◌, min, Bool, true, false, cond, eqb}
 use Rattle.std.proofs.Common.{◌&&◌, ◌||◌}
 use Rattle.std.proofs.Common.{nat_lt, nat_le, List, [], ◌∷◌, ◌++◌, length, take, drop, replicate, refl, sym, ap}
-use Rattle.std.proofs.Common.{subst, ◌∙◌, arith}
+use Rattle.std.proofs.Common.{◌∙◌, arith}
 use Rattle.std.proofs.Common.{Option, Some, None}
 use Rattle.std.specs.Prelude.{slice_get, slice_set, IfSome}
 use Rattle.std.specs.Option.{option_map_or}
@@ -13,7 +13,7 @@ use Rattle.std.proofs.lemmas.List.{length-append, length-take-le, length-drop, t
 use Rattle.ev_links.specs.Links.{packet}
 use Rattle.ev_links.specs.declared.line.Head.{Head}
 use Rattle.ev_links.specs.declared.parts.SourceQueue.{SourceQueue}
-use Rattle.ev_links.specs.Line.{Sourced, sourced, octets_of, from_source, fits_part, waiting_of, after_frame}
+use Rattle.ev_links.specs.Line.{sourced, octets_of, from_source, fits_part, waiting_of, after_frame}
 use Rattle.ev_links.specs.Line.{after_drop}
 use Rattle.ev_links.specs.Line.{cut, sizes, NoneTooLong, heads_of, AreCounted, IsLine}
 use Rattle.ev_links.specs.Inner.Parts.{no_part, fits_in, one_more, one_less, with_one, without_one}

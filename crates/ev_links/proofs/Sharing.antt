@@ -9,10 +9,10 @@ use Rattle.std.proofs.Math.Nat.{mul-div-le}
 use Rattle.ev_links.specs.Line.{Sourced, Waiting, waiting_of, nothing_waits, octets_of, from_source, fits_half}
 use Rattle.ev_links.specs.Line.{fits_part}
 use Rattle.ev_links.specs.Line.{fits_line, has_room, after_frame, after_bpdu, frames_left}
-use Rattle.ev_links.specs.DirectLine.{Direct, is_free, after_try}
-use Rattle.ev_links.specs.Laws.{Step, passes, puts, takes, ends, drops_rest, after_step, after_steps, IsStep, AreSteps}
-use Rattle.ev_links.specs.Laws.{kept, OnlyAFullPartDrops}
-use Rattle.ev_links.proofs.Orders.{same_line, bpdu_frames}
+use Rattle.ev_links.specs.DirectLine.{Direct, is_free}
+use Rattle.ev_links.specs.Laws.{Step, passes, puts, takes, ends, drops_rest, after_step, after_steps}
+use Rattle.ev_links.specs.Laws.{OnlyAFullPartDrops}
+use Rattle.ev_links.proofs.Orders.{same_line}
 
 -- ---- tests
 

@@ -6,4 +6,5 @@ pub mod Laws
 pub mod FailingLink
 pub mod Flow
 pub mod Udp
+pub mod LastBpdu
 pub mod Inner

@@ -8,6 +8,7 @@ mod counted_link;
 mod direct_line;
 mod failing_link;
 mod flow;
+mod last_bpdu;
 mod laws;
 mod line;
 mod links;

@@ -1,14 +1,15 @@
 //! Links over UDP sockets, and over a clock of the system.
 ghost use Rattle.std.specs.Int.{w16, w32, to_be_bytes};
-ghost use Rattle.std.specs.Prelude.{◌≡◌, ◌≤◌, ◌∷◌, ◌++◌, length, take, Some, Ok, IfOk, IsErr, MatchResult};
+ghost use Rattle.std.specs.Prelude.{◌≡◌, ◌≤◌, ◌∷◌, ◌++◌, length, take, Some, Ok, IfOk, IfSome, IsErr, MatchResult};
 ghost use Rattle.std.specs.Net.Addr.{IsIpv4OfBits, IsV4And, MatchIp, ipv4_bits};
 ghost use Rattle.std.specs.Net.Socket.{socket_ip, socket_port};
 ghost use Rattle.ev_links.specs.Udp.{destination_of};
 ghost use Rattle.ev_links.specs.Inner.Udp.{address_for, port_for};
 
+use crate::last_bpdu::LastBpdu;
 use crate::links::{LinkIn, LinkOut, PromptOut};
 use ether_wire::{Addr, Device};
-use libc::net::{MSG_DONTWAIT, MSG_NOSIGNAL, sendto};
+use libc::net::{MSG_DONTWAIT, MSG_NOSIGNAL, MSG_PEEK, recv, sendto};
 use std::net::{IpAddr, Ipv4Addr, SocketAddr, UdpSocket};
 use std::os::fd::AsRawFd;
 use std::sync::atomic::{AtomicBool, Ordering};
@@ -33,6 +34,12 @@ fn address_of(from: SocketAddr) -> Addr
     }
 }
 
+/// Returns `true` if a datagram waits at a socket. It stays there.
+fn has_datagram(socket: &UdpSocket) -> bool {
+    let mut first = [0u8; 1];
+    unsafe { recv(socket.as_raw_fd(), &mut first, MSG_PEEK | MSG_DONTWAIT) >= 0 }
+}
+
 /// The source of a wire's datagrams.
 #[derive(Clone, Copy)]
 enum WireSource<'x> {
@@ -52,6 +59,8 @@ pub struct Wire<'x, C> {
     failures: u64,
     /// `true` if the last call failed.
     is_failing: bool,
+    /// The last BPDU, if the link is a port's.
+    last_bpdu: Option<LastBpdu>,
 }
 
 impl<'x, C: Clock> Wire<'x, C> {
@@ -66,6 +75,23 @@ impl<'x, C: Clock> Wire<'x, C> {
             stop,
             failures: 0,
             is_failing: false,
+            last_bpdu: None,
+        }
+    }
+
+    /// Creates a link that receives from the socket of a port. While datagrams come faster than they
+    /// are received, it receives the port's last BPDU again from time to time, since the system may
+    /// drop those that come.
+    pub fn port(clock: &'x C, socket: &'x UdpSocket, stop: &'x AtomicBool) -> Self
+        ensures { result.failures ≡ 0 }
+    {
+        Wire {
+            source: WireSource::Socket(socket),
+            clock,
+            stop,
+            failures: 0,
+            is_failing: false,
+            last_bpdu: Some(LastBpdu::none()),
         }
     }
 
@@ -79,6 +105,7 @@ impl<'x, C: Clock> Wire<'x, C> {
             stop,
             failures: 0,
             is_failing: false,
+            last_bpdu: None,
         }
     }
 
@@ -117,6 +144,39 @@ impl<'x, C: Clock> Wire<'x, C> {
                 Ok((0, Addr::default()))
             }
         }
+    }
+
+    /// Returns the port's last BPDU once more if it is due. It isn't if no datagram waits at the
+    /// socket, which this looks for from time to time.
+    fn repeated(&mut self, buffer: &mut [u8]) -> Option<(usize, Addr)>
+        ensures fits { IfSome result (λ r. r.0 ≤ length buffer.new) }
+        ensures failures { self.new.failures ≡ self.old.failures }
+    {
+        let (WireSource::Socket(socket), Some(last)) = (self.source, &mut self.last_bpdu) else {
+            return None;
+        };
+        if last.is_due() {
+            return Some(last.again(buffer));
+        }
+        if last.is_sample() && !has_datagram(socket) {
+            last.restart();
+        }
+        None
+    }
+
+    /// Returns the port's last BPDU once more if it is due, or waits for a datagram and notes it.
+    fn next(&mut self, buffer: &mut [u8]) -> io::Result<(usize, Addr)>
+        ensures fits { IfOk result (λ r. r.0 ≤ length buffer.new) }
+        ensures failures { self.new.failures ≡ self.old.failures }
+    {
+        if let Some(again) = self.repeated(buffer) {
+            return Ok(again);
+        }
+        let (size, from) = self.wait(buffer)?;
+        if let Some(last) = &mut self.last_bpdu {
+            last.note(&buffer[..size], from);
+        }
+        Ok((size, from))
     }
 
     /// Waits for a second, and then checks whether a read still fails. The read waits for at most a
@@ -158,7 +218,7 @@ impl<C: Clock> LinkIn for Wire<'_, C> {
         let got = if self.is_failing {
             self.wait_again(buffer)
         } else {
-            self.wait(buffer)
+            self.next(buffer)
         };
         if self.has_stopped() {
             return Ok(None);

@@ -47,7 +47,7 @@ pub(crate) fn links_of<'x, R: Clock>(
 {
     let mut ports = Vec::with_capacity(alloc, sockets.ports.len())?;
     for port in sockets.ports.as_slice() {
-        let input = Wire::socket(rt, &port.socket, stop);
+        let input = Wire::port(rt, &port.socket, stop);
         ports = with_link(ports, input, port_output(port));
     }
     let tunnel = Link {

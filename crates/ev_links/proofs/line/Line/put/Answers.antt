@@ -1,4 +1,4 @@
-use Rattle.std.proofs.Common.{rules, ◌≡◌, ◌<◌, ◌≤◌, ◌+◌, refl, sym, ap, ◌∙◌, length, arith}
+use Rattle.std.proofs.Common.{rules, refl, ap, ◌∙◌, length}
 use Rattle.std.specs.Prelude.{vec_len}
 use Rattle.ev_links.specs.Links.{packet}
 use Rattle.ev_links.specs.Line.{sourced, after_frame}

@@ -1,4 +1,4 @@
-use Rattle.std.proofs.Common.{rules, ◌≡◌, List, ◌∷◌, deque_capacity, subst}
+use Rattle.std.proofs.Common.{◌≡◌, List, ◌∷◌, deque_capacity, subst}
 use Rattle.ev_links.specs.declared.line.Head.{Head}
 use Rattle.ev_links.specs.Line.{IsLine}
 use Rattle.ev_links.proofs.Lines.{line_left}

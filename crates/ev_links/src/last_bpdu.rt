@@ -1,0 +1,152 @@
+//! The last BPDU of a port, which is received again while the port is flooded.
+ghost use Rattle.std.specs.Prelude.{◌≡◌, ◌+◌, ◌≤◌, ◌&&◌, ◌++◌, ◌%◌, ◌==◌, [], true, false, length, take, nat_lt, nat_le};
+ghost use Rattle.ev_links.specs.LastBpdu.{is_kept, is_to_bridges, without_claims, due_after, after_other};
+
+use ether_wire::{Addr, Frame, Mac, Piece};
+
+/// The places of a message's type and of its flags in a frame: after the header of 14 octets and 3
+/// of LLC come the protocol (2), the version (1), the type (1) and the flags (1).
+const KIND: usize = 20;
+
+const FLAGS: usize = 21;
+
+/// The type of a topology change notification, which has no vector.
+const NOTIFICATION: u8 = 0x80;
+
+/// The two bits of the role of the sender's port.
+const ROLE_BITS: u8 = 0x0c;
+
+/// The most octets of a frame that is kept. A BPDU of RSTP has 60, and one of MSTP 16 more for each
+/// of its instances.
+const MOST_KEPT: usize = 256;
+
+/// After that many other datagrams the BPDU is due. An edge with a fiftieth of a processor receives
+/// as many in a second.
+const DUE_AFTER: u32 = 256;
+
+/// Before one in that many datagrams the link looks whether the socket is empty.
+const SAMPLE: u32 = 16;
+
+/// The last BPDU of a port, and how many other datagrams the port received since, without having
+/// found its socket empty.
+///
+/// A flood fills the receive buffer of a port's socket. The system then drops BPDUs with the other
+/// datagrams. A port that receives nothing of its neighbour would open after some seconds, and
+/// frames might run in a circle. So the port receives the last message again, without the flags by
+/// which that announced a topology change, proposed or agreed.
+#[derive(Drop)]
+pub(crate) struct LastBpdu {
+    frame: Piece<MOST_KEPT>,
+    from: Addr,
+    others: u32,
+}
+
+/// Returns `true` if a frame goes to the bridge group, and its message has a vector.
+fn is_kept(octets: &[u8]) -> bool
+    ensures { result ≡ is_kept octets.now }
+{
+    if octets.len() <= FLAGS || octets.len() > MOST_KEPT || octets[KIND] == NOTIFICATION {
+        return false;
+    }
+    match Frame::read(octets) {
+        Ok(frame) => frame.destination() == Mac::bridge_group(),
+        Err(_) => false,
+    }
+}
+
+/// Puts octets, for which there is room, after the others.
+fn put(frame: &mut Piece<MOST_KEPT>, octets: &[u8])
+    requires { length frame.old + length octets.now ≤ 256 }
+    ensures { frame.new ≡ frame.old ++ octets.now }
+{
+    let _ = frame.try_put(octets);
+}
+
+impl LastBpdu {
+    /// Returns that of a port that has received none.
+    pub(crate) fn none() -> Self
+        ensures { result.frame ≡ [] }
+    {
+        LastBpdu {
+            frame: Piece::new(),
+            from: Addr::default(),
+            others: 0,
+        }
+    }
+
+    /// Keeps a frame with no flags but the role.
+    fn keep(&mut self, octets: &[u8], from: Addr)
+        requires { is_kept octets.now ≡ true }
+        ensures frame { self.new.frame ≡ without_claims octets.now }
+        ensures from { self.new.from ≡ from }
+        ensures others { self.new.others ≡ 0 }
+    {
+        self.frame.clear();
+        put(&mut self.frame, &octets[..FLAGS]);
+        put(&mut self.frame, &[octets[FLAGS] & ROLE_BITS]);
+        put(&mut self.frame, &octets[FLAGS + 1..]);
+        self.from = from;
+        self.others = 0;
+    }
+
+    /// Notes a datagram that the port received: keeps a BPDU with a vector, and counts any other.
+    pub(crate) fn note(&mut self, octets: &[u8], from: Addr)
+        ensures kept { is_kept octets.now ≡ true → self.new.frame ≡ without_claims octets.now }
+        ensures sender { is_kept octets.now ≡ true → self.new.from ≡ from }
+        ensures first { is_kept octets.now ≡ true → self.new.others ≡ 0 }
+        ensures same { is_kept octets.now ≡ false
+            → (self.new.frame ≡ self.old.frame) × (self.new.from ≡ self.old.from) }
+        ensures counted { is_kept octets.now ≡ false
+            → self.new.others ≡ after_other self.old.others }
+    {
+        if is_kept(octets) {
+            self.keep(octets, from);
+        } else if self.others < DUE_AFTER {
+            self.others += 1;
+        } else {
+            self.others = DUE_AFTER;
+        }
+    }
+
+    /// Returns `true` if the port has received a BPDU, and many other datagrams since.
+    pub(crate) fn is_due(&self) -> bool
+        ensures { result ≡ (nat_le due_after self.now.others && nat_lt 0 (length self.now.frame)) }
+    {
+        self.others >= DUE_AFTER && !self.frame.is_empty()
+    }
+
+    /// Returns `true` if the link has to look whether the socket is empty.
+    pub(crate) fn is_sample(&self) -> bool
+        ensures { result ≡ (self.now.others % 16 == 15) }
+    {
+        self.others % SAMPLE == SAMPLE - 1
+    }
+
+    /// Counts other datagrams from 0 again.
+    pub(crate) fn restart(&mut self)
+        ensures same { (self.new.frame ≡ self.old.frame) × (self.new.from ≡ self.old.from) }
+        ensures others { self.new.others ≡ 0 }
+    {
+        self.others = 0;
+    }
+
+    /// Copies the BPDU to the front of the buffer, cut to the buffer's length, and counts other
+    /// datagrams from 0 again. Returns the number of octets and the sender.
+    pub(crate) fn again(&mut self, buffer: &mut [u8]) -> (usize, Addr)
+        ensures fits { result.0 ≤ length buffer.new }
+        ensures frame { take result.0 buffer.new ≡ take (length buffer.old) self.old.frame }
+        ensures sender { result.1 ≡ self.old.from }
+        ensures same { (self.new.frame ≡ self.old.frame) × (self.new.from ≡ self.old.from) }
+        ensures others { self.new.others ≡ 0 }
+    {
+        self.others = 0;
+        let octets = self.frame.octets();
+        let size = if octets.len() < buffer.len() {
+            octets.len()
+        } else {
+            buffer.len()
+        };
+        buffer[..size].copy_from_slice(&octets[..size]);
+        (size, self.from)
+    }
+}
