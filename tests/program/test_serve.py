@@ -13,13 +13,14 @@ import stat
 import subprocess
 import sys
 import tempfile
+import threading
 import time
 import unittest
-from typing import Dict, List, Tuple
+from typing import Callable, Dict, List, Tuple
 
 from test_audit import PROGRAM, needs_program
 from test_records import TOP
-from test_run import BROADCAST, FLOODS, HOST, PATIENCE, VNI, Cable, Running, carry, edge, first_life, frame, is_reached, learnt, station
+from test_run import BRIDGES, BROADCAST, FLOODS, HOST, PATIENCE, VNI, Cable, Running, carry, edge, first_life, frame, is_reached, learnt, station
 from update_records import Answer, Update, line_of, read_records, record_of, update_of_line
 
 # addresses of these tests' own, beside those of test_run.py
@@ -567,6 +568,99 @@ class Clients(Served):
                 sizes.append(self.running.resident())
         self.assertLess(sizes[-1], sizes[0] + 1024, f"kilobytes after each 1,000: {sizes}")
         self.ends_well()
+
+
+# sends a datagram again and again for some seconds
+FLOOD = """
+import socket, sys, time
+link, to, octets = socket.socket(socket.AF_INET, socket.SOCK_DGRAM), (sys.argv[1], int(sys.argv[2])), bytes.fromhex(sys.argv[3])
+end = time.monotonic() + float(sys.argv[4])
+while time.monotonic() < end:
+    for _ in range(50):
+        link.sendto(octets, to)
+"""
+
+
+def designated(sender: str, cost: int, port: int, age: int) -> bytes:
+    """The RST BPDU of a designated port that forwards, from a bridge whose root is 1000.02:bb:00:00:00:01: hello 1, max age 6 and
+    forward delay 4 seconds (IEEE 802.1D-2004, 9.3.3)."""
+    times = b"".join((it << 8).to_bytes(2, "big") for it in (age, 6, 1, 4))
+    bridge = bytes.fromhex(sender)
+    body = bytes.fromhex("000002023c100002bb00000001") + cost.to_bytes(4, "big") + bridge + port.to_bytes(2, "big") + times + b"\0"
+    return (BRIDGES + bridge[2:] + (len(body) + 3).to_bytes(2, "big") + bytes.fromhex("424203") + body).ljust(60, b"\0")
+
+
+@needs_program
+class Blocked(Served):
+    """An edge with two ports, of which the second one blocks: the bridges at both know one root, and that at port 2 is better there than
+    the edge. Within some five seconds after its last BPDU port 2 opens."""
+
+    shut = "1 port 2 alternate discarding blocks\n"
+
+    def text(self) -> str:
+        """The configuration of the edge, with quick timers."""
+        keys = "incarnation = 1\nhello = 1\nmax_age = 6\nforward_delay = 4\n"
+        return f'control = "{self.path}"\n' + edge(ONE, 1, self.one, self.two, keys=keys).replace("admin_edge = true\n", "")
+
+    def setUp(self) -> None:
+        super().setUp()
+        self.running = self.started()
+        self.assertTrue(is_reached(lambda: os.path.exists(self.path)))
+        self.asked = self.seated()
+        self.beside(self.speak)
+        self.assertTrue(is_reached(self.is_shut))
+
+    def beside(self, turn: Callable[[], None]) -> threading.Event:
+        """Calls a function again and again in a thread, until the event that this returns is set, or the test ends."""
+        is_over = threading.Event()
+
+        def turns() -> None:
+            while not is_over.is_set():
+                turn()
+
+        thread = threading.Thread(target=turns)
+        self.addCleanup(thread.join)
+        self.addCleanup(is_over.set)
+        thread.start()
+        return is_over
+
+    def speak(self) -> None:
+        """The bridge at port 1, the root, sends a BPDU and waits for a second."""
+        self.one.send(designated("100002bb00000001", 0, 0x8001, 0))
+        time.sleep(1)
+
+    def is_shut(self) -> bool:
+        """Whether port 2 blocks, after one more BPDU of its bridge."""
+        self.two.send(designated("200002bb00000002", 20_000, 0x8002, 1))
+        return self.asked.ask("1 port 2") == self.shut
+
+    def crawl(self) -> None:
+        """The program has a fiftieth of a processor."""
+        for number, seconds in ((signal.SIGSTOP, 0.098), (signal.SIGCONT, 0.002)):
+            self.running.program.send_signal(number)
+            time.sleep(seconds)
+
+    def test_flooded_port_stays_shut(self) -> None:
+        """A flood of which no BPDU is left, as if the system had dropped them all."""
+        words = [sys.executable, "-c", FLOOD, self.two.address, str(self.two.port), frame(BROADCAST, station(9), b"flood").hex(), "10"]
+        states, end = set(), time.monotonic() + 9
+        with subprocess.Popen(words):
+            is_over = self.beside(self.crawl)
+            while time.monotonic() < end:
+                states.add(self.asked.ask("1 port 2"))
+                time.sleep(0.5)
+            is_over.set()
+        self.assertEqual(states, {self.shut})
+
+    def test_port_opens_after_its_last_bpdu(self) -> None:
+        """Frames come one by one, so none is lost, and no BPDU: the port opens as the standard has it."""
+
+        def send() -> None:
+            self.two.send(frame(BROADCAST, station(9), b"one by one"))
+            time.sleep(0.002)
+
+        self.beside(send)
+        self.assertTrue(is_reached(lambda: self.asked.ask("1 port 2") != self.shut))
 
 
 @needs_program

@@ -39,4 +39,5 @@ is_kept octets = (nat_lt flags_place (length octets) && nat_le (length octets) m
 
 -- the frame whose only flag is the role: a message of the past announces no change, and neither proposes nor agrees
 abbrev pub without_claims : List ℕ → List ℕ
-without_claims octets = take flags_place octets ++ (bit_and (slice_index octets flags_place) 0x0c ∷ drop (flags_place + 1) octets)
+without_claims octets =
+    take flags_place octets ++ (bit_and (slice_index octets flags_place) 0x0c ∷ drop (flags_place + 1) octets)

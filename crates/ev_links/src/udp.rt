@@ -79,9 +79,9 @@ impl<'x, C: Clock> Wire<'x, C> {
         }
     }
 
-    /// Creates a link that receives from the socket of a port. While datagrams come faster than they
-    /// are received, it receives the port's last BPDU again from time to time, since the system may
-    /// drop those that come.
+    /// Creates a link that receives from the socket of a port. While datagrams come faster than it
+    /// receives them, it receives the port's last BPDU again from time to time: the system may drop
+    /// those that come.
     pub fn port(clock: &'x C, socket: &'x UdpSocket, stop: &'x AtomicBool) -> Self
         ensures { result.failures ≡ 0 }
     {
