@@ -567,7 +567,8 @@ class Clients(Served):
                 self.assertTrue(is_reached(lambda: self.threads() == threads), (self.threads(), threads))
                 sizes.append(self.running.resident())
         self.assertLess(sizes[-1], sizes[0] + 1024, f"kilobytes after each 1,000: {sizes}")
-        self.ends_well()
+        # no client is left that could be cut off, so only a machine that stands still needs longer than a second
+        self.ends_well(seconds=PATIENCE)
 
 
 # sends a datagram again and again for some seconds
