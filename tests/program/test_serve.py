@@ -641,17 +641,27 @@ class Blocked(Served):
             self.running.program.send_signal(number)
             time.sleep(seconds)
 
-    def test_flooded_port_stays_shut(self) -> None:
-        """A flood of which no BPDU is left, as if the system had dropped them all."""
-        words = [sys.executable, "-c", FLOOD, self.two.address, str(self.two.port), frame(BROADCAST, station(9), b"flood").hex(), "10"]
-        states, end = set(), time.monotonic() + 9
+    def states_in_a_flood(self, seconds: int) -> set:
+        """The states of port 2 while it is flooded, without a BPDU, and the program has a fiftieth of a processor."""
+        octets = frame(BROADCAST, station(9), b"flood").hex()
+        words = [sys.executable, "-c", FLOOD, self.two.address, str(self.two.port), octets, str(seconds + 1)]
+        states, end = set(), time.monotonic() + seconds
         with subprocess.Popen(words):
             is_over = self.beside(self.crawl)
             while time.monotonic() < end:
                 states.add(self.asked.ask("1 port 2"))
                 time.sleep(0.5)
             is_over.set()
-        self.assertEqual(states, {self.shut})
+        return states
+
+    def test_flooded_port_stays_shut(self) -> None:
+        """It does as if the system had dropped all BPDUs of the bridge with the flood."""
+        self.assertEqual(self.states_in_a_flood(9), {self.shut})
+
+    def test_flood_brings_no_old_bpdu(self) -> None:
+        """Nine seconds after its last BPDU the port is open, and stays open in a flood."""
+        time.sleep(9)
+        self.assertNotIn(self.shut, self.states_in_a_flood(4))
 
     def test_port_opens_after_its_last_bpdu(self) -> None:
         """Frames come one by one, so none is lost, and no BPDU: the port opens as the standard has it."""

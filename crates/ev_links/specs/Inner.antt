@@ -1,3 +1,4 @@
 pub mod Coming
 pub mod Parts
 pub mod Udp
+pub mod LastBpdu

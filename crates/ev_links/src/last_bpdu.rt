@@ -1,6 +1,7 @@
 //! The last BPDU of a port, which is received again while the port is flooded.
-ghost use Rattle.std.specs.Prelude.{◌≡◌, ◌+◌, ◌≤◌, ◌&&◌, ◌++◌, ◌%◌, ◌==◌, [], true, false, length, take, nat_lt, nat_le};
+ghost use Rattle.std.specs.Prelude.{◌≡◌, ◌+◌, ◌≤◌, ◌&&◌, ◌++◌, ◌%◌, ◌==◌, ◌-◌, [], true, false, length, take, nat_lt, nat_le};
 ghost use Rattle.ev_links.specs.LastBpdu.{is_kept, is_to_bridges, without_claims, due_after, after_other};
+ghost use Rattle.ev_links.specs.Inner.LastBpdu.{IsSameBpdu};
 
 use ether_wire::{Addr, Frame, Mac, Piece};
 
@@ -27,22 +28,29 @@ const DUE_AFTER: u32 = 256;
 /// Before one in that many datagrams the link looks whether the socket is empty.
 const SAMPLE: u32 = 16;
 
+/// For how many seconds a BPDU counts: three Hello times of two seconds. Then a port ages its
+/// neighbour (IEEE 802.1D-2004, 17.21.23).
+const MOST_AGE: u64 = 6;
+
 /// The last BPDU of a port, and how many other datagrams the port received since, without having
 /// found its socket empty.
 ///
 /// A flood fills the receive buffer of a port's socket. The system then drops BPDUs with the other
 /// datagrams. A port that receives nothing of its neighbour would open after some seconds, and
 /// frames might run in a circle. So the port receives the last message again, without the flags by
-/// which that announced a topology change, proposed or agreed.
+/// which that announced a topology change, proposed or agreed, and only if it received the message
+/// or its repetition some seconds ago at most.
 #[derive(Drop)]
 pub(crate) struct LastBpdu {
     frame: Piece<MOST_KEPT>,
     from: Addr,
     others: u32,
+    /// The second in which the port received the BPDU, for the first time or again.
+    second: u64,
 }
 
 /// Returns `true` if a frame goes to the bridge group, and its message has a vector.
-fn is_kept(octets: &[u8]) -> bool
+pub(crate) fn is_kept(octets: &[u8]) -> bool
     ensures { result ≡ is_kept octets.now }
 {
     if octets.len() <= FLAGS || octets.len() > MOST_KEPT || octets[KIND] == NOTIFICATION {
@@ -71,15 +79,24 @@ impl LastBpdu {
             frame: Piece::new(),
             from: Addr::default(),
             others: 0,
+            second: 0,
         }
     }
 
-    /// Keeps a frame with no flags but the role.
-    fn keep(&mut self, octets: &[u8], from: Addr)
+    /// Forgets the BPDU.
+    pub(crate) fn forget(&mut self)
+        ensures { self.new.frame ≡ [] }
+    {
+        self.frame.clear();
+    }
+
+    /// Keeps a frame that the port received in this second, with no flags but the role.
+    pub(crate) fn keep(&mut self, octets: &[u8], from: Addr, second: u64)
         requires { is_kept octets.now ≡ true }
         ensures frame { self.new.frame ≡ without_claims octets.now }
         ensures from { self.new.from ≡ from }
         ensures others { self.new.others ≡ 0 }
+        ensures second { self.new.second ≡ second }
     {
         self.frame.clear();
         put(&mut self.frame, &octets[..FLAGS]);
@@ -87,21 +104,15 @@ impl LastBpdu {
         put(&mut self.frame, &octets[FLAGS + 1..]);
         self.from = from;
         self.others = 0;
+        self.second = second;
     }
 
-    /// Notes a datagram that the port received: keeps a BPDU with a vector, and counts any other.
-    pub(crate) fn note(&mut self, octets: &[u8], from: Addr)
-        ensures kept { is_kept octets.now ≡ true → self.new.frame ≡ without_claims octets.now }
-        ensures sender { is_kept octets.now ≡ true → self.new.from ≡ from }
-        ensures first { is_kept octets.now ≡ true → self.new.others ≡ 0 }
-        ensures same { is_kept octets.now ≡ false
-            → (self.new.frame ≡ self.old.frame) × (self.new.from ≡ self.old.from) }
-        ensures counted { is_kept octets.now ≡ false
-            → self.new.others ≡ after_other self.old.others }
+    /// Counts another datagram.
+    pub(crate) fn count(&mut self)
+        ensures others { self.new.others ≡ after_other self.old.others }
+        ensures same { IsSameBpdu self.old self.new }
     {
-        if is_kept(octets) {
-            self.keep(octets, from);
-        } else if self.others < DUE_AFTER {
+        if self.others < DUE_AFTER {
             self.others += 1;
         } else {
             self.others = DUE_AFTER;
@@ -115,6 +126,13 @@ impl LastBpdu {
         self.others >= DUE_AFTER && !self.frame.is_empty()
     }
 
+    /// Returns `true` if the BPDU still counts in this second.
+    pub(crate) fn is_fresh(&self, second: u64) -> bool
+        ensures { result ≡ nat_le (second - self.now.second) 6 }
+    {
+        second.saturating_sub(self.second) <= MOST_AGE
+    }
+
     /// Returns `true` if the link has to look whether the socket is empty.
     pub(crate) fn is_sample(&self) -> bool
         ensures { result ≡ (self.now.others % 16 == 15) }
@@ -124,22 +142,24 @@ impl LastBpdu {
 
     /// Counts other datagrams from 0 again.
     pub(crate) fn restart(&mut self)
-        ensures same { (self.new.frame ≡ self.old.frame) × (self.new.from ≡ self.old.from) }
+        ensures same { IsSameBpdu self.old self.new }
         ensures others { self.new.others ≡ 0 }
     {
         self.others = 0;
     }
 
-    /// Copies the BPDU to the front of the buffer, cut to the buffer's length, and counts other
-    /// datagrams from 0 again. Returns the number of octets and the sender.
-    pub(crate) fn again(&mut self, buffer: &mut [u8]) -> (usize, Addr)
+    /// Copies the BPDU to the front of the buffer, cut to the buffer's length, as received in this
+    /// second. Counts other datagrams from 0 again. Returns the number of octets and the sender.
+    pub(crate) fn again(&mut self, buffer: &mut [u8], second: u64) -> (usize, Addr)
         ensures fits { result.0 ≤ length buffer.new }
         ensures frame { take result.0 buffer.new ≡ take (length buffer.old) self.old.frame }
         ensures sender { result.1 ≡ self.old.from }
         ensures same { (self.new.frame ≡ self.old.frame) × (self.new.from ≡ self.old.from) }
         ensures others { self.new.others ≡ 0 }
+        ensures second { self.new.second ≡ second }
     {
         self.others = 0;
+        self.second = second;
         let octets = self.frame.octets();
         let size = if octets.len() < buffer.len() {
             octets.len()

@@ -6,7 +6,7 @@ ghost use Rattle.std.specs.Net.Socket.{socket_ip, socket_port};
 ghost use Rattle.ev_links.specs.Udp.{destination_of};
 ghost use Rattle.ev_links.specs.Inner.Udp.{address_for, port_for};
 
-use crate::last_bpdu::LastBpdu;
+use crate::last_bpdu::{LastBpdu, is_kept};
 use crate::links::{LinkIn, LinkOut, PromptOut};
 use ether_wire::{Addr, Device};
 use libc::net::{MSG_DONTWAIT, MSG_NOSIGNAL, MSG_PEEK, recv, sendto};
@@ -146,6 +146,30 @@ impl<'x, C: Clock> Wire<'x, C> {
         }
     }
 
+    /// Returns the second of the clock, or `None` if the clock fails.
+    fn second(&self) -> Option<u64> {
+        match self.clock.monotonic() {
+            Ok(since) => Some(since.as_secs()),
+            Err(_) => None,
+        }
+    }
+
+    /// Returns the port's last BPDU once more, unless that is too long ago: then forgets it.
+    fn again(&mut self, buffer: &mut [u8]) -> Option<(usize, Addr)>
+        ensures fits { IfSome result (λ r. r.0 ≤ length buffer.new) }
+        ensures failures { self.new.failures ≡ self.old.failures }
+    {
+        let second = self.second();
+        match (&mut self.last_bpdu, second) {
+            (Some(last), Some(second)) if last.is_fresh(second) => Some(last.again(buffer, second)),
+            (Some(last), _) => {
+                last.forget();
+                None
+            }
+            (None, _) => None,
+        }
+    }
+
     /// Returns the port's last BPDU once more if it is due. It isn't if no datagram waits at the
     /// socket, which this looks for from time to time.
     fn repeated(&mut self, buffer: &mut [u8]) -> Option<(usize, Addr)>
@@ -156,12 +180,24 @@ impl<'x, C: Clock> Wire<'x, C> {
             return None;
         };
         if last.is_due() {
-            return Some(last.again(buffer));
+            return self.again(buffer);
         }
         if last.is_sample() && !has_datagram(socket) {
             last.restart();
         }
         None
+    }
+
+    /// Keeps a BPDU that a port received, and counts any other datagram.
+    fn note(&mut self, octets: &[u8], from: Addr)
+        ensures { self.new.failures ≡ self.old.failures }
+    {
+        let second = if is_kept(octets) { self.second() } else { None };
+        match (&mut self.last_bpdu, second) {
+            (Some(last), Some(second)) => last.keep(octets, from, second),
+            (Some(last), None) => last.count(),
+            (None, _) => {}
+        }
     }
 
     /// Returns the port's last BPDU once more if it is due, or waits for a datagram and notes it.
@@ -173,8 +209,8 @@ impl<'x, C: Clock> Wire<'x, C> {
             return Ok(again);
         }
         let (size, from) = self.wait(buffer)?;
-        if let Some(last) = &mut self.last_bpdu {
-            last.note(&buffer[..size], from);
+        if self.last_bpdu.is_some() {
+            self.note(&buffer[..size], from);
         }
         Ok((size, from))
     }
