@@ -18,6 +18,6 @@ loop-port-preserved g c =
       ports = search rules;
       room = search rules;
       remotes = ap (λ links. map (λ link. destination_of link.output) links) c.with_link-ports.ensures.items
-          ∙ link_more all place port c.loop-port.ports.items (link_of c.socket-input.result c.port_output.result) within
+          ∙ link_more all place port c.loop-port.ports.items (link_of c.port-input.result c.port_output.result) within
           c.loop-port.invariant.remotes one;
     }
