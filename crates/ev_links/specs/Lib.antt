@@ -6,5 +6,4 @@ pub mod Laws
 pub mod FailingLink
 pub mod Flow
 pub mod Udp
-pub mod LastBpdu
 pub mod Inner

@@ -1,7 +1,6 @@
 //! The last BPDU of a port, which is received again while the port is flooded.
-ghost use Rattle.std.specs.Prelude.{◌≡◌, ◌+◌, ◌≤◌, ◌&&◌, ◌++◌, ◌%◌, ◌==◌, ◌-◌, [], true, false, length, take, nat_lt, nat_le};
-ghost use Rattle.ev_links.specs.LastBpdu.{is_kept, is_to_bridges, without_claims, due_after, after_other};
-ghost use Rattle.ev_links.specs.Inner.LastBpdu.{IsSameBpdu};
+ghost use Rattle.std.specs.Prelude.{◌≡◌, ◌+◌, ◌≤◌, ◌&&◌, ◌++◌, ◌%◌, ◌==◌, ◌-◌, [], true, false, length, take, nat_lt, nat_le, if◌then◌else◌};
+ghost use Rattle.ev_links.specs.Inner.LastBpdu.{is_kept, is_to_bridges, without_claims, IsSameBpdu};
 
 use ether_wire::{Addr, Frame, Mac, Piece};
 
@@ -109,7 +108,8 @@ impl LastBpdu {
 
     /// Counts another datagram.
     pub(crate) fn count(&mut self)
-        ensures others { self.new.others ≡ after_other self.old.others }
+        ensures others { self.new.others
+            ≡ (if nat_lt self.old.others 256 then self.old.others + 1 else 256) }
         ensures same { IsSameBpdu self.old self.new }
     {
         if self.others < DUE_AFTER {
@@ -121,7 +121,7 @@ impl LastBpdu {
 
     /// Returns `true` if the port has received a BPDU, and many other datagrams since.
     pub(crate) fn is_due(&self) -> bool
-        ensures { result ≡ (nat_le due_after self.now.others && nat_lt 0 (length self.now.frame)) }
+        ensures { result ≡ (nat_le 256 self.now.others && nat_lt 0 (length self.now.frame)) }
     {
         self.others >= DUE_AFTER && !self.frame.is_empty()
     }
