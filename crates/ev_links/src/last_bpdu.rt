@@ -21,7 +21,7 @@ const ROLE_BITS: u8 = 0x0c;
 const MOST_KEPT: usize = 256;
 
 /// After that many other datagrams the BPDU is due. An edge with a fiftieth of a processor receives
-/// as many in a second.
+/// as many in a second or two.
 const DUE_AFTER: u32 = 256;
 
 /// Before one in that many datagrams the link looks whether the socket is empty.
