@@ -29,11 +29,12 @@ LIMIT_RANGES = {"stations": (1, 65536, 1), "new_stations": (1, (1 << 32) - 1, 1)
 SERVED_RANGES = {"idle": (1, 86400, 1), "peer_hold": (0, 86400, 1)}
 FLAGS = ("admin_edge", "auto_edge", "point_to_point")
 PLACES = ("local", "remote")
+DEVICE = re.compile(r"[A-Za-z0-9._-]{1,15}")
 ODD_VALUES = (
     "1.5", "inf", '"7"', "true", "[]", "[1, 2]", "{}", "1979-05-27", "07:32:00", '""', "-1", "9223372036854775807", "9223372036854775808",
     "0x10", "0b11", "5_001", "'text'", '"\\u00e9"', "[[1]]", "{ a = 1 }", "+3", "1e3",
 )
-ODD_KEYS = ("adress", "Priority", "edges", "x", "port_", "vni", "control", '"a b"', "'1'", "hello2", "incarnations", "local")
+ODD_KEYS = ("adress", "Priority", "edges", "x", "port_", "vni", "control", '"a b"', "'1'", "hello2", "incarnations", "local", "device")
 # of a valid document: the values that no run can use, and too low limits (docs/configuration.md)
 OBSTACLE = re.compile(
     r"edge [0-9]+: address is 0\.0\.0\.0, .*|[0-9]+ (?:sockets and 3 standard streams|threads), allowed are .*"
@@ -94,15 +95,16 @@ def unknown(table: Dict, known: List[str], place: str) -> List[Faulty]:
 
 
 def of_port(table: Dict, vnis: Optional[List[int]], place: str, is_run: bool) -> List[Faulty]:
-    """Returns the faults of a port. In a run it needs both places."""
+    """Returns the faults of a port. In a run it needs both places, or a device, which no simulation has."""
     vni = table.get("vni")
     is_vni = is_number(vni, (0, (1 << 24) - 1, 1)) and (vnis is None or vni in vnis)
     found = [] if is_vni else ["vni"]
     found += [it for it, bounds in PORT_RANGES.items() if it in table and not is_number(table[it], bounds)]
     found += [it for it in FLAGS if it in table and not isinstance(table[it], bool)]
     found += [it for it, bounds in LIMIT_RANGES.items() if it in table and not is_number(table[it], bounds)]
-    found += [it for it in PLACES if (is_run or it in table) and not is_place(table.get(it))]
-    known = ["vni", *PORT_RANGES, *FLAGS, *LIMIT_RANGES, *PLACES]
+    found += [it for it in PLACES if (it in table if "device" in table else (is_run or it in table) and not is_place(table.get(it)))]
+    found += ["device"] if "device" in table and not (is_run and is_device(table["device"])) else []
+    known = ["vni", *PORT_RANGES, *FLAGS, *LIMIT_RANGES, *PLACES, "device"]
     return [Faulty(place, it) for it in found] + unknown(table, known, place)
 
 
@@ -129,6 +131,22 @@ def of_edge(table: Dict, place: str, earlier: Tuple[List[str], List[str]], is_ru
     return faults
 
 
+def is_device(value: object) -> bool:
+    """Returns `True` if a value is the name of a device."""
+    return isinstance(value, str) and bool(DEVICE.fullmatch(value))
+
+
+def of_devices(edges: List[Dict]) -> List[Faulty]:
+    """Returns a fault for each device of a run that an earlier port has."""
+    found, earlier = [], set()
+    for number, edge in enumerate(edges, 1):
+        for port, table in enumerate(edge["port"] if are_tables(edge.get("port")) else [], 1):
+            device = table.get("device")
+            found += [Faulty(f"edge {number}, port {port}: ", "device")] if is_device(device) and device in earlier else []
+            earlier |= {device} if is_device(device) else set()
+    return found
+
+
 def of_document(document: Dict, is_served: bool) -> List[Faulty]:
     """Returns the faults of a document, in order."""
     edges, peers = document.get("edge"), document.get("peer")
@@ -147,6 +165,7 @@ def of_document(document: Dict, is_served: bool) -> List[Faulty]:
     earlier: Tuple[List[str], List[str]] = addresses, []
     for number, table in enumerate(edges if are_edges else [], 1):
         faults += of_edge(table, f"edge {number}: ", earlier, is_served)
+    faults += of_devices(edges if are_edges and is_served else [])
     for number, table in enumerate(peers if are_peers else [], 1):
         value = address_of(table.get("address"))
         faults += [Faulty(f"peer {number}: ", "address")] if value is None or value in addresses else []
@@ -204,13 +223,22 @@ def line(key: str, value: str, numbers: random.Random) -> str:
     return f"{key} = {value}\n"
 
 
+def device_text(numbers: random.Random) -> str:
+    """Returns the name of a device: most often a right one, and seldom that of another port."""
+    name = numbers.choice((f"tap{numbers.randrange(100000)}", f"Tap-1.20_{numbers.randrange(1000000)}", f"a{numbers.randrange(1000):014}"))
+    return name if numbers.random() < 0.9 else numbers.choice(("", "a" * 16, "tap/0", "tap 0", "\\u00e9", "tap0"))
+
+
 def port_text(numbers: random.Random, vnis: List[int], are_there: float) -> str:
-    """Returns a port, which has its places with this probability."""
+    """Returns a port, which has its places with this probability, or a device."""
     text = line("vni", str(numbers.choice(vnis)), numbers) if numbers.random() < 0.97 else "vni = 77\n"
     for key, bounds in (*PORT_RANGES.items(), *LIMIT_RANGES.items()):
         text += line(key, number_text(bounds, numbers), numbers) if numbers.random() < 0.3 else ""
     for key in FLAGS:
         text += line(key, numbers.choice(("true", "false")), numbers) if numbers.random() < 0.3 else ""
+    if numbers.random() < 0.1 * (are_there + 0.1):
+        text += line("device", f'"{device_text(numbers)}"', numbers)
+        are_there = 0.02
     for key in PLACES:
         place = f"127.0.{numbers.randrange(256)}.1:{numbers.randrange(65536)}"
         if numbers.random() < 0.03:

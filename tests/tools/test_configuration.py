@@ -76,6 +76,8 @@ class PageAgainstSchema(unittest.TestCase):
                     self.assertEqual(default, row.content)
                 elif row.kind == "Endpoint":
                     self.assertTrue(default.startswith("required only by"))
+                elif row.kind == "Device":
+                    self.assertEqual(default, "none")
                 else:
                     self.assertEqual(default, "required")
 
@@ -104,6 +106,13 @@ class PageAgainstSchema(unittest.TestCase):
         assert most
         self.assertIn(f"1 to {most[1]} octets", PAGE)
         self.assertIn(f"1 to {most[1]} octets", SCHEMA)
+
+    def test_length_of_a_device(self) -> None:
+        """The page and the advice have the length of a device's name that the reader allows."""
+        most = re.search(r"LONGEST_NAME: usize = (\d+);", text_of("crates/ev_links/src/device_name.rt"))
+        assert most
+        self.assertIn(f"1 to {most[1]} letters", dict((key, value) for key, value, _ in page_rows("## `[[edge.port]]`"))["device"])
+        self.assertIn(f"1 to {most[1]} letters", SCHEMA)
 
 
 if __name__ == "__main__":

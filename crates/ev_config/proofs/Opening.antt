@@ -29,19 +29,19 @@ use Rattle.ev_config.specs.ConfigEdge.{edge_of}
 use Rattle.ev_config.specs.Faults.{Spot, File, Edge, Port, Peer, Faulty, SeenNames, no_names, Context, is_known}
 use Rattle.ev_config.specs.Faults.{is_faulty_at, is_faulty}
 use Rattle.ev_config.specs.Faults.{fault_if, rows_faults, table_faults, unknown, times_in, is_odd, ports_faults}
-use Rattle.ev_config.specs.Faults.{port_faults}
+use Rattle.ev_config.specs.Faults.{port_context, port_faults, edge_context, peer_context, own_context}
 use Rattle.ev_config.specs.Faults.{edge_faults, joined, after, after_all, edges_faults, peer_faults}
 use Rattle.ev_config.specs.Faults.{peers_faults, own_faults, edge_items, peer_items, edge_names, names_in}
-use Rattle.ev_config.specs.Faults.{faults_in, is_run, rows_for}
+use Rattle.ev_config.specs.Faults.{device_faults, faults_in, is_run, rows_for}
 use Rattle.ev_config.specs.Config.{whole_of}
 
 -- ---- lists without faults
 
-none_left : {X : Type 0} (xs ys : List X) → xs ++ ys ≡ [] → xs ≡ []
+pub none_left : {X : Type 0} (xs ys : List X) → xs ++ ys ≡ [] → xs ≡ []
 none_left [] ys h = refl
 none_left (x ∷ xs) ys h = cc
 
-none_right : {X : Type 0} (xs ys : List X) → xs ++ ys ≡ [] → ys ≡ []
+pub none_right : {X : Type 0} (xs ys : List X) → xs ++ ys ≡ [] → ys ≡ []
 none_right [] ys h = h
 none_right (x ∷ xs) ys h = cc
 
@@ -62,8 +62,8 @@ row_right c s (x ∷ rows) t (suc i) row at h = row_right c s rows t i row at
     (none_right (fault_if (is_faulty c x t) s x.0) (rows_faults c s rows t) h)
 
 -- the row of a table without faults
-table_right : (c : Context) (s : Spot) (rows : List Row) (t : Members) (i : ℕ) (row : Row) → slice_get rows i ≡ Some row
-    → table_faults c s rows t ≡ [] → is_faulty c row t ≡ false
+pub table_right : (c : Context) (s : Spot) (rows : List Row) (t : Members) (i : ℕ) (row : Row)
+    → slice_get rows i ≡ Some row → table_faults c s rows t ≡ [] → is_faulty c row t ≡ false
 table_right c s rows t i row at h = row_right c s rows t i row at
     (none_left (rows_faults c s rows t) (unknown s rows (keys_of t)) h)
 
@@ -96,10 +96,6 @@ abbrev AllNew : SeenNames → Items → Type 0
 AllNew names no_items = Unit {0}
 AllNew names (item d ds) = NewIn names (as_table d) × AllNew (after names (as_table d)) ds
 
-abbrev edge_context : Bool → SeenNames → Members → Context
-edge_context for_run names t =
-    record { for_run = for_run; names = names; vnis = spelt (codes "vnis") vnis_in t; edges = 0 }
-
 abbrev later_faults : Bool → SeenNames → ℕ → Members → List Faulty
 later_faults for_run names n t = fault_if (is_odd (times_in t)) (Edge n) (codes "max_age")
     ++ ports_faults (edge_context for_run names t) n 1 (tables_at (codes "port") t)
@@ -109,7 +105,7 @@ own_right : (for_run : Bool) (names : SeenNames) (n : ℕ) (t : Members) → edg
 own_right for_run names n t h =
     none_left (table_faults (edge_context for_run names t) (Edge n) edge_rows t) (later_faults for_run names n t) h
 
-ports_right : (for_run : Bool) (names : SeenNames) (n : ℕ) (t : Members) → edge_faults for_run names n (Some t) ≡ []
+pub ports_right : (for_run : Bool) (names : SeenNames) (n : ℕ) (t : Members) → edge_faults for_run names n (Some t) ≡ []
     → ports_faults (edge_context for_run names t) n 1 (tables_at (codes "port") t) ≡ []
 ports_right for_run names n t h =
     none_right (fault_if (is_odd (times_in t)) (Edge n) (codes "max_age"))
@@ -146,10 +142,8 @@ peers_new names n (item d ds) h = (
 
     go : (o : Option Members) → peer_faults names n o ≡ [] → NewIn names o
     go None e = tt
-    go (Some t) e =
-        let c : Context = record { for_run = true; names = names; vnis = None; edges = 0 } in
-        new_at c (get_member (codes "address") t)
-        (table_right c (Peer n) peer_rows t 0 (codes "address", kind.Address) refl e)
+    go (Some t) e = new_at (peer_context names) (get_member (codes "address") t)
+        (table_right (peer_context names) (Peer n) peer_rows t 0 (codes "address", kind.Address) refl e)
 
 -- one address more
 joined_distinct : (before : List ℕ) (o : Option ℕ) → IsNew before o → IsDistinct eqb before
@@ -315,8 +309,8 @@ ports_served c vnis n m (item d ds) is h v at =
         → Contains (vnis_of (map port_of (with_table o (tables_of ds)))) v → Contains vnis v
     go None f more w = more w
     go (Some t) f more (zero, l, e) = one (spelt (codes "vni") vni_in t)
-        (port_served c vnis (get_member (codes "vni") t) is
-        (table_right c (Port n m) port_rows t 0 (codes "vni", kind.Vni) refl f)) e
+        (port_served (port_context c t) vnis (get_member (codes "vni") t) is
+        (table_right (port_context c t) (Port n m) port_rows t 0 (codes "vni", kind.Vni) refl f)) e
     go (Some t) f more (suc i, l, e) = more (i, omega (arith, l), e)
 
 -- as many tables as items
@@ -504,14 +498,20 @@ opens wanted t none = record {
     of_edges : List Faulty
     of_edges = edges_faults (is_run wanted) no_names 1 (edge_items t)
 
+    of_devices : List Faulty
+    of_devices = device_faults (is_run wanted) (edge_items t)
+
     of_peers : List Faulty
     of_peers = peers_faults (edge_names t) 1 (peer_items wanted t)
 
+    later : of_edges ++ (of_devices ++ of_peers) ≡ []
+    later = none_right own (of_edges ++ (of_devices ++ of_peers)) none
+
     edges : edges_faults (is_run wanted) no_names 1 (edge_items t) ≡ []
-    edges = none_left of_edges of_peers (none_right own (of_edges ++ of_peers) none)
+    edges = none_left of_edges (of_devices ++ of_peers) later
 
     file : Context
-    file = record { for_run = true; names = no_names; vnis = None; edges = count_of (edge_items t) }
+    file = own_context (count_of (edge_items t))
 
     first : (w : Use) → slice_get (rows_for w) 0 ≡ Some (codes "edge", kind.Tables)
     first Any = refl
@@ -521,11 +521,11 @@ opens wanted t none = record {
     tables : AreTables (edge_items t)
     tables = tables_right file (get_member (codes "edge") t)
         (table_right file File (rows_for wanted) t 0 (codes "edge", kind.Tables) (first wanted)
-        (none_left own (of_edges ++ of_peers) none))
+        (none_left own (of_edges ++ (of_devices ++ of_peers)) none))
 
     h : AreHeard (edge_names t).addresses listed
     h = heard wanted t tables.count edges
-        (none_right of_edges of_peers (none_right own (of_edges ++ of_peers) none))
+        (none_right of_devices of_peers (none_right of_edges (of_devices ++ of_peers) later))
 
     same : (edge_names t).addresses ≡ addresses_of (whole_of wanted t).0
     same = names_are listed no_names (edge_items t) (edges_new (is_run wanted) no_names 1 (edge_items t) edges)

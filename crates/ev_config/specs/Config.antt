@@ -1,6 +1,7 @@
 -- The configuration that a document gives, or its first fault.
 use Rattle.std.specs.Prelude.{◌≡◌, ℕ, Bool, true, false, List, [], ◌∷◌, map, codes, string_bytes, String}
 use Rattle.std.specs.Prelude.{Some, None, Result, Ok, Err}
+use Rattle.std.specs.List.{list_all}
 use Rattle.std.specs.Option.{unwrap_or}
 use Rattle.std.specs.declared.alloc.Global.{Global}
 use Rattle.toml.specs.Data.{Items, Members}
@@ -16,6 +17,7 @@ use Rattle.ev_config.specs.declared.config.ConfigRefusal.{ConfigRefusal}
 use Rattle.ev_config.specs.declared.config.ConfigRefusal.TheVariants as refusal
 use Rattle.ev_config.specs.Schema.{Key, idle, peer_hold}
 use Rattle.ev_config.specs.Keys.{path_in, spelt, number_at, tables_of}
+use Rattle.ev_config.specs.ConfigPort.{has_cable}
 use Rattle.ev_config.specs.ConfigEdge.{edge_of, links_of}
 use Rattle.ev_config.specs.Faults.{Faulty, edge_items, names_in, faults_in}
 
@@ -49,6 +51,10 @@ config_faults for_run = faults_in (use_for for_run)
 
 abbrev pub config_in : Bool → Members → Result Whole Key
 config_in for_run = whole_in (use_for for_run)
+
+-- each port of each edge has its cable
+abbrev pub have_cables : Bool → List (ArrayVec PortEndpoints) → Bool
+have_cables for_run links = list_all (λ ls. list_all (has_cable for_run) ls.items) links
 
 abbrev pub view_of : Config → Whole
 view_of c = (c.edges.items, c.links.items)

@@ -1,11 +1,12 @@
 -- The ports of an edge: the values of their tables.
-use Rattle.std.specs.Prelude.{ℕ, ◌==◌, true, false, Option, Some, None, codes, if◌then◌else◌}
+use Rattle.std.specs.Prelude.{ℕ, ◌==◌, Bool, true, false, ◌&&◌, is_some, is_none, Option, Some, None, codes}
+use Rattle.std.specs.Prelude.{if◌then◌else◌}
 use Rattle.std.specs.Option.{unwrap_or}
 use Rattle.toml.specs.Data.{Members}
 use Rattle.ev_edge.specs.declared.config.PortConfig.{PortConfig}
 use Rattle.ev_config.specs.declared.endpoint.PortEndpoints.{PortEndpoints}
 use Rattle.ev_config.specs.Schema.{cost, port_priority, stations, new_stations, storm}
-use Rattle.ev_config.specs.Keys.{spelt, vni_in, endpoint_in, number_at, flag_at}
+use Rattle.ev_config.specs.Keys.{spelt, vni_in, endpoint_in, device_in, number_at, flag_at}
 
 -- 0 is no limit
 abbrev pub storm_limit : ℕ → Option ℕ
@@ -28,9 +29,16 @@ port_of t = record {
   };
 }
 
--- the ends of the link that serves as the port's cable
+-- what serves as the port's cable: the ends of a link, or a device
 abbrev pub link_of : Members → PortEndpoints
 link_of t = record {
   local = spelt (codes "local") endpoint_in t;
   remote = spelt (codes "remote") endpoint_in t;
+  device = spelt (codes "device") device_in t;
 }
+
+-- a port's cable: in a run a device and no ends, or both ends; otherwise it has no device
+abbrev pub has_cable : Bool → PortEndpoints → Bool
+has_cable false l = is_none l.device
+has_cable true l =
+    if is_some l.device then is_none l.local && is_none l.remote else is_some l.local && is_some l.remote

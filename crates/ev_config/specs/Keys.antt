@@ -1,13 +1,15 @@
 -- The values of the keys of a table.
 use Rattle.std.specs.Prelude.{ℕ, ℤ, pos, negsuc, ◌+◌, ◌-◌, ◌*◌, ◌%◌, Bool, true, not, ◌&&◌, ◌||◌, ◌==◌, nat_lt, nat_le}
 use Rattle.std.specs.Prelude.{if◌then◌else◌, List, [], ◌∷◌, ◌++◌, length, is_some, Option, Some, None}
-use Rattle.std.specs.Prelude.{option_and_then}
+use Rattle.std.specs.Prelude.{option_and_then, codes}
 use Rattle.std.specs.Option.{unwrap_or}
 use Rattle.std.specs.List.{list_any}
 use Rattle.toml.specs.Data.{Data, Items, no_items, item, Members, no_members, member, get_member, as_integer, as_bool}
 use Rattle.toml.specs.Data.{as_str, as_array, as_table}
 use Rattle.ether_wire.specs.Addr.{is_group}
 use Rattle.ether_wire.specs.Parse.{addr_of_text, mac_of_text}
+use Rattle.ev_links.specs.declared.device_name.DeviceName.{DeviceName}
+use Rattle.ev_links.specs.DeviceName.{device_of_text}
 use Rattle.ev_config.specs.declared.endpoint.Endpoint.{Endpoint}
 use Rattle.ev_config.specs.declared.schema.Range.{Range}
 use Rattle.ev_config.specs.Endpoint.{endpoint_of_text}
@@ -44,6 +46,17 @@ bridge_in d = individual (option_and_then mac_of_text (as_str d))
 
 abbrev pub endpoint_in : Data → Option Endpoint
 endpoint_in d = option_and_then endpoint_of_text (as_str d)
+
+-- the name of a network device
+abbrev pub device_in : Data → Option DeviceName
+device_in d = option_and_then device_of_text (as_str d)
+
+-- the text of the name of a network device
+abbrev pub name_of : List ℕ → Option (List ℕ)
+name_of text = if is_some (device_of_text text) then Some text else None
+
+abbrev pub name_in : Data → Option (List ℕ)
+name_in d = option_and_then name_of (as_str d)
 
 -- the path of a Unix socket: 1 to 107 octets, none of which is 0 (unix(7))
 abbrev pub is_path : List ℕ → Bool
@@ -109,6 +122,10 @@ tables_beside others d =
 -- the value of a table at a key, if it is there and right
 abbrev pub spelt : {X : Type 0} → Key → (Data → Option X) → Members → Option X
 spelt key read t = option_and_then read (get_member key t)
+
+-- whether a port's table has the key of a device, with any value
+abbrev pub has_device : Members → Bool
+has_device t = is_some (get_member (codes "device") t)
 
 abbrev pub or_default : ℕ → Range → Option Data → Option ℕ
 or_default default range None = Some default

@@ -124,7 +124,8 @@ port_rows =
     ∷ (codes "new_stations", kind.Number new_stations)
     ∷ (codes "storm", kind.Number storm)
     ∷ (codes "local", kind.Endpoint)
-    ∷ (codes "remote", kind.Endpoint) ∷ []
+    ∷ (codes "remote", kind.Endpoint)
+    ∷ (codes "device", kind.Device) ∷ []
 
 abbrev pub peer_rows : List Row
 peer_rows = (codes "address", kind.Address) ∷ []

@@ -5,9 +5,10 @@ use crate::document_table::DocumentTable;
 use crate::hints::{meant, put_hint};
 use crate::message_buffer::MessageBuffer;
 use crate::schema::{MAX_AGE, Range};
-use crate::values::{addr_in, bridge_in, tables_at, vni_in};
+use crate::values::{addr_in, bridge_in, device_at, device_in, tables_at, vni_in};
 use crate::whole::Use;
 use ether_wire::Vni;
+use ev_links::DeviceName;
 use std::alloc::Global;
 use toml::value::Array;
 use toml::{Table, Value};
@@ -113,6 +114,50 @@ fn twin_of(
     }
 }
 
+/// Returns the number of the first port of an edge that has this device, from 1.
+fn port_with(edge: &Value, name: DeviceName) -> Option<usize> {
+    let ports = tables_at(edge.as_table()?, "port")?;
+    for (at, port) in ports.iter().enumerate() {
+        if device_at(port.as_table()?) == Some(name) {
+            return Some(at.saturating_add(1));
+        }
+    }
+    None
+}
+
+/// Returns the first port that has this device: the number of its edge and its own, from 1.
+fn owner_of(document: &Table, name: DeviceName) -> Option<(usize, usize)> {
+    let edges = tables_at(document, "edge")?;
+    for (at, edge) in edges.iter().enumerate() {
+        if let Some(port) = port_with(edge, name) {
+            return Some((at.saturating_add(1), port));
+        }
+    }
+    None
+}
+
+/// Returns `true` if a key names the device of a port of a run.
+fn has_owner(wanted: Use, place: DocumentTable<'_>, key: &str) -> bool {
+    match place {
+        DocumentTable::Port(..) => wanted != Use::Any && key == "device",
+        _ => false,
+    }
+}
+
+/// Writes which port before has the device of a port of a run: `, which edge 1, port 2 has`. A
+/// right name of a device is only faulty there if one does.
+fn put_owner(line: &mut MessageBuffer, document: &Table, value: &Value) {
+    let Some(name) = device_in(value) else {
+        return;
+    };
+    if let Some((edge, port)) = owner_of(document, name) {
+        line.put(b", which ");
+        put_place(line, b"edge", edge);
+        put_place(line, b", port", port);
+        line.put(b" has");
+    }
+}
+
 /// Writes why a table is wrong, if that is known.
 fn put_table_reason(line: &mut MessageBuffer, place: DocumentTable<'_>, key: &str) {
     match (place, key) {
@@ -156,12 +201,14 @@ fn put_array_reason(line: &mut MessageBuffer, array: &Array) {
 /// Writes why a value is wrong, if that is known.
 fn put_reason(
     line: &mut MessageBuffer,
+    wanted: Use,
     document: &Table,
     place: DocumentTable<'_>,
     key: &str,
     value: &Value,
 ) {
     match value {
+        Value::String(_) if has_owner(wanted, place, key) => put_owner(line, document, value),
         Value::String(text) => match twin_of(document, place, key, value) {
             Some((name, number)) => {
                 line.put(b", which ");
@@ -177,13 +224,18 @@ fn put_reason(
 }
 
 /// Returns the value of a faulty key, and why that is wrong, if it is known.
-pub(crate) fn found_line(document: &Table, place: DocumentTable<'_>, key: &str) -> MessageBuffer {
+pub(crate) fn found_line(
+    wanted: Use,
+    document: &Table,
+    place: DocumentTable<'_>,
+    key: &str,
+) -> MessageBuffer {
     let mut line = MessageBuffer::new();
     match table_of(place).get(key) {
         Some(value) => {
             line.put(b" is ");
             put_value(&mut line, value);
-            put_reason(&mut line, document, place, key, value);
+            put_reason(&mut line, wanted, document, place, key, value);
         }
         None => put_absent(&mut line, key),
     }

@@ -8,6 +8,7 @@ ghost use Rattle.ev_config.specs.Inner.Faults.{spot_of, row_of};
 use crate::document_table::DocumentTable;
 use crate::faults::row_at;
 use crate::schema::{EDGE, KeyKind, PEER, PORT, Range, Row, SERVED, VNI};
+use crate::values::has_device;
 use crate::walk::file_rows;
 use crate::whole::Use;
 use ether_wire::{Device, Out, put_decimal};
@@ -100,10 +101,27 @@ fn unknown(wanted: Use, place: DocumentTable<'_>, key: &str) -> &'static str {
     }
 }
 
+/// Returns the message for a key of this kind that no value makes right: a device where nothing
+/// runs, or an endpoint of a port that has a device.
+fn excluded(wanted: Use, place: DocumentTable<'_>, kind: KeyKind) -> Option<&'static str> {
+    match (kind, place) {
+        (KeyKind::Device, _) if wanted == Use::Any => Some(
+            "which is a key of what `run` and `serve` run alone: \
+use `check --run` or `check --serve`",
+        ),
+        (KeyKind::Endpoint, DocumentTable::Port(_, _, table)) if has_device(table) => {
+            Some(
+                "which no port with `device` has: a port has either `device`, or `local` and `remote`",
+            )
+        }
+        _ => None,
+    }
+}
+
 /// Returns the allowed values of a key, or what follows their range.
 pub(crate) fn words_of(wanted: Use, place: DocumentTable<'_>, key: &str) -> &'static str {
     match row_at(rows_of(wanted, place), key) {
-        Some(Row(_, _, words)) => words,
+        Some(Row(_, kind, words)) => excluded(wanted, place, kind).unwrap_or(words),
         None => unknown(wanted, place, key),
     }
 }

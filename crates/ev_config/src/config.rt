@@ -1,9 +1,9 @@
 //! The configuration: the edges that a TOML text describes.
-ghost use Rattle.std.specs.Prelude.{◌≡◌, ◌≤◌, IfOk, length};
+ghost use Rattle.std.specs.Prelude.{◌≡◌, ◌≤◌, IfOk, length, true};
 ghost use Rattle.toml.specs.View.{table_view};
 ghost use Rattle.ev_fabric.specs.Opening.{AreConfigs};
-ghost use Rattle.ev_config.specs.Config.{ConfigOf, ServedOf, ServedEdgesOf, ConfigFor, view_of, whole_in, edges_of, served_in, served_view};
-ghost use Rattle.ev_config.specs.Faults.{edge_items};
+ghost use Rattle.ev_config.specs.Config.{ConfigOf, ServedOf, ServedEdgesOf, ConfigFor, have_cables, view_of, whole_in, edges_of, served_in, served_view};
+ghost use Rattle.ev_config.specs.Faults.{edge_items, is_run};
 ghost use Rattle.ev_config.specs.Inner.Config.{Reads, IsFirst, Gives};
 ghost use Rattle.ev_config.specs.Inner.Faults.{faults_view};
 ghost use Rattle.ev_config.specs.declared.config.ConfigRefusal.TheVariants.{NoMemory};
@@ -81,6 +81,7 @@ fn edges_in(
 fn whole_in(alloc: Global, wanted: Use, document: &Table) -> Result<Config, ConfigRefusal>
     ensures value { Gives view_of (whole_in wanted (table_view document.now)) result }
     ensures opens { IfOk result (λ c. AreConfigs c.edges.items) }
+    ensures cables { IfOk result (λ c. have_cables (is_run wanted) c.links.items ≡ true) }
 {
     let found = walk(alloc, wanted, document)?;
     refuse(alloc, found.faults.as_slice())?;
@@ -91,6 +92,7 @@ fn whole_in(alloc: Global, wanted: Use, document: &Table) -> Result<Config, Conf
 fn served_in(alloc: Global, document: &Table) -> Result<ServedConfig, ConfigRefusal>
     ensures value { Gives served_view (served_in (table_view document.now)) result }
     ensures opens { IfOk result (λ s. AreConfigs s.config.edges.items) }
+    ensures cables { IfOk result (λ s. have_cables true s.config.links.items ≡ true) }
 {
     let config = whole_in(alloc, Use::Serve, document)?;
     let control = String::from_str(alloc, path_at(document, "control").unwrap_or(""))?;
@@ -102,7 +104,8 @@ fn served_in(alloc: Global, document: &Table) -> Result<ServedConfig, ConfigRefu
     })
 }
 
-/// Returns the configuration that a text spells; for a run each port needs its endpoints.
+/// Returns the configuration that a text spells; for a run each port needs its endpoints or its
+/// device.
 ///
 /// # Errors
 ///
@@ -111,6 +114,7 @@ fn served_in(alloc: Global, document: &Table) -> Result<ServedConfig, ConfigRefu
 pub fn config_of(alloc: Global, text: &str, for_run: bool) -> Result<Config, ConfigRefusal>
     ensures value { ConfigOf for_run text.now result }
     ensures opens { IfOk result (λ c. AreConfigs c.edges.items) }
+    ensures cables { IfOk result (λ c. have_cables for_run c.links.items ≡ true) }
 {
     let document = document_of(alloc, text)?;
     whole_in(alloc, if for_run { Use::Run } else { Use::Any }, &document)
@@ -128,6 +132,7 @@ pub fn config_of(alloc: Global, text: &str, for_run: bool) -> Result<Config, Con
 pub fn served_config_of(alloc: Global, text: &str) -> Result<ServedConfig, ConfigRefusal>
     ensures value { ServedOf text.now result }
     ensures opens { IfOk result (λ s. AreConfigs s.config.edges.items) }
+    ensures cables { IfOk result (λ s. have_cables true s.config.links.items ≡ true) }
 {
     let document = document_of(alloc, text)?;
     served_in(alloc, &document)

@@ -27,8 +27,10 @@ pub(crate) struct Context<'a> {
     /// The names of the tables before.
     pub(crate) names: &'a SeenNames,
     /// The VNIs of the edge, if they are known.
-    pub(crate) vnis: Option<ArrayVec<Vni, 64>>,
+    pub(crate) vnis: &'a Option<ArrayVec<Vni, 64>>,
     /// The number of edges.
     pub(crate) edges: usize,
+    /// Whether the table is that of a port with a device.
+    pub(crate) has_device: bool,
     ghost few: { edges ≤ 64 },
 }

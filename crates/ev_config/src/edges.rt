@@ -12,13 +12,15 @@ use crate::schema::{
     NEW_STATIONS, PORT_PRIORITY, PRIORITY, SALT, STATIONS, STORM,
 };
 use crate::values::{
-    address_at, bridge_at, endpoint_at, flag, number, number_or, tables_at, vni_at, vnis_at,
+    address_at, bridge_at, device_at, endpoint_at, flag, number, number_or, tables_at, vni_at,
+    vnis_at,
 };
 use crate::whole::Config;
 use arrayvec::ArrayVec;
 use bpdu_wire::BridgeId;
 use ether_wire::{Addr, Mac, Vni};
 use ev_edge::{EdgeConfig, Limits, PortConfig};
+use ev_links::DeviceName;
 use rstp_state::{PortSettings, Settings};
 use std::alloc::{AllocError, Global};
 use toml::Table;
@@ -52,13 +54,18 @@ fn port_of(table: &Table) -> PortConfig
     }
 }
 
-/// Returns the endpoints of a port's table.
+/// Returns what serves as the cable of a port's table: the endpoints of its link, or its device.
 fn link_of(table: &Table) -> PortEndpoints
     ensures { result ≡ link_of (table_view table.now) }
 {
     let local: Option<Endpoint> = endpoint_at(table, "local");
     let remote: Option<Endpoint> = endpoint_at(table, "remote");
-    PortEndpoints { local, remote }
+    let device: Option<DeviceName> = device_at(table);
+    PortEndpoints {
+        local,
+        remote,
+        device,
+    }
 }
 
 /// Returns the ports of these tables.
@@ -86,7 +93,7 @@ fn ports_at(table: &Table) -> ArrayVec<PortConfig, 64>
     }
 }
 
-/// Returns the endpoints of these tables of ports.
+/// Returns the cables of these tables of ports.
 fn links_of(tables: &Array) -> ArrayVec<PortEndpoints, 64>
     requires { length tables.now.items ≤ 64 }
     ensures { result.items ≡ map link_of (tables_of (array_view tables.now)) }
@@ -94,14 +101,22 @@ fn links_of(tables: &Array) -> ArrayVec<PortEndpoints, 64>
     let mut links = ArrayVec::new();
     for value in tables {
         if let Some(table) = value.as_table() {
-            let PortEndpoints { local, remote } = link_of(table);
-            links.push(PortEndpoints { local, remote });
+            let PortEndpoints {
+                local,
+                remote,
+                device,
+            } = link_of(table);
+            links.push(PortEndpoints {
+                local,
+                remote,
+                device,
+            });
         }
     }
     links
 }
 
-/// Returns the endpoints of the ports of an edge's table.
+/// Returns the cables of the ports of an edge's table.
 fn links_at(table: &Table) -> ArrayVec<PortEndpoints, 64>
     ensures { result ≡ links_of (table_view table.now) }
 {

@@ -1,9 +1,10 @@
-//! The endpoints of a port's link.
+//! What serves as a port's cable: a link's endpoints, or a device.
 ghost use Rattle.std.specs.Prelude.{◌≡◌, Some};
 ghost use Rattle.ether_wire.specs.Parse.{decimal_of_text};
 ghost use Rattle.ev_config.specs.Endpoint.{endpoint_of_text};
 
 use ether_wire::{Addr, parted, read_decimal};
+use ev_links::DeviceName;
 
 /// A UDP endpoint.
 #[derive(Clone, Copy, Debug, PartialEq, Eq)]
@@ -14,13 +15,15 @@ pub struct Endpoint {
     pub port: u16,
 }
 
-/// The two ends of the link that serves as a port's cable.
+/// What serves as a port's cable: the two ends of a link, or a device.
 #[derive(Clone, Copy, Debug, Default, PartialEq, Eq)]
 pub struct PortEndpoints {
     /// The address at which the port receives frames.
     pub local: Option<Endpoint>,
     /// The address to which it sends them.
     pub remote: Option<Endpoint>,
+    /// The device with which the port exchanges frames.
+    pub device: Option<DeviceName>,
 }
 
 /// Returns the UDP port that the text spells in decimal.

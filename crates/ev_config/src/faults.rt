@@ -8,7 +8,8 @@ ghost use Rattle.ev_config.specs.Inner.Faults.{spot_of, Adds, row_of, context_vi
 use crate::document_table::{Context, DocumentTable};
 use crate::schema::{KeyKind, Row};
 use crate::values::{
-    endpoint_in, has_vni, number_in, path_in, tables_beside, tables_in, value_at, vni_in, vnis_in,
+    device_in, endpoint_in, has_vni, number_in, path_in, tables_beside, tables_in, value_at,
+    vni_in, vnis_in,
 };
 use arrayvec::ArrayVec;
 use ether_wire::Vni;
@@ -45,10 +46,11 @@ fn is_right(context: &Context<'_>, kind: KeyKind, value: &Value) -> bool
         KeyKind::Address => context.names.is_new_address(value),
         KeyKind::Bridge => context.names.is_new_bridge(value),
         KeyKind::Vnis => vnis_in(value).is_some(),
-        KeyKind::Vni => is_known(&context.vnis, value),
+        KeyKind::Vni => is_known(context.vnis, value),
         KeyKind::Number(range) => number_in(value, range).is_some(),
         KeyKind::Flag(_) => value.as_bool().is_some(),
-        KeyKind::Endpoint => endpoint_in(value).is_some(),
+        KeyKind::Endpoint => !context.has_device && endpoint_in(value).is_some(),
+        KeyKind::Device => context.for_run && device_in(value).is_some(),
         KeyKind::Path => path_in(value).is_some(),
         KeyKind::Tables => tables_in(value).is_some(),
         KeyKind::Peers => tables_beside(value, context.edges).is_some(),
@@ -60,8 +62,8 @@ fn is_needed(context: &Context<'_>, kind: KeyKind) -> bool
     ensures { result ≡ is_needed (context_view context.now) kind }
 {
     match kind {
-        KeyKind::Number(_) | KeyKind::Flag(_) | KeyKind::Peers => false,
-        KeyKind::Endpoint => context.for_run,
+        KeyKind::Number(_) | KeyKind::Flag(_) | KeyKind::Peers | KeyKind::Device => false,
+        KeyKind::Endpoint => context.for_run && !context.has_device,
         KeyKind::Address
         | KeyKind::Bridge
         | KeyKind::Vnis

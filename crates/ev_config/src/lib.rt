@@ -4,6 +4,7 @@
 mod advice;
 mod allowed;
 mod config;
+mod devices;
 mod document_table;
 mod edges;
 mod endpoint;

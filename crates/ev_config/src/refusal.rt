@@ -176,7 +176,7 @@ fn put_fault<N: Out>(
 {
     let FaultyKey { place, key } = fault;
     let row = row_at(rows_of(wanted, place), key);
-    let found = found_line(document, place, key);
+    let found = found_line(wanted, document, place, key);
     let advice = advice_line(alloc, wanted, place, key);
     put_place(notes, place)?;
     put_key(notes, key)?;

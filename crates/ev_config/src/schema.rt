@@ -25,8 +25,12 @@ pub(crate) enum KeyKind {
     Number(Range),
     /// `true` or `false`. The key is optional, with this default.
     Flag(bool),
-    /// An IPv4 address and a UDP port. Only a run needs the key.
+    /// An IPv4 address and a UDP port. A port with a device may not have the key, and each other
+    /// port of a run needs it.
     Endpoint,
+    /// The name of a network device that no port before has. The key is optional, and only a run
+    /// may have it.
+    Device,
     /// The path of a Unix socket.
     Path,
     /// 1 to 64 tables.
@@ -104,7 +108,7 @@ pub(crate) const EDGE: [Row; 14] = [
 ];
 
 /// The keys of a port.
-pub(crate) const PORT: [Row; 11] = [
+pub(crate) const PORT: [Row; 12] = [
     Row("vni", KeyKind::Vni, "allowed is one of the edge's vnis"),
     Row("cost", KeyKind::Number(COST), ""),
     Row("priority", KeyKind::Number(PORT_PRIORITY), ""),
@@ -116,6 +120,12 @@ pub(crate) const PORT: [Row; 11] = [
     Row("storm", KeyKind::Number(STORM), ""),
     Row("local", KeyKind::Endpoint, PLACE),
     Row("remote", KeyKind::Endpoint, PLACE),
+    Row(
+        "device",
+        KeyKind::Device,
+        "allowed is the name of a device that no port before has, \
+1 to 15 letters, digits, '.', '-' and '_', as 'tap0'",
+    ),
 ];
 
 /// The key of a peer.

@@ -4,12 +4,13 @@ ghost use Rattle.std.specs.List.{list_any, IsDistinct};
 ghost use Rattle.std.specs.Option.{option_map_or, unwrap_or};
 ghost use Rattle.toml.specs.Data.{get_member, no_items};
 ghost use Rattle.toml.specs.View.{view, table_view, array_view};
-ghost use Rattle.ev_config.specs.Keys.{is_within, number_in, known_number, number_or, flag_in, addr_in, bridge_in, endpoint_in, is_path, path_in, vni_in, vnis_in, new_among, numbers_from, is_few, are_tables, tables_in, tables_beside, spelt, number_at, flag_at, tables_at};
+ghost use Rattle.ev_config.specs.Keys.{is_within, number_in, known_number, number_or, flag_in, addr_in, bridge_in, endpoint_in, device_in, name_in, has_device, is_path, path_in, vni_in, vnis_in, new_among, numbers_from, is_few, are_tables, tables_in, tables_beside, spelt, number_at, flag_at, tables_at};
 
 use crate::endpoint::{Endpoint, read_endpoint};
 use crate::schema::{Range, VNI};
 use arrayvec::ArrayVec;
 use ether_wire::{Addr, Mac, Vni};
+use ev_links::DeviceName;
 use toml::value::Array;
 use toml::{Table, Value};
 
@@ -134,6 +135,46 @@ pub(crate) fn endpoint_at(table: &Table, key: &str) -> Option<Endpoint>
     ensures { result ≡ spelt key.now endpoint_in (table_view table.now) }
 {
     endpoint_in(value_at(table, key)?)
+}
+
+/// Returns the name of a network device that a value spells.
+pub(crate) fn device_in(value: &Value) -> Option<DeviceName>
+    ensures { result ≡ device_in (view value.now) }
+{
+    DeviceName::read_text(value.as_str()?.as_bytes())
+}
+
+/// Returns the name of the network device that a table spells.
+pub(crate) fn device_at(table: &Table) -> Option<DeviceName>
+    ensures { result ≡ spelt (codes "device") device_in (table_view table.now) }
+{
+    device_in(value_at(table, "device")?)
+}
+
+/// Returns the text of a value that is the name of a network device.
+fn name_in(value: &Value) -> Option<&str>
+    ensures { option_map (λ s. s.now) result ≡ name_in (view value.now) }
+{
+    let text = value.as_str()?;
+    match DeviceName::read_text(text.as_bytes()) {
+        Some(_) => Some(text),
+        None => None,
+    }
+}
+
+/// Returns the text of the name of the network device that a table spells.
+pub(crate) fn device_name_at(table: &Table) -> Option<&str>
+    ensures { option_map (λ s. s.now) result
+        ≡ spelt (codes "device") name_in (table_view table.now) }
+{
+    name_in(value_at(table, "device")?)
+}
+
+/// Returns `true` if a port's table has the key of a device, with any value.
+pub(crate) fn has_device(table: &Table) -> bool
+    ensures { result ≡ has_device (table_view table.now) }
+{
+    value_at(table, "device").is_some()
 }
 
 /// The maximum number of octets in the path of a Unix socket (unix(7)).

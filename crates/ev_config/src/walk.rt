@@ -5,11 +5,12 @@ ghost use Rattle.ev_config.specs.Keys.{times_fit, count_of};
 ghost use Rattle.ev_config.specs.Faults.{times_in, is_odd, port_faults, ports_faults, edge_faults_by, edge_faults, edges_faults, peer_faults, peers_faults, after_all, rows_for, is_run, own_faults, peers_beside, faults_in, names_in};
 ghost use Rattle.ev_config.specs.Inner.Faults.{faults_view, Adds, row_of, names_view, context_view, items_at};
 
+use crate::devices::add_devices;
 use crate::document_table::{Context, DocumentTable};
 use crate::faults::{FaultyKey, add_if, add_table};
 use crate::schema::{EDGE, FILE, FORWARD_DELAY, HELLO, MAX_AGE, PEER, PORT, Row, SERVED};
 use crate::seen_names::SeenNames;
-use crate::values::{known_number, tables_at, tables_beside, value_at, vnis_at};
+use crate::values::{has_device, known_number, tables_at, tables_beside, value_at, vnis_at};
 use crate::whole::Use;
 use std::alloc::{AllocError, Global};
 use toml::Table;
@@ -55,9 +56,16 @@ fn add_port<'a>(
     ensures { Adds (port_faults (context_view context.now) edge port (Some (table_view table.now)))
         faults.old.items faults.new.items result }
 {
+    let context = Context {
+        for_run: context.for_run,
+        names: context.names,
+        vnis: context.vnis,
+        edges: context.edges,
+        has_device: has_device(table),
+    };
     add_table(
         faults,
-        context,
+        &context,
         DocumentTable::Port(edge, port, table),
         &PORT,
         table,
@@ -129,11 +137,13 @@ fn add_edge<'a>(
     ensures { Adds (edge_faults for_run (names_view names.now) edge (Some (table_view table.now)))
         faults.old.items faults.new.items result }
 {
+    let vnis = vnis_at(table);
     let context = Context {
         for_run,
         names,
-        vnis: vnis_at(table),
+        vnis: &vnis,
         edges: 0,
+        has_device: false,
     };
     add_edge_by(faults, &context, edge, table)
 }
@@ -216,8 +226,9 @@ fn add_peer<'a>(
     let context = Context {
         for_run: true,
         names,
-        vnis: None,
+        vnis: &None,
         edges: 0,
+        has_device: false,
     };
     add_table(
         faults,
@@ -305,8 +316,9 @@ fn add_own<'a>(
     let context = Context {
         for_run: true,
         names: &SeenNames::new(),
-        vnis: None,
+        vnis: &None,
         edges,
+        has_device: false,
     };
     add_table(
         faults,
@@ -359,8 +371,10 @@ pub(crate) fn walk<'a>(
     let edges = tables_at(document, "edge");
     let count = count_of(edges);
     let peers = peers_at(wanted, document, count);
+    let for_run = is_run(wanted);
     add_own(&mut faults, wanted, count, document)?;
-    add_edges_at(&mut faults, is_run(wanted), &mut names, edges)?;
+    add_edges_at(&mut faults, for_run, &mut names, edges)?;
+    add_devices(alloc, &mut faults, for_run, edges)?;
     add_peers_at(&mut faults, &mut names, peers)?;
     Ok(Findings { faults, names })
 }

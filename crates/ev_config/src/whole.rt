@@ -10,7 +10,7 @@ use ev_edge::EdgeConfig;
 pub struct Config {
     /// The configuration of each edge at its opening. Each lists all edges.
     pub edges: Vec<EdgeConfig>,
-    /// For each edge, the endpoints of its ports.
+    /// For each edge, the endpoints or the device of each of its ports.
     pub links: Vec<ArrayVec<PortEndpoints, 64>>,
     ghost each: { vec_len links ≡ vec_len edges },
     ghost few: { vec_len edges ≤ 64 },
@@ -19,7 +19,7 @@ pub struct Config {
 /// The purpose of a configuration.
 #[derive(Clone, Copy, Debug, PartialEq, Eq)]
 pub enum Use {
-    /// Anything: ports may lack their endpoints.
+    /// Anything: ports may lack their endpoints, and have no device.
     Any,
     /// A run.
     Run,

@@ -1,4 +1,5 @@
 pub mod Coming
 pub mod Parts
-pub mod Udp
+pub mod Tap
+pub mod WireOut
 pub mod LastBpdu

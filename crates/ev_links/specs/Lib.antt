@@ -5,5 +5,8 @@ pub mod DirectLine
 pub mod Laws
 pub mod FailingLink
 pub mod Flow
-pub mod Udp
+pub mod Tap
+pub mod Wire
+pub mod WireOut
+pub mod DeviceName
 pub mod Inner

@@ -1,4 +1,5 @@
 //! Laws, as functions that do nothing: the contract is the law.
+ghost use Rattle.ev_links.specs.DeviceName.{NameKeepsItsText};
 ghost use Rattle.ev_links.specs.Laws.{FramesKeepTheirOrder, EachDropIsCounted, OnlyAFullPartDrops};
 
 /// The frames that are passed on to a link leave in that order, each once: no frame leaves before
@@ -17,4 +18,9 @@ pub fn each_drop_is_counted()
 /// source is full, whatever the sources have passed on: no source takes another's part.
 pub fn only_a_full_part_drops()
     ensures { OnlyAFullPartDrops }
+{}
+
+/// The text of a device's name is the text that the name was read from.
+pub fn name_keeps_its_text()
+    ensures { NameKeepsItsText }
 {}

@@ -12,25 +12,27 @@ use Rattle.ether_wire.specs.declared.ends.Device as device
 use Rattle.ether_wire.specs.Ends.{End, Source, Gets, Puts, with_text}
 use Rattle.ev_edge.specs.declared.config.EdgeConfig.{EdgeConfig}
 use Rattle.ev_edge.specs.Config.{IsConfig}
-use Rattle.ev_links.specs.Udp.{destination_of}
-use Rattle.ev_links.specs.declared.udp.UdpOut.{UdpOut}
+use Rattle.ev_links.specs.WireOut.{destination_of}
+use Rattle.ev_links.specs.declared.wire_out.WireOut.{WireOut}
 use Rattle.ev_peers.specs.declared.edge_links.Link.{Link}
 use Rattle.ev_peers.specs.EdgeThreads.{EdgeSetup, setup_of}
 use Rattle.ev_config.specs.declared.endpoint.Endpoint.{Endpoint}
 use Rattle.ev_config.specs.declared.whole.Config.{Config}
-use Rattle.ev_run.specs.declared.bound.PortSocket.{PortSocket}
+use Rattle.ev_run.specs.declared.bound.Cable.{Cable}
 use Rattle.ev_run.specs.declared.bound.Sockets.{Sockets}
 use Rattle.ev_run.specs.Links.{sends_to, destinations_of, begun_of, AreSetupsOf}
-use Rattle.ev_run.specs.Inner.Sockets.{sent_to, to_remote}
+use Rattle.ev_links.specs.declared.device_name.DeviceName.{DeviceName}
+use Rattle.ev_run.specs.LinkEnds.{LinkEnd}
+use Rattle.ev_run.specs.Inner.Sockets.{sent_to, remote_end, to_remote}
 use Rattle.ev_run.specs.declared.sockets.BindError.{BindError}
 use Rattle.ev_run.specs.declared.sockets.StartError.{StartError}
-use Rattle.ev_run.specs.declared.sockets.StartError.TheVariants.{Unbindable, Unnamed, NoMemory}
+use Rattle.ev_run.specs.declared.sockets.StartError.TheVariants.{Unbindable, Unattached, Unnamed, NoMemory}
 use Rattle.ev_run.specs.Sockets.{endpoints_of, all_ends, all_remotes, lacks_address, Hinders}
 use Rattle.ev_report.specs.Ends.{Devices, devices, has_failed, Holds, Gives, Passes}
 use Rattle.ev_report.specs.declared.input.ReadError.TheVariants.{Device}
 use Rattle.ev_report.specs.Input.{ReadsWhole, Gathers}
 use Rattle.ev_report.specs.Notes.{status_of}
-use Rattle.ev_run.specs.RunEdges.{bind_error_text, Ended, reports_from, noted_text, sends_failed}
+use Rattle.ev_run.specs.RunEdges.{bind_error_text, no_device_text, Ended, reports_from, noted_text, sends_failed}
 use Rattle.ev_run.specs.Inner.RunEdges.{EachConfig}
 use Rattle.ev_run.specs.RunEdges.{system_text, Ran}
 use Rattle.ev_run.specs.RunEdges.{link_failed, was_out_of_memory, all_lost, IsReadOut, ReadsOut, TellsEnded}
@@ -139,18 +141,18 @@ pub map_twice : {A B C : Type 0} (g : B → C) (f : A → B) (xs : List A) → m
 map_twice g f [] = refl
 map_twice g f (x ∷ xs) = ap (λ l. g (f x) ∷ l) (map_twice g f xs)
 
--- an edge over these links sends to its ports' remote endpoints
-pub to_remotes : {I : Type 0} (config : EdgeConfig) (links : List (Link I UdpOut)) (ports : List PortSocket)
-    (setup : EdgeSetup UdpOut) → setup ≡ setup_of config (map (λ (l : Link I UdpOut). l.output) links)
-    → map (λ (l : Link I UdpOut). destination_of l.output) links ≡ map to_remote ports
-    → destinations_of setup ≡ map sends_to (map (λ (p : PortSocket). p.remote) ports)
+-- an edge over these links sends to its ports' remote ends
+pub to_remotes : {I : Type 0} (config : EdgeConfig) (links : List (Link I WireOut)) (ports : List Cable)
+    (setup : EdgeSetup WireOut) → setup ≡ setup_of config (map (λ (l : Link I WireOut). l.output) links)
+    → map (λ (l : Link I WireOut). destination_of l.output) links ≡ map to_remote ports
+    → destinations_of setup ≡ map sends_to (map remote_end ports)
 to_remotes {I} config links ports setup is to =
-    ap destinations_of is ∙ map_twice destination_of (λ (l : Link I UdpOut). l.output) links
-    ∙ to ∙ sym (map_twice sends_to (λ (p : PortSocket). p.remote) ports)
+    ap destinations_of is ∙ map_twice destination_of (λ (l : Link I WireOut). l.output) links
+    ∙ to ∙ sym (map_twice sends_to remote_end ports)
 
 -- the setups are those of these configurations and sockets
-pub are_setups : (incarnation : ℕ) (configs : List EdgeConfig) (all : List Sockets) (setups : List (EdgeSetup UdpOut))
-    → map (λ (s : EdgeSetup UdpOut). s.config) setups ≡ map (begun_of incarnation) configs
+pub are_setups : (incarnation : ℕ) (configs : List EdgeConfig) (all : List Sockets) (setups : List (EdgeSetup WireOut))
+    → map (λ (s : EdgeSetup WireOut). s.config) setups ≡ map (begun_of incarnation) configs
     → map destinations_of setups ≡ map (λ (sockets : Sockets). map sends_to (sent_to sockets)) all
     → AreSetupsOf incarnation configs (map sent_to all) setups
 are_setups incarnation configs all setups begun to = record {
@@ -213,6 +215,11 @@ pub tells_address : (notes notes' : End) (r : Result (Unit {0}) device.Device) (
     → Puts notes notes' (bind_error_text at why) r → TellsCause (Unbindable at why) notes notes' 4
 tells_address notes notes' r at why put = (put_holds notes notes' r (bind_error_text at why) put, refl)
 
+-- the text has a device
+pub tells_device : (notes notes' : End) (r : Result (Unit {0}) device.Device) (name : DeviceName)
+    → Puts notes notes' (no_device_text name) r → TellsCause (Unattached name) notes notes' 4
+tells_device notes notes' r name put = (put_holds notes notes' r (no_device_text name) put, refl)
+
 -- the text has no address
 pub tells_nothing : (notes : End) → TellsCause Unnamed notes notes 4
 tells_nothing notes = (holds_none notes, refl)
@@ -234,6 +241,18 @@ runs_none is_asked policy config (Unbindable at why) input out notes notes' stat
     status_is = told.1;
   },
 ))
+runs_none is_asked policy config (Unattached name) input out notes notes' status hinders told = inr (inl (
+  refl,
+  holds_none out,
+  record {
+    why = Unattached name;
+    hinders = hinders;
+    text = no_device_text name;
+    is_text = refl;
+    noted = told.0;
+    status_is = told.1;
+  },
+))
 runs_none is_asked policy config Unnamed input out notes notes' status hinders told = inr (inl (
   refl,
   holds_none out,
@@ -250,7 +269,7 @@ runs_none is_asked policy config NoMemory input out notes notes' status hinders 
     rw told.0 (inl (inr (refused_memory out notes status told.1)))
 
 -- the edges ran with sockets that are bound to the right endpoints
-pub begins_bound : (is_asked : Bool) (config : Config) (bound remotes : List (List Endpoint)) (before after : Devices)
+pub begins_bound : (is_asked : Bool) (config : Config) (bound remotes : List (List LinkEnd)) (before after : Devices)
     (status : ℕ) → Ran is_asked config.edges.items bound remotes before after status → bound ≡ endpoints_of config
     → remotes ≡ all_remotes config.links.items → lacks_address config ≡ false
     → Begins is_asked config before after status
@@ -258,8 +277,8 @@ begins_bound is_asked config bound remotes before after status ran same to whole
     let edges = config.edges.items in
     inl (
       whole,
-      subst (λ (ends : List (List Endpoint)). Ran is_asked edges (endpoints_of config) ends before after status) to
-          (subst (λ (ends : List (List Endpoint)). Ran is_asked edges ends remotes before after status) same ran),
+      subst (λ (ends : List (List LinkEnd)). Ran is_asked edges (endpoints_of config) ends before after status) to
+          (subst (λ (ends : List (List LinkEnd)). Ran is_asked edges ends remotes before after status) same ran),
     )
 
 -- the memory with which the edges begin was refused
@@ -320,7 +339,7 @@ module _ (is_asked : Bool) (config : Config) (before held after : Devices) (stat
     status_is = passed_four before held after status last p u.status_is;
   }
 
-  passed_ran : (configs : List EdgeConfig) (sockets remotes : List (List Endpoint))
+  passed_ran : (configs : List EdgeConfig) (sockets remotes : List (List LinkEnd))
       → Ran is_asked configs sockets remotes before held status → Ran is_asked configs sockets remotes before after last
   passed_ran configs sockets remotes r = record {
     is_read = r.is_read;

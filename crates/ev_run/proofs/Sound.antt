@@ -6,13 +6,13 @@ use Rattle.ev_edge.specs.Edge.{Edge}
 use Rattle.ev_fabric.specs.Fabric.{fabric_of}
 use Rattle.ev_fabric.specs.Opening.{AreConfigs}
 use Rattle.ev_fabric.specs.Sound.{IsSound}
-use Rattle.ev_links.specs.declared.udp.UdpOut.{UdpOut}
-use Rattle.ev_config.specs.declared.endpoint.Endpoint.{Endpoint}
+use Rattle.ev_links.specs.declared.wire_out.WireOut.{WireOut}
 use Rattle.ev_peers.specs.EdgeThreads.{EdgeSetup}
 use Rattle.ev_peers.specs.History.{configs_of}
 use Rattle.ev_report.specs.Ends.{Devices}
 use Rattle.ev_runs.specs.Laws.{IsRunOf}
 use Rattle.ev_runs.proofs.Sound.{run_sound}
+use Rattle.ev_run.specs.LinkEnds.{LinkEnd}
 use Rattle.ev_run.specs.Links.{begun_of, AreSetupsOf}
 use Rattle.ev_run.specs.RunEdges.{AllRan, Ran}
 
@@ -31,8 +31,8 @@ all_begun (c ∷ cs) =
     ap (λ (d : EdgeConfig). d ∷ map (begun_of 0) cs) (begun_as_it_is c)
     ∙ ap (λ (ds : List EdgeConfig). c ∷ ds) (all_begun cs)
 
-same_configs : (incarnation : ℕ) (configs : List EdgeConfig) (remotes : List (List Endpoint))
-    (setups : List (EdgeSetup UdpOut)) → incarnation ≡ 0 → AreSetupsOf incarnation configs remotes setups
+same_configs : (incarnation : ℕ) (configs : List EdgeConfig) (remotes : List (List LinkEnd))
+    (setups : List (EdgeSetup WireOut)) → incarnation ≡ 0 → AreSetupsOf incarnation configs remotes setups
     → configs_of setups ≡ configs
 same_configs incarnation configs remotes setups zero are =
     are.begun ∙ ap (λ (n : ℕ). map (begun_of n) configs) zero ∙ all_begun configs
@@ -42,7 +42,7 @@ pub sound_end : (configs : List EdgeConfig) (edges : List Edge) → AreConfigs c
 sound_end configs edges fit run =
     (run, run_sound configs run.opened edges run.steps run.pool fit run.are_opened run.runs)
 
-pub run_of_file : (configs : List EdgeConfig) (sockets remotes : List (List Endpoint)) (before after : Devices)
+pub run_of_file : (configs : List EdgeConfig) (sockets remotes : List (List LinkEnd)) (before after : Devices)
     (status : ℕ) (ran : Ran false configs sockets remotes before after status) (edges : List Edge)
     → AllRan ran.ended edges → IsRunOf configs edges
 run_of_file configs sockets remotes before after status ran edges all =

@@ -5,3 +5,4 @@ pub mod Serving
 pub mod Settling
 pub mod Sockets
 pub mod SystemDrops
+pub mod Taps

@@ -5,14 +5,14 @@ use Rattle.ev_edge.specs.Edge.{Edge}
 use Rattle.ev_fabric.specs.Fabric.{fabric_of}
 use Rattle.ev_fabric.specs.Opening.{AreConfigs}
 use Rattle.ev_fabric.specs.Sound.{IsSound}
-use Rattle.ev_config.specs.declared.endpoint.Endpoint.{Endpoint}
 use Rattle.ev_report.specs.Ends.{Devices}
 use Rattle.ev_runs.specs.Laws.{IsRunOf}
+use Rattle.ev_run.specs.LinkEnds.{LinkEnd}
 use Rattle.ev_run.specs.RunEdges.{AllRan, Ran}
 
 -- if all edges ran, and no clients may query them
 abbrev pub RanIsSound : Type 0
 RanIsSound =
-    (configs : List EdgeConfig) (sockets remotes : List (List Endpoint)) (before after : Devices) (status : ℕ)
+    (configs : List EdgeConfig) (sockets remotes : List (List LinkEnd)) (before after : Devices) (status : ℕ)
     → AreConfigs configs → (ran : Ran false configs sockets remotes before after status) → (edges : List Edge)
     → AllRan ran.ended edges → (run : IsRunOf configs edges) × IsSound (fabric_of edges configs run.pool)

@@ -1,3 +1,4 @@
+pub mod LinkEnds
 pub mod Sockets
 pub mod Links
 pub mod SystemDrops

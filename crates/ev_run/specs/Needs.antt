@@ -1,7 +1,11 @@
 -- The resources that a run takes at its beginning.
-use Rattle.std.specs.Prelude.{ℕ, ◌+◌, ◌-◌, ◌*◌, ◌/◌, ◌^◌, min, Bool, if◌then◌else◌, List, [], ◌++◌, length, fold, codes}
+use Rattle.std.specs.Prelude.{ℕ, ◌+◌, ◌-◌, ◌*◌, ◌/◌, ◌^◌, min, Bool, ◌==◌, if◌then◌else◌, List, [], ◌++◌, length, fold}
+use Rattle.std.specs.Prelude.{codes, is_some}
+use Rattle.std.specs.List.{filter}
 use Rattle.std.specs.Fmt.{decimal}
+use Rattle.arrayvec.specs.ArrayVec.{ArrayVec}
 use Rattle.ev_edge.specs.declared.config.EdgeConfig.{EdgeConfig}
+use Rattle.ev_config.specs.declared.endpoint.PortEndpoints.{PortEndpoints}
 use Rattle.ev_report.specs.Originators.{Text}
 use Rattle.ev_run.specs.declared.needs.Needs.{Needs}
 
@@ -14,7 +18,7 @@ ports_of c = length c.ports.items
 abbrev pub edge_threads : EdgeConfig → ℕ
 edge_threads c = 2 * ports_of c + 5
 
--- one socket for the tunnel, and one for each port
+-- one descriptor for the tunnel, and one for each port
 abbrev pub edge_sockets : EdgeConfig → ℕ
 edge_sockets c = ports_of c + 1
 
@@ -32,15 +36,31 @@ abbrev pub with_edge : Needs → EdgeConfig → Needs
 with_edge n c = record {
   threads = min (n.threads + edge_threads c) most;
   sockets = min (n.sockets + edge_sockets c) most;
+  devices = n.devices;
   memory = min (n.memory + edge_memory c) most;
 }
 
 -- the needs without edges: the thread that reads standard input, the one that writes alerts, and the program's memory
 abbrev pub alone : Needs
-alone = record { threads = 2; sockets = 0; memory = 2351104 }
+alone = record { threads = 2; sockets = 0; devices = 0; memory = 2351104 }
 
-abbrev pub needs_of : List EdgeConfig → Needs
-needs_of edges = fold with_edge alone edges
+-- the needs if each port is a socket
+abbrev pub edges_needs : List EdgeConfig → Needs
+edges_needs edges = fold with_edge alone edges
+
+abbrev pub is_device : PortEndpoints → Bool
+is_device link = is_some link.device
+
+-- the number of devices, with those of one more edge
+abbrev pub with_devices : ℕ → ArrayVec PortEndpoints → ℕ
+with_devices n links = min (n + length (filter is_device links.items)) most
+
+abbrev pub devices_of : List (ArrayVec PortEndpoints) → ℕ
+devices_of all = fold with_devices 0 all
+
+abbrev pub needs_of : List EdgeConfig → List (ArrayVec PortEndpoints) → Needs
+needs_of edges all =
+    record (edges_needs edges) { sockets = (edges_needs edges).sockets - devices_of all; devices = devices_of all }
 
 -- ---- clients that query a run
 
@@ -51,13 +71,13 @@ client_sockets = 18
 
 abbrev pub sockets_of : Bool → List EdgeConfig → ℕ
 sockets_of is_asked edges =
-    if is_asked then min ((needs_of edges).sockets + client_sockets) most else (needs_of edges).sockets
+    if is_asked then min ((edges_needs edges).sockets + client_sockets) most else (edges_needs edges).sockets
 
 -- The threads with which a run begins. If clients may query the run, two more: one accepts clients, and one watches
 -- the sessions with edges elsewhere.
 abbrev pub threads_of : Bool → List EdgeConfig → ℕ
 threads_of is_asked edges =
-    if is_asked then min ((needs_of edges).threads + 2) most else (needs_of edges).threads
+    if is_asked then min ((edges_needs edges).threads + 2) most else (edges_needs edges).threads
 
 -- ---- the text
 
@@ -67,13 +87,18 @@ threads_text threads = decimal threads ++ codes " threads\n"
 abbrev pub sockets_text : ℕ → Text
 sockets_text sockets = decimal sockets ++ codes " UDP sockets\n"
 
+-- devices, if there are any
+abbrev pub devices_text : ℕ → Text
+devices_text devices =
+    if devices == 0 then [] else decimal devices ++ (if devices == 1 then codes " device\n" else codes " devices\n")
+
 -- the whole MiB and one more
 abbrev pub memory_text : ℕ → Text
 memory_text memory = codes "about " ++ decimal (memory / 1048576 + 1) ++ codes " MiB of memory\n"
 
 -- a line for each need
 abbrev pub needs_text : Needs → Text
-needs_text n = threads_text n.threads ++ sockets_text n.sockets ++ memory_text n.memory
+needs_text n = threads_text n.threads ++ sockets_text n.sockets ++ devices_text n.devices ++ memory_text n.memory
 
 -- the resources that clients take in addition: a thread that accepts them, one that watches sessions, two for each of
 -- 8 clients, and memory for these

@@ -14,14 +14,17 @@ use Rattle.ev_peers.specs.EdgeThreads.{EdgeSetup, AreRanFrom}
 use Rattle.ev_peers.specs.History.{configs_of, IsHistoryOf}
 use Rattle.ev_runs.specs.Laws.{IsRunOf}
 use Rattle.ev_peers.specs.declared.edge_outcome.EdgeOutcome.{EdgeOutcome}
-use Rattle.ev_links.specs.declared.udp.UdpOut.{UdpOut}
+use Rattle.ev_links.specs.DeviceName.{text_of}
+use Rattle.ev_links.specs.declared.device_name.DeviceName.{DeviceName}
+use Rattle.ev_links.specs.declared.wire_out.WireOut.{WireOut}
 use Rattle.ev_notices.specs.Notices.{Told, lines_of}
 use Rattle.route_join.specs.Report.{report_of}
 use Rattle.ev_config.specs.declared.whole.Config.{Config}
 use Rattle.ev_config.specs.declared.endpoint.Endpoint.{Endpoint}
+use Rattle.ev_run.specs.LinkEnds.{LinkEnd}
 use Rattle.ev_run.specs.Sockets.{endpoints_of, all_ends, all_remotes, lacks_address, Hinders}
 use Rattle.ev_run.specs.Links.{AreSetupsOf}
-use Rattle.ev_run.specs.SystemDrops.{dropped_at}
+use Rattle.ev_run.specs.SystemDrops.{dropped_at_end}
 use Rattle.ev_run.specs.Needs.{threads_of}
 use Rattle.ev_run.specs.ThreadCheck.{IsTooFew, too_few_text, LacksThreads}
 use Rattle.ev_run.specs.declared.thread_check.ThreadPolicy.{ThreadPolicy}
@@ -32,7 +35,7 @@ use Rattle.ev_run.specs.declared.print.Dropped.TheVariants.{NoRoom, BySystem}
 use Rattle.ev_run.specs.declared.sockets.BindError.{BindError}
 use Rattle.ev_run.specs.declared.sockets.BindError.TheVariants as bind_error
 use Rattle.ev_run.specs.declared.sockets.StartError.{StartError}
-use Rattle.ev_run.specs.declared.sockets.StartError.TheVariants.{Unbindable, Unnamed, NoMemory}
+use Rattle.ev_run.specs.declared.sockets.StartError.TheVariants.{Unbindable, Unattached, Unnamed, NoMemory}
 use Rattle.ev_report.specs.declared.input.ReadError.TheVariants.{Device}
 use Rattle.ev_report.specs.Ends.{Devices, devices, has_failed, Holds}
 use Rattle.ev_report.specs.Input.{ReadsWhole}
@@ -58,6 +61,11 @@ endpoint_text at = addr_text at.address ++ codes ":" ++ decimal at.port
 -- `can't bind ADDRESS:PORT: WHY`
 abbrev pub bind_error_text : Endpoint → BindError → Text
 bind_error_text at why = codes "can't bind " ++ (endpoint_text at ++ codes ": ") ++ why_text why
+
+-- `can't use device NAME: ..`
+abbrev pub no_device_text : DeviceName → Text
+no_device_text name =
+    codes "can't use device " ++ text_of name ++ codes ": evpnd has no descriptor of it; start evpnd by evpnd-attach\n"
 
 -- ---- the input
 
@@ -112,15 +120,15 @@ drops_text number (Ok outcome) = each_from (dropped_text NoRoom number) 0 outcom
 drops_text number (Err refused) = []
 
 -- how many datagrams the system dropped at a link's socket, as its table of sockets reports it
-abbrev pub socket_text : Text → ℕ → ℕ → Endpoint → Text
-socket_text table number place at = dropped_text BySystem number place (dropped_at table at)
+abbrev pub socket_text : Text → ℕ → ℕ → LinkEnd → Text
+socket_text table number place end = dropped_text BySystem number place (dropped_at_end table end)
 
--- the drops at each socket of an edge
-abbrev pub sockets_text : Text → ℕ → List Endpoint → Text
+-- the drops at each link of an edge
+abbrev pub sockets_text : Text → ℕ → List LinkEnd → Text
 sockets_text table number ends = each_from (socket_text table number) 0 ends
 
--- the drops at the sockets of all edges
-abbrev pub system_text : Text → List (List Endpoint) → Text
+-- the drops at the links of all edges
+abbrev pub system_text : Text → List (List LinkEnd) → Text
 system_text table sockets = each_from (sockets_text table) 1 sockets
 
 -- `lost N`, if sends failed
@@ -177,16 +185,16 @@ abbrev pub RunsAsFabric : List EdgeConfig → List Ended → Type 0
 RunsAsFabric configs ended = (edges : List Edge) → AllRan ended edges → IsRunOf configs edges
 
 -- Edges with these configurations ran until the input's end, and each has its result, edge 1 first. `sockets` are the
--- endpoints of their sockets, and `remotes` those to which their ports send. The incarnation is that of edges whose
+-- ends at which they receive, and `remotes` those to which their ports send. The incarnation is that of edges whose
 -- configuration names none: 0 unless clients may query them. `table` is the system's table of UDP sockets at that time,
 -- empty if it couldn't be read.
-pub record Ran (is_asked : Bool) (configs : List EdgeConfig) (sockets remotes : List (List Endpoint))
+pub record Ran (is_asked : Bool) (configs : List EdgeConfig) (sockets remotes : List (List LinkEnd))
     (before after : Devices) (status : ℕ) : Type 0 where
   pub is_read : Bool
   pub read : ReadsOut before.input after.input is_read
   pub incarnation : ℕ
   pub unasked : OnFalse is_asked (incarnation ≡ 0)
-  pub setups : List (EdgeSetup UdpOut)
+  pub setups : List (EdgeSetup WireOut)
   pub are : AreSetupsOf incarnation configs remotes setups
   pub ended : List Ended
   pub all : length ended ≡ length configs
@@ -198,15 +206,16 @@ pub record Ran (is_asked : Bool) (configs : List EdgeConfig) (sockets remotes : 
   pub told : TellsEnded alerts ended (system_text table sockets) is_read before.out after.out before.notes after.notes
       status
 
--- The text if no edge begins for lack of an address: the address that can't be bound, and why; the empty text if a port
--- lacks one. There is no text if no edge begins for lack of memory.
+-- The text if no edge begins for lack of an end: the address that can't be bound, and why, or the missing device. It is
+-- empty if a port lacks an end. There is no text if no edge begins for lack of memory.
 abbrev pub start_text : StartError → Option Text
 start_text (Unbindable at why) = Some (bind_error_text at why)
+start_text (Unattached name) = Some (no_device_text name)
 start_text Unnamed = Some []
 start_text NoMemory = None
 
--- The status is 4: an address of this configuration couldn't be bound, and a note reports it, or a port of it lacks an
--- address.
+-- The status is 4: an address of this configuration couldn't be bound or a device is missing, and a note reports it; or
+-- a port lacks an end.
 pub record IsStartError (config : Config) (notes notes' : End) (status : ℕ) : Type 0 where
   pub why : StartError
   pub hinders : Hinders (all_ends config) (lacks_address config) why
@@ -215,7 +224,7 @@ pub record IsStartError (config : Config) (notes notes' : End) (status : ℕ) : 
   pub noted : Holds notes notes' text
   pub status_is : status ≡ 4
 
--- The edges of a configuration were run, and each port has its addresses; or the memory with which they begin was
+-- The edges of a configuration were run, and each port has its ends; or the memory with which they begin was
 -- refused. Clients may query the edges meanwhile if `is_asked`.
 abbrev pub Begins : Bool → Config → Devices → Devices → ℕ → Type 0
 Begins is_asked config before after status =

@@ -10,6 +10,7 @@ use Rattle.std.specs.List.{fold, filter, slice_split, slice_get}
 use Rattle.ether_wire.specs.Parse.{decimal_of_text}
 use Rattle.ev_config.specs.declared.endpoint.Endpoint.{Endpoint}
 use Rattle.ev_report.specs.Originators.{Text}
+use Rattle.ev_run.specs.LinkEnds.{LinkEnd, Udp, Device}
 
 -- two upper case hexadecimal digits
 abbrev pub upper_pair : ℕ → Text
@@ -44,6 +45,11 @@ count_of (Some word) = unwrap_or (decimal_of_text (2 ^ 64 - 1) word) 0
 abbrev pub row_drops : Text → Text → ℕ
 row_drops local row = if names local (slice_get (words_of row) 1) then count_of (slice_get (words_of row) 12) else 0
 
--- how many datagrams the text reports as dropped there: the greatest number of a row; 0 if it has no row of the socket
+-- how many datagrams the text reports as dropped at a socket: the greatest number of a row; 0 if it has no row of it
 abbrev pub dropped_at : Text → Endpoint → ℕ
 dropped_at text at = fold (λ most row. max most (row_drops (local_text at) row)) 0 (rows_of text)
+
+-- how many datagrams the text reports as dropped at an end: the system's table has none of a device
+abbrev pub dropped_at_end : Text → LinkEnd → ℕ
+dropped_at_end text (Udp at) = dropped_at text at
+dropped_at_end text (Device name) = 0

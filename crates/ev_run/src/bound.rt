@@ -1,31 +1,31 @@
-//! The sockets of a run, and how their reads end.
+//! The cables and sockets of a run, and how their reads end.
 ghost use Rattle.std.specs.Prelude.{◌≤◌, vec_len};
 
 use ev_config::Endpoint;
+use ev_links::Tap;
 use libc::net::{SHUT_RD, shutdown};
 use std::net::UdpSocket;
 use std::os::fd::AsRawFd;
 
-/// The socket of a port.
+/// The cable of a port.
 #[derive(Drop)]
-pub(crate) struct PortSocket {
-    /// The socket at which the port receives its frames.
-    pub(crate) socket: UdpSocket,
-    /// The endpoint to which the socket is bound.
-    pub(crate) local: Endpoint,
-    /// The endpoint to which the port sends its frames.
-    pub(crate) remote: Endpoint,
+pub(crate) enum Cable {
+    /// A socket: it is bound to the first endpoint, at which the port receives its frames. The port
+    /// sends them to the second one.
+    Socket(UdpSocket, Endpoint, Endpoint),
+    /// A tap device.
+    Tap(Tap),
 }
 
-/// The sockets of an edge.
+/// The cables of an edge, and the socket of its tunnels.
 #[derive(Drop)]
 pub(crate) struct Sockets {
     /// The socket of the edge's tunnels.
     pub(crate) tunnel: UdpSocket,
     /// The endpoint to which that socket is bound.
     pub(crate) at: Endpoint,
-    /// The sockets of the edge's ports, port 1 first.
-    pub(crate) ports: Vec<PortSocket>,
+    /// The cables of the edge's ports, port 1 first.
+    pub(crate) ports: Vec<Cable>,
     ghost few: { vec_len ports ≤ 64 },
 }
 
@@ -37,7 +37,7 @@ fn end_reads(socket: &UdpSocket) {
     let _ = shutdown(socket.as_raw_fd(), SHUT_RD);
 }
 
-/// Ends the reads of all sockets.
+/// Ends the reads of all sockets. A read of a device ends within a second by itself.
 pub(crate) fn end_all_reads(all: &[Sockets]) {
     for sockets in all {
         end_reads(&sockets.tunnel);
@@ -46,8 +46,10 @@ pub(crate) fn end_all_reads(all: &[Sockets]) {
 }
 
 /// Ends the reads of the ports' sockets.
-fn end_port_reads(ports: &[PortSocket]) {
-    for port in ports {
-        end_reads(&port.socket);
+fn end_port_reads(ports: &[Cable]) {
+    for cable in ports {
+        if let Cable::Socket(socket, _, _) = cable {
+            end_reads(socket);
+        }
     }
 }

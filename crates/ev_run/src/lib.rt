@@ -23,6 +23,7 @@ mod socket_drops;
 mod sockets;
 mod system;
 mod system_drops;
+mod taps;
 mod thread_check;
 mod watching;
 

@@ -1,23 +1,37 @@
-//! The links of an edge over the sockets of a run.
+//! The links of an edge over the sockets and devices of a run.
 ghost use Rattle.std.specs.Prelude.{◌≡◌, ◌+◌, ◌≤◌, ◌++◌, ◌∷◌, [], map, vec_len, vec_capacity, IfOk};
-ghost use Rattle.ev_links.specs.Udp.{destination_of};
-ghost use Rattle.ev_links.specs.declared.udp.Destination.TheVariants.{At};
-ghost use Rattle.ev_run.specs.Inner.Sockets.{link_of, to_remote};
+ghost use Rattle.ev_links.specs.Wire.{input_device};
+ghost use Rattle.ev_links.specs.WireOut.{destination_of, output_device};
+ghost use Rattle.ev_links.specs.declared.wire_out.Destination.TheVariants.{At};
+ghost use Rattle.ev_run.specs.Inner.Sockets.{link_of, to_remote, tap_of, devices_of, own_devices};
 
-use crate::bound::{PortSocket, Sockets};
+use crate::bound::{Cable, Sockets};
 use crate::sockets::TUNNELS;
-use ev_links::{Destination, UdpOut, Wire};
+use ev_links::{Wire, WireOut};
 use ev_peers::{EdgeLinks, Link};
 use std::alloc::{AllocError, Global};
 use std::sync::atomic::AtomicBool;
 use std::time::Clock;
 
-/// Returns the sending direction of a port's link: it sends to the port's remote endpoint.
-fn port_output(port: &PortSocket) -> UdpOut<'_>
-    ensures { destination_of result ≡ to_remote port.now }
+/// Returns the receiving direction of a port's link.
+fn port_input<'x, R: Clock>(rt: &'x R, cable: &'x Cable, stop: &'x AtomicBool) -> Wire<'x, R>
+    ensures { input_device result ≡ tap_of cable.now }
 {
-    let PortSocket { socket, remote, .. } = port;
-    UdpOut::new(socket, Destination::Fixed(remote.address, remote.port))
+    match cable {
+        Cable::Socket(socket, _, _) => Wire::port(rt, socket, stop),
+        Cable::Tap(tap) => Wire::device(rt, *tap, stop),
+    }
+}
+
+/// Returns the sending direction of a port's link: it sends to the port's remote end.
+fn port_output(cable: &Cable) -> WireOut<'_>
+    ensures destination { destination_of result ≡ to_remote cable.now }
+    ensures device { output_device result ≡ tap_of cable.now }
+{
+    match cable {
+        Cable::Socket(socket, _, remote) => WireOut::fixed(socket, remote.address, remote.port),
+        Cable::Tap(tap) => WireOut::device(*tap),
+    }
 }
 
 /// Returns these links and one more, for which there is room.
@@ -32,27 +46,29 @@ fn with_link<I: Drop, O: Drop>(links: Vec<Link<I, O>>, input: I, output: O) -> V
     links
 }
 
-/// Returns the links over these sockets. Each port sends to its remote endpoint, and the tunnels to
-/// their UDP port.
+/// Returns the links over these cables and this socket. Each port sends to its remote end, a port
+/// with a device receives from it, and the tunnels send to their UDP port.
 pub(crate) fn links_of<'x, R: Clock>(
     rt: &'x R,
     alloc: Global,
     sockets: &'x Sockets,
     stop: &'x AtomicBool,
-) -> Result<EdgeLinks<Wire<'x, R>, UdpOut<'x>>, AllocError>
+) -> Result<EdgeLinks<Wire<'x, R>, WireOut<'x>>, AllocError>
     ensures few { IfOk result (λ links. vec_len links.ports ≤ 64) }
     ensures ports { IfOk result (λ links. map (λ link. destination_of link.output) links.ports.items
         ≡ map to_remote sockets.now.ports.items) }
+    ensures devices { IfOk result
+        (λ links. map devices_of links.ports.items ≡ map own_devices sockets.now.ports.items) }
     ensures tunnel { IfOk result (λ links. destination_of links.tunnel.output ≡ At 4789) }
 {
     let mut ports = Vec::with_capacity(alloc, sockets.ports.len())?;
-    for port in sockets.ports.as_slice() {
-        let input = Wire::port(rt, &port.socket, stop);
-        ports = with_link(ports, input, port_output(port));
+    for cable in sockets.ports.as_slice() {
+        let input = port_input(rt, cable, stop);
+        ports = with_link(ports, input, port_output(cable));
     }
     let tunnel = Link {
         input: Wire::socket(rt, &sockets.tunnel, stop),
-        output: UdpOut::new(&sockets.tunnel, Destination::At(TUNNELS)),
+        output: WireOut::at(&sockets.tunnel, TUNNELS),
     };
     Ok(EdgeLinks {
         ports,

@@ -13,7 +13,7 @@ use crate::run::{Ready, RunContext, tell_meanwhile};
 use ether_wire::{Device, In, Out};
 use ev_console::SystemDrops;
 use ev_history::{Naming, NewHistory};
-use ev_links::{UdpOut, Wire};
+use ev_links::{Wire, WireOut};
 use ev_mailboxes::Boards;
 use ev_peers::{EdgeOutcome, Mailroom, OpenGate, PreparedEdges, run_all};
 use std::alloc::AllocError;
@@ -46,7 +46,7 @@ fn run_reading<
     E: In,
 >(
     host: &RunContext<'x, R>,
-    start: PreparedEdges<J, Wire<'x, R>, UdpOut<'x>>,
+    start: PreparedEdges<J, Wire<'x, R>, WireOut<'x>>,
     mailroom: &Mailroom<J>,
     boards: &Boards,
     ends: Ends<'x, T>,
@@ -136,7 +136,7 @@ pub(crate) fn run_named<
         ends,
     } = prepared;
     let boards = Boards::new(alloc, setups.len())?;
-    let (start, mailroom) = PreparedEdges::<J, Wire<'x, R>, UdpOut<'x>>::new(
+    let (start, mailroom) = PreparedEdges::<J, Wire<'x, R>, WireOut<'x>>::new(
         alloc, setups, history,
     )?;
     // The closures return `reader` and `notes`; their ghost names show that they are these.

@@ -1,8 +1,10 @@
 //! The resources that a run takes at its beginning.
-ghost use Rattle.std.specs.Prelude.{◌≡◌, ◌≤◌};
-ghost use Rattle.ev_run.specs.Needs.{edge_threads, edge_sockets, edge_memory, with_edge, alone, needs_of, sockets_of, threads_of};
+ghost use Rattle.std.specs.Prelude.{◌≡◌, ◌≤◌, length};
+ghost use Rattle.std.specs.List.{filter};
+ghost use Rattle.ev_run.specs.Needs.{edge_threads, edge_sockets, edge_memory, with_edge, edges_needs, is_device, devices_of, needs_of, sockets_of, threads_of};
 
-use ev_config::Config;
+use arrayvec::ArrayVec;
+use ev_config::{Config, PortEndpoints};
 use ev_edge::EdgeConfig;
 
 /// The resources that a run takes at its beginning.
@@ -12,6 +14,8 @@ pub struct Needs {
     pub threads: u64,
     /// The number of UDP sockets that the run binds.
     pub sockets: u64,
+    /// The number of ports that are devices.
+    pub devices: u64,
     /// The approximate number of octets of memory, as measured in runs.
     pub memory: u64,
 }
@@ -30,7 +34,7 @@ fn edge_threads(edge: &EdgeConfig) -> u64
     2 * edge.ports.len() as u64 + 5
 }
 
-/// Returns the number of sockets of an edge: one for the tunnel, and one for each port.
+/// Returns the number of descriptors of an edge: one for the tunnel, and one for each port.
 fn edge_sockets(edge: &EdgeConfig) -> u64
     ensures { result ≡ edge_sockets edge.now }
 {
@@ -55,31 +59,65 @@ impl Needs {
         Needs {
             threads: self.threads.saturating_add(edge_threads(edge)),
             sockets: self.sockets.saturating_add(edge_sockets(edge)),
+            devices: self.devices,
             memory: self.memory.saturating_add(edge_memory(edge)),
         }
     }
 }
 
-/// Returns the resources that a run of a configuration takes at its beginning.
-pub fn needs_of(config: &Config) -> Needs
-    ensures { result ≡ needs_of config.now.edges.items }
+/// Returns the resources that a run of these edges takes if each port is a socket.
+fn edges_needs(edges: &[EdgeConfig]) -> Needs
+    ensures { result ≡ edges_needs edges.now }
 {
     let mut needs = Needs {
         threads: 2,
         sockets: 0,
+        devices: 0,
         memory: 2_351_104,
     };
-    for edge in config.edges.iter() {
+    for edge in edges {
         needs = needs.with(edge);
     }
     needs
 }
 
-/// Returns the most sockets that a run has, with those of clients if `is_asked`.
+/// Returns the number of these ports that are devices.
+fn devices_in(links: &[PortEndpoints]) -> u64
+    ensures { result ≡ length (filter is_device links.now) }
+{
+    links.iter().filter(|link| link.device.is_some()).count() as u64
+}
+
+/// Returns the number of ports of these edges that are devices.
+pub(crate) fn devices_of(all: &[ArrayVec<PortEndpoints, 64>]) -> u64
+    ensures { result ≡ devices_of all.now }
+{
+    let mut devices: u64 = 0;
+    for links in all {
+        devices = devices.saturating_add(devices_in(links.as_slice()));
+    }
+    devices
+}
+
+/// Returns the resources that a run of a configuration takes at its beginning.
+pub fn needs_of(config: &Config) -> Needs
+    ensures { result ≡ needs_of config.now.edges.items config.now.links.items }
+{
+    let needs = edges_needs(config.edges.as_slice());
+    let devices = devices_of(config.links.as_slice());
+    Needs {
+        threads: needs.threads,
+        sockets: needs.sockets.saturating_sub(devices),
+        devices,
+        memory: needs.memory,
+    }
+}
+
+/// Returns the most descriptors that the links of a run have, with those of clients if `is_asked`.
 pub fn sockets_of(config: &Config, is_asked: bool) -> u64
     ensures { result ≡ sockets_of is_asked config.now.edges.items }
 {
-    let sockets = needs_of(config).sockets;
+    let sockets = edges_needs(config.edges.as_slice()).sockets;
     if is_asked {
         sockets.saturating_add(CLIENT_SOCKETS)
     } else {
@@ -92,7 +130,7 @@ pub fn sockets_of(config: &Config, is_asked: bool) -> u64
 pub(crate) fn threads_of(config: &Config, is_asked: bool) -> u64
     ensures { result ≡ threads_of is_asked config.now.edges.items }
 {
-    let threads = needs_of(config).threads;
+    let threads = edges_needs(config.edges.as_slice()).threads;
     if is_asked {
         threads.saturating_add(2)
     } else {

@@ -3,11 +3,13 @@ ghost use Rattle.std.specs.Prelude.{◌≡◌, ◌++◌, codes, map};
 ghost use Rattle.std.specs.Fmt.{decimal};
 ghost use Rattle.ether_wire.specs.Ends.{IsOpen, Puts};
 ghost use Rattle.ev_run.specs.declared.print.Dropped.TheVariants.{NoRoom};
-ghost use Rattle.ev_run.specs.Inner.Sockets.{bound_at};
+ghost use Rattle.ev_run.specs.Inner.Sockets.{bound_at, local_end};
+ghost use Rattle.ev_run.specs.LinkEnds.{Udp};
+ghost use Rattle.ev_run.specs.SystemDrops.{dropped_at_end};
 ghost use Rattle.ev_run.specs.RunEdges.{edge_text, ended_text, reports_from, link_text, dropped_words, dropped_text, drops_text, socket_text, sockets_text, system_text, lost_text, noted_text};
 ghost use Rattle.ev_view.specs.EdgeViews.{each_from};
 
-use crate::bound::{PortSocket, Sockets};
+use crate::bound::{Cable, Sockets};
 use crate::system_drops::dropped_at;
 use ether_wire::{Device, Out, put_decimal};
 use ev_config::Endpoint;
@@ -184,7 +186,7 @@ pub(crate) struct Watched<'a> {
     pub(crate) sockets: &'a [Sockets],
 }
 
-/// Writes how many datagrams the system dropped at a link's socket, if there were any.
+/// Writes how many datagrams the system dropped at a socket, if there were any.
 fn put_socket<N: Out>(
     notes: &mut N,
     number: u64,
@@ -194,7 +196,7 @@ fn put_socket<N: Out>(
 ) -> Result<(), Device>
     requires { IsOpen (N.end notes.old) }
     ensures { Puts (N.end notes.old) (N.end notes.new)
-        (socket_text table.now number place at) result }
+        (socket_text table.now number place (Udp at)) result }
 {
     put_dropped(
         notes,
@@ -205,20 +207,51 @@ fn put_socket<N: Out>(
     )
 }
 
-/// Writes how many datagrams the system dropped at the sockets of an edge's ports.
+/// Returns how many datagrams the system dropped at a port's cable: 0 for a device.
+fn dropped_at_cable(table: &[u8], cable: &Cable) -> u64
+    ensures { result ≡ dropped_at_end table.now (local_end cable.now) }
+{
+    match cable {
+        Cable::Socket(_, local, _) => dropped_at(table, *local),
+        Cable::Tap(_) => 0,
+    }
+}
+
+/// Writes how many datagrams the system dropped at a port's cable, if there were any.
+fn put_cable<N: Out>(
+    notes: &mut N,
+    number: u64,
+    place: u64,
+    table: &[u8],
+    cable: &Cable,
+) -> Result<(), Device>
+    requires { IsOpen (N.end notes.old) }
+    ensures { Puts (N.end notes.old) (N.end notes.new)
+        (socket_text table.now number place (local_end cable.now)) result }
+{
+    put_dropped(
+        notes,
+        number,
+        place,
+        dropped_at_cable(table, cable),
+        Dropped::BySystem,
+    )
+}
+
+/// Writes how many datagrams the system dropped at the cables of an edge's ports.
 fn put_ports<N: Out>(
     notes: &mut N,
     number: u64,
     table: &[u8],
-    ports: &[PortSocket],
+    ports: &[Cable],
 ) -> Result<(), Device>
     requires { IsOpen (N.end notes.old) }
     ensures { Puts (N.end notes.old) (N.end notes.new)
-        (each_from (λ place port. socket_text table.now number place port.local) 1 ports.now)
+        (each_from (λ place port. socket_text table.now number place (local_end port)) 1 ports.now)
         result }
 {
-    for (place, port) in ports.iter().enumerate() {
-        put_socket(notes, number, place as u64 + 1, table, port.local)?;
+    for (place, cable) in ports.iter().enumerate() {
+        put_cable(notes, number, place as u64 + 1, table, cable)?;
     }
     Ok(())
 }

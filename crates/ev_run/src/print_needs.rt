@@ -2,7 +2,7 @@
 //! can't use.
 ghost use Rattle.ether_wire.specs.Ends.{IsOpen, Puts};
 ghost use Rattle.std.specs.Prelude.{◌++◌, [], if◌then◌else◌};
-ghost use Rattle.ev_run.specs.Needs.{threads_text, sockets_text, memory_text, needs_text, clients_text, asked_text};
+ghost use Rattle.ev_run.specs.Needs.{threads_text, sockets_text, devices_text, memory_text, needs_text, clients_text, asked_text};
 ghost use Rattle.ev_run.specs.Obstacles.{lead_text, cause_text, port_text, seat_text, end_text, most_text, most_threads_text, obstacle_text, told_of, obstacles_text};
 
 use crate::needs::Needs;
@@ -29,6 +29,22 @@ fn put_sockets<W: Out>(out: &mut W, sockets: u64) -> Result<(), Device>
     out.put(b" UDP sockets\n")
 }
 
+/// Writes the number of devices, if there are any.
+fn put_devices<W: Out>(out: &mut W, devices: u64) -> Result<(), Device>
+    requires { IsOpen (W.end out.old) }
+    ensures { Puts (W.end out.old) (W.end out.new) (devices_text devices) result }
+{
+    if devices == 0 {
+        return Ok(());
+    }
+    put_decimal(out, devices)?;
+    out.put(if devices == 1 {
+        b" device\n"
+    } else {
+        b" devices\n"
+    })
+}
+
 /// Writes the amount of memory in MiB.
 fn put_memory<W: Out>(out: &mut W, memory: u64) -> Result<(), Device>
     requires { IsOpen (W.end out.old) }
@@ -50,6 +66,7 @@ fn put_needs<W: Out>(out: &mut W, needs: Needs) -> Result<(), Device>
 {
     put_threads(out, needs.threads)?;
     put_sockets(out, needs.sockets)?;
+    put_devices(out, needs.devices)?;
     put_memory(out, needs.memory)
 }
 

@@ -19,14 +19,14 @@ use crate::links::links_of;
 use crate::named::{Ends, Prepared, run_named};
 use crate::print::{Watched, put_notes, put_reports};
 use crate::socket_drops::SocketDrops;
-use crate::sockets::{StartError, bind_all, put_bind_error};
+use crate::sockets::{StartError, bind_all, put_bind_error, put_no_device};
 use crate::system::System;
 use crate::system_drops::{UdpTable, rows_of_drops};
 use crate::thread_check::{ThreadPolicy, check_threads, stopped_by};
 use ether_wire::{Device, In, Out};
 use ev_config::Config;
 use ev_edge::EdgeConfig;
-use ev_links::{UdpOut, Wire};
+use ev_links::{Wire, WireOut};
 use ev_mailboxes::{Boards, NoticeBox};
 use ev_notices::notice_worker;
 use ev_peers::{EdgeOutcome, Setup, new_history};
@@ -41,7 +41,7 @@ use std::thread::Threads;
 use std::time::Clock;
 
 /// An edge over sockets, ready to run.
-pub(crate) type Ready<'x, R> = Setup<Wire<'x, R>, UdpOut<'x>>;
+pub(crate) type Ready<'x, R> = Setup<Wire<'x, R>, WireOut<'x>>;
 
 /// Reads up to the end and ignores the octets. Returns `true` if no read failed and the end came
 /// within 2^40 reads.
@@ -314,6 +314,10 @@ fn tell_start_error<N: Out>(start_error: StartError, notes: &mut N) -> u8
     match start_error {
         StartError::Unbindable(at, why) => {
             let _ = put_bind_error(notes, at, why);
+            DEVICE
+        }
+        StartError::Unattached(name) => {
+            let _ = put_no_device(notes, name);
             DEVICE
         }
         StartError::Unnamed => DEVICE,

@@ -32,7 +32,7 @@ const READS: u32 = 1000;
 const SETTLING: u64 = 20;
 
 /// Returns the word of a row at this place. The first word has place 0, and tabs separate words.
-fn field_at(row: &[u8], place: usize) -> Option<&[u8]>
+pub(crate) fn field_at(row: &[u8], place: usize) -> Option<&[u8]>
     ensures { option_map (λ word. word.now) result ≡ slice_get (fields_of row.now) place }
 {
     row.split(|octet| *octet == b'\t').nth(place)

@@ -1,10 +1,10 @@
-//! The datagrams that the system dropped at the sockets of a run, as a console shows them while the
+//! The datagrams that the system dropped at the links of a run, as a console shows them while the
 //! edges run.
 ghost use Rattle.std.specs.Prelude.{◌≡◌, option_map, map, IfOk};
-ghost use Rattle.ev_run.specs.Inner.SystemDrops.{drops_in};
-ghost use Rattle.ev_run.specs.Inner.Sockets.{bound_at};
+ghost use Rattle.ev_run.specs.Inner.SystemDrops.{drops_in, drops_at};
+ghost use Rattle.ev_run.specs.Inner.Sockets.{bound_at, local_end};
 
-use crate::bound::Sockets;
+use crate::bound::{Cable, Sockets};
 use crate::system_drops::{UdpTable, reported_at};
 use ev_config::Endpoint;
 use ev_console::SystemDrops;
@@ -21,20 +21,30 @@ fn drops_in(table: &Option<Vec<u8>>, at: Endpoint) -> Option<u64>
     }
 }
 
-/// Returns the drops that the system's table reports at each socket of an edge, the tunnel's first.
+/// Returns the drops that the system's table reports at a port's cable: `None` for a device.
+fn drops_at(table: &Option<Vec<u8>>, cable: &Cable) -> Option<u64>
+    ensures { result ≡ drops_at (option_map (λ text. text.items) table.now) (local_end cable.now) }
+{
+    match cable {
+        Cable::Socket(_, local, _) => drops_in(table, *local),
+        Cable::Tap(_) => None,
+    }
+}
+
+/// Returns the drops that the system's table reports at each link of an edge, the tunnel's first.
 fn drops_of(
     alloc: Global,
     table: &Option<Vec<u8>>,
     sockets: &Sockets,
 ) -> Result<Vec<Option<u64>>, AllocError>
     ensures { IfOk result (λ drops. drops.items
-        ≡ map (drops_in (option_map (λ text. text.items) table.now)) (bound_at sockets.now)) }
+        ≡ map (drops_at (option_map (λ text. text.items) table.now)) (bound_at sockets.now)) }
 {
     let ports = sockets.ports.as_slice();
     let mut drops = Vec::with_capacity(alloc, ports.len() + 1)?;
     drops.push_reserved(drops_in(table, sockets.at));
-    for port in ports {
-        drops.push_reserved(drops_in(table, port.local));
+    for cable in ports {
+        drops.push_reserved(drops_at(table, cable));
     }
     Ok(drops)
 }

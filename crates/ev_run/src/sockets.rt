@@ -1,18 +1,25 @@
-//! Binds the sockets of a run, and reports which one can't be bound.
-ghost use Rattle.std.specs.Prelude.{◌≡◌, ◌≤◌, ◌∷◌, [], false, vec_len, map, Some, IfOk, IfErr};
+//! Binds the sockets of a run and finds its devices, and reports which one is of no use.
+ghost use Rattle.std.specs.Prelude.{◌≡◌, ◌≤◌, ◌||◌, ◌∷◌, [], false, is_none, vec_len, map, option_map, Some, IfOk, IfErr};
+ghost use Rattle.std.specs.List.{cons_option};
 ghost use Rattle.ether_wire.specs.Ends.{IsOpen, Puts};
-ghost use Rattle.ev_run.specs.RunEdges.{why_text, endpoint_text, bind_error_text};
+ghost use Rattle.ev_links.specs.DeviceName.{text_of};
+ghost use Rattle.ev_run.specs.LinkEnds.{Udp, local_of, remote_of};
+ghost use Rattle.ev_run.specs.RunEdges.{why_text, endpoint_text, bind_error_text, no_device_text};
 ghost use Rattle.ev_run.specs.Sockets.{tunnel_of, locals_of, remotes_of, endpoints_of, all_ends, all_remotes, lacks_end, lacks_ends, lacks_address, Hinders};
-ghost use Rattle.ev_run.specs.Inner.Sockets.{bound_at, sent_to};
+ghost use Rattle.ev_run.specs.Inner.Taps.{tap_named};
+ghost use Rattle.ev_run.specs.Inner.Sockets.{attached, local_end, remote_end, bound_at, sent_to};
 
-use crate::bound::{PortSocket, Sockets};
+use crate::bound::{Cable, Sockets};
+use crate::needs::devices_of;
+use crate::taps::{all_taps, tap_named};
 use arrayvec::ArrayVec;
 use ether_wire::{Device, Out, put_addr, put_decimal};
 use ev_config::{Config, Endpoint, PortEndpoints};
 use ev_edge::EdgeConfig;
-use ev_links::socket_address;
+use ev_links::{DeviceName, Tap, socket_address};
 use libc::net::{SO_RCVBUF, SOL_SOCKET, setsockopt};
-use std::alloc::Global;
+use std::alloc::{AllocError, Global};
+use std::fs::Files;
 use std::io;
 use std::io::ErrorKind;
 use std::net::{Net, UdpSocket};
@@ -52,7 +59,9 @@ pub enum BindError {
 pub(crate) enum StartError {
     /// This address can't be bound.
     Unbindable(Endpoint, BindError),
-    /// A port has no address at which it receives its frames, or none to which it sends them.
+    /// This process has no descriptor of this device.
+    Unattached(DeviceName),
+    /// A port has no end at which it receives its frames, or none to which it sends them.
     Unnamed,
     /// There is no memory.
     NoMemory,
@@ -111,6 +120,24 @@ pub(crate) fn put_bind_error<N: Out>(
     notes.put(why.reason())
 }
 
+/// Writes the name of a device.
+fn put_device<N: Out>(notes: &mut N, name: DeviceName) -> Result<(), Device>
+    requires { IsOpen (N.end notes.old) }
+    ensures { Puts (N.end notes.old) (N.end notes.new) (text_of name) result }
+{
+    notes.put(name.text())
+}
+
+/// Writes of which device this process has no descriptor.
+pub(crate) fn put_no_device<N: Out>(notes: &mut N, name: DeviceName) -> Result<(), Device>
+    requires { IsOpen (N.end notes.old) }
+    ensures { Puts (N.end notes.old) (N.end notes.new) (no_device_text name) result }
+{
+    notes.put(b"can't use device ")?;
+    put_device(notes, name)?;
+    notes.put(b": evpnd has no descriptor of it; start evpnd by evpnd-attach\n")
+}
+
 /// Returns the endpoint of an edge's tunnels.
 pub(crate) fn tunnel_of(edge: &EdgeConfig) -> Endpoint
     ensures { result ≡ tunnel_of edge.now }
@@ -137,7 +164,7 @@ fn limit_sends(socket: &UdpSocket) {
 
 /// Returns a socket that is bound to this endpoint, with a large receive buffer and limited sends.
 fn bind<R: Net>(rt: &R, at: Endpoint) -> Result<UdpSocket, StartError>
-    ensures { IfErr result (λ why. Hinders (at ∷ []) false why) }
+    ensures { IfErr result (λ why. Hinders (Udp at ∷ []) false why) }
 {
     match UdpSocket::bind(rt, socket_address(at.address, at.port)) {
         Ok(socket) => {
@@ -149,43 +176,58 @@ fn bind<R: Net>(rt: &R, at: Endpoint) -> Result<UdpSocket, StartError>
     }
 }
 
-/// Returns both ends of a port's link.
-fn ends_of(link: PortEndpoints) -> Result<(Endpoint, Endpoint), StartError>
-    ensures local { IfOk result (λ ends. link.local ≡ Some ends.0) }
-    ensures remote { IfOk result (λ ends. link.remote ≡ Some ends.1) }
-    ensures whole { IfOk result (λ ends. lacks_end link ≡ false) }
-    ensures hindered { IfErr result (λ why. Hinders [] (lacks_end link) why) }
+/// Returns the cable of a port over a socket with these ends.
+fn bind_socket<R: Net>(
+    rt: &R,
+    local: Option<Endpoint>,
+    remote: Option<Endpoint>,
+) -> Result<Cable, StartError>
+    ensures local { IfOk result (λ cable. option_map Udp local ≡ Some (local_end cable)) }
+    ensures remote { IfOk result (λ cable. option_map Udp remote ≡ Some (remote_end cable)) }
+    ensures hindered { IfErr result (λ why.
+        Hinders (cons_option (option_map Udp local) []) (is_none local || is_none remote) why) }
 {
-    match (link.local, link.remote) {
-        (Some(local), Some(remote)) => Ok((local, remote)),
-        _ => Err(StartError::Unnamed),
+    let (Some(local), Some(remote)) = (local, remote) else {
+        return Err(StartError::Unnamed);
+    };
+    Ok(Cable::Socket(bind(rt, local)?, local, remote))
+}
+
+/// Returns the cable of a port over the device with this name.
+fn attach(taps: &[Tap], name: DeviceName) -> Result<Cable, StartError>
+    ensures { result ≡ attached name (tap_named taps.now name) }
+{
+    match tap_named(taps, name) {
+        Some(tap) => Ok(Cable::Tap(tap)),
+        None => Err(StartError::Unattached(name)),
     }
 }
 
-/// Returns the bound socket of a port with these ends.
-fn bind_port<R: Net>(rt: &R, local: Endpoint, remote: Endpoint) -> Result<PortSocket, StartError>
-    ensures bound { IfOk result (λ port. port.local ≡ local) }
-    ensures remote { IfOk result (λ port. port.remote ≡ remote) }
-    ensures hindered { IfErr result (λ why. Hinders (local ∷ []) false why) }
+/// Returns the cable of a port with these ends.
+fn cable_of<R: Net>(rt: &R, taps: &[Tap], link: PortEndpoints) -> Result<Cable, StartError>
+    ensures local { IfOk result (λ cable. local_of link ≡ Some (local_end cable)) }
+    ensures remote { IfOk result (λ cable. remote_of link ≡ Some (remote_end cable)) }
+    ensures hindered { IfErr result
+        (λ why. Hinders (cons_option (local_of link) []) (lacks_end link) why) }
 {
-    Ok(PortSocket {
-        socket: bind(rt, local)?,
-        local,
-        remote,
-    })
+    match link.device {
+        Some(name) => attach(taps, name),
+        None => bind_socket(rt, link.local, link.remote),
+    }
 }
 
-/// Returns the bound sockets of one edge's ports.
+/// Returns the cables of one edge's ports.
 fn bind_ports<R: Net>(
     rt: &R,
     alloc: Global,
+    taps: &[Tap],
     links: &ArrayVec<PortEndpoints, 64>,
-) -> Result<Vec<PortSocket>, StartError>
+) -> Result<Vec<Cable>, StartError>
     ensures few { IfOk result (λ ports. vec_len ports ≤ 64) }
     ensures bound { IfOk result
-        (λ ports. map (λ port. port.local) ports.items ≡ locals_of links.now.items) }
+        (λ ports. map local_end ports.items ≡ locals_of links.now.items) }
     ensures remotes { IfOk result
-        (λ ports. map (λ port. port.remote) ports.items ≡ remotes_of links.now.items) }
+        (λ ports. map remote_end ports.items ≡ remotes_of links.now.items) }
     ensures whole { IfOk result (λ ports. lacks_ends links.now.items ≡ false) }
     ensures hindered { IfErr result
         (λ why. Hinders (locals_of links.now.items) (lacks_ends links.now.items) why) }
@@ -195,14 +237,21 @@ fn bind_ports<R: Net>(
         return Err(StartError::NoMemory);
     };
     for link in links {
-        let (local, remote) = ends_of(*link)?;
-        ports.push_reserved(bind_port(rt, local, remote)?);
+        ports.push_reserved(cable_of(rt, taps, *link)?);
     }
     Ok(ports)
 }
 
-/// Returns the bound sockets of all edges.
-pub(crate) fn bind_all<R: Net>(
+/// Returns the devices of which this process has descriptors, if a port is a device.
+fn taps_for<R: Files>(rt: &R, alloc: Global, config: &Config) -> Result<Vec<Tap>, AllocError> {
+    if devices_of(config.links.as_slice()) == 0 {
+        return Ok(Vec::new(alloc));
+    }
+    all_taps(rt, alloc)
+}
+
+/// Returns the bound sockets and the devices of all edges.
+pub(crate) fn bind_all<R: Net + Files>(
     rt: &R,
     alloc: Global,
     config: &Config,
@@ -215,6 +264,9 @@ pub(crate) fn bind_all<R: Net>(
     ensures hindered { IfErr result
         (λ why. Hinders (all_ends config.now) (lacks_address config.now) why) }
 {
+    let Ok(taps) = taps_for(rt, alloc, config) else {
+        return Err(StartError::NoMemory);
+    };
     let Ok(mut all) = Vec::with_capacity(alloc, config.edges.len()) else {
         return Err(StartError::NoMemory);
     };
@@ -223,7 +275,7 @@ pub(crate) fn bind_all<R: Net>(
         let sockets = Sockets {
             tunnel: bind(rt, at)?,
             at,
-            ports: bind_ports(rt, alloc, links)?,
+            ports: bind_ports(rt, alloc, taps.as_slice(), links)?,
         };
         if all.push(sockets).is_err() {
             return Err(StartError::NoMemory);

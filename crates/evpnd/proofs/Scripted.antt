@@ -113,7 +113,7 @@ checked_ready purpose text (Ok config) s input out out' notes notes' status h do
         → IsReady s out' notes'
     run is_asked (inl t) =
         told (obstacles_of config.edges.items config.links.items is_asked purpose.limits)
-        (run_text is_asked config.edges.items) t
+        (run_text is_asked config) t
     run is_asked (inr m) = let three = m.2 in absurd (omega (arith, three, done))
 
     go : (wanted : Use) → SumsFor wanted purpose.limits config out out' notes notes' status → IsReady s out' notes'

@@ -82,8 +82,9 @@ abbrev pub Sums : Text → End → End → ℕ → Type 0
 Sums text before after status = Holds before after text × (status ≡ (if has_failed before after then 4 else 0))
 
 -- the summary of a configuration's edges, and the resources of their run
-abbrev pub run_text : Bool → List EdgeConfig → Text
-run_text is_asked edges = summary_text edges ++ asked_text is_asked (needs_of edges)
+abbrev pub run_text : Bool → Config → Text
+run_text is_asked config =
+    summary_text config.edges.items ++ asked_text is_asked (needs_of config.edges.items config.links.items)
 
 -- the lines for a text that is no configuration are written to the notes, or a call of them failed
 abbrev pub TellsFaults : Use → Text → End → End → ℕ → Type 0
@@ -101,7 +102,7 @@ TellsObstacles (one ∷ more) text out out' notes notes' status =
 abbrev pub SumsRun : Bool → ProcessLimits → Config → End → End → End → End → ℕ → Type 0
 SumsRun is_asked limits config out out' notes notes' status =
     TellsObstacles (obstacles_of config.edges.items config.links.items is_asked limits)
-    (run_text is_asked config.edges.items) out out' notes notes' status
+    (run_text is_asked config) out out' notes notes' status
     ⊎ ((out' ≡ out) × (notes' ≡ notes) × (status ≡ 3))
 
 -- the summary of a configuration for a use; for a run, its obstacles or its resources

@@ -61,7 +61,7 @@ fn sum_up<W: Out>(config: &Config, out: &mut W) -> u8
 fn put_sums<W: Out>(config: &Config, is_asked: bool, out: &mut W) -> Result<(), Device>
     requires { IsOpen (W.end out.old) }
     ensures { Puts (W.end out.old) (W.end out.new)
-        (run_text is_asked config.now.edges.items) result }
+        (run_text is_asked config.now) result }
 {
     put_summary(out, config)?;
     put_asked_needs(out, needs_of(config), is_asked)
@@ -70,7 +70,7 @@ fn put_sums<W: Out>(config: &Config, is_asked: bool, out: &mut W) -> Result<(), 
 /// Writes the summary of a configuration, and the resources of its run, and returns the status.
 fn sum_up_run<W: Out>(config: &Config, is_asked: bool, out: &mut W) -> u8
     requires { IsOpen (W.end out.old) }
-    ensures { Sums (run_text is_asked config.now.edges.items) (W.end out.old) (W.end out.new)
+    ensures { Sums (run_text is_asked config.now) (W.end out.old) (W.end out.new)
         result }
 {
     done_status(put_sums(config, is_asked, out))
@@ -94,7 +94,7 @@ fn tell_run<W: Out, N: Out>(
 ) -> u8
     requires out { IsOpen (W.end out.old) }
     requires notes { IsOpen (N.end notes.old) }
-    ensures { TellsObstacles found.now (run_text is_asked config.now.edges.items)
+    ensures { TellsObstacles found.now (run_text is_asked config.now)
         (W.end out.old) (W.end out.new) (N.end notes.old) (N.end notes.new) result }
 {
     match found {

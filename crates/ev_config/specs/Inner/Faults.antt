@@ -11,10 +11,11 @@ use Rattle.ev_config.specs.declared.schema.Row.{Row as CodeRow}
 use Rattle.ev_config.specs.declared.document_table.DocumentTable.{DocumentTable}
 use Rattle.ev_config.specs.declared.document_table.DocumentTable.TheVariants as place
 use Rattle.ev_config.specs.declared.faults.FaultyKey.{FaultyKey}
+use Rattle.ev_config.specs.declared.devices.NamedPort.{NamedPort as CodePort}
 use Rattle.ev_config.specs.declared.seen_names.SeenNames.{SeenNames as CodeNames}
 use Rattle.ev_config.specs.declared.document_table.Context.{Context as CodeContext}
 use Rattle.ev_config.specs.Schema.{Row}
-use Rattle.ev_config.specs.Faults.{Spot, File, Edge, Port, Peer, Faulty, SeenNames, Context}
+use Rattle.ev_config.specs.Faults.{Spot, File, Edge, Port, Peer, Faulty, NamedPort, SeenNames, Context}
 
 abbrev pub spot_of : DocumentTable → Spot
 spot_of (place.File t) = File
@@ -33,6 +34,17 @@ abbrev pub Adds : {X E : Type 0} → List Faulty → List FaultyKey → List Fau
 Adds more old new (Ok x) = faults_view new ≡ faults_view old ++ more
 Adds more old new (Err any) = Unit {0}
 
+abbrev pub named_of : CodePort → NamedPort
+named_of p = (spot_of p.place, p.name.now)
+
+abbrev pub named_view : List CodePort → List NamedPort
+named_view ports = map named_of ports
+
+-- these ports were found, unless memory was refused
+abbrev pub Finds : {X E : Type 0} → List NamedPort → List CodePort → List CodePort → Result X E → Type 0
+Finds more old new (Ok x) = named_view new ≡ named_view old ++ more
+Finds more old new (Err any) = Unit {0}
+
 -- a row without its advice
 abbrev pub row_of : CodeRow → Row
 row_of row = (row.0.now, row.1)
@@ -44,8 +56,9 @@ abbrev pub context_view : CodeContext → Context
 context_view c = record {
   for_run = c.for_run;
   names = names_view c.names.now;
-  vnis = option_map (λ v. v.items) c.vnis;
+  vnis = option_map (λ v. v.items) c.vnis.now;
   edges = c.edges;
+  has_device = c.has_device;
 }
 
 abbrev pub items_at : Option (Bor (Vec Value Global)) → Items

@@ -5,6 +5,7 @@ use Rattle.std.specs.Option.{unwrap_or}
 use Rattle.std.specs.List.{fold, slice_get}
 use Rattle.ev_config.specs.declared.endpoint.Endpoint.{Endpoint}
 use Rattle.ev_report.specs.Originators.{Text}
+use Rattle.ev_run.specs.LinkEnds.{LinkEnd, Udp, Device}
 use Rattle.ev_run.specs.SystemDrops.{local_text, rows_of, words_of, names, count_of, dropped_at}
 
 -- a row reports dropped datagrams: the number of its thirteenth word isn't 0
@@ -37,9 +38,14 @@ abbrev pub drops_in : Option Text → Endpoint → Option ℕ
 drops_in None at = None
 drops_in (Some text) at = reported_at text at
 
--- the drops at each socket of the edge with this number, from 1; the sockets of each edge are bound to these endpoints
-abbrev pub drops_of_edge : Option Text → List (List Endpoint) → ℕ → List (Option ℕ)
-drops_of_edge table sockets edge = map (drops_in table) (unwrap_or (slice_get sockets (edge - 1)) [])
+-- those at an end of a link: the table has none of a device
+abbrev pub drops_at : Option Text → LinkEnd → Option ℕ
+drops_at table (Udp at) = drops_in table at
+drops_at table (Device name) = None
+
+-- the drops at each link of the edge with this number, from 1; each edge receives at these ends
+abbrev pub drops_of_edge : Option Text → List (List LinkEnd) → ℕ → List (Option ℕ)
+drops_of_edge table sockets edge = map (drops_at table) (unwrap_or (slice_get sockets (edge - 1)) [])
 
 -- The text reports the drops of this table. It is empty if the table couldn't be read or memory was refused.
 abbrev pub IsShortened : Option Text → Text → Type 0

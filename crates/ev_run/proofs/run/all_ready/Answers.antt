@@ -1,6 +1,6 @@
 use Rattle.std.proofs.Common.{rules, ◌≡◌, ℕ, ◌+◌, ◌<◌, List, length, map, take, get_or, vec_len, subst, ◌∙◌, arith}
-use Rattle.ev_links.specs.declared.udp.Destination.{Destination}
-use Rattle.ev_links.specs.declared.udp.UdpOut.{UdpOut}
+use Rattle.ev_links.specs.declared.wire_out.Destination.{Destination}
+use Rattle.ev_links.specs.declared.wire_out.WireOut.{WireOut}
 use Rattle.ev_peers.specs.EdgeThreads.{EdgeSetup}
 use Rattle.ev_run.specs.declared.bound.Sockets.{Sockets}
 use Rattle.ev_run.specs.Links.{sends_to, destinations_of, begun_of}
@@ -35,7 +35,7 @@ loop-config-preserved g c =
     let there = subst (λ (n : ℕ). sockets ≡ get_or ends n sockets) len c.index-all-len.is in
     record {
       each = each_left all.items left.items c.in-Some.config c.in-Some.ensures.items c.loop-config.invariant.each;
-      begun = one_back (begun_of c.args.incarnation) (λ (s : EdgeSetup UdpOut). s.config) left.items all.items
+      begun = one_back (begun_of c.args.incarnation) (λ (s : EdgeSetup WireOut). s.config) left.items all.items
           c.in-Some.config c.loop-config.setups.items c.push.new.self.items setup
           (map (begun_of c.args.incarnation) c.args.configs.items) c.in-Some.ensures.items c.in_ok-push.ensures.items
           (c.in_ok-ready.ensures.config ∙ c.begun_in-config.ensures.begun) c.loop-config.invariant.begun;
@@ -47,7 +47,7 @@ loop-config-preserved g c =
     }
 
 pub returns-clause-begun : goal.returns-clause-begun
-returns-clause-begun g c = all_back (begun_of c.args.incarnation) (λ (s : EdgeSetup UdpOut). s.config)
+returns-clause-begun g c = all_back (begun_of c.args.incarnation) (λ (s : EdgeSetup WireOut). s.config)
     c.loop-config.configs.items c.loop-config.setups.items c.in_reverse.result.items
     (map (begun_of c.args.incarnation) c.args.configs.items) (search rules) c.in_reverse.ensures.items
     c.loop-config.invariant.begun

@@ -3,7 +3,7 @@ use Rattle.std.proofs.lemmas.List.{length-map}
 use Rattle.std.specs.Bool.{OnFalse}
 use Rattle.ev_run.specs.Inner.Sockets.{bound_at}
 use Rattle.ev_run.specs.RunEdges.{Ended, system_text, TellsEnded}
-use Rattle.ev_links.specs.declared.udp.UdpOut.{UdpOut}
+use Rattle.ev_links.specs.declared.wire_out.WireOut.{WireOut}
 use Rattle.ev_peers.specs.EdgeThreads.{EdgeSetup}
 use Rattle.ev_peers.specs.History.{configs_of}
 use Rattle.ev_run.proofs.AsFabric.{runs_as_fabric}
@@ -26,7 +26,7 @@ returns-clause-ran g c =
     let asked : c.is_some-is_asked.result ≡ is_asked = search rules in
     let many : length ended.items ≡ length setups.items = sym ended.ok.0 ∙ named.all ∙ setups.ok.0 in
     let configs : length (configs_of setups.items) ≡ length setups.items =
-    length-map setups.items (λ (setup : EdgeSetup UdpOut). setup.config) in
+    length-map setups.items (λ (setup : EdgeSetup WireOut). setup.config) in
     record {
       is_read = is_read;
       read = named.read;
