@@ -1,4 +1,4 @@
-# Completion of evpnd, evpnd-run, evpnd-audit, evpnd-bgp and evpnd-records for bash: `source tools/evpnd.bash`. A subcommand's
+# Completion of evpnd, evpnd-run, evpnd-attach, evpnd-audit, evpnd-bgp and evpnd-records for bash: `source tools/evpnd.bash`. A subcommand's
 # options are those that its --help prints.
 
 # Completes with the words, or with files if the word before takes one or none of the words fits.
@@ -32,6 +32,16 @@ _evpnd_run() {
   if [ "$COMP_CWORD" = 2 ]; then _evpnd_words serve; else mapfile -t COMPREPLY < <(compgen -f -- "${COMP_WORDS[COMP_CWORD]}"); fi
 }
 
+# Completes with devices, and after `--` with a command.
+_evpnd_attach() {
+  COMPREPLY=()
+  if [[ " ${COMP_WORDS[*]:0:COMP_CWORD} " == *" -- "* ]]; then
+    mapfile -t COMPREPLY < <(compgen -c -f -- "${COMP_WORDS[COMP_CWORD]}")
+  else
+    mapfile -t COMPREPLY < <(compgen -W "-- $(ls /sys/class/net)" -- "${COMP_WORDS[COMP_CWORD]}")
+  fi
+}
+
 _evpnd_tool() {
   local words=
   COMPREPLY=()
@@ -51,4 +61,5 @@ _evpnd_tool() {
 
 complete -F _evpnd evpnd
 complete -F _evpnd_run evpnd-run
+complete -F _evpnd_attach evpnd-attach
 complete -F _evpnd_tool evpnd-audit evpnd-bgp evpnd-records

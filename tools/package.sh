@@ -10,7 +10,7 @@
 # it is the one in crates/evpnd/out. Of an unproved one the version ends with ~unproved, and the description states it.
 # FILE is the output of the `rt check` that proved the program; without it the package states that it has no log.
 #
-# In the package: evpnd, evpndctl, evpnd-run, evpnd-audit, evpnd-bgp and evpnd-records with their completion and man pages, units
+# In the package: evpnd, evpndctl, evpnd-run, evpnd-attach, evpnd-audit, evpnd-bgp and evpnd-records with their completion and man pages, units
 # of systemd that aren't enabled, the docs, the examples, and the SHA-256 of the program and of each source that it was built from.
 # The version is the first of CHANGELOG.md, then the commit's time and hash, so that a later commit's package is newer. An
 # uncommitted change adds `.changed`. DEBFULLNAME and DEBEMAIL name the maintainer; else it is the commit's author.
@@ -92,8 +92,8 @@ install -m 755 "$program" "$root/usr/bin/evpnd"
 if [ "$(head -c 4 "$program" | tail -c 3)" = ELF ]; then
   strip --strip-all --remove-section=.comment --remove-section=.note "$root/usr/bin/evpnd"
 fi
-install -m 755 "$top/tools/evpndctl" "$top/examples/run/evpnd-run" "$root/usr/bin/"
-sed -i '1s|^#!/usr/bin/env python3$|#!/usr/bin/python3|' "$root/usr/bin/evpndctl"
+install -m 755 "$top/tools/evpndctl" "$top/tools/evpnd-attach" "$top/examples/run/evpnd-run" "$root/usr/bin/"
+sed -i '1s|^#!/usr/bin/env python3$|#!/usr/bin/python3|' "$root/usr/bin/evpndctl" "$root/usr/bin/evpnd-attach"
 for tool in "$top"/tools/audit_*.py "$top"/tools/evpnd_*.py; do
   install -m 644 "$tool" "$share/"
 done
@@ -112,7 +112,7 @@ for name in audit bgp records; do
 done
 install -m 644 "$top/tools/evpndctl.bash" "$completions/evpndctl"
 install -m 644 "$top/tools/evpnd.bash" "$completions/evpnd"
-for name in run audit bgp records; do
+for name in run attach audit bgp records; do
   ln -s evpnd "$completions/evpnd-$name"
 done
 for unit in "$top"/examples/run/*.service "$top"/examples/fabric/*.service "$top"/examples/monitoring/*.service "$top"/examples/monitoring/*.timer; do
@@ -171,6 +171,7 @@ evpnd_help() {
 page evpnd 'tables, owners and edges of Ethernet VPN' evpnd_help
 page evpndctl 'asks edges that run (evpnd serve) over their control socket' python3 -B "$top/tools/evpndctl" --help
 page evpnd-run 'runs edges until a signal, and prints their reports' sed -n '2,/^set/{/^set/d;s/^# \{0,1\}//;p}' "$top/examples/run/evpnd-run"
+page evpnd-attach 'opens tap devices and runs edges with them' python3 -B "$top/tools/evpnd-attach" --help
 page evpnd-audit 'compares where a fabric forwards MACs with what its routes say' python3 -B "$top/tools/evpnd_audit.py" --help
 page evpnd-bgp 'a gateway between update records and a BGP EVPN fabric, by GoBGP' python3 -B "$top/tools/evpnd_bgp.py" --help
 page evpnd-records 'update records from readable lines and from the routes of FRR, and back' python3 -B "$top/tools/evpnd_records.py" --help

@@ -47,13 +47,16 @@ tap() {
   ip -n "$1" link set "$2" mtu 1450 up
 }
 
-# host NAME ADDRESS MAC: a namespace with a tap device, for a cable to an edge; sets `it`
-host() {
+# device_host NAME DEVICE ADDRESS MAC: a namespace with a tap device of this name; sets `it`
+device_host() {
   space "$1"
-  tap "$it" eth
-  ip -n "$it" link set eth address "$3"
-  ip -n "$it" address add "$2/24" dev eth
+  tap "$it" "$2"
+  ip -n "$it" link set "$2" address "$4"
+  ip -n "$it" address add "$3/24" dev "$2"
 }
+
+# host NAME ADDRESS MAC: a namespace with a tap device, for a cable to an edge; sets `it`
+host() { device_host "$1" eth "$2" "$3"; }
 
 # leaf NAME ADDRESS MAC NETNS DEVICE: a namespace with a cable to a new device, for a bridge, in another one; sets `it`
 leaf() {

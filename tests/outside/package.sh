@@ -51,7 +51,7 @@ else
 fi
 see "apt installs it with Debian's packages alone" within apt-get install -y --no-install-recommends /evpnd-try/evpnd.deb
 see "the files are those of the package" within dpkg --verify evpnd
-for name in evpnd evpndctl evpnd-run evpnd-audit evpnd-bgp evpnd-records; do
+for name in evpnd evpndctl evpnd-run evpnd-attach evpnd-audit evpnd-bgp evpnd-records; do
   see "$name is there, with completion" sh -c "test -x '$root/usr/bin/$name' && chroot '$root' bash -c '. /usr/share/bash-completion/completions/$name && complete -p $name'"
 done
 see "evpnd completes a subcommand" sh -c "chroot '$root' bash -c '. /usr/share/bash-completion/completions/evpnd; COMP_WORDS=(evpnd si); COMP_CWORD=1; _evpnd; echo \"\${COMPREPLY[*]}\"' | grep -qx simulate"
@@ -72,7 +72,7 @@ see "one station" gives 0 evpnd-audit mac 5001 02:00:00:00:00:aa /evpnd-try/view
 see "without FRR the cause is named" sh -c "chroot '$root' evpnd-audit 2>&1 | grep -q 'the command vtysh can.t be run'"
 see "the gateway to BGP tells which packages it needs" sh -c "chroot '$root' evpnd-bgp --watch 1 2>&1 | grep -q 'install gobgpd'"
 see "records of FRR's routes" gives 0 sh -c "evpnd-records frr --vni 5001 /evpnd-try/views/home/routes.json | evpnd-records show | grep -q '^advert 10.0.0.1 5001'"
-for page in evpnd evpndctl evpnd-run evpnd-audit evpnd-bgp evpnd-records; do
+for page in evpnd evpndctl evpnd-run evpnd-attach evpnd-audit evpnd-bgp evpnd-records; do
   see "the man page $page" sh -c "gzip -dc '$root/usr/share/man/man1/$page.1.gz' 2>/dev/null | man -l - 2>&1 | grep -q DESCRIPTION || dpkg-deb -c '$package' | grep -q man1/$page.1.gz"
 done
 if [ -n "$monitoring" ]; then

@@ -12,7 +12,7 @@ from test_records import TOP
 
 SUBCOMMANDS = ("report", "migrate", "check", "simulate", "play", "run", "serve", "version")
 # programs that a package installs, with their names there
-INSTALLED = {"evpndctl": "evpndctl", "evpnd_audit.py": "evpnd-audit", "evpnd_bgp.py": "evpnd-bgp", "evpnd_records.py": "evpnd-records"}
+INSTALLED = {"evpndctl": "evpndctl", "evpnd-attach": "evpnd-attach", "evpnd_audit.py": "evpnd-audit", "evpnd_bgp.py": "evpnd-bgp", "evpnd_records.py": "evpnd-records"}
 PLAIN_SCRIPTS = ("crates_svg.py", "network_svg.py")  # called by python3
 
 

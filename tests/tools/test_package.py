@@ -18,7 +18,7 @@ case $1 in
 esac
 """
 SOURCES = f"{'0' * 64}  crates/evpnd/src/main.rt\n"
-COMMANDS = ("evpnd", "evpndctl", "evpnd-run", "evpnd-audit", "evpnd-bgp", "evpnd-records")
+COMMANDS = ("evpnd", "evpndctl", "evpnd-run", "evpnd-attach", "evpnd-audit", "evpnd-bgp", "evpnd-records")
 
 
 def packed(folder: str, proof: str, sources: str = "") -> str:
