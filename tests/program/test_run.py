@@ -32,6 +32,7 @@ TUNNELS = 4789
 PATIENCE = 60
 # numbers for texts of frames and for users, none twice
 numbers = count(1)
+ports = iter(range(10_000, 32_768))
 
 
 def station(number: int) -> bytes:
@@ -55,10 +56,12 @@ def granted_octets() -> int:
 
 
 def free_port() -> int:
-    """A UDP port that nothing has."""
-    with socket.socket(socket.AF_INET, socket.SOCK_DGRAM) as it:
-        it.bind((ONE, 0))
-        return it.getsockname()[1]
+    """A UDP port that nothing has: none twice, and none that the system gives to a socket by itself (32768 and above)."""
+    for port in ports:
+        with socket.socket(socket.AF_INET, socket.SOCK_DGRAM) as it, contextlib.suppress(OSError):
+            it.bind((ONE, port))
+            return port
+    raise AssertionError("no port is free")
 
 
 def is_reached(holds: Callable[[], bool], seconds: float = PATIENCE) -> bool:
