@@ -2,7 +2,7 @@
 # Measures TCP between two hosts at two edges, beside the same hosts without edges, and beside Linux's own bridges and vxlan devices.
 #   bench/tcp.sh [EVPND]        (the built program; by default the one that `rt run` leaves)
 # Each host is a network namespace with an MTU of 1450. At the edges it has a tap device, whose frames a relay carries to a port:
-# tests/outside/tap_relay.py, and bench/tcp/relay.c if gcc is there. Without edges the relays of both hosts send to each other. The
+# tests/outside/tap_relay.py, and bench/tcp/relay.c if gcc is there. Or the device itself is the port (evpnd-attach). Without edges the relays of both hosts send to each other. The
 # devices of the kernel's way have no offloads (ethtool), as tap devices have none. Prints a table of the medians of 3 runs of 5
 # seconds, which take turns. Then it prints the ways that were not measured, with the reasons. The last line is `ok` if all ways that
 # this machine can measure carried TCP.
@@ -18,11 +18,12 @@ runs=3 seconds=5
 lacks=()
 
 for edge in 1 2; do
-  printf '[[edge]]\naddress = "127.0.0.%d"\nbridge = "02:aa:00:00:00:0%d"\nvnis = [5001, 5002]\n' "$edge" "$edge"
+  printf '[[edge]]\naddress = "127.0.0.%d"\nbridge = "02:aa:00:00:00:0%d"\nvnis = [5001, 5002, 5003]\n' "$edge" "$edge"
   for port in 1 2; do
     printf '[[edge.port]]\nvni = 500%d\nadmin_edge = true\nlocal = "127.0.0.%d:2000%d"\nremote = "127.0.0.%d:3000%d"\n' \
       "$port" "$edge" "$port" "$edge" "$port"
   done
+  printf '[[edge.port]]\nvni = 5003\nadmin_edge = true\ndevice = "port%d"\n' "$edge"
 done > "$work/edges.toml"
 
 # relayed NETNS HERE THERE RELAY..: this relay carries the frames of the host's device
@@ -152,7 +153,9 @@ measured() {
   fi
 }
 
-start
+for number in 1 2; do device_host "dev$number" "port$number" "192.168.80.$number" "02:00:00:00:00:0$number"; done
+start python3 "$outside/../../tools/evpnd-attach" "evpnd-$$-dev1/port1" "evpnd-$$-dev2/port2" --
+way "two edges, devices" dev1 dev2
 taps Python 1 python3 "$outside/tap_relay.py"
 if command -v gcc > "$work/found"; then
   gcc -O2 -pthread -o "$work/relay-c" "$bench/tcp/relay.c" || exit 1
