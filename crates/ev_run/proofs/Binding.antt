@@ -16,6 +16,7 @@ use Rattle.ev_run.specs.declared.sockets.StartError.TheVariants.{Unbindable, Una
 use Rattle.ev_config.specs.declared.endpoint.Endpoint.{Endpoint}
 use Rattle.ev_config.specs.declared.endpoint.PortEndpoints.{PortEndpoints}
 use Rattle.ev_run.specs.declared.bound.Cable.{Cable}
+use Rattle.ev_run.specs.declared.taps.AttachError.{AttachError}
 use Rattle.ev_run.specs.LinkEnds.{LinkEnd, Udp, Device, end_of, local_of, remote_of}
 use Rattle.ev_run.specs.Inner.Sockets.{attached, local_end, remote_end}
 use Rattle.ev_links.specs.declared.device_name.DeviceName.{DeviceName}
@@ -77,7 +78,7 @@ hinders_more : (ends wider : List LinkEnd) (lacks more : Bool) (why : StartError
     → ((at : LinkEnd) → Contains ends at → Contains wider at) → (lacks ≡ true → more ≡ true)
     → Hinders ends lacks why → Hinders wider more why
 hinders_more ends wider lacks more (Unbindable at why) within also h = within (Udp at) h
-hinders_more ends wider lacks more (Unattached name) within also h = within (Device name) h
+hinders_more ends wider lacks more (Unattached name why) within also h = within (Device name) h
 hinders_more ends wider lacks more Unnamed within also h = also h
 hinders_more ends wider lacks more NoMemory within also h = h
 
@@ -183,26 +184,27 @@ named_so (one ∷ taps) name tap is = elim (is_named name one) as (λ b. is_name
     ] refl is
 
 -- the ends of a port over the device that was found
-module _ (link : PortEndpoints) (taps : List Tap) (name : DeviceName) (is : link.device ≡ Some name) where
+module _ (link : PortEndpoints) (taps : List Tap) (others : AttachError) (name : DeviceName)
+    (is : link.device ≡ Some name) where
   local_over : (o : Option Tap) → tap_named taps name ≡ o
-      → IfOk (attached name o) (λ cable. local_of link ≡ Some (local_end cable))
+      → IfOk (attached name others o) (λ cable. local_of link ≡ Some (local_end cable))
   local_over None e = tt
   local_over (Some tap) e = ap (λ (d : Option DeviceName). end_of d link.local) is
       ∙ ap (λ (n : DeviceName). Some (Device n)) (sym (named_so taps name tap e))
 
   remote_over : (o : Option Tap) → tap_named taps name ≡ o
-      → IfOk (attached name o) (λ cable. remote_of link ≡ Some (remote_end cable))
+      → IfOk (attached name others o) (λ cable. remote_of link ≡ Some (remote_end cable))
   remote_over None e = tt
   remote_over (Some tap) e = ap (λ (d : Option DeviceName). end_of d link.remote) is
       ∙ ap (λ (n : DeviceName). Some (Device n)) (sym (named_so taps name tap e))
 
-  pub attached_local : (r : Result Cable StartError) → r ≡ attached name (tap_named taps name)
+  pub attached_local : (r : Result Cable StartError) → r ≡ attached name others (tap_named taps name)
       → IfOk r (λ cable. local_of link ≡ Some (local_end cable))
   attached_local r found =
       subst (λ (s : Result Cable StartError). IfOk s (λ cable. local_of link ≡ Some (local_end cable))) (sym found)
       (local_over (tap_named taps name) refl)
 
-  pub attached_remote : (r : Result Cable StartError) → r ≡ attached name (tap_named taps name)
+  pub attached_remote : (r : Result Cable StartError) → r ≡ attached name others (tap_named taps name)
       → IfOk r (λ cable. remote_of link ≡ Some (remote_end cable))
   attached_remote r found =
       subst (λ (s : Result Cable StartError). IfOk s (λ cable. remote_of link ≡ Some (remote_end cable))) (sym found)

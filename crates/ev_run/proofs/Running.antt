@@ -25,6 +25,7 @@ use Rattle.ev_links.specs.declared.device_name.DeviceName.{DeviceName}
 use Rattle.ev_run.specs.LinkEnds.{LinkEnd}
 use Rattle.ev_run.specs.Inner.Sockets.{sent_to, remote_end, to_remote}
 use Rattle.ev_run.specs.declared.sockets.BindError.{BindError}
+use Rattle.ev_run.specs.declared.taps.AttachError.{AttachError}
 use Rattle.ev_run.specs.declared.sockets.StartError.{StartError}
 use Rattle.ev_run.specs.declared.sockets.StartError.TheVariants.{Unbindable, Unattached, Unnamed, NoMemory}
 use Rattle.ev_run.specs.Sockets.{endpoints_of, all_ends, all_remotes, lacks_address, Hinders}
@@ -216,9 +217,9 @@ pub tells_address : (notes notes' : End) (r : Result (Unit {0}) device.Device) (
 tells_address notes notes' r at why put = (put_holds notes notes' r (bind_error_text at why) put, refl)
 
 -- the text has a device
-pub tells_device : (notes notes' : End) (r : Result (Unit {0}) device.Device) (name : DeviceName)
-    → Puts notes notes' (no_device_text name) r → TellsCause (Unattached name) notes notes' 4
-tells_device notes notes' r name put = (put_holds notes notes' r (no_device_text name) put, refl)
+pub tells_device : (notes notes' : End) (r : Result (Unit {0}) device.Device) (name : DeviceName) (why : AttachError)
+    → Puts notes notes' (no_device_text name why) r → TellsCause (Unattached name why) notes notes' 4
+tells_device notes notes' r name why put = (put_holds notes notes' r (no_device_text name why) put, refl)
 
 -- the text has no address
 pub tells_nothing : (notes : End) → TellsCause Unnamed notes notes 4
@@ -241,13 +242,13 @@ runs_none is_asked policy config (Unbindable at why) input out notes notes' stat
     status_is = told.1;
   },
 ))
-runs_none is_asked policy config (Unattached name) input out notes notes' status hinders told = inr (inl (
+runs_none is_asked policy config (Unattached name cause) input out notes notes' status hinders told = inr (inl (
   refl,
   holds_none out,
   record {
-    why = Unattached name;
+    why = Unattached name cause;
     hinders = hinders;
-    text = no_device_text name;
+    text = no_device_text name cause;
     is_text = refl;
     noted = told.0;
     status_is = told.1;

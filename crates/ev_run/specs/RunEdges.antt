@@ -34,6 +34,8 @@ use Rattle.ev_run.specs.declared.print.Dropped.{Dropped}
 use Rattle.ev_run.specs.declared.print.Dropped.TheVariants.{NoRoom, BySystem}
 use Rattle.ev_run.specs.declared.sockets.BindError.{BindError}
 use Rattle.ev_run.specs.declared.sockets.BindError.TheVariants as bind_error
+use Rattle.ev_run.specs.declared.taps.AttachError.{AttachError}
+use Rattle.ev_run.specs.declared.taps.AttachError.TheVariants as attach_error
 use Rattle.ev_run.specs.declared.sockets.StartError.{StartError}
 use Rattle.ev_run.specs.declared.sockets.StartError.TheVariants.{Unbindable, Unattached, Unnamed, NoMemory}
 use Rattle.ev_report.specs.declared.input.ReadError.TheVariants.{Device}
@@ -62,10 +64,14 @@ endpoint_text at = addr_text at.address ++ codes ":" ++ decimal at.port
 abbrev pub bind_error_text : Endpoint → BindError → Text
 bind_error_text at why = codes "can't bind " ++ (endpoint_text at ++ codes ": ") ++ why_text why
 
--- `can't use device NAME: ..`
-abbrev pub no_device_text : DeviceName → Text
-no_device_text name =
-    codes "can't use device " ++ text_of name ++ codes ": evpnd has no descriptor of it; start evpnd by evpnd-attach\n"
+abbrev pub attach_text : AttachError → Text
+attach_text attach_error.Missing = codes ": evpnd has no descriptor of it; start evpnd by evpnd-attach\n"
+attach_text attach_error.NoDescriptor = codes ": too many files are open; raise ulimit -n\n"
+attach_text attach_error.Unreported = codes ": evpnd can't read /proc/self/fdinfo\n"
+
+-- `can't use device NAME: WHY`
+abbrev pub no_device_text : DeviceName → AttachError → Text
+no_device_text name why = codes "can't use device " ++ text_of name ++ attach_text why
 
 -- ---- the input
 
@@ -206,16 +212,16 @@ pub record Ran (is_asked : Bool) (configs : List EdgeConfig) (sockets remotes : 
   pub told : TellsEnded alerts ended (system_text table sockets) is_read before.out after.out before.notes after.notes
       status
 
--- The text if no edge begins for lack of an end: the address that can't be bound, and why, or the missing device. It is
--- empty if a port lacks an end. There is no text if no edge begins for lack of memory.
+-- The text if no edge begins for lack of an end: the address that can't be bound or the device that can't be used, and
+-- why. It is empty if a port lacks an end. There is no text if no edge begins for lack of memory.
 abbrev pub start_text : StartError → Option Text
 start_text (Unbindable at why) = Some (bind_error_text at why)
-start_text (Unattached name) = Some (no_device_text name)
+start_text (Unattached name why) = Some (no_device_text name why)
 start_text Unnamed = Some []
 start_text NoMemory = None
 
--- The status is 4: an address of this configuration couldn't be bound or a device is missing, and a note reports it; or
--- a port lacks an end.
+-- The status is 4: an address of this configuration couldn't be bound or a device couldn't be used, and a note reports
+-- it; or a port lacks an end.
 pub record IsStartError (config : Config) (notes notes' : End) (status : ℕ) : Type 0 where
   pub why : StartError
   pub hinders : Hinders (all_ends config) (lacks_address config) why

@@ -56,10 +56,10 @@ lacks_ends links = list_any lacks_end links
 abbrev pub lacks_address : Config → Bool
 lacks_address config = list_any (λ links. lacks_ends links.items) config.links.items
 
--- the reason that prevents a run over these ends: an endpoint can't be bound, a device is missing, a port lacks an end,
--- or there is no memory
+-- the reason that prevents a run over these ends: an endpoint can't be bound, a device can't be used, a port lacks
+-- an end, or there is no memory
 abbrev pub Hinders : List LinkEnd → Bool → StartError → Type 0
 Hinders ends is_lacking (Unbindable at why) = Contains ends (Udp at)
-Hinders ends is_lacking (Unattached name) = Contains ends (Device name)
+Hinders ends is_lacking (Unattached name why) = Contains ends (Device name)
 Hinders ends is_lacking Unnamed = is_lacking ≡ true
 Hinders ends is_lacking NoMemory = Unit {0}

@@ -316,8 +316,8 @@ fn tell_start_error<N: Out>(start_error: StartError, notes: &mut N) -> u8
             let _ = put_bind_error(notes, at, why);
             DEVICE
         }
-        StartError::Unattached(name) => {
-            let _ = put_no_device(notes, name);
+        StartError::Unattached(name, why) => {
+            let _ = put_no_device(notes, name, why);
             DEVICE
         }
         StartError::Unnamed => DEVICE,

@@ -11,12 +11,12 @@ ghost use Rattle.ev_run.specs.Inner.Sockets.{attached, local_end, remote_end, bo
 
 use crate::bound::{Cable, Sockets};
 use crate::needs::devices_of;
-use crate::taps::{all_taps, tap_named};
+use crate::taps::{AttachError, Taps, all_taps, put_attach_error, tap_named};
 use arrayvec::ArrayVec;
 use ether_wire::{Device, Out, put_addr, put_decimal};
 use ev_config::{Config, Endpoint, PortEndpoints};
 use ev_edge::EdgeConfig;
-use ev_links::{DeviceName, Tap, socket_address};
+use ev_links::{DeviceName, socket_address};
 use libc::net::{SO_RCVBUF, SOL_SOCKET, setsockopt};
 use std::alloc::{AllocError, Global};
 use std::fs::Files;
@@ -59,8 +59,8 @@ pub enum BindError {
 pub(crate) enum StartError {
     /// This address can't be bound.
     Unbindable(Endpoint, BindError),
-    /// This process has no descriptor of this device.
-    Unattached(DeviceName),
+    /// This device can't be used.
+    Unattached(DeviceName, AttachError),
     /// A port has no end at which it receives its frames, or none to which it sends them.
     Unnamed,
     /// There is no memory.
@@ -128,14 +128,18 @@ fn put_device<N: Out>(notes: &mut N, name: DeviceName) -> Result<(), Device>
     notes.put(name.text())
 }
 
-/// Writes of which device this process has no descriptor.
-pub(crate) fn put_no_device<N: Out>(notes: &mut N, name: DeviceName) -> Result<(), Device>
+/// Writes which device can't be used, and why.
+pub(crate) fn put_no_device<N: Out>(
+    notes: &mut N,
+    name: DeviceName,
+    why: AttachError,
+) -> Result<(), Device>
     requires { IsOpen (N.end notes.old) }
-    ensures { Puts (N.end notes.old) (N.end notes.new) (no_device_text name) result }
+    ensures { Puts (N.end notes.old) (N.end notes.new) (no_device_text name why) result }
 {
     notes.put(b"can't use device ")?;
     put_device(notes, name)?;
-    notes.put(b": evpnd has no descriptor of it; start evpnd by evpnd-attach\n")
+    put_attach_error(notes, why)
 }
 
 /// Returns the endpoint of an edge's tunnels.
@@ -194,17 +198,17 @@ fn bind_socket<R: Net>(
 }
 
 /// Returns the cable of a port over the device with this name.
-fn attach(taps: &[Tap], name: DeviceName) -> Result<Cable, StartError>
-    ensures { result ≡ attached name (tap_named taps.now name) }
+fn attach(taps: &Taps, name: DeviceName) -> Result<Cable, StartError>
+    ensures { result ≡ attached name taps.now.others (tap_named taps.now.found.items name) }
 {
-    match tap_named(taps, name) {
+    match tap_named(taps.found.as_slice(), name) {
         Some(tap) => Ok(Cable::Tap(tap)),
-        None => Err(StartError::Unattached(name)),
+        None => Err(StartError::Unattached(name, taps.others)),
     }
 }
 
 /// Returns the cable of a port with these ends.
-fn cable_of<R: Net>(rt: &R, taps: &[Tap], link: PortEndpoints) -> Result<Cable, StartError>
+fn cable_of<R: Net>(rt: &R, taps: &Taps, link: PortEndpoints) -> Result<Cable, StartError>
     ensures local { IfOk result (λ cable. local_of link ≡ Some (local_end cable)) }
     ensures remote { IfOk result (λ cable. remote_of link ≡ Some (remote_end cable)) }
     ensures hindered { IfErr result
@@ -220,7 +224,7 @@ fn cable_of<R: Net>(rt: &R, taps: &[Tap], link: PortEndpoints) -> Result<Cable, 
 fn bind_ports<R: Net>(
     rt: &R,
     alloc: Global,
-    taps: &[Tap],
+    taps: &Taps,
     links: &ArrayVec<PortEndpoints, 64>,
 ) -> Result<Vec<Cable>, StartError>
     ensures few { IfOk result (λ ports. vec_len ports ≤ 64) }
@@ -243,9 +247,9 @@ fn bind_ports<R: Net>(
 }
 
 /// Returns the devices of which this process has descriptors, if a port is a device.
-fn taps_for<R: Files>(rt: &R, alloc: Global, config: &Config) -> Result<Vec<Tap>, AllocError> {
+fn taps_for<R: Files>(rt: &R, alloc: Global, config: &Config) -> Result<Taps, AllocError> {
     if devices_of(config.links.as_slice()) == 0 {
-        return Ok(Vec::new(alloc));
+        return Ok(Taps::none(alloc));
     }
     all_taps(rt, alloc)
 }
@@ -275,7 +279,7 @@ pub(crate) fn bind_all<R: Net + Files>(
         let sockets = Sockets {
             tunnel: bind(rt, at)?,
             at,
-            ports: bind_ports(rt, alloc, taps.as_slice(), links)?,
+            ports: bind_ports(rt, alloc, &taps, links)?,
         };
         if all.push(sockets).is_err() {
             return Err(StartError::NoMemory);

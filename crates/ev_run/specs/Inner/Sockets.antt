@@ -14,6 +14,7 @@ use Rattle.ev_run.specs.declared.bound.Cable.TheVariants.{Socket, Tap}
 use Rattle.ev_run.specs.declared.bound.Sockets.{Sockets}
 use Rattle.ev_run.specs.declared.sockets.StartError.{StartError}
 use Rattle.ev_run.specs.declared.sockets.StartError.TheVariants.{Unattached}
+use Rattle.ev_run.specs.declared.taps.AttachError.{AttachError}
 use Rattle.ev_run.specs.LinkEnds.{LinkEnd, Udp, Device}
 use Rattle.ev_run.specs.Links.{sends_to}
 
@@ -27,10 +28,10 @@ abbrev pub remote_end : Cable → LinkEnd
 remote_end (Socket socket local remote) = Udp remote
 remote_end (Tap tap) = Device (name_of tap)
 
--- the cable over this device, if there is one
-abbrev pub attached : DeviceName → Option devices.Tap → Result Cable StartError
-attached name None = Err (Unattached name)
-attached name (Some tap) = Ok (Tap tap)
+-- the cable over this device if it was found, or else why it can't be used
+abbrev pub attached : DeviceName → AttachError → Option devices.Tap → Result Cable StartError
+attached name others None = Err (Unattached name others)
+attached name others (Some tap) = Ok (Tap tap)
 
 -- the ends at which an edge receives: the one of its tunnels, then those of its ports
 abbrev pub bound_at : Sockets → List LinkEnd
