@@ -16,7 +16,7 @@ import tempfile
 import threading
 import time
 import unittest
-from typing import Callable, Dict, List, Tuple
+from typing import Callable, Dict, List, Optional, Tuple
 
 from test_audit import PROGRAM, needs_program
 from test_records import TOP
@@ -94,9 +94,9 @@ class Served(unittest.TestCase):
         keys = "incarnation = 1\n"
         return f'control = "{self.path}"\n' + edge(ONE, 1, self.one, keys=keys) + edge(TWO, 2, self.two, keys=keys)
 
-    def started(self) -> Running:
-        """A run of it."""
-        running = Running(self.text(), subcommand="serve")
+    def started(self, before: Optional[Callable] = None) -> Running:
+        """A run of it. The call `before` precedes it in its process."""
+        running = Running(self.text(), subcommand="serve", before=before)
         self.addCleanup(running.kill)
         return running
 
@@ -975,6 +975,13 @@ class Socket(Served):
     def test_no_folder(self) -> None:
         self.path = os.path.join(self.path, "control")
         self.refused("there is no such folder")
+
+    def test_descriptor_limit(self) -> None:
+        """Of four descriptors one is free. The socket takes it, and there is none for a second handle of the socket."""
+        running = self.started(before=lambda: resource.setrlimit(resource.RLIMIT_NOFILE, (4, 4)))
+        why = "too many files are open; raise ulimit -n"
+        self.assertEqual(running.end(), (4, "", f"can't listen at {self.path}: {why}\n"))
+        self.assertFalse(os.path.lexists(self.path))
 
     def test_longest_path(self) -> None:
         """107 octets are one of a socket, 108 aren't: the configuration is wrong then."""

@@ -17,6 +17,7 @@ reason_of listen_error.NoFolder = codes "there is no such folder\n"
 reason_of listen_error.TooLong = codes "it is too long\n"
 reason_of listen_error.Denied = codes "it isn't permitted\n"
 reason_of listen_error.NoMemory = codes "there is no memory\n"
+reason_of listen_error.NoDescriptor = codes "too many files are open; raise ulimit -n\n"
 reason_of listen_error.Other = codes "the system refuses it\n"
 
 -- `can't listen at PATH: WHY`

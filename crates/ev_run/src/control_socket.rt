@@ -33,19 +33,22 @@ pub enum ListenError {
     Denied,
     /// The system has no memory for the socket.
     NoMemory,
+    /// This process has as many descriptors as it is allowed.
+    NoDescriptor,
     /// Any other reason.
     Other,
 }
 
 /// Returns the reason that an error of the system means for a path.
-fn listen_error_of(kind: ErrorKind) -> ListenError {
-    match kind {
+fn listen_error_of(error: &io::Error) -> ListenError {
+    match error.kind() {
         ErrorKind::AddrInUse => ListenError::InUse,
         ErrorKind::NotFound => ListenError::NoFolder,
         ErrorKind::NotADirectory => ListenError::NoFolder,
         ErrorKind::InvalidInput => ListenError::TooLong,
         ErrorKind::PermissionDenied => ListenError::Denied,
         ErrorKind::OutOfMemory => ListenError::NoMemory,
+        _ if error.raw_os_error() == Some(libc::EMFILE) => ListenError::NoDescriptor,
         _ => ListenError::Other,
     }
 }
@@ -54,7 +57,7 @@ fn listen_error_of(kind: ErrorKind) -> ListenError {
 fn explained<T: Drop>(given: io::Result<T>) -> Result<T, ListenError> {
     match given {
         Ok(value) => Ok(value),
-        Err(error) => Err(listen_error_of(error.kind())),
+        Err(error) => Err(listen_error_of(&error)),
     }
 }
 
@@ -70,6 +73,7 @@ impl ListenError {
             ListenError::TooLong => b"it is too long\n",
             ListenError::Denied => b"it isn't permitted\n",
             ListenError::NoMemory => b"there is no memory\n",
+            ListenError::NoDescriptor => b"too many files are open; raise ulimit -n\n",
             ListenError::Other => b"the system refuses it\n",
         }
     }
@@ -127,7 +131,7 @@ fn found_at<R: Files + Net>(rt: &R, path: &str) -> PathState {
     let found = match fs::symlink_metadata(rt, path) {
         Ok(found) => found,
         Err(error) if error.kind() == ErrorKind::NotFound => return PathState::Nothing,
-        Err(error) => return PathState::Hidden(listen_error_of(error.kind())),
+        Err(error) => return PathState::Hidden(listen_error_of(&error)),
     };
     if !found.file_type().is_socket() {
         return PathState::Foreign;
@@ -135,7 +139,7 @@ fn found_at<R: Files + Net>(rt: &R, path: &str) -> PathState {
     match UnixStream::connect(rt, path) {
         Ok(_) => PathState::Served,
         Err(error) if error.kind() == ErrorKind::ConnectionRefused => PathState::Stale,
-        Err(error) => PathState::Hidden(listen_error_of(error.kind())),
+        Err(error) => PathState::Hidden(listen_error_of(&error)),
     }
 }
 
