@@ -1,7 +1,8 @@
 #!/usr/bin/env bash
 # Times `evpnd run` beside plain Rust edges with the same threads, sockets and lock: frames a second over loopback sockets, from
 # port to port of one edge and from edge to edge, the microseconds of processor time a frame, and the share of it that was the
-# system's. Medians and ratios.
+# system's. Medians and ratios. It also measures a program that receives and sends each frame without an edge, from port to port:
+# the system's calls alone.
 #   bench/run.sh [RUNS] [FRAMES] [WINDOW]        (default: 5 200000 64)
 # Needs rustc, python3 and the built program (EVPND). So many frames are under way at once; both programs are measured in turn.
 set -eu
@@ -16,7 +17,7 @@ clean() {
 }
 trap clean EXIT
 
-for it in plain load; do rustc --edition 2024 -C opt-level=3 -o "$work/$it" "bench/run/$it.rs"; done
+for it in plain calls load; do rustc --edition 2024 -C opt-level=3 -o "$work/$it" "bench/run/$it.rs"; done
 one=127.0.0.1 two=127.0.0.2
 python3 - "$one" "$two" > "$work/edges.toml" << 'PY'
 import sys
@@ -41,21 +42,27 @@ finish() {
   running=
 }
 
-# measure NAME: both ways at three lengths
+# measure NAME WAY..: these ways at three lengths
 measure() {
-  local size
+  local name=$1 way size there
+  shift
   for size in 64 500 1400; do
-    echo "port-to-port $size $("$work/load" "$running" $one:30001 $one:20001 $one:30002 $one:20002 "$frames" $size "$window" 7>&-)" >> "$work/times-$1"
-    echo "edge-to-edge $size $("$work/load" "$running" $one:30001 $one:20001 $two:30001 $two:20001 "$frames" $size "$window" 7>&-)" >> "$work/times-$1"
+    for way; do
+      if [ "$way" = port-to-port ]; then there="$one:30002 $one:20002"; else there="$two:30001 $two:20001"; fi
+      echo "$way $size $("$work/load" "$running" $one:30001 $one:20001 $there "$frames" "$size" "$window" 7>&-)" >> "$work/times-$name"
+    done
   done
 }
 
 for _ in $(seq "$runs"); do
   begin "$evpnd" run --config "$work/edges.toml"
-  measure ours
+  measure ours port-to-port edge-to-edge
   finish
   begin "$work/plain" "$one;$one:20001=$one:30001;$one:20002=$one:30002" "$two;$two:20001=$two:30001;$two:20002=$two:30002"
-  measure plain
+  measure plain port-to-port edge-to-edge
+  finish
+  begin "$work/calls" "$one:20001=$one:30001" "$one:20002=$one:30002"
+  measure calls port-to-port
   finish
 done
 
@@ -76,5 +83,8 @@ for way in port-to-port edge-to-edge; do
     echo "| $way | $size | $ours | $plain | $(ratio "$ours" "$plain") | $time | $time_plain | $(ratio "$time_plain" "$time") |" \
       "$(figure ours $way $size 6), $(figure plain $way $size 6) |"
   done
+done
+for size in 64 500 1400; do
+  echo "the system's calls alone, $size octets: $(figure calls port-to-port $size 3) frames/s, $(figure calls port-to-port $size 5) µs a frame"
 done
 echo "lost in all runs: ours $(awk '{ n += $4 } END { print n }' "$work/times-ours"), plain $(awk '{ n += $4 } END { print n }' "$work/times-plain")"

@@ -1,7 +1,8 @@
 #!/usr/bin/env bash
 # Times the workers of two edges over links in memory, without sockets, beside plain Rust edges with the same threads, channels,
 # links and lock: frames a second from port to port of one edge and from edge to edge, and the share of the programs' time that
-# was the system's. Medians and ratios.
+# was the system's. Medians and ratios. It also prints how many frames a thread passes from one of our channels to another,
+# without an edge, beside the plain edge's from port to port: our ports can't carry more.
 #   bench/run_memory.sh [RUNS]        (default: 5)
 # Needs rustc and the kit. The driver is no crate of this repository: it is proved and built in a copy of ev_peers and the
 # crates below it. It measures both programs in turn; if OURS names a built driver, it takes that one.
@@ -59,6 +60,10 @@ for way in port-to-port edge-to-edge; do
     ours=$(figure ours $way $size) plain=$(figure plain $way $size)
     echo "| $way | $size | $ours | $plain | $(awk -v a="$ours" -v b="$plain" 'BEGIN { printf "%.2f", a / b }') |"
   done
+done
+for size in 64 500 1400; do
+  ours=$(figure ours channels $size) plain=$(figure plain port-to-port $size)
+  echo "| our channels alone | $size | $ours | $plain | $(awk -v a="$ours" -v b="$plain" 'BEGIN { printf "%.2f", a / b }') |"
 done
 ours=$(seconds ours) plain=$(seconds plain)
 echo "processor time of all runs: ours $ours s, plain $plain s, ratio $(awk -v a="$ours" -v b="$plain" 'BEGIN { printf "%.2f", b / a }')"
