@@ -37,4 +37,5 @@ pub use serve::{serve_buffered, serve_edges};
 pub use sockets::BindError;
 pub use system::System;
 pub use system_drops::UdpTable;
+pub use taps::AttachError;
 pub use thread_check::ThreadPolicy;
