@@ -695,7 +695,10 @@ class Beginning(unittest.TestCase):
 
     @unittest.skipIf(os.getuid(), "only root can give a user a limit of its own")
     def test_degraded(self) -> None:
-        """A lack of threads is told at once, and the edges begin. With enough threads nothing is told."""
+        """A lack of threads is told at once, and the edges begin. With enough threads nothing is told.
+
+        With half of the threads, the workers of one edge may take all of them before the other has one. Then the other doesn't begin.
+        """
         one, two = Cable(), Cable(TWO)
         text = edge(ONE, 1, one) + edge(TWO, 2, two)
         for allowed in (8, 15):
@@ -706,8 +709,11 @@ class Beginning(unittest.TestCase):
                     time.sleep(0.5)
                     self.assertIsNone(program.poll())
                     program.stdin.close()
-                    self.assertEqual((program.wait(PATIENCE), program.stdout.read().count("edge ")), (3, 2))
-                    self.assertRegex(program.stderr.read(), r"^(edge [12]: no memory\n)+$")
+                    self.assertEqual(program.wait(PATIENCE), 3)
+                    begun, alerts = set(re.findall(r"^edge ([12])$", program.stdout.read(), re.M)), program.stderr.read()
+                    self.assertRegex(alerts, r"^(edge [12]: no memory\n)+$")
+                    self.assertLessEqual({"1", "2"} - begun, set(re.findall("edge ([12]):", alerts)))
+                    self.assertGreaterEqual(len(begun), 2 if allowed == 15 else 1)
                 finally:
                     program.kill()
         with self.limited(16, ["run", "--degraded"], text) as program:
