@@ -2,7 +2,7 @@
 # Times the workers of two edges over links in memory, without sockets, beside plain Rust edges with the same threads, channels,
 # links and lock: frames a second from port to port of one edge and from edge to edge, and the share of the programs' time that
 # was the system's. Medians and ratios. It also prints how many frames a thread passes from one of our channels to another,
-# without an edge, beside the plain edge's from port to port: our ports can't carry more.
+# without an edge, beside the plain edge's from port to port.
 #   bench/run_memory.sh [RUNS]        (default: 5)
 # Needs rustc and the kit. The driver is no crate of this repository: it is proved and built in a copy of ev_peers and the
 # crates below it. It measures both programs in turn; if OURS names a built driver, it takes that one.

@@ -87,6 +87,19 @@ class RefusedGrowth(Preloaded):
             self.assertIn(end, found)
 
     @needs_program
+    def test_search_for_devices(self):
+        """Nearly all allocations of a run with a device are those of the search for it. A refused one is no missing device."""
+        port = '[[edge.port]]\nvni = 5001\nadmin_edge = true\ndevice = "tap0"\n'
+        edge = '[[edge]]\naddress = "127.0.0.1"\nbridge = "02:aa:00:00:00:01"\nvnis = [5001]\n'
+        words = ["run", "--config", self.write("device.toml", edge + port)]
+        missing, (asked,) = self.run_with({"REFUSE": 0}, words, b"")
+        why = b"evpnd has no descriptor of it; start evpnd by evpnd-attach\n"
+        self.assertEqual(missing, Done(4, b"", b"can't use device tap0: " + why))
+        for number in () if BY_RATTLE else (asked // 4, asked // 2, asked // 4 * 3):
+            with self.subTest(allocation=number):
+                self.assertEqual(self.run_with({"REFUSE": number}, words, b"")[0], NONE)
+
+    @needs_program
     def test_report(self):
         words = ["report", "--originators", "10.0.0.1"]
         self.assertEqual(self.good(words, STREAM), (0, report(ALL), b""))
