@@ -3,11 +3,12 @@
 # port to port of one edge and from edge to edge, the microseconds of processor time a frame, and the share of it that was the
 # system's. Medians and ratios. It also measures a program that receives and sends each frame without an edge, from port to port:
 # the system's calls alone.
-#   bench/run.sh [RUNS] [FRAMES] [WINDOW]        (default: 5 200000 64)
-# Needs rustc, python3 and the built program (EVPND). So many frames are under way at once; both programs are measured in turn.
+#   bench/run.sh [RUNS] [FRAMES] [WINDOW]        (default: 15 60000 64)
+# Needs rustc, python3 and the built program (EVPND). So many frames are under way at once; both programs are measured in turn. Single
+# runs differ by a factor of 2 to 3, so a median of few runs says little.
 set -eu
 cd "$(dirname "$0")/.."
-runs=${1:-5} frames=${2:-200000} window=${3:-64}
+runs=${1:-15} frames=${2:-60000} window=${3:-64}
 evpnd=${EVPND:-crates/evpnd/out/evpnd}
 work=$(mktemp -d)
 running=
