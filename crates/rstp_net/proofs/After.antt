@@ -6,7 +6,7 @@ use Rattle.std.proofs.lemmas.Bool.{false≢true}
 use Rattle.std.specs.Option.{option_map_or}
 use Rattle.rstp_state.specs.declared.port.PortState.{PortState}
 use Rattle.rstp_state.specs.Port.{is_designated, is_root, test_at}
-use Rattle.rstp_machines.specs.TopologyChange.{is_in_tree}
+use Rattle.rstp_run.specs.TopologyChange.{is_in_tree}
 use Rattle.rstp_run.specs.Lasting.{LastingIsReached, LosingKeepsTree, RolesLast}
 use Rattle.rstp_run.specs.declared.event.Event.TheVariants as events
 use Rattle.rstp_run.specs.Laws.{IsInTree}

@@ -17,7 +17,7 @@ use Rattle.bpdu_wire.specs.Id.{bridge_address}
 use Rattle.rstp_state.specs.Selection.{best_path, designated_times, designated_vector, is_better, is_own, is_through}
 use Rattle.rstp_state.specs.Selection.{role_by, root_along, selected_ports, selected_root, updates_by, with_choice}
 use Rattle.rstp_state.specs.Vector.{is_less, same_times, same_vector}
-use Rattle.rstp_machines.specs.Information.{may_take}
+use Rattle.rstp_run.specs.Information.{may_take}
 use Rattle.rstp_run.specs.declared.event.Event.TheVariants as events
 use Rattle.rstp_run.specs.declared.rule.InformationRule.{InformationRule}
 use Rattle.rstp_run.specs.declared.rule.InformationRule.TheVariants as information_rule

@@ -14,12 +14,12 @@ use Rattle.rstp_roles.specs.declared.rule.RoleRule.{RoleRule}
 use Rattle.rstp_roles.specs.declared.rule.RoleRule.TheVariants as role_rule
 use Rattle.rstp_roles.specs.declared.rule.StateRule.{StateRule}
 use Rattle.rstp_roles.specs.declared.rule.StateRule.TheVariants as state_rule
-use Rattle.rstp_machines.specs.BridgeDetection as detection
-use Rattle.rstp_machines.specs.Information as info
-use Rattle.rstp_machines.specs.Migration as moves
-use Rattle.rstp_machines.specs.PortReceive as receiving
-use Rattle.rstp_machines.specs.TopologyChange as change
-use Rattle.rstp_machines.specs.Transmit as sends
+use Rattle.rstp_run.specs.BridgeDetection as detection
+use Rattle.rstp_run.specs.Information as info
+use Rattle.rstp_run.specs.Migration as moves
+use Rattle.rstp_run.specs.PortReceive as receiving
+use Rattle.rstp_run.specs.TopologyChange as change
+use Rattle.rstp_run.specs.Transmit as sends
 use Rattle.rstp_run.specs.declared.rule.Rule.{Rule}
 use Rattle.rstp_run.specs.declared.rule.Rule.TheVariants as rules
 use Rattle.rstp_run.specs.declared.rule.ReceiveRule.{ReceiveRule}

@@ -10,8 +10,8 @@ use Rattle.rstp_state.specs.Port.{is_learning}
 use Rattle.rstp_roles.specs.RoleTransitions as roles
 use Rattle.rstp_roles.specs.declared.rule.RoleRule.TheVariants as role_rule
 use Rattle.rstp_roles.specs.declared.rule.StateRule.TheVariants as state_rule
-use Rattle.rstp_machines.specs.TopologyChange as changes
-use Rattle.rstp_machines.specs.TopologyChange.{with_change_timer}
+use Rattle.rstp_run.specs.TopologyChange as changes
+use Rattle.rstp_run.specs.TopologyChange.{with_change_timer}
 use Rattle.rstp_run.specs.declared.rule.DetectionRule.TheVariants as detection_rule
 use Rattle.rstp_run.specs.declared.rule.Rule.{Rule}
 use Rattle.rstp_run.specs.declared.rule.Rule.TheVariants as rules

@@ -35,16 +35,16 @@ use Rattle.rstp_run.specs.declared.rule.Part.TheVariants as parts
 use Rattle.rstp_run.specs.declared.rule.TheConstants.{MAIN, SENDS}
 use Rattle.rstp_run.specs.Machines.{receive_asks, migration_asks, detection_asks, information_asks, topology_asks}
 use Rattle.rstp_run.specs.Machines.{transmit_asks}
-use Rattle.rstp_machines.specs.Class.{class_of, is_superior, is_repeated, is_inferior, is_not_designated, is_other}
-use Rattle.rstp_machines.specs.Information.{disabled_guard, drop_guard, enabled_guard, update_guard}
-use Rattle.rstp_machines.specs.Information.{aged_guard, may_take}
+use Rattle.rstp_run.specs.Class.{class_of, is_superior, is_repeated, is_inferior, is_not_designated, is_other}
+use Rattle.rstp_run.specs.Information.{disabled_guard, drop_guard, enabled_guard, update_guard}
+use Rattle.rstp_run.specs.Information.{aged_guard, may_take}
 use Rattle.rstp_run.specs.Inner.Rest.{receive_is_busy, migration_is_busy, detection_is_busy, information_is_busy}
 use Rattle.rstp_run.specs.Inner.Rest.{role_is_busy, state_is_busy, topology_is_busy, keeps_forwarding}
 use Rattle.rstp_run.specs.Inner.Rest.{port_is_busy, port_sends, is_busy}
 use Rattle.rstp_run.specs.Rules.{Tree, asks, guard, wants_selection, timing_in}
 use Rattle.rstp_run.specs.Runs.{AreOffAt}
 use Rattle.rstp_run.specs.Inner.Runs.{rules_of}
-use Rattle.rstp_machines.specs.Transmit.{is_ready}
+use Rattle.rstp_run.specs.Transmit.{is_ready}
 use Rattle.rstp_run.proofs.Settled.{not-false}
 
 -- neither of two tests holds

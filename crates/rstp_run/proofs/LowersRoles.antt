@@ -7,7 +7,7 @@ use Rattle.rstp_state.specs.declared.port.Role.TheVariants as role
 use Rattle.rstp_state.specs.declared.port.Timing.{Timing}
 use Rattle.rstp_state.specs.Port.{is_disabled, is_root, is_designated, is_blocked, same_role, forward_delay}
 use Rattle.rstp_state.specs.Port.{edge_delay}
-use Rattle.rstp_machines.specs.TopologyChange.{is_in_tree}
+use Rattle.rstp_run.specs.TopologyChange.{is_in_tree}
 use Rattle.rstp_roles.specs.AllPorts.{with_sync, with_re_root}
 use Rattle.rstp_roles.specs.RoleTransitions as roles
 use Rattle.rstp_run.proofs.Totals.{if_so-on, if_so-le}

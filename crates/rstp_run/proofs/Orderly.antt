@@ -45,17 +45,17 @@ use Rattle.rstp_run.specs.declared.rule.TransmitRule.TheVariants as transmit_rul
 use Rattle.rstp_run.specs.declared.event.Event.{Event}
 use Rattle.rstp_run.specs.declared.event.Event.TheVariants as events
 use Rattle.rstp_run.specs.Events.{direct, ports_at}
-use Rattle.rstp_machines.specs.Information.{with_change_flags, with_info_of, with_proposal, with_superior_flags}
-use Rattle.rstp_machines.specs.Information.{message_has}
-use Rattle.rstp_machines.specs.Information.{rst_has}
+use Rattle.rstp_run.specs.Information.{with_change_flags, with_info_of, with_proposal, with_superior_flags}
+use Rattle.rstp_run.specs.Information.{message_has}
+use Rattle.rstp_run.specs.Information.{rst_has}
 use Rattle.rstp_run.specs.Laws.{IsOrderly, AreOrderly}
 use Rattle.rstp_run.specs.Machines.{receive_does, migration_does}
 use Rattle.rstp_run.specs.Machines.{detection_does, information_does}
 use Rattle.rstp_run.specs.Machines.{topology_does, transmit_does}
 use Rattle.rstp_run.specs.Rules.{Tree, guard, ports_after, timing_in}
 use Rattle.rstp_run.specs.Runs.{Firing, Run}
-use Rattle.rstp_machines.specs.TopologyChange.{detected_at, is_in_tree, notified_at, notified_tcn_at, telling_others}
-use Rattle.rstp_machines.specs.TopologyChange.{with_change_timer, with_propagation}
+use Rattle.rstp_run.specs.TopologyChange.{detected_at, is_in_tree, notified_at, notified_tcn_at, telling_others}
+use Rattle.rstp_run.specs.TopologyChange.{with_change_timer, with_propagation}
 use Rattle.rstp_state.proofs.Basics.{and_left, and_right}
 
 -- lemmas on tests

@@ -11,7 +11,7 @@ use Rattle.rstp_roles.specs.declared.rule.RoleRule.{RoleRule}
 use Rattle.rstp_roles.specs.declared.rule.RoleRule.TheVariants as role_rule
 use Rattle.rstp_roles.specs.declared.rule.StateRule.{StateRule}
 use Rattle.rstp_roles.specs.declared.rule.StateRule.TheVariants as state_rule
-use Rattle.rstp_machines.specs.TopologyChange.{with_change_timer}
+use Rattle.rstp_run.specs.TopologyChange.{with_change_timer}
 use Rattle.rstp_run.specs.declared.rule.DetectionRule.{DetectionRule}
 use Rattle.rstp_run.specs.declared.rule.DetectionRule.TheVariants as detection_rule
 use Rattle.rstp_run.specs.declared.rule.MigrationRule.{MigrationRule}

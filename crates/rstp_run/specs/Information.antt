@@ -12,7 +12,7 @@ use Rattle.rstp_state.specs.declared.vector.Vector.{Vector}
 use Rattle.rstp_state.specs.declared.vector.Times.{Times}
 use Rattle.rstp_state.specs.Vector.{is_less, vector_of, times_of}
 use Rattle.rstp_state.specs.Port.{is_out, is_current, is_received, is_mine, has_flag}
-use Rattle.rstp_machines.specs.Class.{class_of, is_superior, is_repeated, is_inferior, is_not_designated, is_other}
+use Rattle.rstp_run.specs.Class.{class_of, is_superior, is_repeated, is_inferior, is_not_designated, is_other}
 
 -- parts of the effects
 

@@ -1,7 +1,7 @@
 //! The transmit rules (17.26): which messages a port sends, and when.
 
 ghost use Rattle.std.specs.Prelude.{◌≡◌, ◌<◌, ◌≤◌};
-ghost use Rattle.rstp_machines.specs.Transmit.{
+ghost use Rattle.rstp_run.specs.Transmit.{
   field_of,
   message_with,
   flag_if,
@@ -12,7 +12,7 @@ ghost use Rattle.rstp_machines.specs.Transmit.{
   is_ready,
   sending,
 };
-ghost use Rattle.rstp_machines.specs.Transmit.{
+ghost use Rattle.rstp_run.specs.Transmit.{
   periodic_guard,
   periodic_effect,
   send_config_guard,
@@ -127,7 +127,7 @@ fn send(timing: &Timing, bpdu: Bpdu, port: &mut PortState)
 }
 
 /// Returns `true` if a Hello time is over.
-pub fn periodic_guard(port: &PortState) -> bool
+pub(crate) fn periodic_guard(port: &PortState) -> bool
     ensures { result ≡ periodic_guard port.now }
 {
     port.may_act() && port.hello_when == 0
@@ -135,7 +135,7 @@ pub fn periodic_guard(port: &PortState) -> bool
 
 /// Requests the periodic message after a Hello time: a designated port repeats its information, and
 /// a root port its topology change.
-pub fn periodic(timing: &Timing, port: &mut PortState)
+pub(crate) fn periodic(timing: &Timing, port: &mut PortState)
     ensures { port.new ≡ periodic_effect timing.now port.old }
 {
     port.hello_when = u32::from(timing.hello);
@@ -145,14 +145,14 @@ pub fn periodic(timing: &Timing, port: &mut PortState)
 }
 
 /// Returns `true` if a designated port has to send by the older protocol.
-pub fn send_config_guard(timing: &Timing, port: &PortState) -> bool
+pub(crate) fn send_config_guard(timing: &Timing, port: &PortState) -> bool
     ensures { result ≡ send_config_guard timing.now port.now }
 {
     is_ready(timing, port) && !port.send_rstp && port.role.is_designated()
 }
 
 /// Sends a message of the older protocol from a designated port.
-pub fn send_config(timing: &Timing, port: &mut PortState)
+pub(crate) fn send_config(timing: &Timing, port: &mut PortState)
     requires { port.old.transmit_count < timing.now.hold }
     ensures { port.new ≡ send_config_effect timing.now port.old }
 {
@@ -162,14 +162,14 @@ pub fn send_config(timing: &Timing, port: &mut PortState)
 }
 
 /// Returns `true` if the root port has to announce a change by the older protocol.
-pub fn send_tcn_guard(timing: &Timing, port: &PortState) -> bool
+pub(crate) fn send_tcn_guard(timing: &Timing, port: &PortState) -> bool
     ensures { result ≡ send_tcn_guard timing.now port.now }
 {
     is_ready(timing, port) && !port.send_rstp && port.role.is_root()
 }
 
 /// Announces a change from the root port to a bridge of the older protocol.
-pub fn send_tcn(timing: &Timing, port: &mut PortState)
+pub(crate) fn send_tcn(timing: &Timing, port: &mut PortState)
     requires { port.old.transmit_count < timing.now.hold }
     ensures { port.new ≡ send_tcn_effect timing.now port.old }
 {
@@ -177,14 +177,14 @@ pub fn send_tcn(timing: &Timing, port: &mut PortState)
 }
 
 /// Returns `true` if the port has to send by the rapid protocol.
-pub fn send_rst_guard(timing: &Timing, port: &PortState) -> bool
+pub(crate) fn send_rst_guard(timing: &Timing, port: &PortState) -> bool
     ensures { result ≡ send_rst_guard timing.now port.now }
 {
     is_ready(timing, port) && port.send_rstp
 }
 
 /// Sends a message of the rapid protocol.
-pub fn send_rst(timing: &Timing, port: &mut PortState)
+pub(crate) fn send_rst(timing: &Timing, port: &mut PortState)
     requires { port.old.transmit_count < timing.now.hold }
     ensures { port.new ≡ send_rst_effect timing.now port.old }
 {

@@ -3,7 +3,7 @@
 
 ghost use Rattle.std.specs.Prelude.{◌≡◌, ◌<◌, length, map};
 ghost use Rattle.rstp_state.specs.Port.{is_active, is_inactive, is_learning};
-ghost use Rattle.rstp_machines.specs.TopologyChange.{
+ghost use Rattle.rstp_run.specs.TopologyChange.{
   is_in_tree,
   has_changes,
   without_changes,
@@ -13,7 +13,7 @@ ghost use Rattle.rstp_machines.specs.TopologyChange.{
   notified_at,
   notified_tcn_at,
 };
-ghost use Rattle.rstp_machines.specs.TopologyChange.{
+ghost use Rattle.rstp_run.specs.TopologyChange.{
   tc_learning_guard,
   tc_learning_effect,
   detected_guard,
@@ -53,7 +53,7 @@ fn is_learning(state: Topology) -> bool
 }
 
 /// Returns `true` if the machine is in its state Active.
-pub fn is_active(state: Topology) -> bool
+pub(crate) fn is_active(state: Topology) -> bool
     ensures { result ≡ is_active state }
 {
     matches!(state, Topology::Active)
@@ -119,14 +119,14 @@ fn propagate_changes(ports: &mut [PortState])
 }
 
 /// Returns `true` if the machine is Inactive at a port that begins to learn.
-pub fn tc_learning_guard(port: &PortState) -> bool
+pub(crate) fn tc_learning_guard(port: &PortState) -> bool
     ensures { result ≡ tc_learning_guard port.now }
 {
     is_inactive(port.topology) && port.learn && !port.flush
 }
 
 /// Enters Learning: the port begins to learn.
-pub fn tc_learning(port: &mut PortState)
+pub(crate) fn tc_learning(port: &mut PortState)
     ensures { port.new ≡ tc_learning_effect port.old }
 {
     clear_changes(port);
@@ -134,7 +134,7 @@ pub fn tc_learning(port: &mut PortState)
 }
 
 /// Returns `true` if a port of the tree begins to forward, which is a change.
-pub fn detected_guard(port: &PortState) -> bool
+pub(crate) fn detected_guard(port: &PortState) -> bool
     ensures { result ≡ detected_guard port.now }
 {
     is_learning(port.topology) && is_in_tree(port) && port.forward && !port.oper_edge
@@ -151,7 +151,7 @@ fn detect(timing: &Timing, port: &mut PortState)
 
 /// Makes the port active as it begins to forward, and marks every other port to pass on this
 /// change.
-pub fn detected(timing: &Timing, ports: &mut [PortState], p: usize)
+pub(crate) fn detected(timing: &Timing, ports: &mut [PortState], p: usize)
     requires { p < length ports.old }
     ensures { ports.new ≡ detected_effect timing.now p ports.old }
 {
@@ -162,21 +162,21 @@ pub fn detected(timing: &Timing, ports: &mut [PortState], p: usize)
 }
 
 /// Returns `true` if a port that isn't active has a change to clear.
-pub fn tc_clear_guard(port: &PortState) -> bool
+pub(crate) fn tc_clear_guard(port: &PortState) -> bool
     ensures { result ≡ tc_clear_guard port.now }
 {
     is_learning(port.topology) && has_changes(port) && !detected_guard(port)
 }
 
 /// Clears the changes of a port that is not active.
-pub fn tc_clear(port: &mut PortState)
+pub(crate) fn tc_clear(port: &mut PortState)
     ensures { port.new ≡ tc_clear_effect port.old }
 {
     clear_changes(port);
 }
 
 /// Returns `true` if a port outside the tree no longer learns.
-pub fn tc_inactive_guard(port: &PortState) -> bool
+pub(crate) fn tc_inactive_guard(port: &PortState) -> bool
     ensures { result ≡ tc_inactive_guard port.now }
 {
     is_learning(port.topology)
@@ -187,7 +187,7 @@ pub fn tc_inactive_guard(port: &PortState) -> bool
 }
 
 /// Enters Inactive: the port no longer learns, so its learnt addresses have to be flushed.
-pub fn tc_inactive(port: &mut PortState)
+pub(crate) fn tc_inactive(port: &mut PortState)
     ensures { port.new ≡ tc_inactive_effect port.old }
 {
     port.topology = Topology::Inactive;
@@ -197,14 +197,14 @@ pub fn tc_inactive(port: &mut PortState)
 }
 
 /// Returns `true` if an active port left the tree, or is an edge.
-pub fn tc_back_guard(port: &PortState) -> bool
+pub(crate) fn tc_back_guard(port: &PortState) -> bool
     ensures { result ≡ tc_back_guard port.now }
 {
     is_active(port.topology) && (!is_in_tree(port) || port.oper_edge)
 }
 
 /// Goes back to Learning: the port left the tree, or is an edge.
-pub fn tc_back(port: &mut PortState)
+pub(crate) fn tc_back(port: &mut PortState)
     ensures { port.new ≡ tc_back_effect port.old }
 {
     clear_changes(port);
@@ -212,7 +212,7 @@ pub fn tc_back(port: &mut PortState)
 }
 
 /// Returns `true` if an active port received a change from a bridge of the older protocol.
-pub fn notified_tcn_guard(port: &PortState) -> bool
+pub(crate) fn notified_tcn_guard(port: &PortState) -> bool
     ensures { result ≡ notified_tcn_guard port.now }
 {
     is_active(port.topology) && port.received_notification
@@ -238,7 +238,7 @@ fn note_notification(timing: &Timing, port: &mut PortState)
 
 /// Processes a change that a bridge of the older protocol announced: every other port has to pass
 /// it on.
-pub fn notified_tcn(timing: &Timing, ports: &mut [PortState], p: usize)
+pub(crate) fn notified_tcn(timing: &Timing, ports: &mut [PortState], p: usize)
     requires { p < length ports.old }
     ensures { ports.new ≡ notified_tcn_effect timing.now p ports.old }
 {
@@ -249,14 +249,14 @@ pub fn notified_tcn(timing: &Timing, ports: &mut [PortState], p: usize)
 }
 
 /// Returns `true` if a message announced a change to an active port.
-pub fn notified_tc_guard(port: &PortState) -> bool
+pub(crate) fn notified_tc_guard(port: &PortState) -> bool
     ensures { result ≡ notified_tc_guard port.now }
 {
     is_active(port.topology) && port.received_topology_change
 }
 
 /// Processes a change that a message announced: every other port has to pass it on.
-pub fn notified_tc(ports: &mut [PortState], p: usize)
+pub(crate) fn notified_tc(ports: &mut [PortState], p: usize)
     requires { p < length ports.old }
     ensures { ports.new ≡ notified_tc_effect p ports.old }
 {
@@ -267,14 +267,14 @@ pub fn notified_tc(ports: &mut [PortState], p: usize)
 }
 
 /// Returns `true` if an active port that isn't an edge has to pass on a change.
-pub fn propagating_guard(port: &PortState) -> bool
+pub(crate) fn propagating_guard(port: &PortState) -> bool
     ensures { result ≡ propagating_guard port.now }
 {
     is_active(port.topology) && port.propagate_topology_change && !port.oper_edge
 }
 
 /// Passes on a change; the addresses learnt at the port have to be flushed.
-pub fn propagating(timing: &Timing, port: &mut PortState)
+pub(crate) fn propagating(timing: &Timing, port: &mut PortState)
     ensures { port.new ≡ propagating_effect timing.now port.old }
 {
     start_change_timer(timing, port);
@@ -283,14 +283,14 @@ pub fn propagating(timing: &Timing, port: &mut PortState)
 }
 
 /// Returns `true` if an active port's change was acknowledged.
-pub fn acknowledged_guard(port: &PortState) -> bool
+pub(crate) fn acknowledged_guard(port: &PortState) -> bool
     ensures { result ≡ acknowledged_guard port.now }
 {
     is_active(port.topology) && port.received_acknowledgement
 }
 
 /// Ends the sending of the change: the other end acknowledged it.
-pub fn acknowledged(port: &mut PortState)
+pub(crate) fn acknowledged(port: &mut PortState)
     ensures { port.new ≡ acknowledged_effect port.old }
 {
     port.topology_change_while = 0;
@@ -298,14 +298,14 @@ pub fn acknowledged(port: &mut PortState)
 }
 
 /// Returns `true` if the addresses learnt at the port have to be flushed.
-pub fn flush_guard(port: &PortState) -> bool
+pub(crate) fn flush_guard(port: &PortState) -> bool
     ensures { result ≡ flush_guard port.now }
 {
     port.flush
 }
 
 /// Flushes the addresses learnt at the port; the event's result reports the flush.
-pub fn flush(port: &mut PortState)
+pub(crate) fn flush(port: &mut PortState)
     ensures { port.new ≡ flush_effect port.old }
 {
     port.flush = false;

@@ -1,14 +1,14 @@
 //! The class of a received message at its port (17.21.8).
 
 ghost use Rattle.std.specs.Prelude.{◌≡◌};
-ghost use Rattle.rstp_machines.specs.Class.{designated_class, answering_class, is_answer, rst_class, class_of};
+ghost use Rattle.rstp_run.specs.Class.{designated_class, answering_class, is_answer, rst_class, class_of};
 
 use bpdu_wire::{Bpdu, Message, SenderRole};
 use rstp_state::{PortState, Times, Vector, superior as is_superior_to};
 
 /// The class of a received message at its port (17.21.8).
 #[derive(Clone, Copy, Debug, PartialEq, Eq)]
-pub enum Class {
+pub(crate) enum Class {
     /// Better information of a designated port.
     Superior,
     /// The information that the port already has.
@@ -22,7 +22,7 @@ pub enum Class {
 }
 
 impl Class {
-    ghost use Rattle.rstp_machines.specs.Class.{
+    ghost use Rattle.rstp_run.specs.Class.{
       is_superior,
       is_repeated,
       is_inferior,
@@ -31,35 +31,35 @@ impl Class {
     };
 
     /// Returns `true` if the message is better information.
-    pub fn is_superior(self) -> bool
+    pub(crate) fn is_superior(self) -> bool
         ensures { result ≡ is_superior self }
     {
         matches!(self, Class::Superior)
     }
 
     /// Returns `true` if the message is the information that the port has.
-    pub fn is_repeated(self) -> bool
+    pub(crate) fn is_repeated(self) -> bool
         ensures { result ≡ is_repeated self }
     {
         matches!(self, Class::Repeated)
     }
 
     /// Returns `true` if the message is worse information.
-    pub fn is_inferior(self) -> bool
+    pub(crate) fn is_inferior(self) -> bool
         ensures { result ≡ is_inferior self }
     {
         matches!(self, Class::Inferior)
     }
 
     /// Returns `true` if the message is an answer.
-    pub fn is_not_designated(self) -> bool
+    pub(crate) fn is_not_designated(self) -> bool
         ensures { result ≡ is_not_designated self }
     {
         matches!(self, Class::NotDesignated)
     }
 
     /// Returns `true` if the message has no other class.
-    pub fn is_other(self) -> bool
+    pub(crate) fn is_other(self) -> bool
         ensures { result ≡ is_other self }
     {
         matches!(self, Class::Other)
@@ -115,7 +115,7 @@ fn rst_class(port: &PortState, message: &Message) -> Class
 }
 
 /// Returns the class of the stored message.
-pub fn class_of(port: &PortState) -> Class
+pub(crate) fn class_of(port: &PortState) -> Class
     ensures { result ≡ class_of port.now }
 {
     match &port.message {

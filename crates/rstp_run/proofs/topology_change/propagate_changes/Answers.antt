@@ -1,8 +1,8 @@
 use Rattle.std.proofs.Common.{◌<◌, length, arith}
 use Rattle.std.proofs.lemmas.List.{get_or_default}
 use Rattle.std.proofs.lemmas.List.Edits.{map_over_more}
-use Rattle.rstp_machines.specs.TopologyChange.{with_propagation}
-use Rattle.rstp_machines.proofs.topology_change.propagate_changes.Goals as goal
+use Rattle.rstp_run.specs.TopologyChange.{with_propagation}
+use Rattle.rstp_run.proofs.topology_change.propagate_changes.Goals as goal
 
 pub loop-port-preserved : goal.loop-port-preserved
 loop-port-preserved c =

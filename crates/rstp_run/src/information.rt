@@ -4,7 +4,7 @@
 ghost use Rattle.std.specs.Prelude.{◌≡◌};
 ghost use Rattle.rstp_state.specs.Port.{is_current, is_mine, is_out};
 ghost use Rattle.rstp_state.specs.Vector.{is_less};
-ghost use Rattle.rstp_machines.specs.Information.{
+ghost use Rattle.rstp_run.specs.Information.{
   message_has,
   rst_has,
   vector_or,
@@ -21,7 +21,7 @@ ghost use Rattle.rstp_machines.specs.Information.{
   with_superior_flags,
   with_answer,
 };
-ghost use Rattle.rstp_machines.specs.Information.{
+ghost use Rattle.rstp_run.specs.Information.{
   disabled_guard,
   disabled_effect,
   drop_guard,
@@ -51,7 +51,7 @@ use bpdu_wire::{
 use rstp_state::{InfoIs, Information, PortState, Times, Vector, has_flag};
 
 /// Returns `true` if the machine is in its state Disabled.
-pub fn is_out(state: Information) -> bool
+pub(crate) fn is_out(state: Information) -> bool
     ensures { result ≡ is_out state }
 {
     matches!(state, Information::Disabled)
@@ -158,14 +158,14 @@ fn age(port: &mut PortState)
 }
 
 /// Returns `true` if the port went down and its machine isn't Disabled yet.
-pub fn disabled_guard(port: &PortState) -> bool
+pub(crate) fn disabled_guard(port: &PortState) -> bool
     ensures { result ≡ disabled_guard port.now }
 {
     !port.enabled && !is_out(port.information)
 }
 
 /// Disables the machine: the port went down.
-pub fn disabled(port: &mut PortState)
+pub(crate) fn disabled(port: &mut PortState)
     ensures { port.new ≡ disabled_effect port.old }
 {
     port.information = Information::Disabled;
@@ -181,35 +181,35 @@ pub fn disabled(port: &mut PortState)
 }
 
 /// Returns `true` if a message is pending at a port that is down.
-pub fn drop_guard(port: &PortState) -> bool
+pub(crate) fn drop_guard(port: &PortState) -> bool
     ensures { result ≡ drop_guard port.now }
 {
     is_out(port.information) && port.received_message
 }
 
 /// Drops the message of a port that is down.
-pub fn drop_message(port: &mut PortState)
+pub(crate) fn drop_message(port: &mut PortState)
     ensures { port.new ≡ drop_effect port.old }
 {
     port.received_message = false;
 }
 
 /// Returns `true` if the port came up and its machine is still Disabled.
-pub fn enabled_guard(port: &PortState) -> bool
+pub(crate) fn enabled_guard(port: &PortState) -> bool
     ensures { result ≡ enabled_guard port.now }
 {
     is_out(port.information) && port.enabled
 }
 
 /// Starts the machine: the port came up.
-pub fn enabled(port: &mut PortState)
+pub(crate) fn enabled(port: &mut PortState)
     ensures { port.new ≡ enabled_effect port.old }
 {
     age(port);
 }
 
 /// Returns `true` if the port has yet to take over its designated vector and times.
-pub fn update_guard(port: &PortState) -> bool
+pub(crate) fn update_guard(port: &PortState) -> bool
     ensures { result ≡ update_guard port.now }
 {
     !is_out(port.information) && port.selected && port.update_info
@@ -224,7 +224,7 @@ fn keeps_agreed(port: &PortState) -> bool
 }
 
 /// Takes over the port's designated vector and times.
-pub fn update(port: &mut PortState)
+pub(crate) fn update(port: &mut PortState)
     ensures { port.new ≡ update_effect port.old }
 {
     port.agreed = keeps_agreed(port);
@@ -240,7 +240,7 @@ pub fn update(port: &mut PortState)
 }
 
 /// Returns `true` if received information is too old, and no newer message is pending.
-pub fn aged_guard(port: &PortState) -> bool
+pub(crate) fn aged_guard(port: &PortState) -> bool
     ensures { result ≡ aged_guard port.now }
 {
     is_current(port.information)
@@ -251,21 +251,21 @@ pub fn aged_guard(port: &PortState) -> bool
 }
 
 /// Marks the received information as too old.
-pub fn aged(port: &mut PortState)
+pub(crate) fn aged(port: &mut PortState)
     ensures { port.new ≡ aged_effect port.old }
 {
     age(port);
 }
 
 /// Returns `true` if a message is pending that may be taken.
-pub fn may_take(port: &PortState) -> bool
+pub(crate) fn may_take(port: &PortState) -> bool
     ensures { result ≡ may_take port.now }
 {
     is_current(port.information) && port.received_message && !port.update_info
 }
 
 /// Returns `true` if a pending message is better information of a designated port.
-pub fn superior_guard(port: &PortState) -> bool
+pub(crate) fn superior_guard(port: &PortState) -> bool
     ensures { result ≡ superior_guard port.now }
 {
     may_take(port) && class_of(port).is_superior()
@@ -303,7 +303,7 @@ fn set_superior_flags(port: &mut PortState)
 }
 
 /// Takes over better information of a designated port.
-pub fn superior(port: &mut PortState)
+pub(crate) fn superior(port: &mut PortState)
     ensures { port.new ≡ superior_effect port.old }
 {
     note_proposal(port);
@@ -315,14 +315,14 @@ pub fn superior(port: &mut PortState)
 }
 
 /// Returns `true` if a pending message repeats the port's information.
-pub fn repeated_guard(port: &PortState) -> bool
+pub(crate) fn repeated_guard(port: &PortState) -> bool
     ensures { result ≡ repeated_guard port.now }
 {
     may_take(port) && class_of(port).is_repeated()
 }
 
 /// Keeps the information that the port already has for another period.
-pub fn repeated(port: &mut PortState)
+pub(crate) fn repeated(port: &mut PortState)
     ensures { port.new ≡ repeated_effect port.old }
 {
     note_proposal(port);
@@ -332,14 +332,14 @@ pub fn repeated(port: &mut PortState)
 }
 
 /// Returns `true` if a pending message is worse information of a designated port.
-pub fn inferior_guard(port: &PortState) -> bool
+pub(crate) fn inferior_guard(port: &PortState) -> bool
     ensures { result ≡ inferior_guard port.now }
 {
     may_take(port) && class_of(port).is_inferior()
 }
 
 /// Marks the port as disputed if the message is worse information of a designated port that learns.
-pub fn inferior(port: &mut PortState)
+pub(crate) fn inferior(port: &mut PortState)
     ensures { port.new ≡ inferior_effect port.old }
 {
     if rst_has(LEARNING, port.message) {
@@ -350,7 +350,7 @@ pub fn inferior(port: &mut PortState)
 }
 
 /// Returns `true` if a pending message is from a root, alternate or backup port.
-pub fn not_designated_guard(port: &PortState) -> bool
+pub(crate) fn not_designated_guard(port: &PortState) -> bool
     ensures { result ≡ not_designated_guard port.now }
 {
     may_take(port) && class_of(port).is_not_designated()
@@ -369,7 +369,7 @@ fn take_answer(port: &mut PortState)
 }
 
 /// Processes the answer of a root, alternate or backup port, which may be an agreement.
-pub fn not_designated(port: &mut PortState)
+pub(crate) fn not_designated(port: &mut PortState)
     ensures { port.new ≡ not_designated_effect port.old }
 {
     take_answer(port);
@@ -378,14 +378,14 @@ pub fn not_designated(port: &mut PortState)
 }
 
 /// Returns `true` if any other message is pending.
-pub fn other_guard(port: &PortState) -> bool
+pub(crate) fn other_guard(port: &PortState) -> bool
     ensures { result ≡ other_guard port.now }
 {
     may_take(port) && class_of(port).is_other()
 }
 
 /// Processes any other message: records a notification.
-pub fn other(port: &mut PortState)
+pub(crate) fn other(port: &mut PortState)
     ensures { port.new ≡ other_effect port.old }
 {
     if let Some(Bpdu::Tcn) = port.message {

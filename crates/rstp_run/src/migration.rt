@@ -2,7 +2,7 @@
 
 ghost use Rattle.std.specs.Prelude.{◌≡◌};
 ghost use Rattle.rstp_state.specs.Port.{is_checking, is_selecting, is_sensing};
-ghost use Rattle.rstp_machines.specs.Migration.{
+ghost use Rattle.rstp_run.specs.Migration.{
   enter_checking,
   enter_selecting,
   enter_sensing,
@@ -16,7 +16,7 @@ ghost use Rattle.rstp_machines.specs.Migration.{
 use rstp_state::{Migration, PortState};
 
 /// Returns `true` if the machine is in its state Checking.
-pub fn is_checking(state: Migration) -> bool
+pub(crate) fn is_checking(state: Migration) -> bool
     ensures { result ≡ is_checking state }
 {
     matches!(state, Migration::Checking)
@@ -38,7 +38,7 @@ fn is_sensing(state: Migration) -> bool
 
 /// Makes the port send the rapid protocol, and starts the delay before it listens for the older
 /// one.
-pub fn enter_checking(port: &mut PortState)
+pub(crate) fn enter_checking(port: &mut PortState)
     ensures { port.new ≡ enter_checking port.old }
 {
     port.migration = Migration::Checking;
@@ -49,7 +49,7 @@ pub fn enter_checking(port: &mut PortState)
 
 /// Makes the port send the older protocol, and starts the delay before it listens for the rapid
 /// one.
-pub fn enter_selecting(port: &mut PortState)
+pub(crate) fn enter_selecting(port: &mut PortState)
     ensures { port.new ≡ enter_selecting port.old }
 {
     port.migration = Migration::Selecting;
@@ -58,7 +58,7 @@ pub fn enter_selecting(port: &mut PortState)
 }
 
 /// Makes the port listen for the other protocol.
-pub fn enter_sensing(port: &mut PortState)
+pub(crate) fn enter_sensing(port: &mut PortState)
     ensures { port.new ≡ enter_sensing port.old }
 {
     port.migration = Migration::Sensing;
@@ -67,21 +67,21 @@ pub fn enter_sensing(port: &mut PortState)
 }
 
 /// Continues checking: the port is not enabled.
-pub fn recheck_guard(port: &PortState) -> bool
+pub(crate) fn recheck_guard(port: &PortState) -> bool
     ensures { result ≡ recheck_guard port.now }
 {
     is_checking(port.migration) && port.migration_delay_while != 3 && !port.enabled
 }
 
 /// Ends checking.
-pub fn checked_guard(port: &PortState) -> bool
+pub(crate) fn checked_guard(port: &PortState) -> bool
     ensures { result ≡ checked_guard port.now }
 {
     is_checking(port.migration) && port.migration_delay_while == 0 && port.enabled
 }
 
 /// Ends selecting.
-pub fn selected_guard(port: &PortState) -> bool
+pub(crate) fn selected_guard(port: &PortState) -> bool
     ensures { result ≡ selected_guard port.now }
 {
     is_selecting(port.migration)
@@ -89,7 +89,7 @@ pub fn selected_guard(port: &PortState) -> bool
 }
 
 /// Moves the port back to the rapid protocol.
-pub fn to_rstp_guard(port: &PortState) -> bool
+pub(crate) fn to_rstp_guard(port: &PortState) -> bool
     ensures { result ≡ to_rstp_guard port.now }
 {
     is_sensing(port.migration)
@@ -97,7 +97,7 @@ pub fn to_rstp_guard(port: &PortState) -> bool
 }
 
 /// Changes the port to the older protocol.
-pub fn to_stp_guard(port: &PortState) -> bool
+pub(crate) fn to_stp_guard(port: &PortState) -> bool
     ensures { result ≡ to_stp_guard port.now }
 {
     is_sensing(port.migration) && port.send_rstp && port.received_stp

@@ -9,8 +9,8 @@ use Rattle.bpdu_wire.specs.Bpdu.{role_of}
 use Rattle.rstp_state.specs.declared.port.PortState.{PortState}
 use Rattle.rstp_state.specs.Vector.{is_less, same_vector, same_times, vector_of, times_of, superior}
 use Rattle.rstp_state.specs.Port.{is_received}
-use Rattle.rstp_machines.specs.declared.class.Class.{Class}
-use Rattle.rstp_machines.specs.declared.class.Class.TheVariants as class
+use Rattle.rstp_run.specs.declared.class.Class.{Class}
+use Rattle.rstp_run.specs.declared.class.Class.TheVariants as class
 
 -- a designated port's message
 abbrev pub designated_class : PortState → Message → Class
