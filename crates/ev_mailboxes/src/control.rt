@@ -12,7 +12,7 @@ use crate::shared_mailbox::SharedMailbox;
 use ev_book::BookRefusal;
 use ev_edge::Reply;
 use ev_history::{Naming, Outside, Told};
-use ev_notices::{LinkCounts, Refused};
+use crate::{LinkCounts, Refused};
 use ev_view::EdgeQuestion;
 use route_join::UpdatePage;
 use route_wire::{Register, Update};

@@ -7,7 +7,7 @@ use crate::boards::Boards;
 use crate::edge_message::{EdgeMessage, Letter, coming};
 use crate::peers::Peers;
 use ev_channel::Inbox;
-use ev_notices::{News, NoticesIn};
+use crate::{News, NoticesIn};
 use std::sync::Wait;
 use std::thread;
 

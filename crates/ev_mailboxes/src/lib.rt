@@ -1,26 +1,49 @@
 //! Mailboxes of running edges: updates from the other edges and requests of the operator, the
-//! edges' answers, and the boards with the news for the operator.
-#![tactic(auto)]
+//! edges' answers, and the boards with the news for the operator: alerts, links that fail and work
+//! again, refused records, and the lines that are written for them.
+#![tactic(auto, using(ether_wire::proofs::Appending::with_text_twice, ether_wire::proofs::Appending::with_text_none))]
 
+mod alarm;
+mod board;
 mod boards;
 mod control;
+mod drop_reason;
 mod edge_message;
+mod idle_watch;
+mod in_turn;
 mod inbox;
+mod link_counts;
+mod notices;
 mod outbox;
 mod outboxes;
 mod peers;
 mod posts;
+mod receptions;
+mod records;
 mod request;
 mod request_slot;
+mod send_watch;
+mod sendings;
 mod shared_mailbox;
 mod waiting;
 
+pub use alarm::{Alarm, alarm_of, alert_of, is_second};
+pub use board::{Board, Notice, Posted};
 pub use boards::Boards;
 pub use control::{Control, Running};
+pub use drop_reason::{DropReason, cause_of};
 pub use edge_message::{EdgeMessage, Letter};
+pub use idle_watch::IdleWatch;
+pub use in_turn::tell_in_turn;
 pub use inbox::{NoticeBox, UpdateBox, UpdatesIn};
+pub use link_counts::LinkCounts;
+pub use notices::{News, NoticesIn, notice_worker, put_notice};
 pub use outbox::Outbox;
 pub use outboxes::Joined;
 pub use peers::{Mailboxes, Peers};
 pub use posts::{EdgePost, Posts};
+pub use receptions::{Input, Reception, Receptions};
+pub use records::{Refusals, Refused};
 pub use request::{EdgeNetworks, OperatorCommand, PortView, Reading, Request, Response};
+pub use send_watch::SendWatch;
+pub use sendings::{LINKS, Sending, Sendings};

@@ -13,7 +13,7 @@ use crate::shared_mailbox::SharedMailbox;
 use crate::waiting::ROOM;
 use ev_channel::{Inbox, mailbox};
 use ev_history::{Naming, Told};
-use ev_notices::{Alarm, LinkCounts, Reception};
+use crate::{Alarm, LinkCounts, Reception};
 use std::alloc::{AllocError, Global};
 use std::sync::{Mutex, Wait};
 

@@ -11,9 +11,8 @@ use crate::shared_line::SharedLine;
 use ether_wire::Addr;
 use ev_history::{Naming, Told};
 use ev_links::PromptOut;
-use ev_mailboxes::{Peers, Posts, Response};
+use ev_mailboxes::{Alarm, DropReason, Peers, Posts, Reception, Response};
 use ev_mobility::Alert;
-use ev_notices::{Alarm, DropReason, Reception};
 use std::alloc::AllocError;
 use std::sync::Wait;
 

@@ -2,7 +2,7 @@
 //! of the book.
 ghost use Rattle.std.specs.Prelude.{◌≡◌};
 ghost use Rattle.ev_book.specs.Entering.{answered, CallsBook};
-ghost use Rattle.ev_notices.specs.Alarm.{alert_of};
+ghost use Rattle.ev_mailboxes.specs.Alarm.{alert_of};
 ghost use Rattle.ev_edge.specs.declared.event.Event.TheVariants.{Announce};
 ghost use Rattle.ev_history.specs.Booking.{IsCovered};
 ghost use Rattle.ev_peers.specs.Passing.{Leaves, Asked, has_pending};
@@ -14,7 +14,7 @@ use ev_book::{BookRefusal, Pass};
 use ev_edge::{Event, Reply};
 use ev_history::{LoggedBook, Naming, Placed, Told};
 use ev_mobility::Alert;
-use ev_notices::alert_of;
+use ev_mailboxes::alert_of;
 use std::sync::atomic::{AtomicBool, Ordering};
 use std::sync::{Mutex, Wait};
 

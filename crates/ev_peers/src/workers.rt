@@ -19,8 +19,7 @@ use ether_wire::{Addr, Vni};
 use ev_edge::Event;
 use ev_history::{Naming, Placed, Told};
 use ev_links::{LONGEST, LinkIn, LinkOut};
-use ev_mailboxes::{EdgeMessage, UpdatesIn};
-use ev_notices::{Input, Reception};
+use ev_mailboxes::{EdgeMessage, Input, Reception, UpdatesIn};
 use ev_tunnel::unwrap_datagram;
 use std::sync::Wait;
 
