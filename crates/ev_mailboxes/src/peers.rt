@@ -12,7 +12,7 @@ use crate::request::Response;
 use crate::shared_mailbox::SharedMailbox;
 use crate::waiting::ROOM;
 use ev_channel::{Inbox, mailbox};
-use ev_history::{Naming, Told};
+use ev_book::{Naming, Told};
 use crate::{Alarm, LinkCounts, Reception};
 use std::alloc::{AllocError, Global};
 use std::sync::{Mutex, Wait};

@@ -8,7 +8,7 @@ use Rattle.ev_edge.specs.declared.reply.Reply.{Reply}
 use Rattle.ev_book.specs.declared.refusal.BookRefusal.{BookRefusal}
 use Rattle.ev_book.specs.Book.{BookState, PassState}
 use Rattle.ev_book.specs.Entering.{CallsBook}
-use Rattle.ev_history.specs.Booking.{announced_by}
+use Rattle.ev_book.specs.Booking.{announced_by}
 use Rattle.ev_mailboxes.specs.declared.alarm.Alarm.{Alarm}
 use Rattle.ev_mailboxes.specs.declared.edge_message.Letter.{Letter}
 use Rattle.ev_mailboxes.specs.declared.request.Response.{Response}

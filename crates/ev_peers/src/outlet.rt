@@ -9,7 +9,7 @@ ghost use Rattle.ev_peers.specs.Passing.{SaidOf, said_of, says, sends, has_room,
 
 use crate::shared_line::SharedLine;
 use ether_wire::Addr;
-use ev_history::{Naming, Told};
+use ev_book::{Naming, Told};
 use ev_links::PromptOut;
 use ev_mailboxes::{Alarm, DropReason, Peers, Posts, Reception, Response};
 use ev_mobility::Alert;

@@ -9,7 +9,7 @@ use crate::plan::Shared;
 use crate::shared_edge::Ended;
 use crate::shared_line::SharedLine;
 use crate::workers::out_worker;
-use ev_history::{Naming, Told};
+use ev_book::{Naming, Told};
 use ev_links::{CountedLink, LinkOut, PromptOut};
 use ev_mailboxes::{LinkCounts, Peers};
 use std::sync::Wait;

@@ -1,7 +1,7 @@
 //! A worker of an edge, and how it handles one event.
 ghost use Rattle.std.specs.Prelude.{◌≡◌, ◌≤◌, length};
 ghost use Rattle.ev_book.specs.Entering.{answered};
-ghost use Rattle.ev_history.specs.Booking.{IsCovered};
+ghost use Rattle.ev_book.specs.Booking.{IsCovered};
 ghost use Rattle.ev_links.specs.Coming.{behind};
 ghost use Rattle.ev_mailboxes.specs.DropReason.{cause_of};
 ghost use Rattle.ev_peers.specs.Passing.{Leaves, Announces, AnnouncesIf, PassesOn, says, given_by, link_of, drops_of, alarms_of, signs_of};
@@ -11,9 +11,8 @@ use crate::gate::Gate;
 use crate::outlet::Outlet;
 use crate::shared_edge::SharedEdge;
 use ether_wire::{Mac, Vni};
-use ev_book::{BookRefusal, Pass};
+use ev_book::{BookRefusal, Naming, Pass, Placed, Told};
 use ev_edge::{Event, Reply};
-use ev_history::{Naming, Placed, Told};
 use ev_mailboxes::{alarm_of, cause_of, is_second};
 use std::sync::Wait;
 

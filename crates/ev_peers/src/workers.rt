@@ -1,6 +1,6 @@
 //! The workers of an edge: each handles the input of one link or channel, one thing at a time.
 ghost use Rattle.std.specs.Prelude.{◌≡◌, ◌+◌, ◌^◌, ◌<◌, ◌≤◌, true, length, take, IfSome};
-ghost use Rattle.ev_history.specs.Booking.{is_own};
+ghost use Rattle.ev_book.specs.Booking.{is_own};
 ghost use Rattle.ev_links.specs.Links.{arrival, packet};
 ghost use Rattle.ev_peers.specs.declared.workers.Inlet.TheVariants.{Port, Tunnel, Clock};
 ghost use Rattle.ev_peers.specs.Working.{ended_of, IsEventOf, fitting, unwrapped, carried, standing, hearing, input_of, Handles, Turns, Changes, Becomes, Hears, Takes, Ends, PortEnds, PeerEnds};
@@ -17,7 +17,7 @@ use crate::shared_edge::Ended;
 use crate::worker::Worker;
 use ether_wire::{Addr, Vni};
 use ev_edge::Event;
-use ev_history::{Naming, Placed, Told};
+use ev_book::{Naming, Placed, Told};
 use ev_links::{LONGEST, LinkIn, LinkOut};
 use ev_mailboxes::{EdgeMessage, Input, Reception, UpdatesIn};
 use ev_tunnel::unwrap_datagram;

@@ -26,14 +26,14 @@ use Rattle.ev_fabric.specs.Local.{event_of}
 use Rattle.ev_fabric.specs.Opening.{AreOpened}
 use Rattle.ev_fabric.specs.Steps.{FabricSteps, StepsAt, AnnouncesAt, IsRefused, of_edge, with_edge, with_announced}
 use Rattle.ev_fabric.specs.Runs.{Runs}
-use Rattle.ev_history.specs.declared.log_entry.Deed.{Deed}
-use Rattle.ev_history.specs.declared.log_entry.Deed.TheVariants.{Opens, Announces, Takes}
-use Rattle.ev_history.specs.declared.log_entry.LogEntry.{LogEntry}
-use Rattle.ev_history.specs.declared.log_entry.LogEntry.TheVariants.{Begins, Does}
-use Rattle.ev_history.specs.Log.{World, world_after, edges_after, pool_after, end_of, begun, Follows, AreLegal, Goes}
-use Rattle.ev_history.specs.Log.{Reaches, IsQuiet, Turns, IsOpening, world, IsHistory, IsKnown, announced_by}
-use Rattle.ev_history.proofs.Histories.{edges_here, edges_there, Same, same, other, decide}
-use Rattle.ev_history.specs.Standing.{Stands, AllStand}
+use Rattle.ev_book.specs.declared.log_entry.Deed.{Deed}
+use Rattle.ev_book.specs.declared.log_entry.Deed.TheVariants.{Opens, Announces, Takes}
+use Rattle.ev_book.specs.declared.log_entry.LogEntry.{LogEntry}
+use Rattle.ev_book.specs.declared.log_entry.LogEntry.TheVariants.{Begins, Does}
+use Rattle.ev_book.specs.Log.{World, world_after, edges_after, pool_after, end_of, begun, Follows, AreLegal, Goes}
+use Rattle.ev_book.specs.Log.{Reaches, IsQuiet, Turns, IsOpening, world, IsHistory, IsKnown, announced_by}
+use Rattle.ev_book.proofs.Histories.{edges_here, edges_there, Same, same, other, decide}
+use Rattle.ev_book.specs.Standing.{Stands, AllStand}
 use Rattle.ev_runs.specs.Laws.{IsRunOf}
 
 -- ---- lists

@@ -8,10 +8,10 @@ use Rattle.ev_fabric.specs.Fabric.{fabric_of}
 use Rattle.ev_fabric.specs.Opening.{AreConfigs, AreOpened}
 use Rattle.ev_fabric.specs.Runs.{Runs}
 use Rattle.ev_fabric.specs.Sound.{IsSound}
-use Rattle.ev_history.specs.declared.log_entry.LogEntry.{LogEntry}
-use Rattle.ev_history.specs.declared.log_entry.LogEntry.TheVariants.{Begins}
-use Rattle.ev_history.specs.Log.{IsHistory}
-use Rattle.ev_history.specs.Standing.{AllStand}
+use Rattle.ev_book.specs.declared.log_entry.LogEntry.{LogEntry}
+use Rattle.ev_book.specs.declared.log_entry.LogEntry.TheVariants.{Begins}
+use Rattle.ev_book.specs.Log.{IsHistory}
+use Rattle.ev_book.specs.Standing.{AllStand}
 
 -- There are steps by which the edges that were opened with these configurations become these edges. Nothing was
 -- announced before the first step.
