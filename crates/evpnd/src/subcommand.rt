@@ -1,6 +1,6 @@
 //! The program's subcommands: their options, and their help texts.
 ghost use Rattle.std.specs.Prelude.{◌≡◌};
-ghost use Rattle.ev_words.specs.Args.{name_of, option_name, needs_of, takes_of, flag_of, other_flag_of, named};
+ghost use Rattle.evpnd.specs.Args.{name_of, option_name, needs_of, takes_of, flag_of, other_flag_of, named};
 
 /// A subcommand of the program.
 #[derive(Clone, Copy, Debug, PartialEq, Eq)]

@@ -3,8 +3,8 @@ use Rattle.std.specs.Prelude.{string_bytes}
 use Rattle.clap.specs.Words.{App, Text, app_of, fault_of, FailsBy, HasMatchesOf, is_simple_and_free}
 use Rattle.clap.specs.declared.error.Error.{Error}
 use Rattle.clap.specs.declared.parser.matches.ArgMatches.{ArgMatches}
-use Rattle.ev_words.specs.Args.{program, IsAnswer}
-use Rattle.ev_words.proofs.args.matches_of.Goals as goal
+use Rattle.evpnd.specs.Args.{program, IsAnswer}
+use Rattle.evpnd.proofs.args.matches_of.Goals as goal
 
 answered : (words : List Text) (r : Result ArgMatches Error) → FailsBy (fault_of program words) r
     → IfOk r (HasMatchesOf program words) → IsAnswer words r

@@ -10,18 +10,18 @@ use Rattle.clap.specs.declared.builder.ArgAction.TheVariants.{Set, SetTrue}
 use Rattle.clap.specs.declared.error.Error.{Error}
 use Rattle.clap.specs.declared.error.kind.ErrorKind.TheVariants.{OutOfMemory}
 use Rattle.clap.specs.declared.parser.matches.ArgMatches.{ArgMatches}
-use Rattle.ev_words.specs.declared.subcommand.Subcommand.{Subcommand}
-use Rattle.ev_words.specs.declared.subcommand.Subcommand.TheVariants.{Report, Migrate, Check, Simulate, Play}
-use Rattle.ev_words.specs.declared.subcommand.Subcommand.TheVariants.{Run, Serve, Version}
-use Rattle.ev_words.specs.declared.subcommand.ParsedOptions.{ParsedOptions}
-use Rattle.ev_words.specs.declared.subcommand.ParsedOptions.TheVariants.{Originators, Config, Script, ForRun, ForServe}
-use Rattle.ev_words.specs.declared.subcommand.ParsedOptions.TheVariants.{Degraded}
-use Rattle.ev_words.specs.declared.subcommand.Aim.{Aim}
-use Rattle.ev_words.specs.declared.subcommand.Aim.TheVariants as aim
-use Rattle.ev_words.specs.declared.args.Invocation.{Invocation}
-use Rattle.ev_words.specs.declared.args.ClapParser.{ClapParser}
-use Rattle.ev_words.specs.declared.args.ArgsError.{ArgsError}
-use Rattle.ev_words.specs.declared.args.ArgsError.TheVariants.{Usage, NoMemory}
+use Rattle.evpnd.specs.declared.subcommand.Subcommand.{Subcommand}
+use Rattle.evpnd.specs.declared.subcommand.Subcommand.TheVariants.{Report, Migrate, Check, Simulate, Play}
+use Rattle.evpnd.specs.declared.subcommand.Subcommand.TheVariants.{Run, Serve, Version}
+use Rattle.evpnd.specs.declared.subcommand.ParsedOptions.{ParsedOptions}
+use Rattle.evpnd.specs.declared.subcommand.ParsedOptions.TheVariants.{Originators, Config, Script, ForRun, ForServe}
+use Rattle.evpnd.specs.declared.subcommand.ParsedOptions.TheVariants.{Degraded}
+use Rattle.evpnd.specs.declared.subcommand.Aim.{Aim}
+use Rattle.evpnd.specs.declared.subcommand.Aim.TheVariants as aim
+use Rattle.evpnd.specs.declared.args.Invocation.{Invocation}
+use Rattle.evpnd.specs.declared.args.ClapParser.{ClapParser}
+use Rattle.evpnd.specs.declared.args.ArgsError.{ArgsError}
+use Rattle.evpnd.specs.declared.args.ArgsError.TheVariants.{Usage, NoMemory}
 
 -- ---- the subcommands, each with its options
 

@@ -1,8 +1,8 @@
 use Rattle.std.proofs.Common.{rules, ◌≡◌, ◌∙◌, None, ap, sym}
 use Rattle.clap.specs.Words.{app_of}
-use Rattle.ev_words.specs.Args.{with_flag}
-use Rattle.ev_words.proofs.Given.{no_flag}
-use Rattle.ev_words.proofs.args.with_flag.Goals as goal
+use Rattle.evpnd.specs.Args.{with_flag}
+use Rattle.evpnd.proofs.Given.{no_flag}
+use Rattle.evpnd.proofs.args.with_flag.Goals as goal
 
 pub returns-in-None-clause-app : goal.returns-in-None-clause-app
 returns-in-None-clause-app c =

@@ -1,8 +1,8 @@
 use Rattle.std.proofs.Common.{rules, ◌≡◌, ◌∙◌, None, ap, sym}
 use Rattle.clap.specs.Words.{app_of}
-use Rattle.ev_words.specs.Args.{with_option}
-use Rattle.ev_words.proofs.Given.{none_more}
-use Rattle.ev_words.proofs.args.with_option.Goals as goal
+use Rattle.evpnd.specs.Args.{with_option}
+use Rattle.evpnd.proofs.Given.{none_more}
+use Rattle.evpnd.proofs.args.with_option.Goals as goal
 
 pub returns-in-None-clause-app : goal.returns-in-None-clause-app
 returns-in-None-clause-app c =

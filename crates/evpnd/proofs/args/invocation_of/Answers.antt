@@ -1,7 +1,7 @@
 use Rattle.std.proofs.Common.{map, string_bytes}
 use Rattle.clap.specs.Words.{subcommand_rows_of}
-use Rattle.ev_words.proofs.Given.{not_none}
-use Rattle.ev_words.proofs.args.invocation_of.Goals as goal
+use Rattle.evpnd.proofs.Given.{not_none}
+use Rattle.evpnd.proofs.args.invocation_of.Goals as goal
 
 pub unreachable-requires : goal.unreachable-requires
 unreachable-requires g c =

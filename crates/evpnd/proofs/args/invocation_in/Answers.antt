@@ -1,9 +1,9 @@
 use Rattle.std.proofs.Common.{rules, sym, ap, List, Option, Some, None, option_map, ◌≡◌, ◌∙◌, refl}
 use Rattle.clap.specs.Words.{Row, Text, rows_of, found_of, subcommand_rows_of}
-use Rattle.ev_words.specs.declared.args.Invocation.{Invocation}
-use Rattle.ev_words.specs.Args.{needs_of, takes_of, needed_in, given_in, aim_in, parts_of}
-use Rattle.ev_words.proofs.Given.{found_as, invocation_found}
-use Rattle.ev_words.proofs.args.invocation_in.Goals as goal
+use Rattle.evpnd.specs.declared.args.Invocation.{Invocation}
+use Rattle.evpnd.specs.Args.{needs_of, takes_of, needed_in, given_in, aim_in, parts_of}
+use Rattle.evpnd.proofs.Given.{found_as, invocation_found}
+use Rattle.evpnd.proofs.args.invocation_in.Goals as goal
 
 after : {X Y Z : Type 0} (f : X → Y) (g : Y → Z) (o : Option X)
     → option_map g (option_map f o) ≡ option_map (λ x. g (f x)) o

@@ -33,15 +33,15 @@ use Rattle.clap.specs.declared.builder.action.ArgAction.TheVariants as action
 use Rattle.clap.specs.declared.error.kind.ErrorKind.TheVariants as kind
 use Rattle.clap.specs.declared.parser.matches.ValueSource.TheVariants.{CommandLine, DefaultValue}
 use Rattle.clap.proofs.WalkLemmas.{both}
-use Rattle.ev_words.specs.declared.subcommand.Subcommand.{Subcommand}
-use Rattle.ev_words.specs.declared.subcommand.Subcommand.TheVariants.{Report, Migrate, Check, Simulate, Play}
-use Rattle.ev_words.specs.declared.subcommand.Subcommand.TheVariants.{Run, Serve, Version}
-use Rattle.ev_words.specs.declared.subcommand.ParsedOptions.{ParsedOptions}
-use Rattle.ev_words.specs.declared.subcommand.ParsedOptions.TheVariants.{Originators, Config, Script, ForRun, ForServe}
-use Rattle.ev_words.specs.declared.subcommand.ParsedOptions.TheVariants.{Degraded}
-use Rattle.ev_words.specs.declared.subcommand.Aim.{Aim}
-use Rattle.ev_words.specs.Args.{Parts, subcommands, name_of, option_name, needs_of, takes_of, with_option, with_flag}
-use Rattle.ev_words.specs.Args.{aim_in, subcommand_app, program, named, needed_in, given_in, invocation_in}
+use Rattle.evpnd.specs.declared.subcommand.Subcommand.{Subcommand}
+use Rattle.evpnd.specs.declared.subcommand.Subcommand.TheVariants.{Report, Migrate, Check, Simulate, Play}
+use Rattle.evpnd.specs.declared.subcommand.Subcommand.TheVariants.{Run, Serve, Version}
+use Rattle.evpnd.specs.declared.subcommand.ParsedOptions.{ParsedOptions}
+use Rattle.evpnd.specs.declared.subcommand.ParsedOptions.TheVariants.{Originators, Config, Script, ForRun, ForServe}
+use Rattle.evpnd.specs.declared.subcommand.ParsedOptions.TheVariants.{Degraded}
+use Rattle.evpnd.specs.declared.subcommand.Aim.{Aim}
+use Rattle.evpnd.specs.Args.{Parts, subcommands, name_of, option_name, needs_of, takes_of, with_option, with_flag}
+use Rattle.evpnd.specs.Args.{aim_in, subcommand_app, program, named, needed_in, given_in, invocation_in}
 
 -- ---- options
 
