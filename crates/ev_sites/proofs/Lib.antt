@@ -24,3 +24,5 @@ pub mod Histories
 pub mod Round
 pub mod Ring
 pub mod Later
+pub mod Running
+pub mod Sound

@@ -6,3 +6,4 @@ pub mod Witnesses
 pub mod After
 pub mod Network
 pub mod Inner
+pub mod RunningEdges

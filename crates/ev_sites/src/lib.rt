@@ -6,6 +6,7 @@
 mod bridges;
 mod fabrics;
 mod laws;
+mod runs;
 mod sessions;
 mod settled;
 #[cfg(test)]
@@ -21,6 +22,7 @@ pub use fabrics::{every_run_can_be, no_circle_in_a_fabric};
 pub use laws::{
     never_back_to_its_bridge, no_circle_through_tunnels, one_tunnel_at_most, sites_can_be_at_rest,
 };
+pub use runs::{history_is_a_run, run_is_sound};
 pub use sessions::{begun_anew, sessions_agree};
 pub use settled::{edges_stay_settled, fabrics_stay_settled};
 pub use witnesses::{

@@ -1,5 +1,5 @@
 //! The laws, as functions that do nothing: the contract is the law.
-ghost use Rattle.ev_runs.specs.Laws.{HistoryIsARun, RunIsSound};
+ghost use Rattle.ev_sites.specs.RunningEdges.{HistoryIsARun, RunIsSound};
 
 /// Edges that a history leads to are those of a fabric at the end of a run, which begins with the
 /// edges as they were opened and with nothing announced.

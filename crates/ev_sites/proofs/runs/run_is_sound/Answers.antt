@@ -1,5 +1,5 @@
-use Rattle.ev_runs.proofs.Sound.{run_sound}
-use Rattle.ev_runs.proofs.laws.run_is_sound.Goals as goal
+use Rattle.ev_sites.proofs.Sound.{run_sound}
+use Rattle.ev_sites.proofs.runs.run_is_sound.Goals as goal
 
 pub returns : goal.returns
 returns c =

@@ -34,7 +34,7 @@ use Rattle.ev_book.specs.Log.{World, world_after, edges_after, pool_after, end_o
 use Rattle.ev_book.specs.Log.{Reaches, IsQuiet, Turns, IsOpening, world, IsHistory, IsKnown, announced_by}
 use Rattle.ev_book.proofs.Histories.{edges_here, edges_there, Same, same, other, decide}
 use Rattle.ev_book.specs.Standing.{Stands, AllStand}
-use Rattle.ev_runs.specs.Laws.{IsRunOf}
+use Rattle.ev_sites.specs.RunningEdges.{IsRunOf}
 
 -- ---- lists
 
