@@ -14,3 +14,6 @@ pub mod Receptions
 pub mod Records
 pub mod Notices
 pub mod InTurn
+pub mod Delivery
+pub mod Ends
+pub mod Laws

@@ -3,9 +3,9 @@ ghost use Rattle.std.specs.Prelude.{◌≡◌, ◌<◌, OnErr, [], IfErr, IfOk, 
 ghost use Rattle.crossbeam_channel.specs.Claims.{view, IsSeatAt};
 ghost use Rattle.crossbeam_channel.specs.Ends.{sends_on, receives_on};
 ghost use Rattle.crossbeam_channel.specs.Err.{try_send_message};
-ghost use Rattle.ev_channel.specs.Delivery.{IsSender, IsReceiver};
-ghost use Rattle.ev_channel.specs.Inner.Calls.{with_put, with_made, next_sender, Takes};
-ghost use Rattle.ev_channel.specs.declared.view.View.TheVariants.{Receiver};
+ghost use Rattle.ev_mailboxes.specs.Delivery.{IsSender, IsReceiver};
+ghost use Rattle.ev_mailboxes.specs.Inner.Calls.{with_put, with_made, next_sender, Takes};
+ghost use Rattle.ev_mailboxes.specs.declared.view.View.TheVariants.{Receiver};
 
 use crate::rule::{Delivery, Gets, Makes, Puts};
 use crate::view::View;

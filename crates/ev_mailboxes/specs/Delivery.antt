@@ -2,8 +2,8 @@
 use Rattle.std.specs.Prelude.{◌≡◌, ◌≤◌, ◌==◌, ℕ, Bool, true, false, List, [], ◌∷◌, ◌++◌, map, if◌then◌else◌}
 use mathlib.Core.Option.{Option, some, none}
 use lib.ListN.{get_elem?}
-use Rattle.ev_channel.specs.declared.view.View.{View}
-use Rattle.ev_channel.specs.declared.view.View.TheVariants.{Sender, Receiver}
+use Rattle.ev_mailboxes.specs.declared.view.View.{View}
+use Rattle.ev_mailboxes.specs.declared.view.View.TheVariants.{Sender, Receiver}
 
 module _ {T : Type 0} where
   -- ---- the messages that came into a mailbox, each with the number of its post

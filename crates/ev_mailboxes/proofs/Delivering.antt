@@ -8,12 +8,12 @@ use Rattle.std.proofs.lemmas.List.{append-nil}
 use mathlib.Core.Option.{Option, some, none, some-injective, some-ne-none}
 use lib.ListN.{get_elem?}
 use Rattle.crossbeam_channel.specs.Fifo.{Pushes, Pops, Forks}
-use Rattle.ev_channel.specs.declared.view.View.{View}
-use Rattle.ev_channel.specs.declared.view.View.TheVariants.{Sender, Receiver}
-use Rattle.ev_channel.specs.Delivery.{of, messages, number_of, IsSender, IsReceiver}
-use Rattle.ev_channel.specs.Inner.Calls.{with_put, with_made, next_sender}
-use Rattle.ev_channel.specs.Delivery.{Fits, Delivers}
-use Rattle.ev_channel.specs.Inner.Calls.{Takes}
+use Rattle.ev_mailboxes.specs.declared.view.View.{View}
+use Rattle.ev_mailboxes.specs.declared.view.View.TheVariants.{Sender, Receiver}
+use Rattle.ev_mailboxes.specs.Delivery.{of, messages, number_of, IsSender, IsReceiver}
+use Rattle.ev_mailboxes.specs.Inner.Calls.{with_put, with_made, next_sender}
+use Rattle.ev_mailboxes.specs.Delivery.{Fits, Delivers}
+use Rattle.ev_mailboxes.specs.Inner.Calls.{Takes}
 
 -- ---- which pass a post has
 

@@ -1,6 +1,6 @@
 //! The calls of a mailbox's ends: a post sends, and the inbox receives.
 ghost use Rattle.std.specs.Prelude.{◌≡◌, ◌<◌, ◌++◌, ◌∷◌, [], IfOk, IfErr, OnOk, MatchOption};
-ghost use Rattle.ev_channel.specs.Ends.{sent_by, received_by};
+ghost use Rattle.ev_mailboxes.specs.Ends.{sent_by, received_by};
 
 use crate::channel;
 use crate::ends::{Inbox, Post};

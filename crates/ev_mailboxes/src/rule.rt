@@ -1,8 +1,8 @@
 //! The rule of a mailbox's channel, and the effect of each call on a pass.
 ghost use Rattle.std.specs.Prelude.{◌≡◌, []};
-ghost use Rattle.ev_channel.specs.Delivery.{Delivers};
-ghost use Rattle.ev_channel.specs.Inner.Calls.{with_put, with_made, next_sender, Takes};
-ghost use Rattle.ev_channel.specs.declared.view.View.TheVariants.{Receiver};
+ghost use Rattle.ev_mailboxes.specs.Delivery.{Delivers};
+ghost use Rattle.ev_mailboxes.specs.Inner.Calls.{with_put, with_made, next_sender, Takes};
+ghost use Rattle.ev_mailboxes.specs.declared.view.View.TheVariants.{Receiver};
 
 use crate::view::View;
 use crossbeam_channel::protocol::{Lesson, Outcome, Protocol, Split};

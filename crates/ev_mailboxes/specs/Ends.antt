@@ -1,11 +1,11 @@
 -- The messages that the ends of a mailbox have sent and received.
 use Rattle.std.specs.Prelude.{List, []}
 use Rattle.crossbeam_channel.specs.Claims.{view}
-use Rattle.ev_channel.specs.declared.view.View.{View}
-use Rattle.ev_channel.specs.declared.view.View.TheVariants.{Sender, Receiver}
-use Rattle.ev_channel.specs.declared.ends.Post.{Post}
-use Rattle.ev_channel.specs.declared.ends.Inbox.{Inbox}
-use Rattle.ev_channel.specs.Delivery.{messages}
+use Rattle.ev_mailboxes.specs.declared.view.View.{View}
+use Rattle.ev_mailboxes.specs.declared.view.View.TheVariants.{Sender, Receiver}
+use Rattle.ev_mailboxes.specs.declared.ends.Post.{Post}
+use Rattle.ev_mailboxes.specs.declared.ends.Inbox.{Inbox}
+use Rattle.ev_mailboxes.specs.Delivery.{messages}
 
 module _ {T : Type 0} where
   -- all messages that a post sent, in their order

@@ -2,7 +2,7 @@
 ghost use Rattle.std.specs.Prelude.{◌≡◌};
 ghost use Rattle.crossbeam_channel.specs.Claims.{view, IsSeatAt};
 ghost use Rattle.crossbeam_channel.specs.Ends.{sends_on, receives_on};
-ghost use Rattle.ev_channel.specs.Delivery.{IsSender, IsReceiver};
+ghost use Rattle.ev_mailboxes.specs.Delivery.{IsSender, IsReceiver};
 
 use crate::channel::{MailIn, MailOut, Slip};
 

@@ -1,7 +1,7 @@
 -- The effect of each call on the pass of its end.
 use Rattle.std.specs.Prelude.{◌≡◌, ◌+◌, ℕ, List, [], ◌∷◌, ◌++◌}
-use Rattle.ev_channel.specs.declared.view.View.{View}
-use Rattle.ev_channel.specs.declared.view.View.TheVariants.{Sender, Receiver}
+use Rattle.ev_mailboxes.specs.declared.view.View.{View}
+use Rattle.ev_mailboxes.specs.declared.view.View.TheVariants.{Sender, Receiver}
 
 module _ {T : Type 0} where
   -- the post has sent one more message

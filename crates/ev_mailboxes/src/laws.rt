@@ -1,5 +1,5 @@
 //! Laws, as functions that do nothing: the contract is the law.
-ghost use Rattle.ev_channel.specs.Laws.{ReceivedAndWaitingAreSent, ReceivedWasSent};
+ghost use Rattle.ev_mailboxes.specs.Laws.{ReceivedAndWaitingAreSent, ReceivedWasSent};
 
 /// Of each post, the messages that the inbox received, followed by those that wait, are the
 /// messages that the post sent, in their order, each once.

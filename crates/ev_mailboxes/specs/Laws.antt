@@ -2,9 +2,9 @@
 use Rattle.std.specs.Prelude.{◌≡◌, ℕ, List, ◌++◌, Contains}
 use mathlib.Core.Option.{some}
 use lib.ListN.{get_elem?}
-use Rattle.ev_channel.specs.declared.view.View.{View}
-use Rattle.ev_channel.specs.declared.view.View.TheVariants.{Sender, Receiver}
-use Rattle.ev_channel.specs.Delivery.{of, messages, Delivers}
+use Rattle.ev_mailboxes.specs.declared.view.View.{View}
+use Rattle.ev_mailboxes.specs.declared.view.View.TheVariants.{Sender, Receiver}
+use Rattle.ev_mailboxes.specs.Delivery.{of, messages, Delivers}
 
 -- of each post, the received messages, followed by the waiting ones, are the sent ones, in their order, each once
 abbrev pub ReceivedAndWaitingAreSent : Type 0 → Type 0
