@@ -17,7 +17,7 @@ use crate::log_entry::Deed;
 use crate::rule::Adding;
 use crate::seat::Seat;
 use crate::told::Told;
-use ev_book::{Book, BookRefusal, Pass, Totals};
+use crate::{Book, BookRefusal, Pass, Totals};
 use ev_edge::{Edge, Event, Reply};
 use route_wire::Update;
 use std::marker::{Brand, Model};
