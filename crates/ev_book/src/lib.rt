@@ -1,7 +1,7 @@
 //! A book: one edge that threads share under a lock, with the journal of the updates that it took
 //! and made, and an exact count of the calls of each pass. The history of the edges of one process:
-//! which edge announced and took which update, in one order for all edges. It exists in proofs only.
-//! Each edge has a word that counts its own entries, so edges never wait for each other.
+//! which edge announced and took which update, in one order for all edges. It exists in proofs
+//! only. Each edge has a word that counts its own entries, so edges never wait for each other.
 #![tactic(auto)]
 
 mod book;

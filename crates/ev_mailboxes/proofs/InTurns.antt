@@ -8,7 +8,8 @@ use Rattle.ether_wire.proofs.Appending.{with_text_twice, puts_behind}
 use Rattle.ev_mailboxes.specs.declared.alarm.Alarm.{Alarm}
 use Rattle.ev_mailboxes.specs.declared.board.Notice.{Notice}
 use Rattle.ev_mailboxes.specs.Board.{BoardState, empty_board, last_notice}
-use Rattle.ev_mailboxes.specs.InTurn.{after_sign, told_by, some_text, SoTold, so_told, with_sign, after_signs, told_text}
+use Rattle.ev_mailboxes.specs.InTurn.{after_sign, told_by, some_text, SoTold, so_told, with_sign, after_signs}
+use Rattle.ev_mailboxes.specs.InTurn.{told_text}
 
 module _ (edge : ℕ) (signs : List (Option Alarm)) (i : ℕ) (sign : Option Alarm) (within : i < length signs)
     (is : sign ≡ get_or signs i sign) where

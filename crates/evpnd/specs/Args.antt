@@ -1,6 +1,6 @@
 -- The program's arguments, as `clap` reads them.
 use Rattle.std.specs.Prelude.{◌≡◌, ◌≢◌, ℕ, ◌+◌, ◌⊎◌, Bool, true, false, List, [], ◌∷◌, ◌++◌, codes, find, Option, Some}
-use Rattle.std.specs.Prelude.{None, option_map, Result, Ok, Err, OnOk, IfErr, if◌then◌else◌}
+use Rattle.std.specs.Prelude.{None, Result, Ok, Err, OnOk, IfErr, if◌then◌else◌}
 use Rattle.std.specs.Option.{option_map_or}
 use Rattle.std.specs.Str.{bytes_eq}
 use Rattle.ether_wire.specs.Parse.{◌>>=◌}
@@ -18,10 +18,7 @@ use Rattle.evpnd.specs.declared.subcommand.ParsedOptions.TheVariants.{Originator
 use Rattle.evpnd.specs.declared.subcommand.ParsedOptions.TheVariants.{Degraded}
 use Rattle.evpnd.specs.declared.subcommand.Aim.{Aim}
 use Rattle.evpnd.specs.declared.subcommand.Aim.TheVariants as aim
-use Rattle.evpnd.specs.declared.args.Invocation.{Invocation}
 use Rattle.evpnd.specs.declared.args.ClapParser.{ClapParser}
-use Rattle.evpnd.specs.declared.args.ArgsError.{ArgsError}
-use Rattle.evpnd.specs.declared.args.ArgsError.TheVariants.{Usage, NoMemory}
 
 -- ---- the subcommands, each with its options
 
@@ -180,14 +177,6 @@ invocation_in found = do
   text ← needed_in (needs_of s) f.1
   Some (s, text, given_in (takes_of s) f.1, aim_in s f.1)
 
-abbrev pub parts_of : Invocation → Parts
-parts_of invocation = (
-  invocation.subcommand,
-  invocation.value.now,
-  option_map (λ text. text.now) invocation.more,
-  invocation.aim,
-)
-
 -- the arguments have no fault, and are this invocation
 abbrev pub Spells : List Text → Parts → Type 0
 Spells words invocation = (fault_of program words ≡ []) × (invocation_in (subcommand_of program words)
@@ -207,12 +196,6 @@ pub record Parses (words : List Text) (before after : ℕ) (answer : Result ArgM
   pub kept : OnOk answer (after ≡ before)
   pub refused : IfErr answer (λ e. kind_of e ≡ OutOfMemory → after ≡ before + 1)
   pub told : IfErr answer (λ e. kind_of e ≢ OutOfMemory → after ≡ before)
-
--- The arguments have no fault and are this invocation, or have the fault of the error, or memory was refused.
-abbrev pub Invokes : List Text → ℕ → ℕ → Result Invocation ArgsError → Type 0
-Invokes words before after (Ok invocation) = Spells words (parts_of invocation) × (after ≡ before)
-Invokes words before after (Err (Usage e)) = IsAmong (kind_of e) (fault_of program words) × (after ≡ before)
-Invokes words before after (Err NoMemory) = after ≡ before + 1
 
 -- how often `clap` was refused memory
 abbrev pub parser_refusals : ClapParser → ℕ

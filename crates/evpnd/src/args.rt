@@ -2,7 +2,8 @@
 ghost use Rattle.std.specs.Prelude.{◌≡◌, ◌≢◌, ◌+◌, ◌<◌, ◌^◌, map, string_bytes, IfOk, OnOk, OnErr, ℕ, Option, option_map, false};
 ghost use Rattle.clap.specs.Words.{app_of, found_of, kind_of, rows_of, rule_of, subcommand_rows_of, with_subcommand};
 ghost use Rattle.clap.specs.declared.builder.command.Command.TheViews.{out-Command};
-ghost use Rattle.evpnd.specs.Args.{option_name, needed_in, given_in, is_flagged, aim_of, aim_in, invocation_in, parts_of, IsAnswer, Parses, Invokes, parser_refusals, program, subcommand_app, option_rule, with_option, flag_rule, with_flag};
+ghost use Rattle.evpnd.specs.Args.{option_name, needed_in, given_in, is_flagged, aim_of, aim_in, invocation_in, IsAnswer, Parses, parser_refusals, program, subcommand_app, option_rule, with_option, flag_rule, with_flag};
+ghost use Rattle.evpnd.specs.Inner.Args.{parts_of, Invokes};
 
 use crate::subcommand::{Aim, ParsedOptions, Subcommand, named};
 use clap::error::ErrorKind;

@@ -3,7 +3,8 @@ ghost use Rattle.std.specs.Prelude.{◌≡◌, ◌≢◌, ◌+◌, ◌<◌, ◌^
 ghost use Rattle.ether_wire.specs.Ends.{IsOpen};
 ghost use Rattle.clap.specs.Words.{fault_of};
 ghost use Rattle.ev_report.specs.Ends.{AreOpen};
-ghost use Rattle.evpnd.specs.Args.{program, parts_of};
+ghost use Rattle.evpnd.specs.Args.{program};
+ghost use Rattle.evpnd.specs.Inner.Args.{parts_of};
 ghost use Rattle.evpnd.specs.Files.{HasRoom};
 ghost use Rattle.evpnd.specs.Checks.{desk};
 ghost use Rattle.evpnd.specs.Scripts.{ChecksAll};

@@ -1,7 +1,8 @@
 use Rattle.std.proofs.Common.{rules, sym, ap, List, Option, Some, None, option_map, ◌≡◌, ◌∙◌, refl}
 use Rattle.clap.specs.Words.{Row, Text, rows_of, found_of, subcommand_rows_of}
 use Rattle.evpnd.specs.declared.args.Invocation.{Invocation}
-use Rattle.evpnd.specs.Args.{needs_of, takes_of, needed_in, given_in, aim_in, parts_of}
+use Rattle.evpnd.specs.Args.{needs_of, takes_of, needed_in, given_in, aim_in}
+use Rattle.evpnd.specs.Inner.Args.{parts_of}
 use Rattle.evpnd.proofs.Given.{found_as, invocation_found}
 use Rattle.evpnd.proofs.args.invocation_in.Goals as goal
 
