@@ -6,9 +6,8 @@
 //! | 6 | source |
 //! | 2 | type or length: at most 1500 is a length, any other value a type |
 //! | the rest | the payload; after a payload with a length, padding |
-ghost use Rattle.std.specs.Prelude.{◌≡◌, ◌≤◌, nat_lt, length, take};
-ghost use Rattle.ether_wire.specs.Numbers.{MOST_OCTETS};
-ghost use Rattle.ether_wire.specs.Frame.{frame_of, IsFrame, destination_of, source_of, type_or_length, has_length, kind_of, payload_of, refusal_number};
+ghost use Rattle.std.specs.Prelude.{◌≡◌, ◌≤◌, length, take};
+ghost use Rattle.ether_wire.specs.Frame.{frame_of, IsFrame, destination_of, source_of, type_or_length, has_length, is_too_long, kind_of, payload_of, refusal_number};
 
 use crate::addr::Mac;
 use byteorder::{BigEndian, ByteOrder};
@@ -102,7 +101,7 @@ fn has_length(octets: &[u8]) -> bool
 
 /// Returns `true` if there are more octets than the maximum of a frame.
 fn is_too_long(octets: &[u8]) -> bool
-    ensures { result ≡ nat_lt MOST_OCTETS (length octets.now) }
+    ensures { result ≡ is_too_long octets.now }
 {
     octets.len() > MOST_OCTETS
 }
