@@ -1,5 +1,5 @@
 //! EVPN edge bridges: the program.
-#![tactic(auto, using(ether_wire::proofs::Appending::with_text_twice, ether_wire::proofs::Appending::with_text_none, crate::proofs::Telling::sums_put))]
+#![tactic(auto, using(ether_wire::proofs::Appending::with_text_twice, ether_wire::proofs::Appending::with_text_none))]
 
 ghost use Rattle.ether_wire.specs.Ends.{IsOpen};
 
