@@ -5,7 +5,7 @@
 # the system's calls alone.
 #   bench/run.sh [RUNS] [FRAMES] [WINDOW]        (default: 15 60000 64)
 # Needs rustc, python3 and the built program (EVPND). So many frames are under way at once; both programs are measured in turn. Single
-# runs differ by a factor of 2 to 3, so a median of few runs says little.
+# runs of a row can differ by a factor of 5, so a median of few runs says little.
 set -eu
 cd "$(dirname "$0")/.."
 runs=${1:-15} frames=${2:-60000} window=${3:-64}
