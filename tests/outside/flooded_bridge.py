@@ -161,15 +161,19 @@ def flooded(asked, process, console, links):
     return [it for it in states if it != SHUT], sent, leaked(links[0])
 
 
+def counted(console):
+    """Returns what port 2 counted, as words; none from a program without `1 links`."""
+    words = next((it for it in console.ask("1 links").splitlines() if it.startswith("1 link 2 ")), "").split()
+    return f"; port 2 received {words[4]}, and the system dropped {words[words.index('system') + 1]}" if words else ""
+
+
 def tried(asked, process, console, links):
     """Tries it. Returns what differs."""
     bridges = Bridges(links)
     if state_within(console, 30, lambda it: it == SHUT)[-1] != SHUT:
         return ["port 2 is no alternate port"]
     open_states, sent, leaks = flooded(asked, process, console, links)
-    row = next(it for it in console.ask("1 links").splitlines() if it.startswith("1 link 2 "))
-    words = row.split()
-    print(f"{sent} datagrams in {asked.seconds} s; port 2 received {words[4]}, and the system dropped {words[words.index('system') + 1]}")
+    print(f"{sent} datagrams in {asked.seconds} s{counted(console)}")
     found = [f"port 2 opened while it was flooded: {open_states[0]}"] if open_states else []
     if leaks:
         found.append(f"{leaks} frames of the flood came out at port 1")
