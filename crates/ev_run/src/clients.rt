@@ -13,7 +13,7 @@ use crate::watching::enter_due;
 use ether_wire::{Buffered, In, Reader, Writer};
 use ev_console::{LocalEdges, SystemDrops, converse};
 use ev_exchange::{Known, Sessions};
-use ev_history::Naming;
+use ev_book::Naming;
 use ev_mailboxes::Running;
 use std::alloc::Global;
 use std::io::Write;

@@ -3,7 +3,7 @@
 
 use ev_console::take_turn;
 use ev_exchange::Sessions;
-use ev_history::Naming;
+use ev_book::Naming;
 use ev_mailboxes::Running;
 use std::sync::{Mutex, Wait};
 use std::time::Clock;

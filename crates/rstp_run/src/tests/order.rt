@@ -9,7 +9,9 @@ use crate::event::{Event, Outcome};
 use crate::rule::{MAIN, SENDS};
 use arrayvec::ArrayVec;
 use bpdu_wire::{BridgeId, write};
-use rstp_machines::{is_active, is_checking, is_out};
+use crate::information::is_out;
+use crate::migration::is_checking;
+use crate::topology_change::is_active;
 use rstp_state::{PortSettings, Role, Settings};
 use std::test::Fail;
 
