@@ -1,5 +1,5 @@
 -- The cases of a step: it names no edge or no update, or it is a step of the edge at a place.
-use Rattle.std.proofs.Common.{◌≡◌, ℕ, zero, suc, Option, Some, None, Result, refl, subst}
+use Rattle.std.proofs.Common.{◌≡◌, ℕ, zero, suc, Option, Some, None, Result, refl}
 use Rattle.std.specs.Prelude.{slice_get}
 use Rattle.std.specs.Option.{MatchOption}
 use Rattle.route_wire.specs.Fields.{Fields}
@@ -48,14 +48,13 @@ module _ (P : Type 0) (old new : Fabric) (result : Result Reply FabricRefusal) w
       (λ n u update there s. some x a n u edge update at there s))
 
   -- a delivery of an update that is there
-  pub at_given : (x n : ℕ) (u : Fields) → FabricSteps old (Deliver (suc x) (suc n)) result new
+  pub at_given : (x n : ℕ) {u : Fields} → FabricSteps old (Deliver (suc x) (suc n)) result new
       → slice_get old.pool n ≡ Some u → (slice_get old.edges x ≡ None → IsRefused NoSuchEdge old result new → P)
       → ((a : Edge) → IsEdge old x a → StepsAt old (suc x) a (events.Take u) result new → P) → P
-  at_given x n u h there none some = go (slice_get old.edges x) refl h
+  at_given x n {u} h there none some = go (slice_get old.edges x) refl h
     where
       go : (o : Option Edge) → slice_get old.edges x ≡ o → MatchOption o (IsRefused NoSuchEdge old result new)
           (λ a. MatchOption (slice_get old.pool n) (IsRefused NoSuchUpdate old result new)
           (λ u. StepsAt old (suc x) a (events.Take u) result new)) → P
       go None is h = none is h
-      go (Some a) is h = some a is (subst (λ o. MatchOption o (IsRefused NoSuchUpdate old result new)
-          (λ u. StepsAt old (suc x) a (events.Take u) result new)) there h)
+      go (Some a) is h = some a is (rw there at h)

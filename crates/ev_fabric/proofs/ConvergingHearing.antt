@@ -1,23 +1,19 @@
 -- An update that an edge takes and that doesn't come back: the own adverts that it leaves, and the station that it
 -- takes.
-use Rattle.std.proofs.Common.{◌≡◌, ◌⊎◌, inl, inr, ℕ, Bool, true, false, cond, Option, Some, None}
-use Rattle.std.proofs.Common.{refl, sym, ap, ◌∙◌}
+use Rattle.std.proofs.Common.{◌≡◌, ◌⊎◌, inl, inr, ℕ, Bool, true, false, cond, Option, Some, None, refl, sym, ap, ◌∙◌}
 use Rattle.std.specs.Prelude.{not, ◌==◌}
+use Rattle.std.proofs.lemmas.Bool.{false_from_ne_true}
 use Rattle.route_wire.specs.declared.update.Ip.{Ip}
 use Rattle.route_wire.specs.declared.update.Key.{Key}
 use Rattle.route_wire.specs.declared.update.Key.TheVariants.{Flood, Mac}
 use Rattle.route_wire.specs.declared.update.Register.{Register}
 use Rattle.route_wire.specs.declared.update.Advert.{Advert}
-use Rattle.route_wire.specs.declared.update.Content.TheVariants.{Withdrawn}
 use Rattle.route_wire.specs.Fields.{Fields}
 use Rattle.route_join.specs.Owner.{advert_of}
 use Rattle.mac_arena.specs.declared.station.Station.{Station}
-use Rattle.ev_claims.specs.Speaker.{Speaker, own_register, own, own_advert, KeepsNumbers, is_newest}
-use Rattle.ev_claims.specs.Speaker.{is_returning}
-use Rattle.ev_claims.specs.Speaker.{after_originating, after_importing}
-use Rattle.ev_claims.specs.LocalRoutes.{LocalRoutes, after_removal, after_update, after_own, after_losing}
-use Rattle.ev_claims.specs.LocalRoutes.{after_take}
-use Rattle.ev_claims.specs.LocalRoutes.{is_lost}
+use Rattle.ev_claims.specs.Speaker.{Speaker, own_register, own, own_advert, KeepsNumbers, is_newest, is_returning}
+use Rattle.ev_claims.specs.Speaker.{after_importing}
+use Rattle.ev_claims.specs.LocalRoutes.{LocalRoutes, after_removal, after_update, after_losing, after_take, is_lost}
 use Rattle.ev_claims.proofs.Hearing.{past_if_newest, not_said}
 use Rattle.ev_fabric.specs.ConvergenceEdge.{comes_back}
 use Rattle.ev_fabric.proofs.ConvergingEdge.{update_cases, Accepts, heard, silent}
@@ -25,26 +21,25 @@ use Rattle.ev_fabric.proofs.ConvergingEdge.{update_cases, Accepts, heard, silent
 -- ---- an update that is taken and doesn't come back
 
 -- an own register that it changes had no advert before
-replaced_silent : (e : Speaker) (u : Fields) (k : Key) → KeepsNumbers e → Accepts e u → own_register e k ≡ u.register
+replaced_silent : {e : Speaker} {u : Fields} (k : Key) → KeepsNumbers e → Accepts e u → own_register e k ≡ u.register
     → is_newest e u ≡ true → own_advert e k ≡ None
-replaced_silent e u k n ok same newest =
+replaced_silent {e} {u} k n ok same newest =
     let mine : u.register.originator ≡ e.address = ap (λ (r : Register). r.originator) (sym same) in
     ap (own_advert e) (ap (λ (r : Register). r.key) same)
     ∙ not_said e u n mine newest (past_if_newest e u (ok.ahead mine) newest)
 
 -- own adverts stay as they are
-pub advert_kept : (e : Speaker) (u : Fields) (k : Key) → KeepsNumbers e → Accepts e u → comes_back e u ≡ false
+pub advert_kept : {e : Speaker} {u : Fields} (k : Key) → KeepsNumbers e → Accepts e u → comes_back e u ≡ false
     → own_advert (after_importing e u) k ≡ own_advert e k
-advert_kept e u k n ok not = elim (update_cases e.table u (own_register e k)) [
-  | inl c ↦ ap advert_of c.2 ∙ silent e u ok not (ap (λ (r : Register). r.originator) (sym c.0)) c.1
-      ∙ sym (replaced_silent e u k n ok c.0 c.1)
+advert_kept {e} {u} k n ok not = elim (update_cases e.table u (own_register e k)) [
+  | inl c ↦ rw c.2 (silent ok not (rw (← c.0)) c.1 ∙ sym (replaced_silent k n ok c.0 c.1))
   | inr kept ↦ ap advert_of kept
 ]
 
-pub advert_stays : (e : Speaker) (u : Fields) (k : Key) (x : Advert) → KeepsNumbers e → Accepts e u
+pub advert_stays : {e : Speaker} {u : Fields} (k : Key) {x : Advert} → KeepsNumbers e → Accepts e u
     → own_advert e k ≡ Some x → own (after_importing e u) k ≡ own e k
-advert_stays e u k x n ok is = elim (update_cases e.table u (own_register e k)) [
-  | inl c ↦ absurd (let bad : None ≡ Some x = sym (replaced_silent e u k n ok c.0 c.1) ∙ is in cc)
+advert_stays {e} {u} k n ok is = elim (update_cases e.table u (own_register e k)) [
+  | inl c ↦ cc (replaced_silent k n ok c.0 c.1)
   | inr kept ↦ kept
 ]
 
@@ -77,16 +72,10 @@ hear_cases c u never = choose (u.register.originator == c.speaker.address) refl
     losing taken (Mac v m ip) key = pick taken v m ip key (is_lost (after_update c u) (record { vni = v; mac = m }))
         refl
 
-    quiet : (b : Bool) → (u.register.originator == c.speaker.address) ≡ true → is_returning c.speaker u ≡ b
-        → is_returning c.speaker u ≡ false
-    quiet false t e = e
-    quiet true t e = absurd (let back : comes_back c.speaker u ≡ true = rw (t, e) refl in
-        let bad : false ≡ true = sym never ∙ back in cc)
+    quiet : (u.register.originator == c.speaker.address) ≡ true → is_returning c.speaker u ≡ false
+    quiet t = false_from_ne_true (is_returning c.speaker u) (λ e.
+        let back : comes_back c.speaker u ≡ true = rw (t, e) refl in cc)
 
     choose : (b : Bool) → (u.register.originator == c.speaker.address) ≡ b → (heard c u ≡ after_update c u) ⊎ Loses c u
-    choose true t = inl (ap (λ b. cond b (after_own c u) (after_take c u)) t
-        ∙ ap (λ b. record c {
-          speaker = cond b (after_originating (after_importing c.speaker u) u.register.key Withdrawn)
-              (after_importing c.speaker u);
-        }) (quiet (is_returning c.speaker u) t refl))
-    choose false t = losing (ap (λ b. cond b (after_own c u) (after_take c u)) t) u.register.key refl
+    choose true t = inl (rw (t, quiet t))
+    choose false t = losing (rw t) u.register.key refl

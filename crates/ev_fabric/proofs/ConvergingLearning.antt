@@ -1,6 +1,6 @@
 -- Events from outside after which an edge has learnt a station that it hadn't before: the edge advertises it.
-use Rattle.std.proofs.Common.{◌≡◌, inl, inr, ℕ, ◌-◌, ◌&&◌, Bool, true, false, cond, nat_le, Option, Some, None}
-use Rattle.std.proofs.Common.{Result, Ok, Err, List, [], ◌∷◌, refl, sym, ap, subst, ◌∙◌}
+use Rattle.std.proofs.Common.{◌≡◌, inl, inr, ℕ, ◌-◌, ◌&&◌, Bool, true, false, cond, nat_le, Option, Some, None, Result}
+use Rattle.std.proofs.Common.{Ok, Err, List, [], ◌∷◌, refl, sym, ap, subst, ◌∙◌}
 use Rattle.std.specs.Prelude.{IsSome, not}
 use Rattle.std.specs.FinMap.{FinMap}
 use Rattle.ether_wire.specs.Addr.{is_group}
@@ -102,11 +102,11 @@ unpinned_still e q s unknown = go (is_pinned (entry_at e.routes.learned q))
 module _ (b : Edge) (s : Station) (c : Edge) (unknown : entry_at b.routes.learned s ≡ None)
     (some : IsSome (entry_at c.routes.learned s)) where
   absent : entry_at c.routes.learned s ≡ None → LearnsIt b s c
-  absent none = absurd (let no : IsSome {T = Entry} None = subst IsSome none some in cc)
+  absent none = absurd (let no : IsSome {T = Entry} None = rw none at some in cc)
 
   -- if nothing is learnt
   without : (d : Edge) → c ≡ d → entry_at d.routes.learned s ≡ None → LearnsIt b s c
-  without d is none = absent (ap (λ (e : Edge). entry_at e.routes.learned s) is ∙ none)
+  without d is none = absent (rw is none)
 
   same : c ≡ b → LearnsIt b s c
   same is = without b is unknown
@@ -183,8 +183,7 @@ module _ (b : Edge) (s : Station) (c : Edge) (unknown : entry_at b.routes.learne
   no_shift q port is e =
       let new : pin_case b q port ≡ unpinned_case b q false =
       ap (pin_case_at b q port) (subst (λ r. entry_at b.routes.learned r ≡ None) (sym is) unknown) in
-      let bad : true ≡ false = ap is_shift (sym e ∙ new) ∙ new_shift b q in
-      cc
+      cc (ap is_shift (sym e ∙ new), new_shift b q)
 
   pinned : (q : Station) (port : ℕ) (k : PinCase) → pin_case b q port ≡ k → (told : Option Alert)
       → DoesPin k b q port told c → LearnsIt b s c
@@ -199,8 +198,7 @@ module _ (b : Edge) (s : Station) (c : Edge) (unknown : entry_at b.routes.learne
       | inl this ↦ record {
         content = fixed;
         advert = refl;
-        speaker = ap (λ (e : Edge). e.routes.speaker) is.1 ∙ ap
-            (λ r. after_originating b.routes.speaker (key_of r) fixed) this;
+        speaker = rw (is.1, this);
       }
       | inr ne ↦ without _ is.1 ((pin_entry b.routes.learned q port).others s (λ is. ne (sym is)) ∙ unknown)
     ]

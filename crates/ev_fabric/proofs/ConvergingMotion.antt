@@ -1,6 +1,5 @@
 -- A station moves in a fabric that agrees: two announcements and nothing else, and the new edge owns it everywhere.
-use Rattle.std.proofs.Common.{◌≡◌, ℕ, suc, Bool, true, false, cond, not, None, List, [], ◌∷◌, ◌++◌, refl, sym, ap}
-use Rattle.std.proofs.Common.{subst, ◌∙◌}
+use Rattle.std.proofs.Common.{◌≡◌, ℕ, suc, Bool, true, false, cond, not, None, List, [], ◌∷◌, ◌++◌, refl, sym, ap, ◌∙◌}
 use Rattle.std.proofs.Common.{arith}
 use Rattle.std.proofs.lemmas.List.{append-nil, append_cancel_left}
 use Rattle.std.proofs.lemmas.List.Elements.{filter-append}
@@ -8,8 +7,8 @@ use Rattle.std.specs.Prelude.{Contains, ◌&&◌}
 use Rattle.std.specs.List.{filter}
 use Rattle.route_wire.specs.declared.update.Register.{Register}
 use Rattle.route_wire.specs.Fields.{Fields}
-use Rattle.route_join.specs.Table.{is_news, register_of}
-use Rattle.route_join.specs.Owner.{is_about, IsOwner}
+use Rattle.route_join.specs.Table.{register_of}
+use Rattle.route_join.specs.Owner.{IsOwner}
 use Rattle.mac_arena.specs.declared.station.Station.{Station}
 use Rattle.ev_claims.specs.LocalRoutes.{key_of}
 use Rattle.ev_edge.specs.Edge.{Edge, table_of, address_of}
@@ -30,7 +29,7 @@ use Rattle.ev_fabric.proofs.ConvergingSums.{count_none}
 use Rattle.ev_fabric.proofs.ConvergingEdge.{may_return, known_stays_away}
 use Rattle.ev_fabric.proofs.ConvergingMoves.{sound_kept}
 use Rattle.ev_fabric.proofs.ConvergingRounds.{IsReady, Has}
-use Rattle.ev_fabric.proofs.StationStages.{SameOn, says_other, AreWhole}
+use Rattle.ev_fabric.proofs.StationStages.{says_other, AreWhole}
 use Rattle.ev_fabric.proofs.StationAlone.{AllCalm, agreed_calm, calm_same, calm_set, calm_rests}
 use Rattle.ev_fabric.proofs.StationMotion.{Begins, begins, known_still, rests_beside, station_moves}
 
@@ -42,7 +41,7 @@ all_pass p (x ∷ xs) e = go (p x) (all_pass p xs) e
     go : (b : Bool) → (filter (λ y. not (p y)) xs ≡ [] → filter p xs ≡ xs)
         → cond (not b) (x ∷ filter (λ y. not (p y)) xs) (filter (λ y. not (p y)) xs) ≡ []
         → cond b (x ∷ filter p xs) (filter p xs) ≡ x ∷ xs
-    go true rest e = ap (λ l. x ∷ l) (rest e)
+    go true rest e = rw (rest e)
     go false rest e = cc
 
 module _ (old : Fabric) (i j : ℕ) (s : Station) (mid : Fabric) (sound : IsSound old)
@@ -68,11 +67,11 @@ module _ (old : Fabric) (i j : ℕ) (s : Station) (mid : Fabric) (sound : IsSoun
   sound_mid = step_sound old mid (Local (suc j) moves.event) moves.result moves.step sound
 
   began : Begins old i j s moves.from moves.to mid
-  began = begins old i j s mid sound m
+  began = begins sound m
 
   -- each edge knows the whole pool, so nothing comes back
   knows : (w : Fields) → Contains old.pool w → (y : ℕ) → Has old y w
-  knows w in' y c at = let v = moves.agree.arrived y c at w in' in ap (λ o. is_news o w.value) v.1 ∙ v.2
+  knows w in' y c at = let v = moves.agree.arrived y c at w in' in rw v.1 v.2
 
   pub moved_ready : IsReady mid
   moved_ready = record {
@@ -80,7 +79,7 @@ module _ (old : Fabric) (i j : ℕ) (s : Station) (mid : Fabric) (sound : IsSoun
     numbers = λ x a at some.
         let none = count_none (may_return mid.pool a.routes.speaker) mid.pool
         (λ u in'. ap (λ b. b && is_latest mid.pool u) (known_stays_away a.routes.speaker u
-        (known_still old i j s mid sound m u (knows u (subst (λ (f : Fabric). Contains f.pool u) began.is in')) x a
+        (known_still sound m u (knows u (rw began.is at in')) x a
         at))) in
         absurd (omega (arith, some, none));
   }
@@ -90,24 +89,22 @@ module _ (old : Fabric) (i j : ℕ) (s : Station) (mid : Fabric) (sound : IsSoun
   others r = not (is_of s r)
 
   whole : AreWhole others
-  whole r o v n ip key = ap (λ k. not (is_about s.vni s.mac k)) key
+  whole r o v n ip key = rw key
 
   agreed : AllCalm others whole old
-  agreed = agreed_calm others whole old (agree_about old moves.agree others)
+  agreed = agreed_calm others whole (agree_about moves.agree others)
 
   calm : AllCalm others whole mid
-  calm = subst (AllCalm others whole) (sym began.is) (calm_set others whole old.pool old.edges j began.after
-      (calm_same old.pool others moves.to.routes.speaker began.after.routes.speaker
-      (subst (SameOn others moves.to.routes.speaker) (sym began.learns.speaker)
-      (says_other others moves.to.routes.speaker (key_of s) began.learns.content (ap not (about_station s None))))
-      (agreed j moves.to moves.at_to)) agreed)
+  calm = rw began.is (calm_set others whole old.pool old.edges j began.after
+      (calm_same (rw began.learns.speaker (says_other others moves.to.routes.speaker (key_of s) began.learns.content
+      (ap not (about_station s None)))) (agreed j moves.to moves.at_to)) agreed)
 
   -- after any announcements and deliveries, when all agree again, the pool has got two updates, and the second edge is
   -- the one owner everywhere
-  pub move_ends : (steps : List Step) (new : Fabric) → Rests mid steps new → AllAgree new
+  pub move_ends : (steps : List Step) {new : Fabric} → Rests mid steps new → AllAgree new
       → IsMoved old.pool s (address_of moves.from) (address_of moves.to) new.pool
       × ((x : ℕ) (c : Edge) → IsEdge new x c → IsOwner (table_of c) s.vni s.mac (address_of moves.to))
-  move_ends steps new rests agree = (
+  move_ends steps {new} rests agree = (
     record {
       advert = e.pool.advert;
       withdrawal = e.pool.withdrawal;
@@ -134,7 +131,7 @@ module _ (old : Fabric) (i j : ℕ) (s : Station) (mid : Fabric) (sound : IsSoun
       none : rest later.more ≡ []
       none = append_cancel_left (rest old.pool) (rest later.more) []
           (sym (filter-append (λ (u : Fields). others u.register) old.pool later.more) ∙ ap rest (sym pool)
-          ∙ (calm_rests others whole steps mid new (sound_kept mid sound_mid) rests calm).1
+          ∙ (calm_rests others whole steps new (sound_kept mid sound_mid) rests calm).1
           ∙ ap (λ (f : Fabric). rest f.pool) began.is ∙ sym (append-nil (rest old.pool)))
 
       more : later.more ≡ update_of (register_of (address_of moves.to) (key_of s)) e.pool.advert

@@ -1,12 +1,11 @@
 -- Among the adverts of one register a list has a newest one.
 use Rattle.std.proofs.Common.{◌≡◌, ◌⊎◌, inl, inr, zero, suc, Bool, true, false, Option, Some, None, List, [], ◌∷◌, ◌++◌}
-use Rattle.std.proofs.Common.{refl, sym, ap, subst, ◌∙◌, arith}
+use Rattle.std.proofs.Common.{refl, sym, ap, ◌∙◌, arith}
 use Rattle.std.proofs.lemmas.Bool.{or_parts}
 use Rattle.std.proofs.lemmas.List.Folds.{list_any-append}
 use Rattle.std.specs.Prelude.{Contains, is_some, not, ◌&&◌, ◌||◌}
 use Rattle.std.specs.List.{list_any}
 use Rattle.std.specs.Ordering.{eq_by_cmp, is_lt, ordering_reverse}
-use Rattle.route_wire.specs.declared.update.Register.{Register}
 use Rattle.route_wire.specs.declared.update.Value.{Value}
 use Rattle.route_wire.specs.Fields.{Fields}
 use Rattle.route_wire.specs.Order.{register_cmp, is_newer}
@@ -22,7 +21,7 @@ pub any_none : {X : Type 0} (p : X → Bool) (xs : List X) → ((x : X) → Cont
     → list_any p xs ≡ false
 any_none p [] h = refl
 any_none p (x ∷ xs) h = both (p x) (list_any p xs) (h x (0, omega arith, refl))
-    (any_none p xs (λ y in'. h y (suc in'.0, (let lt = in'.1 in omega (arith, lt)), in'.2)))
+    (any_none p xs (λ y in'. h y (suc in'.0, (omega (arith, in'.1)), in'.2)))
   where
     both : (a b : Bool) → a ≡ false → b ≡ false → (a || b) ≡ false
     both false false p q = refl
@@ -64,7 +63,7 @@ newest [] u some = record {
   register = refl;
   advert = some;
   order = inl refl;
-  above = λ x in'. absurd (let lt = in'.1 in omega (arith, lt));
+  above = λ x in'. absurd (omega (arith, in'.1));
 }
 newest (x ∷ us) u some = go (is_over u x) refl (λ w is. newest us w is)
   where
@@ -73,7 +72,7 @@ newest (x ∷ us) u some = go (is_over u x) refl (λ w is. newest us w is)
 
     either : (y w : Fields) → Contains (x ∷ us) y → (is_over w x ≡ false)
         → ((z : Fields) → Contains us z → is_over w z ≡ false) → is_over w y ≡ false
-    either y w (zero, lt, is) here rest = subst (λ z. is_over w z ≡ false) is here
+    either y w (zero, lt, is) here rest = rw is at here
     either y w (suc i, lt, is) here rest = rest y (i, omega (arith, lt), is)
 
     go : (b : Bool) → is_over u x ≡ b → ((w : Fields) → is_some (advert_in w.value.content) ≡ true → Newest us w)
@@ -92,12 +91,12 @@ newest (x ∷ us) u some = go (is_over u x) refl (λ w is. newest us w is)
           advert = n.advert;
           order = inr (elim n.order [
             | inl same ↦
-                ap (λ (w : Fields). is_newer w.value u.value) same ∙ t.2
+                rw same t.2
             | inr more ↦ newer_trans u.value x.value n.update.value t.2 more
           ]);
           above = λ y in'. either y n.update in' (not_over n.update x
               (λ r a. elim n.order [
-                | inl same ↦ ap (λ (w : Fields). is_newer x.value w.value) same ∙ not_newer_itself x.value
+                | inl same ↦ rw same (not_newer_itself x.value)
                 | inr more ↦ ap is_lt (value_total.antisymm n.update.value x.value ∙ ap ordering_reverse (less _ more))
               ])) n.above;
         }
@@ -114,12 +113,10 @@ newest (x ∷ us) u some = go (is_over u x) refl (λ w is. newest us w is)
           order = n.order;
           above = λ y in'. either y n.update in' (not_over n.update x
               (λ r a. elim n.order [
-                | inl same ↦ ap (λ (w : Fields). is_newer x.value w.value) same
-                    ∙ low (subst (λ (q : Register). eq_by_cmp register_cmp x.register q ≡ true) n.register r) a
-                    (is_newer x.value u.value) refl
+                | inl same ↦ rw same (low (rw n.register at r) a (is_newer x.value u.value) refl)
                 | inr more ↦ not_newer_trans n.update.value u.value x.value
                     (ap is_lt (value_total.antisymm n.update.value u.value ∙ ap ordering_reverse (less _ more)))
-                    (low (subst (λ (q : Register). eq_by_cmp register_cmp x.register q ≡ true) n.register r) a
+                    (low (rw n.register at r) a
                     (is_newer x.value u.value) refl)
               ])) n.above;
         }
@@ -129,14 +126,14 @@ newest (x ∷ us) u some = go (is_over u x) refl (λ w is. newest us w is)
         low r a false p = p
         low r a true p = let over : is_over u x ≡ true = rw (r, a, p) refl in cc
 
-pub newest_is : (us : List Fields) (u : Fields) (n : Newest us u) → is_latest us n.update ≡ true
-newest_is us u n = ap not (any_none (is_over n.update) us n.above)
+pub newest_is : {us : List Fields} {u : Fields} (n : Newest us u) → is_latest us n.update ≡ true
+newest_is {us} n = ap not (any_none (is_over n.update) us n.above)
 
 pub news_up : (o : Option Value) (u w : Fields) → is_news o u.value ≡ true → (w ≡ u) ⊎ (is_newer w.value u.value ≡ true)
     → is_news o w.value ≡ true
 news_up None u w h order = refl
 news_up (Some v) u w h order = elim order [
   | inl same ↦
-      ap (λ (x : Fields). is_newer x.value v) same ∙ h
+      rw same h
   | inr more ↦ newer_trans v u.value w.value h more
 ]

@@ -1,7 +1,7 @@
 -- The effect of each event on an edge's own updates: the edge makes some, or takes or announces one.
-use Rattle.std.proofs.Common.{◌≡◌, ◌≢◌, ℕ, ◌-◌, ◌==◌, ◌&&◌, Bool, true, false, cond, nat_le}
-use Rattle.std.proofs.Common.{Option, Some, None, Result, Ok, Err, List, [], ◌∷◌, refl, sym, subst, arith}
-use Rattle.std.specs.Prelude.{not}
+use Rattle.std.proofs.Common.{◌≡◌, ◌≢◌, ℕ, ◌-◌, ◌==◌, ◌&&◌, Bool, true, false, cond, nat_le, Option, Some, None, Result}
+use Rattle.std.proofs.Common.{Ok, Err, List, [], ◌∷◌, refl, arith}
+use Rattle.std.specs.Prelude.{not, Contains}
 use Rattle.std.proofs.lemmas.Bool.Decides.{nat_tests}
 use Rattle.ether_wire.specs.Addr.{is_group}
 use Rattle.route_wire.specs.declared.update.Key.{Key}
@@ -16,8 +16,7 @@ use Rattle.rstp_run.specs.declared.event.Event as tree
 use Rattle.rstp_run.specs.declared.event.Event.TheVariants as tree_events
 use Rattle.ev_claims.specs.Speaker.{Speaker, KeepsNumbers, after_importing}
 use Rattle.ev_claims.specs.LocalRoutes.{LocalRoutes, vni_at, key_of, after_removal, after_removals, after_update}
-use Rattle.ev_claims.specs.LocalRoutes.{after_losing}
-use Rattle.ev_claims.specs.LocalRoutes.{after_take, is_lost}
+use Rattle.ev_claims.specs.LocalRoutes.{after_losing, after_take, is_lost}
 use Rattle.ev_claims.specs.Leaving.{after_ageing, after_flush, due_in, flushed_in}
 use Rattle.ev_claims.proofs.Numbers.{heard_numbers}
 use Rattle.ev_edge.specs.declared.arrival.Arrival.{Arrival}
@@ -41,21 +40,19 @@ use Rattle.ev_fabric.specs.declared.step.LocalEvent.TheVariants.{PortDown, Mchec
 use Rattle.ev_fabric.specs.Local.{event_of}
 use Rattle.ev_edge.proofs.Cases.{learnt_by, or_refused}
 use Rattle.ev_fabric.specs.Sound.{IsTold}
-use Rattle.ev_fabric.proofs.Voices.{Talks, Quiet, Says, talks_told, talks_further, talks_one, AreOne}
-use Rattle.ev_fabric.proofs.Voices.{heard_one, own_one, one_itself, one_further, heard_told, own_told}
-use Rattle.std.specs.Prelude.{Contains}
+use Rattle.ev_fabric.proofs.Voices.{Talks, Quiet, Says, talks_told, talks_further, talks_one, AreOne, heard_one}
+use Rattle.ev_fabric.proofs.Voices.{own_one, one_itself, one_further, heard_told, own_told}
 
 -- own updates of one edge lead to the other
 abbrev pub Goes : Edge → Edge → Type 0
 Goes e e' = Talks e.routes.speaker e'.routes.speaker
 
 stays : (e e' : Edge) → e' ≡ e → Goes e e'
-stays e e' is = subst (Goes e) (sym is) Quiet
+stays e e' is = rw is Quiet
 
 removals_talk : (c : LocalRoutes) (ss : List Station) → Talks c.speaker (after_removals c ss).speaker
 removals_talk c [] = Quiet
-removals_talk c (s ∷ ss) = talks_further c.speaker (after_removal c s).speaker
-    (after_removals (after_removal c s) ss).speaker
+removals_talk c (s ∷ ss) = talks_further
     (Says c.speaker (key_of s) Withdrawn refl Quiet) (removals_talk (after_removal c s) ss)
 
 aged_talks : (c : LocalRoutes) (ageing clock : ℕ) → Talks c.speaker (aged c ageing clock).speaker
@@ -75,8 +72,7 @@ learns_talk b e s port told e' h = learnt_by (Goes e) e s port told e' Quiet (λ
 bridges_talk : (event : tree.Event) (e : Edge) (result : Result Reply Refusal) (e' : Edge)
     → Bridges event e result e'
     → Goes e e'
-bridges_talk event e (Ok reply) e' h = subst (Goes e) (sym h.after)
-    (removals_talk e.routes (flushed_in e.routes.learned h.flush))
+bridges_talk event e (Ok reply) e' h = rw h.after (removals_talk e.routes (flushed_in e.routes.learned h.flush))
 bridges_talk event e (Err r) e' h = absurd h
 
 bridges_at_talk : (o : Option ℕ) (event : tree.Event) (e : Edge) (result : Result Reply Refusal) (e' : Edge)
@@ -86,9 +82,7 @@ bridges_at_talk (Some vni) event e result e' h = bridges_talk event e result e' 
 
 seconds_talk : (e : Edge) (result : Result Reply Refusal) (e' : Edge) → Seconds e result e' → Goes e e'
 seconds_talk e (Ok reply) e' h =
-    subst (Goes e) (sym h.after)
-    (talks_further e.routes.speaker (after_flush e.routes h.flush).speaker _
-    (removals_talk e.routes (flushed_in e.routes.learned h.flush))
+    rw h.after (talks_further (removals_talk e.routes (flushed_in e.routes.learned h.flush))
     (aged_talks (after_flush e.routes h.flush) e.ageing (next_second e.clock)))
 seconds_talk e (Err r) e' h = absurd h
 
@@ -115,7 +109,7 @@ tunnel_talks (Ok (Data vni destination source)) e (Err r) e' h = absurd h
 does_pin_talk : (c : PinCase) (e : Edge) (s : Station) (port : ℕ) (told : Option Alert) (e' : Edge)
     → DoesPin c e s port told e' → Goes e e'
 does_pin_talk pins.Keep e s port told e' h = stays e e' h.1
-does_pin_talk pins.Shift e s port told e' h = subst (Goes e) (sym h.1) Quiet
+does_pin_talk pins.Shift e s port told e' h = rw h.1 Quiet
 does_pin_talk (pins.Deny alert) e s port told e' h = stays e e' h.1
 does_pin_talk pins.Pin e s port told e' h = or_refused (Goes e) Quiet (Says e.routes.speaker (key_of s) _ refl Quiet) h
 
@@ -135,7 +129,7 @@ unpin_talks e s = go (is_pinned (entry_at e.routes.learned s))
 
 marks_talk : (b : Bool) (e : Edge) (away : List ℕ) (result : Result Reply Refusal) (e' : Edge)
     → Marks b e away result e' → Goes e e'
-marks_talk true e away result e' h = subst (Goes e) (sym h.1) Quiet
+marks_talk true e away result e' h = rw h.1 Quiet
 marks_talk false e away result e' h = stays e e' h.1
 
 -- ---- all events from outside
@@ -144,8 +138,8 @@ pub local_talks : (e : Edge) (event : LocalEvent) (result : Result Reply Refusal
 local_talks e (Frame port octets) result e' h = frame_talks (frame_arrival e port octets.now) e port result e' h
 local_talks e (TunnelFrame from octets) result e' h = tunnel_talks (tunnel_arrival e from octets.now) e result e' h
 local_talks e (Pin s port) result e' h = pins_talk (refused_pin e s port) e s port result e' h
-local_talks e (Unpin s) result e' h = subst (Goes e) (sym h.1) (unpin_talks e s)
-local_talks e (Thaw s) result e' h = subst (Goes e) (sym h.1) Quiet
+local_talks e (Unpin s) result e' h = rw h.1 (unpin_talks e s)
+local_talks e (Thaw s) result e' h = rw h.1 Quiet
 local_talks e Second result e' h = seconds_talk e result e' h
 local_talks e (PortUp port) result e' h = bridges_at_talk (vni_at e.routes.ports port) (tree_events.PortUp port) e
     result e' h
@@ -171,41 +165,38 @@ pub record Leaves (pool : List Fields) (e e' : Speaker) : Type 0 where
   pub one : AreOne e e'
 
 unchanged : (pool : List Fields) (e e' : Edge) → e' ≡ e → Leaves pool e.routes.speaker e'.routes.speaker
-unchanged pool e e' is = subst (λ x. Leaves pool e.routes.speaker x.routes.speaker) (sym is)
-    (record { told = λ told. told; one = one_itself e.routes.speaker })
+unchanged pool e e' is = rw is (record { told = λ told. told; one = one_itself e.routes.speaker })
 
-takes_own : (pool : List Fields) (e : Edge) (u : Fields) (result : Result Reply Refusal) (e' : Edge)
+takes_own : (pool : List Fields) (e : Edge) {u : Fields} (result : Result Reply Refusal) (e' : Edge)
     → Contains pool u
     → KeepsNumbers e.routes.speaker → u.register.originator ≡ address_of e → TakesOwn e u result e'
     → Leaves pool e.routes.speaker e'.routes.speaker
-takes_own pool e u (Ok reply) e' in' h mine steps = subst (λ x. Leaves pool e.routes.speaker x.routes.speaker)
-    (sym steps.3)
-    (record { told = own_told pool e.routes.speaker u in' h mine steps.0; one = own_one e.routes.speaker u })
-takes_own pool e u (Err r) e' in' h mine steps = unchanged pool e e' steps.1
+takes_own pool e {u} (Ok reply) e' in' h mine steps = rw steps.3 (record
+    { told = own_told in' h mine steps.0; one = own_one e.routes.speaker u })
+takes_own pool e (Err r) e' in' h mine steps = unchanged pool e e' steps.1
 
-takes_other : (pool : List Fields) (e : Edge) (u : Fields) (result : Result Reply Refusal) (e' : Edge)
+takes_other : (pool : List Fields) (e : Edge) {u : Fields} (result : Result Reply Refusal) (e' : Edge)
     → Contains pool u
     → KeepsNumbers e.routes.speaker → u.register.originator ≢ address_of e → TakesOther e u result e'
     → Leaves pool e.routes.speaker e'.routes.speaker
-takes_other pool e u (Ok reply) e' in' h other steps = subst (λ x. Leaves pool e.routes.speaker x.routes.speaker)
-    (sym steps.2) (record {
-      told = λ told. talks_told pool (after_importing e.routes.speaker u) _ lost
-          (heard_numbers e.routes.speaker u other h)
-          (heard_told pool e.routes.speaker u in' other told);
-      one = one_further e.routes.speaker (after_importing e.routes.speaker u) _ (heard_one e.routes.speaker u)
-          (talks_one (after_importing e.routes.speaker u) _ lost);
-    })
+takes_other pool e {u} (Ok reply) e' in' h other steps = rw steps.2 (record {
+  told = λ told. talks_told lost
+      (heard_numbers e.routes.speaker u other h)
+      (heard_told in' other told);
+  one = one_further (heard_one e.routes.speaker u)
+      (talks_one lost);
+})
   where
     lost : Talks (after_importing e.routes.speaker u) (after_take e.routes u).speaker
     lost = losing_talks (after_update e.routes u) u.register.key
-takes_other pool e u (Err r) e' in' h other steps = unchanged pool e e' steps.1
+takes_other pool e (Err r) e' in' h other steps = unchanged pool e e' steps.1
 
-pub takes_told : (pool : List Fields) (e : Edge) (u : Fields) (result : Result Reply Refusal) (e' : Edge)
+pub takes_told : (pool : List Fields) (e : Edge) {u : Fields} (result : Result Reply Refusal) (e' : Edge)
     → Contains pool u → KeepsNumbers e.routes.speaker → Steps e (events.Take u) result e'
     → Leaves pool e.routes.speaker e'.routes.speaker
-takes_told pool e u result e' in' h steps = go (u.register.originator == address_of e) refl steps
+takes_told pool e {u} result e' in' h steps = go (u.register.originator == address_of e) refl steps
   where
     go : (b : Bool) → (u.register.originator == address_of e) ≡ b → Takes b e u result e'
         → Leaves pool e.routes.speaker e'.routes.speaker
-    go true is steps = takes_own pool e u result e' in' h (grind (arith, nat_tests)) steps
-    go false is steps = takes_other pool e u result e' in' h (grind (arith, nat_tests)) steps
+    go true is steps = takes_own pool e result e' in' h (grind (arith, nat_tests)) steps
+    go false is steps = takes_other pool e result e' in' h (grind (arith, nat_tests)) steps

@@ -1,7 +1,7 @@
 -- Two edges with one VNI as they are opened: the laws' first premise can be met.
-use Rattle.std.proofs.Common.{◌≡◌, ◌≤◌, ◌==◌, ◌&&◌, ◌||◌, ℕ, zero, suc, ◌+◌, true, false, Some, None, List, [], ◌∷◌}
-use Rattle.std.proofs.Common.{refl, sym, ap, subst, ◌∙◌, eqb, arith, lit<, lit≤, ◌++◌}
-use Rattle.std.specs.Prelude.{Contains, is_some, is_none, slice_get, slice_index_or, nat_lt}
+use Rattle.std.proofs.Common.{◌≡◌, ◌≤◌, ◌==◌, ◌&&◌, ℕ, zero, suc, true, false, Some, None, List, [], ◌∷◌, refl, sym, ap}
+use Rattle.std.proofs.Common.{◌∙◌, eqb, arith, lit<, lit≤, ◌++◌}
+use Rattle.std.specs.Prelude.{Contains, is_none, slice_get, slice_index_or, nat_lt}
 use Rattle.std.specs.List.{IsDistinct}
 use Rattle.std.proofs.lemmas.Bool.Decides.{nat_tests}
 use Rattle.std.proofs.lemmas.List.Sorted.{IsPermutation-refl}
@@ -12,8 +12,8 @@ use Rattle.route_wire.specs.Fields.{flood_advert}
 use Rattle.mac_arena.specs.declared.station.Station.{Station}
 use Rattle.mac_arena.specs.declared.station.Entry.{Entry}
 use Rattle.mac_arena.specs.Station.{station_cmp}
-use Rattle.mac_arena.specs.Learning.{Learning, entry_at, nothing_learnt, stations_at, bucket_in}
-use Rattle.mac_arena.specs.ListsName.{ListsName, AreOnce, stands, is_on, ages}
+use Rattle.mac_arena.specs.Learning.{Learning, entry_at, nothing_learnt, stations_at}
+use Rattle.mac_arena.specs.ListsName.{ListsName, ages}
 use Rattle.idx_links.specs.Links.{has}
 use Rattle.rstp_state.specs.declared.start.Settings.{Settings}
 use Rattle.rstp_run.specs.Events.{start}
@@ -130,13 +130,13 @@ pushed xs ys new c e p = e ∙ λ i. p i ++ c ∷ []
 
 -- a property of two or three elements holds for each element of their list
 pub each : (P : EdgeConfig → Type 0) (x y : EdgeConfig) → P x → P y → (c : EdgeConfig) → Contains (x ∷ y ∷ []) c → P c
-each P x y h k c (zero, l, e) = subst P e h
-each P x y h k c (suc zero, l, e) = subst P e k
+each P x y h k c (zero, l, e) = rw e at h
+each P x y h k c (suc zero, l, e) = rw e at k
 each P x y h k c (suc (suc n), l, e) = absurd (omega (arith, l))
 
 pub each_of_three : (P : EdgeConfig → Type 0) (x y z : EdgeConfig) → P x → P y → P z → (c : EdgeConfig)
     → Contains (x ∷ y ∷ z ∷ []) c → P c
-each_of_three P x y z h k m c (zero, l, e) = subst P e h
+each_of_three P x y z h k m c (zero, l, e) = rw e at h
 each_of_three P x y z h k m c (suc n, l, e) = each P y z k m c (n, omega (arith, l), e)
 
 pub are_configs : (tree : Settings) → 1 ≤ tree.hello → AreConfigs (configs_of tree)
@@ -211,8 +211,8 @@ opens tree address = record {
 none : (s : Station) → entry_at nobody_learnt s ≡ None
 none s = get-empty {X = Entry} station_cmp s
 
-no_entry : {A : Type 0} (s : Station) (x : Entry) → entry_at nobody_learnt s ≡ Some x → A
-no_entry s x at = let e : None ≡ Some x = sym (none s) ∙ at in let no : ⊥ = cc in absurd no
+no_entry : {A : Type 0} (s : Station) {x : Entry} → entry_at nobody_learnt s ≡ Some x → A
+no_entry s {x} at = let e : None ≡ Some x = sym (none s) ∙ at in let no : ⊥ = cc in absurd no
 
 no_chain : (b : ℕ) → stations_at nobody_learnt.chains b ≡ []
 no_chain zero = refl
@@ -223,31 +223,30 @@ no_port zero = refl
 no_port (suc zero) = refl
 no_port (suc (suc l)) = refl
 
-no_place : (n : ℕ) (s : Station) → slice_index_or nobody_learnt.places n None ≡ Some s → ⊥
-no_place zero s at = cc
-no_place (suc n) s at = cc
+no_place : (n : ℕ) {s : Station} → slice_index_or nobody_learnt.places n None ≡ Some s → ⊥
+no_place zero at = cc
+no_place (suc n) at = cc
 
 free : (n : ℕ) → has nobody_learnt.free n ≡ (nat_lt n 1 && is_none (slice_index_or nobody_learnt.places n None))
 free zero = refl
 free (suc n) =
     let other : (0 == suc n) ≡ false = grind (arith, nat_tests) in
     let past : nat_lt (suc n) 1 ≡ false = grind (arith, nat_tests) in
-    ap (λ b. b || false) other ∙ sym (ap (λ b. b && true) past)
+    rw other (sym (rw past))
 
 lists_name : ListsName nobody_learnt
 lists_name = record {
-  chains = λ b s. ap (λ xs. stands xs s) (no_chain b) ∙ sym
-      (ap (λ o. is_some o && (bucket_in nobody_learnt s == b)) (none s));
-  chains_once = λ b. subst AreOnce (sym (no_chain b)) tt;
-  ports = λ l s. ap (λ xs. stands xs s) (no_port l) ∙ sym (ap (λ o. is_on o (l + 1)) (none s));
-  ports_once = λ l. subst AreOnce (sym (no_port l)) tt;
+  chains = λ b s. rw (no_chain b) (sym (rw (none s)));
+  chains_once = λ b. rw (no_chain b) tt;
+  ports = λ l s. rw (no_port l) (sym (rw (none s)));
+  ports_once = λ l. rw (no_port l) tt;
   ageing = λ s. sym (ap ages (none s));
   ageing_once = tt;
   rises = tt;
-  pinned_at_zero = λ s x at pinned. no_entry s x at;
-  placed = λ s x at. no_entry s x at;
-  known = λ n s at. absurd (no_place n s at);
-  one_place = λ n m s at_n at_m. absurd (no_place n s at_n);
+  pinned_at_zero = λ s x at pinned. no_entry s at;
+  placed = λ s x at. no_entry s at;
+  known = λ n s at. absurd (no_place n at);
+  one_place = λ n m s at_n at_m. absurd (no_place n at_n);
   free = free;
   free_once = (refl, tt);
 }
@@ -278,18 +277,16 @@ is_start tree = record {
     opened_at : (i : ℕ) (c : EdgeConfig) (a : Edge) → slice_get (configs_of tree) i ≡ Some c
         → slice_get (fabric_of tree).edges i ≡ Some a → IsOpening c a
     opened_at zero c a at_c at_a = let p : config_of tree 0x0a000001 ≡ c = cc in
-        let q : edge_of tree 0x0a000001 ≡ a = cc in subst (λ d. IsOpening d a) p
-        (subst (IsOpening (config_of tree 0x0a000001)) q (opens tree 0x0a000001))
+        let q : edge_of tree 0x0a000001 ≡ a = cc in rw p at (rw q at (opens tree 0x0a000001))
     opened_at (suc zero) c a at_c at_a = let p : config_of tree 0x0a000002 ≡ c = cc in
-        let q : edge_of tree 0x0a000002 ≡ a = cc in subst (λ d. IsOpening d a) p
-        (subst (IsOpening (config_of tree 0x0a000002)) q (opens tree 0x0a000002))
+        let q : edge_of tree 0x0a000002 ≡ a = cc in rw p at (rw q at (opens tree 0x0a000002))
     opened_at (suc (suc i)) c a at_c at_a = let e : ⊥ = cc in absurd e
 
     good_at : (i : ℕ) (a : Edge) → slice_get (fabric_of tree).edges i ≡ Some a → IsGoodEdge a
     good_at zero a at = let q : edge_of tree 0x0a000001 ≡ a = cc in
-        subst IsGoodEdge q (good tree 0x0a000001 (zero, lit< tt, refl))
+        rw (← q) (good tree 0x0a000001 (zero, lit< tt, refl))
     good_at (suc zero) a at = let q : edge_of tree 0x0a000002 ≡ a = cc in
-        subst IsGoodEdge q (good tree 0x0a000002 (suc zero, lit< tt, refl))
+        rw (← q) (good tree 0x0a000002 (suc zero, lit< tt, refl))
     good_at (suc (suc i)) a at = let e : ⊥ = cc in absurd e
 
 abbrev usual : Settings

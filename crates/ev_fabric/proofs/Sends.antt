@@ -1,11 +1,10 @@
 -- The destinations of a frame for a station that some edge advertises.
-use Rattle.std.proofs.Common.{◌≡◌, ◌≢◌, ℕ, zero, suc, ◌≤◌, ◌==◌, ◌&&◌, Bool, true, false, cond, not, Option}
-use Rattle.std.proofs.Common.{Some, None, Result, Ok, List, [], ◌∷◌, length, refl, sym, ap, subst, ◌∙◌, arith}
-use Rattle.std.proofs.lemmas.Bool.{and_parts, and_from}
+use Rattle.std.proofs.Common.{◌≡◌, ◌≢◌, ℕ, zero, suc, ◌≤◌, ◌==◌, ◌&&◌, Bool, true, false, cond, not, Option, Some, None}
+use Rattle.std.proofs.Common.{Result, Ok, List, length, refl, sym, ap, subst, ◌∙◌, arith}
+use Rattle.std.proofs.lemmas.Bool.{and_parts, and_from, eq-eqb}
 use Rattle.std.specs.Prelude.{IsTrue, ◌↔◌, ◌||◌}
 use Rattle.std.specs.FinMap.{FinMap}
 use Rattle.std.specs.Option.{MatchOption, option_map}
-use Rattle.std.proofs.lemmas.Bool.{eq-eqb}
 use Rattle.std.proofs.lemmas.Bool.Decides.{nat_tests}
 use Rattle.std.proofs.lemmas.Option.{slice_get_within}
 use Rattle.ether_wire.specs.Addr.{is_group}
@@ -28,7 +27,7 @@ use Rattle.ev_mobility.specs.declared.window.Window.{Window}
 use Rattle.ev_tunnel.specs.declared.decision.Decision.{Decision}
 use Rattle.ev_tunnel.specs.declared.decision.Source.{Source}
 use Rattle.ev_tunnel.specs.declared.decision.Source.TheVariants.{Port, Tunnel}
-use Rattle.ev_tunnel.specs.Decision.{is_up, up_owner, local_up, remote_up}
+use Rattle.ev_tunnel.specs.Decision.{up_owner}
 use Rattle.ev_tunnel.proofs.DecisionLemmas.{owner_up}
 use Rattle.ev_claims.specs.Speaker.{own_advert}
 use Rattle.ev_claims.specs.LocalRoutes.{key_of, vni_at, moving, after_advert}
@@ -68,7 +67,7 @@ leaves_itself : (a : Edge) (s : Station) → LeavesBe a a s
 leaves_itself a s = record { address = refl; tree = refl; away = refl; entry = refl; adverts = λ o ip. refl }
 
 same_leaves : (a b : Edge) (s : Station) → b ≡ a → LeavesBe a b s
-same_leaves a b s is = subst (λ x. LeavesBe a x s) (sym is) (leaves_itself a s)
+same_leaves a b s is = rw is (leaves_itself a s)
 
 entry_leaves : (e : Edge) (q : Station) (port : ℕ) (s : Station) → s ≢ q → LeavesBe e (refreshed e q port) s
 entry_leaves e q port s ne = record {
@@ -118,18 +117,7 @@ frame_step a (events.Frame p bytes) result b port octets is h =
     let same : bytes.now ≡ octets = ap (λ o. octets_or o bytes.now) is in
     subst (λ q. FrameSteps (frame_arrival a q octets) a q result b) ports
     (subst (λ l. FrameSteps (frame_arrival a p l) a p result b) same h)
-frame_step a (events.TunnelFrame from bytes) result b port octets is h = cc
-frame_step a (events.Take u) result b port octets is h = cc
-frame_step a (events.Pin s p) result b port octets is h = cc
-frame_step a (events.Unpin s) result b port octets is h = cc
-frame_step a (events.Thaw s) result b port octets is h = cc
-frame_step a events.Second result b port octets is h = cc
-frame_step a (events.PortUp p) result b port octets is h = cc
-frame_step a (events.PortDown p) result b port octets is h = cc
-frame_step a (events.Mcheck p) result b port octets is h = cc
-frame_step a events.Announce result b port octets is h = cc
-frame_step a (events.Away o) result b port octets is h = cc
-frame_step a (events.Back o) result b port octets is h = cc
+frame_step a other result b port octets is h = cc
 
 pub tunnel_step : (a : Edge) (event : Event) (result : Result Reply Refusal) (b : Edge) (from : ℕ)
     (octets : List ℕ)
@@ -140,18 +128,7 @@ tunnel_step a (events.TunnelFrame o bytes) result b from octets is h =
     let same : bytes.now ≡ octets = ap (λ p. octets_or p bytes.now) is in
     subst (λ q. TunnelSteps (tunnel_arrival a q octets) a result b) edges
     (subst (λ l. TunnelSteps (tunnel_arrival a o l) a result b) same h)
-tunnel_step a (events.Frame p bytes) result b from octets is h = cc
-tunnel_step a (events.Take u) result b from octets is h = cc
-tunnel_step a (events.Pin s p) result b from octets is h = cc
-tunnel_step a (events.Unpin s) result b from octets is h = cc
-tunnel_step a (events.Thaw s) result b from octets is h = cc
-tunnel_step a events.Second result b from octets is h = cc
-tunnel_step a (events.PortUp p) result b from octets is h = cc
-tunnel_step a (events.PortDown p) result b from octets is h = cc
-tunnel_step a (events.Mcheck p) result b from octets is h = cc
-tunnel_step a events.Announce result b from octets is h = cc
-tunnel_step a (events.Away o) result b from octets is h = cc
-tunnel_step a (events.Back o) result b from octets is h = cc
+tunnel_step a other result b from octets is h = cc
 
 -- a frame for the station: its source is learnt, and it is sent
 pub record IsSent (a b : Edge) (s : Station) (from : Source) (reply : Reply) : Type 0 where
@@ -167,17 +144,19 @@ sent true (Some d) b vni destination from told h = (d, refl, h)
 sent false (Some d) b vni destination from told h = cc
 
 -- a frame that is counted first
-taking_leaves : (a b : Edge) (port : ℕ) (s : Station) → LeavesBe (taking_on a port s.vni s.mac) b s → LeavesBe a b s
-taking_leaves a b port s h =
+taking_leaves : (a : Edge) {b : Edge} (port : ℕ) {s : Station} → LeavesBe (taking_on a port s.vni s.mac) b s → LeavesBe
+    a b s
+taking_leaves a port h =
     record { address = h.address; tree = h.tree; away = h.away; entry = h.entry; adverts = h.adverts }
 
-pub frame_sent : (a b : Edge) (event : Event) (port : ℕ) (s : Station) (reply : Reply) → IsFrameFor a event port s
+pub frame_sent : {a : Edge} (b : Edge) {event : Event} {port : ℕ} {s : Station} (reply : Reply) → IsFrameFor a event
+    port s
     → Steps a event (Ok reply) b → IsSent a b s (Port port) reply
-frame_sent a b event port s reply frame steps =
+frame_sent {a} b {event} {port} {s} reply frame steps =
     let d = sent steps_are.passes reply.decision b s.vni s.mac (Port port) (steps_are.are_passed.1 frame.passes)
     steps_are.sending in
     record {
-      leaves = taking_leaves a b port s (learns_leave (steps_are.learning.learns && not (is_group frame.source))
+      leaves = taking_leaves a port (learns_leave (steps_are.learning.learns && not (is_group frame.source))
           (taking_on a port s.vni s.mac) (record { vni = s.vni; mac = frame.source }) port reply.alert b s other
           steps_are.learning.learning);
       decision = d.0;
@@ -192,30 +171,29 @@ frame_sent a b event port s reply frame steps =
     other : s ≢ record { vni = s.vni; mac = frame.source }
     other same = frame.other (ap (λ (q : Station). q.mac) (sym same))
 
-tunnel_sent : (a b : Edge) (event : Event) (s : Station) (reply : Reply) → IsTunnelFrameFor a event s
+tunnel_sent : {a : Edge} (b : Edge) {event : Event} {s : Station} (reply : Reply) → IsTunnelFrameFor a event s
     → Steps a event (Ok reply) b → IsSent a b s Tunnel reply
-tunnel_sent a b event s reply frame steps =
+tunnel_sent {a} b {event} {s} reply frame steps =
     let d = sent true reply.decision b s.vni s.mac Tunnel refl
-    (subst (λ e. SendsIf true e s.vni s.mac Tunnel reply.decision) (sym steps_are.2) steps_are.0) in
+    (rw steps_are.2 steps_are.0) in
     record { leaves = same_leaves a b s steps_are.2; decision = d.0; there = d.1; is = d.2 }
   where
     steps_are : TunnelSteps (Ok (Data s.vni s.mac frame.source)) a (Ok reply) b
-    steps_are = subst (λ r. TunnelSteps r a (Ok reply) b) frame.arrives
-        (tunnel_step a event (Ok reply) b frame.from frame.octets frame.frame steps)
+    steps_are = rw frame.arrives at (tunnel_step a event (Ok reply) b frame.from frame.octets frame.frame steps)
 
 -- ---- to another edge
 
 -- the walk finds an owner if there is one
-pub owner_found : (t : Table) (vni mac o : ℕ) → IsOwner t vni mac o → owner t vni mac ≡ Some o
-owner_found t vni mac o h = go (owner t vni mac) (owner_is t vni mac)
+pub owner_found : {t : Table} {vni mac o : ℕ} → IsOwner t vni mac o → owner t vni mac ≡ Some o
+owner_found {t} {vni} {mac} {o} h = go (owner t vni mac) (owner_is t vni mac)
   where
     go : (x : Option ℕ) → MatchOption x (IsUnowned t vni mac) (IsOwner t vni mac) → x ≡ Some o
     go None none = let some = h.own in let no = none o h.ip in cc
     go (Some p) is = ap Some (one_owner t vni mac p o is h)
 
 -- a station that an edge doesn't advertise isn't learnt there
-pub no_entry : (a : Edge) (s : Station) → IsGoodEdge a → (Advertises a s → ⊥) → entry_at a.routes.learned s ≡ None
-no_entry a s h none = go (entry_at a.routes.learned s) refl (own_advert a.routes.speaker (key_of s)) refl
+pub no_entry : {a : Edge} (s : Station) → IsGoodEdge a → (Advertises a s → ⊥) → entry_at a.routes.learned s ≡ None
+no_entry {a} s h none = go (entry_at a.routes.learned s) refl (own_advert a.routes.speaker (key_of s)) refl
   where
     go : (x : Option Entry) → entry_at a.routes.learned s ≡ x → (y : Option Advert)
         → own_advert a.routes.speaker (key_of s) ≡ y → entry_at a.routes.learned s ≡ None
@@ -224,49 +202,37 @@ no_entry a s h none = go (entry_at a.routes.learned s) refl (own_advert a.routes
     go (Some x) e None q =
         let k = h.routes.routes.kinds s in
         let left : option_map {U = Bool} (λ (x : Entry). x.pinned) (entry_at a.routes.learned s) ≡ Some x.pinned =
-        ap (option_map (λ (x : Entry). x.pinned)) e in
+        rw e in
         let right : option_map {U = Bool} (λ (x : Advert). x.is_static) (own_advert a.routes.speaker (key_of s))
         ≡ None =
-        ap (option_map (λ (x : Advert). x.is_static)) q in
-        absurd (let bad : Some x.pinned ≡ None = sym left ∙ k ∙ right in cc)
-
-pub elsewhere_local : (away : List ℕ) (t : Table) (vni m own o members passing port : ℕ) (entry : Option ℕ)
-    → is_group m ≡ false → entry ≡ None → up_owner away (owner t vni m) ≡ Some o → (o == own) ≡ false
-    → local_up away t vni m entry own (Port port) members passing ≡ 0
-elsewhere_local away t vni m own o members passing port entry group none is ne = rw (group, none, is, ne) refl
-
-pub elsewhere_remote : (away : List ℕ) (t : Table) (vni m own o port : ℕ) (entry : Option ℕ) → is_group m ≡ false
-    → entry ≡ None → up_owner away (owner t vni m) ≡ Some o → (o == own) ≡ false
-    → remote_up away t vni m entry own (Port port) ≡ o ∷ []
-elsewhere_remote away t vni m own o port entry group none is ne = rw (group, none, is, ne) refl
+        rw q in
+        cc
 
 pub station_frames_go : StationFramesGo
 station_frames_go f s h agree i j o a b at_o at_a apart says up event port reply frame steps =
     record {
       decision = x.decision;
       there = x.there;
-      local = x.is.local ∙ elsewhere_local b.away (table_of b) s.vni s.mac (address_of b) (address_of o)
-          x.is.members x.is.passing port (port_of b s.vni s.mac) single none owned far;
-      remote = x.is.remote ∙ elsewhere_remote b.away (table_of b) s.vni s.mac (address_of b) (address_of o) port
-          (port_of b s.vni s.mac) single none owned far;
+      local = rw (x.is.local, single, none, owned, far);
+      remote = rw (x.is.remote, single, none, owned, far);
     }
   where
     x : IsSent a b s (Port port) reply
-    x = frame_sent a b event port s reply frame steps
+    x = frame_sent b reply frame steps
 
     single : is_group s.mac ≡ false
-    single = individual o s (h.good i o at_o) says
+    single = individual s (h.good i o at_o) says
 
     none : port_of b s.vni s.mac ≡ None
     none = ap (option_map (λ (y : Entry). y.port)) (x.leaves.entry
-        ∙ no_entry a s (h.good j a at_a) (λ y. apart (station_one f s h agree i j o a at_o at_a says y)))
+        ∙ no_entry s (h.good j a at_a) (λ y. apart (station_one s h agree i j o a at_o at_a says y)))
 
     owned : up_owner b.away (owner (table_of b) s.vni s.mac) ≡ Some (address_of o)
     owned = owner_up b.away (owner (table_of b) s.vni s.mac) (address_of o)
-        (owner_found (table_of b) s.vni s.mac (address_of o)
+        (owner_found
         (owner_along (table_of a) (table_of b) s.vni s.mac (address_of o) (λ p ip. sym (x.leaves.adverts p ip))
-        (station_owner f s h agree i j o a at_o at_a says)))
-        (subst (λ (l : List ℕ). is_up l (address_of o) ≡ true) (sym x.leaves.away) up)
+        (station_owner s h agree i j o a at_o at_a says)))
+        (rw x.leaves.away up)
 
     far : (address_of o == address_of b) ≡ false
     far = let differs : address_of o ≢ address_of b = (λ q. apart (h.apart i j o a at_o at_a (q ∙ x.leaves.address))) in
@@ -278,28 +244,13 @@ frames_go f h agree i j o a b s = station_frames_go f s h ((agree_on_each f agre
 
 -- ---- at the edge itself
 
-home_local : (away : List ℕ) (t : Table) (vni m own members passing port q : ℕ) (entry : Option ℕ)
-    → is_group m ≡ false → entry ≡ Some q
-    → local_up away t vni m entry own (Port port) members passing
-    ≡ cond (has_port passing q && not (port == q)) (with_port 0 q) 0
-home_local away t vni m own members passing port q entry group some = rw (group, some) refl
-
-home_remote : (away : List ℕ) (t : Table) (vni m own port q : ℕ) (entry : Option ℕ) → is_group m ≡ false
-    → entry ≡ Some q → remote_up away t vni m entry own (Port port) ≡ []
-home_remote away t vni m own port q entry group some = rw (group, some) refl
-
-tunnel_local : (away : List ℕ) (t : Table) (vni m own members passing q : ℕ) (entry : Option ℕ) → is_group m ≡ false
-    → entry ≡ Some q
-    → local_up away t vni m entry own Tunnel members passing ≡ cond (has_port passing q && true) (with_port 0 q) 0
-tunnel_local away t vni m own members passing q entry group some = rw (group, some) refl
-
 -- one port, or none
 alone : (c : Bool) (q p : ℕ) → IsPort q → (has_port (cond c (with_port 0 q) 0) p ≡ true) ↔ ((p ≡ q) × (c ≡ true))
 alone true q p is = (
   λ there. (grind (arith, nat_tests, has_port-with 0 q is p, has_port-none p, there), refl),
   λ h. has_port-with 0 q is p ∙ ap (λ b. b || has_port 0 p) (eq-eqb q p (sym h.0)),
 )
-alone false q p is = (λ there. absurd (let none = has_port-none p in cc), λ h. absurd (let bad = h.1 in cc))
+alone false q p is = (λ there. cc (has_port-none p), λ h. cc (h.1))
 
 -- a port of a VNI is one of the bridge's
 record IsThere (o : Edge) (q : ℕ) : Type 0 where
@@ -323,20 +274,21 @@ frames_come_out o b s good says event port reply frame steps = (
     decision = x.decision;
     there = x.there;
     local = local;
-    remote = x.is.remote ∙ home_remote b.away (table_of b) s.vni s.mac (address_of b) port
-        e.0.port (port_of b s.vni s.mac)
-        (individual o s good says) some;
+    remote = rw (x.is.remote, single, some);
   },
 )
   where
     x : IsSent o b s (Port port) reply
-    x = frame_sent o b event port s reply frame steps
+    x = frame_sent b reply frame steps
 
     e : (x : Entry) × IsBehindPort o s x
     e = learnt o s good says
 
+    single : is_group s.mac ≡ false
+    single = individual s good says
+
     some : port_of b s.vni s.mac ≡ Some e.0.port
-    some = ap (option_map (λ (y : Entry). y.port)) (x.leaves.entry ∙ e.1.learnt)
+    some = rw (x.leaves.entry, e.1.learnt)
 
     t : IsThere o e.0.port
     t = there o s.vni e.0.port good e.1.port
@@ -348,29 +300,28 @@ frames_come_out o b s good says event port reply frame steps = (
     local : (p : ℕ) → (has_port x.decision.local p ≡ true)
         ↔ ((p ≡ e.0.port) × (Passes o.tree e.0.port × (e.0.port ≢ port)))
     local p =
-        let is = x.is.local ∙ home_local b.away (table_of b) s.vni s.mac (address_of b) x.is.members x.is.passing
-        port e.0.port
-        (port_of b s.vni s.mac) (individual o s good says) some in
+        let is : x.decision.local ≡ cond (has_port x.is.passing e.0.port && not (port == e.0.port))
+        (with_port 0 e.0.port) 0 = rw (x.is.local, single, some) in
         let a = alone (has_port x.is.passing e.0.port && not (port == e.0.port)) e.0.port p
         (record { least = t.least; most = t.few }) in (
           λ there.
-              let h = a.0 (ap (λ set. has_port set p) (sym is) ∙ there) in
+              let h = a.0 (rw (← is) there) in
               let two = and_parts (has_port x.is.passing e.0.port) (not (port == e.0.port)) h.1 in (
                 h.0,
                 (
-                  subst (λ r. Passes r e.0.port) x.leaves.tree (passes.0 two.0).1,
+                  rw x.leaves.tree at (passes.0 two.0).1,
                   λ same. (let no = two.1 in grind (arith, nat_tests)),
                 ),
               ),
-          λ h. ap (λ set. has_port set p) is ∙ a.1 (
+          λ h. rw is (a.1 (
             h.0,
             and_from (has_port x.is.passing e.0.port) (not (port == e.0.port))
                 (passes.1 (
-                  (t.least, subst (λ r. e.0.port ≤ length r.ports) (sym x.leaves.tree) t.most),
-                  subst (λ r. Passes r e.0.port) (sym x.leaves.tree) h.1.0,
+                  (t.least, rw x.leaves.tree t.most),
+                  rw x.leaves.tree h.1.0,
                 ))
                 (let ne = h.1.1 in grind (arith, nat_tests)),
-          ),
+          )),
         )
 
 pub tunnel_frames_come_out : TunnelFramesComeOut
@@ -378,35 +329,34 @@ tunnel_frames_come_out o b s good says event reply frame steps =
     (e.0, e.1, record { decision = x.decision; there = x.there; local = local; remote = x.is.remote })
   where
     x : IsSent o b s Tunnel reply
-    x = tunnel_sent o b event s reply frame steps
+    x = tunnel_sent b reply frame steps
 
     e : (x : Entry) × IsBehindPort o s x
     e = learnt o s good says
 
     some : port_of b s.vni s.mac ≡ Some e.0.port
-    some = ap (option_map (λ (y : Entry). y.port)) (x.leaves.entry ∙ e.1.learnt)
+    some = rw (x.leaves.entry, e.1.learnt)
 
     t : IsThere o e.0.port
     t = there o s.vni e.0.port good e.1.port
 
     local : (p : ℕ) → (has_port x.decision.local p ≡ true) ↔ ((p ≡ e.0.port) × Passes o.tree e.0.port)
     local p =
-        let is = x.is.local ∙ tunnel_local b.away (table_of b) s.vni s.mac (address_of b) x.is.members
-        x.is.passing e.0.port
-        (port_of b s.vni s.mac) (individual o s good says) some in
+        let is : x.decision.local ≡ cond (has_port x.is.passing e.0.port && true) (with_port 0 e.0.port) 0 =
+        rw (x.is.local, individual s good says, some) in
         let passes = x.is.are_passing e.0.port in
         let a = alone (has_port x.is.passing e.0.port && true) e.0.port p
         (record { least = t.least; most = t.few }) in (
           λ there.
-              let h = a.0 (ap (λ set. has_port set p) (sym is) ∙ there) in
+              let h = a.0 (rw (← is) there) in
               let two = and_parts (has_port x.is.passing e.0.port) true h.1 in
-              (h.0, subst (λ r. Passes r e.0.port) x.leaves.tree (passes.0 two.0).1),
-          λ h. ap (λ set. has_port set p) is ∙ a.1 (
+              (h.0, rw x.leaves.tree at (passes.0 two.0).1),
+          λ h. rw is (a.1 (
             h.0,
             and_from (has_port x.is.passing e.0.port) true
                 (passes.1 (
-                  (t.least, subst (λ r. e.0.port ≤ length r.ports) (sym x.leaves.tree) t.most),
-                  subst (λ r. Passes r e.0.port) (sym x.leaves.tree) h.1,
+                  (t.least, rw x.leaves.tree t.most),
+                  rw x.leaves.tree h.1,
                 )) refl,
-          ),
+          )),
         )

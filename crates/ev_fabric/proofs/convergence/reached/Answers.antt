@@ -3,7 +3,7 @@ use Rattle.ev_fabric.proofs.convergence.reached.Goals as goal
 
 pub returns : goal.returns
 returns c = record {
-  start = λ configs f h. start_numbers configs f h;
-  few = λ f sound few. few_numbers f sound few;
+  start = λ configs f h. start_numbers h;
+  few = λ f sound few. few_numbers sound few;
   agreement = agreement;
 }
