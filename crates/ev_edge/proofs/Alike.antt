@@ -1,7 +1,6 @@
 -- But for its decisions an edge doesn't depend on who is away.
-use Rattle.std.proofs.Common.{◌≡◌, ◌⊎◌, inl, inr, ℕ, Bool, true, false, cond, eqb, Option, Some, None, Result, Ok, Err}
-use Rattle.std.proofs.Common.{not, List, [], ◌∷◌, refl, sym, ap, subst, ◌∙◌}
-use Rattle.std.specs.Prelude.{filter}
+use Rattle.std.proofs.Common.{◌≡◌, inl, inr, ℕ, Bool, true, false, cond, eqb, Option, Some, None, Result, Ok, Err}
+use Rattle.std.proofs.Common.{List, [], ◌∷◌, refl, sym, ap, ◌∙◌}
 use Rattle.std.proofs.lemmas.Bool.{true≢false, false≢true, not-true as up_not_away}
 use Rattle.route_wire.specs.Fields.{Fields}
 use Rattle.route_join.specs.Table.{is_listed}
@@ -18,6 +17,7 @@ use Rattle.ev_mobility.specs.declared.window.Window.{Window}
 use Rattle.ev_mobility.specs.Seq.{seq_for}
 use Rattle.ev_mobility.specs.Window.{is_frozen}
 use Rattle.std.specs.FinMap.{get}
+use Rattle.std.proofs.lemmas.Bool.{cases_Bool}
 use Rattle.ev_tunnel.specs.declared.decision.Decision.{Decision}
 use Rattle.ev_tunnel.specs.declared.decision.Source.{Source}
 use Rattle.ev_tunnel.specs.declared.decision.Source.TheVariants.{Port, Tunnel}
@@ -41,13 +41,12 @@ use Rattle.ev_edge.specs.Arrival.{frame_arrival, tunnel_arrival, datagram_arriva
 use Rattle.ev_edge.specs.Away.{with_away, with_back}
 use Rattle.ev_edge.specs.Learning.{case_of, case_at, numbered_case, limited, case_on, OrNoMemory, Does}
 use Rattle.ev_edge.specs.Pinning.{pin_case, pin_case_at, refused_pin, DoesPin, after_unpin}
-use Rattle.ev_edge.specs.Sending.{IsDecision, port_of}
+use Rattle.ev_edge.specs.Sending.{port_of}
 use Rattle.ev_edge.specs.Storms.{taking_on}
 use Rattle.ev_edge.specs.Steps.{Steps, LearnsIf, SendsIf, FrameSteps, TunnelSteps, Bridges, BridgesAt, Seconds, Takes}
 use Rattle.ev_edge.specs.Steps.{Pins, Marks, nothing}
 use Rattle.ev_edge.specs.AwayLaws.{with_all_up, SameButDecision, is_mark, ComesBack, DependsNotOnAway, MarksOnlyAway}
 use Rattle.ev_edge.specs.AwayLaws.{Entered, EdgeRuns, without_marks, AreAlike, AsIfNeverAway}
-use Rattle.ev_edge.proofs.Cases.{learnt_by}
 use Rattle.ev_edge.proofs.Giving.{learnt_away}
 use Rattle.ev_edge.proofs.Marking.{back_again}
 
@@ -65,16 +64,16 @@ likewise : (P : Result Reply Refusal → Type 0) (e : Edge) (result : Result Rep
 likewise P e result e' away h = (away, result, same_answer result, h)
 
 away_is : (e e' : Edge) → e' ≡ e → e'.away ≡ e.away
-away_is e e' is = ap (λ (x : Edge). x.away) is
+away_is e e' is = rw is
 
 -- ---- the bridge
 
 bridges_alike : (event : tree.Event) (e : Edge) (result : Result Reply Refusal) (e' : Edge) → Bridges event e result e'
     → Like (λ r. Bridges event (with_all_up e) r (with_all_up e')) e result e'
-bridges_alike event e (Ok reply) e' h = likewise _ e (Ok reply) e' (away_is _ e' h.after) (record {
+bridges_alike event e (Ok reply) e' h = likewise _ e (Ok reply) e' (rw h.after) (record {
   flush = h.flush;
   goes = h.goes;
-  after = ap with_all_up h.after;
+  after = rw h.after;
   reply_is = h.reply_is;
 })
 bridges_alike event e (Err r) e' h = absurd h
@@ -82,15 +81,15 @@ bridges_alike event e (Err r) e' h = absurd h
 at_alike : (o : Option ℕ) (event : tree.Event) (e : Edge) (result : Result Reply Refusal) (e' : Edge)
     → BridgesAt o event e result e'
     → Like (λ r. BridgesAt o event (with_all_up e) r (with_all_up e')) e result e'
-at_alike None event e result e' h = likewise _ e result e' (away_is _ e' h.1) (h.0, ap with_all_up h.1)
+at_alike None event e result e' h = likewise _ e result e' (rw h.1) (h.0, rw h.1)
 at_alike (Some vni) event e result e' h = bridges_alike event e result e' h
 
 seconds_alike : (e : Edge) (result : Result Reply Refusal) (e' : Edge) → Seconds e result e'
     → Like (λ r. Seconds (with_all_up e) r (with_all_up e')) e result e'
-seconds_alike e (Ok reply) e' h = likewise _ e (Ok reply) e' (away_is _ e' h.after) (record {
+seconds_alike e (Ok reply) e' h = likewise _ e (Ok reply) e' (rw h.after) (record {
   flush = h.flush;
   goes = h.goes;
-  after = ap with_all_up h.after;
+  after = rw h.after;
   reply_is = h.reply_is;
 })
 seconds_alike e (Err r) e' h = absurd h
@@ -129,19 +128,18 @@ memory_alike needs e after e' alert told (inr refused) = inr (refused.0, ap with
 
 does_alike : (c : Case) (e : Edge) (s : Station) (port : ℕ) (told : Option Alert) (e' : Edge)
     → Does c e s port told e' → Does c (with_all_up e) s port told (with_all_up e')
-does_alike Leave e s port told e' h = (h.0, ap with_all_up h.1)
-does_alike Refresh e s port told e' h = (h.0, ap with_all_up h.1)
-does_alike (Refuse alert) e s port told e' h = (h.0, ap with_all_up h.1)
-does_alike Freeze e s port told e' h = (h.0, ap with_all_up h.1)
+does_alike Leave e s port told e' h = (h.0, rw h.1)
+does_alike Refresh e s port told e' h = (h.0, rw h.1)
+does_alike (Refuse alert) e s port told e' h = (h.0, rw h.1)
+does_alike Freeze e s port told e' h = (h.0, rw h.1)
 does_alike Learn e s port told e' h = memory_alike _ e _ e' None told h
 does_alike (Move n) e s port told e' h = memory_alike _ e _ e' None told h
 
 learns_alike : (b : Bool) (e : Edge) (s : Station) (port : ℕ) (told : Option Alert) (e' : Edge)
     → LearnsIf b e s port told e' → LearnsIf b (with_all_up e) s port told (with_all_up e')
 learns_alike true e s port told e' h =
-    subst (λ c. Does c (with_all_up e) s port told (with_all_up e')) (sym (case_on_alike e s port))
-    (does_alike (case_on e s port) e s port told e' h)
-learns_alike false e s port told e' h = (h.0, ap with_all_up h.1)
+    rw (case_on_alike e s port) (does_alike (case_on e s port) e s port told e' h)
+learns_alike false e s port told e' h = (h.0, rw h.1)
 
 -- ---- frames
 
@@ -174,8 +172,8 @@ sends_alike false e vni destination from (Some d) h = (Some d, h)
 frames_alike : (a : Result Arrival Refusal) (e : Edge) (port : ℕ) (result : Result Reply Refusal) (e' : Edge)
     → FrameSteps a e port result e'
     → Like (λ r. FrameSteps a (with_all_up e) port r (with_all_up e')) e result e'
-frames_alike (Err r) e port result e' h = likewise _ e result e' (away_is _ e' h.1) (h.0, ap with_all_up h.1)
-frames_alike (Ok Dropped) e port result e' h = likewise _ e result e' (away_is _ e' h.1) (h.0, ap with_all_up h.1)
+frames_alike (Err r) e port result e' h = likewise _ e result e' (rw h.1) (h.0, rw h.1)
+frames_alike (Ok Dropped) e port result e' h = likewise _ e result e' (rw h.1) (h.0, rw h.1)
 frames_alike (Ok (Message b)) e port result e' h = bridges_alike _ e result e' h
 frames_alike (Ok (Data vni destination source)) e port (Ok reply) e' h =
     let sent = sends_alike h.passes e' vni destination (Port port) reply.decision h.sending in (
@@ -200,15 +198,15 @@ frames_alike (Ok (Data vni destination source)) e port (Err r) e' h = absurd h
 
 tunnels_alike : (a : Result Arrival Refusal) (e : Edge) (result : Result Reply Refusal) (e' : Edge)
     → TunnelSteps a e result e' → Like (λ r. TunnelSteps a (with_all_up e) r (with_all_up e')) e result e'
-tunnels_alike (Err r) e result e' h = likewise _ e result e' (away_is _ e' h.1) (h.0, ap with_all_up h.1)
-tunnels_alike (Ok Dropped) e result e' h = likewise _ e result e' (away_is _ e' h.1) (h.0, ap with_all_up h.1)
+tunnels_alike (Err r) e result e' h = likewise _ e result e' (rw h.1) (h.0, rw h.1)
+tunnels_alike (Ok Dropped) e result e' h = likewise _ e result e' (rw h.1) (h.0, rw h.1)
 tunnels_alike (Ok (Message b)) e result e' h = absurd h
 tunnels_alike (Ok (Data vni destination source)) e (Ok reply) e' h =
     let sent = sends_alike true e vni destination Tunnel reply.decision h.0 in (
       away_is _ e' h.2,
       Ok (record nothing { decision = sent.0 }),
       ap (λ (r : Reply). record r { decision = None }) h.1,
-      (sent.1, refl, ap with_all_up h.2),
+      (sent.1, refl, rw h.2),
     )
 tunnels_alike (Ok (Data vni destination source)) e (Err r) e' h = absurd h
 
@@ -227,11 +225,11 @@ arrival_alike e from octets =
 takes_alike : (b : Bool) (e : Edge) (u : Fields) (result : Result Reply Refusal) (e' : Edge) → Takes b e u result e'
     → Like (λ r. Takes b (with_all_up e) u r (with_all_up e')) e result e'
 takes_alike true e u (Ok reply) e' h =
-    likewise _ e (Ok reply) e' (away_is _ e' h.3) (h.0, h.1, h.2, ap with_all_up h.3)
-takes_alike true e u (Err r) e' h = likewise _ e (Err r) e' (away_is _ e' h.1) (h.0, ap with_all_up h.1)
+    likewise _ e (Ok reply) e' (rw h.3) (h.0, h.1, h.2, rw h.3)
+takes_alike true e u (Err r) e' h = likewise _ e (Err r) e' (rw h.1) (h.0, rw h.1)
 takes_alike false e u (Ok reply) e' h =
-    likewise _ e (Ok reply) e' (away_is _ e' h.2) (h.0, h.1, ap with_all_up h.2)
-takes_alike false e u (Err r) e' h = likewise _ e (Err r) e' (away_is _ e' h.1) (h.0, ap with_all_up h.1)
+    likewise _ e (Ok reply) e' (rw h.2) (h.0, h.1, rw h.2)
+takes_alike false e u (Err r) e' h = likewise _ e (Err r) e' (rw h.1) (h.0, rw h.1)
 
 pin_case_alike : (e : Edge) (s : Station) (port : ℕ) (o : Option Entry)
     → pin_case_at (with_all_up e) s port o ≡ pin_case_at e s port o
@@ -240,9 +238,9 @@ pin_case_alike e s port (Some x) = refl
 
 does_pin_alike : (c : PinCase) (e : Edge) (s : Station) (port : ℕ) (told : Option Alert) (e' : Edge)
     → DoesPin c e s port told e' → DoesPin c (with_all_up e) s port told (with_all_up e')
-does_pin_alike Keep e s port told e' h = (h.0, ap with_all_up h.1)
-does_pin_alike Shift e s port told e' h = (h.0, ap with_all_up h.1)
-does_pin_alike (Deny alert) e s port told e' h = (h.0, ap with_all_up h.1)
+does_pin_alike Keep e s port told e' h = (h.0, rw h.1)
+does_pin_alike Shift e s port told e' h = (h.0, rw h.1)
+does_pin_alike (Deny alert) e s port told e' h = (h.0, rw h.1)
 does_pin_alike Pin e s port told e' h = memory_alike _ e _ e' None told h
 
 memory_away : (needs : Bool) (e after e' : Edge) (alert told : Option Alert) → after.away ≡ e.away
@@ -259,12 +257,11 @@ pin_away Pin e s port told e' h = memory_away _ e _ e' None told refl h
 
 pins_alike : (o : Option EdgeRefusal) (e : Edge) (s : Station) (port : ℕ) (result : Result Reply Refusal) (e' : Edge)
     → Pins o e s port result e' → Like (λ r. Pins o (with_all_up e) s port r (with_all_up e')) e result e'
-pins_alike (Some r) e s port result e' h = likewise _ e result e' (away_is _ e' h.1) (h.0, ap with_all_up h.1)
+pins_alike (Some r) e s port result e' h = likewise _ e result e' (rw h.1) (h.0, rw h.1)
 pins_alike None e s port (Ok reply) e' h =
     likewise _ e (Ok reply) e' (pin_away (pin_case e s port) e s port reply.alert e' h.0) (
-      subst (λ c. DoesPin c (with_all_up e) s port reply.alert (with_all_up e'))
-          (sym (pin_case_alike e s port (entry_at e.routes.learned s)))
-          (does_pin_alike (pin_case e s port) e s port reply.alert e' h.0),
+      rw (pin_case_alike e s port (entry_at e.routes.learned s)) (does_pin_alike (pin_case e s port) e s port
+          reply.alert e' h.0),
       h.1,
     )
 pins_alike None e s port (Err r) e' h = absurd h
@@ -289,8 +286,7 @@ steps_alike : (e : Edge) (event : Event) (result : Result Reply Refusal) (e' : E
 steps_alike e (events.Frame port octets) result e' quiet h =
     frames_alike (frame_arrival e port octets.now) e port result e' h
 steps_alike e (events.TunnelFrame from octets) result e' quiet h =
-    subst (λ a. Like (λ r. TunnelSteps a (with_all_up e) r (with_all_up e')) e result e')
-    (sym (arrival_alike e from octets.now)) (tunnels_alike (tunnel_arrival e from octets.now) e result e' h)
+    rw (arrival_alike e from octets.now) (tunnels_alike (tunnel_arrival e from octets.now) e result e' h)
 steps_alike e (events.Take u) result e' quiet h =
     takes_alike (eqb u.register.originator (address_of e)) e u result e' h
 steps_alike e (events.Pin s port) result e' quiet h = pins_alike (refused_pin e s port) e s port result e' h
@@ -298,13 +294,13 @@ steps_alike e (events.Unpin s) result e' quiet h = likewise _ e result e'
     (away_is _ e' h.1 ∙ chosen_away (is_pinned (entry_at e.routes.learned s)) e (after_removal e.routes s))
     (h.0, ap with_all_up h.1 ∙ unpin_alike e s)
 steps_alike e (events.Thaw s) result e' quiet h =
-    likewise _ e result e' (away_is _ e' h.1) (h.0, ap with_all_up h.1)
+    likewise _ e result e' (rw h.1) (h.0, rw h.1)
 steps_alike e events.Second result e' quiet h = seconds_alike e result e' h
 steps_alike e (events.PortUp port) result e' quiet h = at_alike (vni_at e.routes.ports port) _ e result e' h
 steps_alike e (events.PortDown port) result e' quiet h = at_alike (vni_at e.routes.ports port) _ e result e' h
 steps_alike e (events.Mcheck port) result e' quiet h = at_alike (vni_at e.routes.ports port) _ e result e' h
 steps_alike e events.Announce result e' quiet h =
-    likewise _ e result e' (away_is _ e' h.1) (h.0, ap with_all_up h.1)
+    likewise _ e result e' (rw h.1) (h.0, rw h.1)
 steps_alike e (events.Away a) result e' quiet h = absurd (true≢false quiet)
 steps_alike e (events.Back a) result e' quiet h = absurd (true≢false quiet)
 
@@ -315,8 +311,8 @@ depends_not e e' event result quiet h =
 
 mark_alike : (b : Bool) (e : Edge) (away : List ℕ) (result : Result Reply Refusal) (e' : Edge)
     → Marks b e away result e' → with_all_up e' ≡ with_all_up e
-mark_alike true e away result e' h = ap with_all_up h.1
-mark_alike false e away result e' h = ap with_all_up h.1
+mark_alike true e away result e' h = rw h.1
+mark_alike false e away result e' h = rw h.1
 
 pub marks_only : MarksOnlyAway
 marks_only e e' (events.Frame port octets) result is h = absurd (false≢true is)
@@ -338,45 +334,23 @@ marks_only e e' (events.Back a) result is h =
 -- ---- away and back
 
 pub back_is : ComesBack
-back_is e mid e' a first second good up one two = go (is_listed (table_of e) a) refl one
-  where
-    gone : List ℕ
-    gone = with_away (table_of e).originators e.away a
-
-    go : (b : Bool) → is_listed (table_of e) a ≡ b → Marks b e gone first mid → e' ≡ e
-    go true is h =
-        let then : Marks (is_listed (table_of e) a) (record e { away = gone }) (with_back gone a) second e' =
-        subst (λ (m : Edge). Marks (is_listed (table_of m) a) m (with_back m.away a) second e') h.1 two in
-        let there : Marks true (record e { away = gone }) (with_back gone a) second e' =
-        subst (λ (b : Bool). Marks b (record e { away = gone }) (with_back gone a) second e') is then in
-        there.1 ∙ ap (λ (l : List ℕ). record e { away = l })
-        (back_again (table_of e).originators e.away a good.keeps.away (up_not_away (is_away e.away a) up))
-    go false is h =
-        let then : Marks (is_listed (table_of e) a) e (with_back e.away a) second e' =
-        subst (λ (m : Edge). Marks (is_listed (table_of m) a) m (with_back m.away a) second e') h.1 two in
-        let there : Marks false e (with_back e.away a) second e' =
-        subst (λ (b : Bool). Marks b e (with_back e.away a) second e') is then in
-        there.1
+back_is e mid e' a first second good up one two = elim (cases_Bool (is_listed (table_of e) a)) [
+  | inl is ↦ (let gone = (rw is at one).1 in
+      (rw (gone, is) at two).1 ∙ ap (λ (l : List ℕ). record e { away = l })
+      (back_again (table_of e).originators e.away a good.keeps.away (up_not_away (is_away e.away a) up)))
+  | inr is ↦ (let same = (rw is at one).1 in (rw (same, is) at two).1)
+]
 
 -- ---- runs
 
 runs_alike : (run : List Entered) (e e' : Edge) → EdgeRuns e run e'
     → (others : List Entered) × AreAlike (without_marks run) others × EdgeRuns (with_all_up e) others (with_all_up e')
 runs_alike [] e e' h = ([], tt, ap with_all_up h)
-runs_alike (x ∷ run) e e' h = go (runs_alike run h.0 e' h.2) (is_mark x.0) refl
-  where
-    go : (rest : (others : List Entered) × AreAlike (without_marks run) others
-        × EdgeRuns (with_all_up h.0) others (with_all_up e')) → (b : Bool) → is_mark x.0 ≡ b
-        → (others : List Entered) × AreAlike (cond (not b) (x ∷ without_marks run) (without_marks run)) others
-        × EdgeRuns (with_all_up e) others (with_all_up e')
-    go rest true is = (
-      rest.0,
-      rest.1,
-      subst (λ (z : Edge). EdgeRuns z rest.0 (with_all_up e')) (marks_only e h.0 x.0 x.1 is h.1) rest.2,
-    )
-    go rest false is =
-        let like = steps_alike e x.0 x.1 h.0 is h.1 in
-        ((x.0, like.1) ∷ rest.0, (refl, like.2, rest.1), (with_all_up h.0, like.3, rest.2))
+runs_alike (x ∷ run) e e' h = (let rest = runs_alike run h.0 e' h.2 in elim (cases_Bool (is_mark x.0)) [
+  | inl is ↦ rw is (rest.0, rest.1, rw (marks_only e h.0 x.0 x.1 is h.1) at rest.2)
+  | inr is ↦ rw is (let like = steps_alike e x.0 x.1 h.0 is h.1 in
+      ((x.0, like.1) ∷ rest.0, (refl, like.2, rest.1), (with_all_up h.0, like.3, rest.2)))
+])
 
 all_are_up : (e : Edge) → e.away ≡ [] → with_all_up e ≡ e
 all_are_up e none = ap (λ (l : List ℕ). record e { away = l }) (sym none)
@@ -386,6 +360,5 @@ never_away run e e' h none none' =
     let r = runs_alike run e e' h in (
       r.0,
       r.1,
-      subst (λ (z : Edge). EdgeRuns z r.0 e') (all_are_up e none)
-          (subst (λ (z : Edge). EdgeRuns (with_all_up e) r.0 z) (all_are_up e' none') r.2),
+      rw (all_are_up e none) at (rw (all_are_up e' none') at r.2),
     )

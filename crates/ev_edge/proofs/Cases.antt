@@ -1,6 +1,6 @@
 -- What holds of a station in each case of learning, and what learning leaves.
 use Rattle.std.proofs.Common.{◌≡◌, inl, inr, ℕ, Bool, true, false, cond, eqb, Option, Some, None}
-use Rattle.std.proofs.Common.{refl, sym, ap, subst, ◌∙◌, arith}
+use Rattle.std.proofs.Common.{refl, ap, ◌∙◌, arith}
 use Rattle.std.specs.Prelude.{IsSome}
 use Rattle.std.specs.FinMap.{get}
 use Rattle.std.proofs.lemmas.Bool.Decides.{nat_tests}
@@ -68,7 +68,7 @@ HoldsOn e s port (Move n) = IsNew e s port n
 module _ (e : Edge) (s : Station) where
   move : (n : ℕ) → IsFree e s n → (b : Bool) → eqb n 0 ≡ b → (fifth : Bool)
       → is_fifth (get e.windows s) e.clock ≡ fifth → Holds e s (cond b Learn (cond fifth Freeze (Move n)))
-  move n new true zero fifth is = subst (IsFree e s) (let is : n ≡ 0 = grind (arith, nat_tests) in is) new
+  move n new true zero fifth is = rw (let is : n ≡ 0 = grind (arith, nat_tests) in is) at new
   move n new false zero true is = is
   move n new false zero false is = new
 
@@ -93,7 +93,7 @@ module _ (e : Edge) (s : Station) where
   known : (x : Entry) → entry_at e.routes.learned s ≡ Some x → (b : Bool) → x.pinned ≡ b
       → Holds e s (cond b Leave Refresh)
   known x at true loose = tt
-  known x at false loose = record { known = subst IsSome (sym at) refl; loose = ap is_pinned at ∙ loose }
+  known x at false loose = record { known = rw at refl; loose = ap is_pinned at ∙ loose }
 
   at_entry : (o : Option Entry) → entry_at e.routes.learned s ≡ o → Holds e s (case_at e s o)
   at_entry (Some x) at = known x at x.pinned refl
@@ -137,13 +137,13 @@ module _ (e : Edge) (s : Station) (port : ℕ) where
   holds_on = holds_limited (case_of e s) (at_entry e s (entry_at e.routes.learned s) refl)
 
   pub case_holds : (c : Case) → c ≡ case_on e s port → HoldsOn e s port c
-  case_holds c is = subst (HoldsOn e s port) (sym is) holds_on
+  case_holds c is = rw is holds_on
 
 -- what holds of the edge before and of the one after holds where memory was refused too
 pub or_refused : {needs : Bool} {e after e' : Edge} {alert told : Option Alert} (P : Edge → Type 0) → P e → P after
     → OrNoMemory needs e alert after told e' → P e'
-or_refused P before now (inl done) = subst P (sym done.1) now
-or_refused P before now (inr refused) = subst P (sym refused.1) before
+or_refused P before now (inl done) = rw done.1 now
+or_refused P before now (inr refused) = rw refused.1 before
 
 -- what holds of the edge before and of each that learning may come to holds of the one that it leaves
 pub learnt_by : (P : Edge → Type 0) (e : Edge) (s : Station) (port : ℕ) (told : Option Alert) (e' : Edge) → P e
@@ -152,13 +152,13 @@ pub learnt_by : (P : Edge → Type 0) (e : Edge) (s : Station) (port : ℕ) (tol
 learnt_by P e s port told e' before refresh freeze learn move b h = go b h
   where
     does : (c : Case) → HoldsOn e s port c → Does c e s port told e' → P e'
-    does Leave holds d = subst P (sym d.1) before
-    does Refresh holds d = subst P (sym d.1) (refresh holds)
-    does (Refuse alert) holds d = subst P (sym d.1) before
-    does Freeze holds d = subst P (sym d.1) freeze
+    does Leave holds d = rw d.1 before
+    does Refresh holds d = rw d.1 (refresh holds)
+    does (Refuse alert) holds d = rw d.1 before
+    does Freeze holds d = rw d.1 freeze
     does Learn holds d = or_refused P before (learn holds) d
     does (Move n) holds d = or_refused P before (move n holds) d
 
     go : (b : Bool) → LearnsIf b e s port told e' → P e'
     go true d = does (case_on e s port) (holds_on e s port) d
-    go false d = subst P (sym d.1) before
+    go false d = rw d.1 before

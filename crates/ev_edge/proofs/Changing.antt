@@ -1,7 +1,10 @@
 -- The own updates of an edge at each event.
-use Rattle.std.proofs.Common.{◌≡◌, ◌≢◌, inl, inr, ℕ, suc, ◌+◌, ◌-◌, ◌≤◌, Bool, true, false, cond, eqb, Option, Some}
-use Rattle.std.proofs.Common.{None, Result, Ok, Err, List, [], ◌∷◌, length, refl, sym, ap, subst, ◌∙◌, arith}
+use Rattle.std.proofs.Common.{◌≡◌, ◌≢◌, inl, inr, ℕ, ◌+◌, ◌-◌, ◌≤◌, Bool, true, false, cond, eqb, Option, Some}
+use Rattle.std.proofs.Common.{None, Result, Ok, Err, List, [], ◌∷◌, length, refl, sym, ap, ◌∙◌, arith}
 use Rattle.std.specs.Prelude.{nat_le, not, ◌&&◌}
+use Rattle.std.proofs.lemmas.Bool.{cases_Bool}
+use Rattle.std.proofs.lemmas.List.{length-map}
+use Rattle.std.proofs.lemmas.Option.{same_Some}
 use Rattle.std.proofs.lemmas.Bool.Decides.{nat_tests}
 use Rattle.ether_wire.specs.Addr.{is_group}
 use Rattle.route_wire.specs.declared.update.Key.{Key}
@@ -18,11 +21,11 @@ use Rattle.ev_mobility.specs.declared.alert.Alert.{Alert}
 use Rattle.rstp_run.specs.declared.event.Event as tree
 use Rattle.ev_claims.specs.Speaker.{Speaker, KeepsNumbers, own, is_newest, is_ahead, is_returning, after_originating}
 use Rattle.ev_claims.specs.Speaker.{after_importing, after_announcing}
-use Rattle.ev_claims.specs.LocalRoutes.{LocalRoutes, entries, key_of, moving, fixed, vni_at, is_lost, after_removal}
+use Rattle.ev_claims.specs.LocalRoutes.{LocalRoutes, entries, key_of, moving, fixed, vni_at, is_lost}
 use Rattle.ev_claims.specs.LocalRoutes.{after_update}
 use Rattle.ev_claims.specs.LocalRoutes.{after_losing}
 use Rattle.ev_claims.specs.Leaving.{after_flush, after_ageing}
-use Rattle.ev_claims.specs.Changes.{Says, after_originations, said_updates, registers_in}
+use Rattle.ev_claims.specs.Changes.{Says, after_originations, said_updates}
 use Rattle.ev_claims.specs.Opening.{Opens}
 use Rattle.ev_claims.proofs.Hearing.{past_if_newest, there_now, elsewhere, unheard}
 use Rattle.ev_claims.proofs.Numbers.{key_or_other}
@@ -43,7 +46,7 @@ use Rattle.ev_edge.specs.Config.{IsConfig}
 use Rattle.ev_edge.specs.Edge.{Edge, IsGoodEdge, table_of, address_of}
 use Rattle.ev_edge.specs.Opening.{IsOpening, start_of}
 use Rattle.ev_edge.specs.Pinning.{DoesPin, pin_case, refused_pin, after_unpin}
-use Rattle.ev_edge.specs.Bridging.{aged, next_second}
+use Rattle.ev_edge.specs.Bridging.{next_second}
 use Rattle.ev_edge.specs.Arrival.{frame_arrival, tunnel_arrival}
 use Rattle.ev_edge.specs.Storms.{taking_on}
 use Rattle.ev_edge.specs.Steps.{Steps, LearnsIf, FrameSteps, TunnelSteps, Bridges, BridgesAt, Seconds, Takes}
@@ -62,17 +65,17 @@ nothing_said : (base : Speaker) (e e' : Edge) → e'.routes.speaker ≡ base →
 nothing_said base e e' is = record { said = []; few = omega arith; after = is; apart = tt }
 
 same : (e e' : Edge) → e' ≡ e → Saying e.routes.speaker e e'
-same e e' is = nothing_said e.routes.speaker e e' (ap (λ (x : Edge). x.routes.speaker) is)
+same e e' is = nothing_said e.routes.speaker e e' (rw is)
 
 one_said : (base : Speaker) (e e' : Edge) (k : Key) (c : Content) → e'.routes.speaker ≡ after_originating base k c
     → Saying base e e'
 one_said base e e' k c is = record { said = (k, c) ∷ []; few = omega arith; after = is; apart = one_apart k c }
 
-left_behind : (e e' : Edge) (d : LocalRoutes) → e'.routes ≡ d → Leaves e.routes d → Saying e.routes.speaker e e'
-left_behind e e' d is h = record {
+left_behind : (e e' : Edge) {d : LocalRoutes} → e'.routes ≡ d → Leaves e.routes d → Saying e.routes.speaker e e'
+left_behind e e' is h = record {
   said = withdrawals h.stations;
   few = let count = withdrawals_count h.stations in let few = h.few in omega (arith, count, few);
-  after = ap (λ (c : LocalRoutes). c.speaker) (is ∙ h.are) ∙ removals_say e.routes h.stations;
+  after = rw (is, h.are) (removals_say e.routes h.stations);
   apart = withdrawals_apart h.stations h.once;
 }
 
@@ -88,8 +91,8 @@ learnt_if e s port told e' b h =
 
 bridge_says : (event : tree.Event) (e : Edge) (result : Result Reply Refusal) (e' : Edge) → IsGoodEdge e
     → Bridges event e result e' → Saying e.routes.speaker e e'
-bridge_says event e (Ok reply) e' good h = left_behind e e' (after_flush e.routes h.flush)
-    (ap (λ (x : Edge). x.routes) h.after) (flush_leaves e.routes h.flush good.routes)
+bridge_says event e (Ok reply) e' good h = left_behind e e' (rw h.after)
+    (flush_leaves e.routes h.flush good.routes)
 bridge_says event e (Err r) e' good h = absurd h
 
 bridge_at : (vni : Option ℕ) (event : tree.Event) (e : Edge) (result : Result Reply Refusal) (e' : Edge) → IsGoodEdge e
@@ -123,18 +126,17 @@ tunnel_says (Ok (Data vni destination source)) e (Err r) e' h = absurd h
 second_says : (e : Edge) (result : Result Reply Refusal) (e' : Edge) → IsGoodEdge e → Seconds e result e'
     → Saying e.routes.speaker e e'
 second_says e (Err r) e' good h = absurd h
-second_says e (Ok reply) e' good h = left_behind e e' (aged (after_flush e.routes h.flush) e.ageing
-    (next_second e.clock)) (ap (λ (x : Edge). x.routes) h.after) (go (nat_le e.ageing (next_second e.clock)))
-  where
-    go : (b : Bool) → Leaves e.routes (cond b (after_ageing (after_flush e.routes h.flush)
-        (next_second e.clock - e.ageing)) (after_flush e.routes h.flush))
-    go true = second_leaves e.routes h.flush (next_second e.clock - e.ageing) good.routes
-    go false = flush_leaves e.routes h.flush good.routes
+second_says e (Ok reply) e' good h = left_behind e e' (rw h.after)
+    (elim (nat_le e.ageing (next_second e.clock)) as (λ b. Leaves e.routes (cond b
+    (after_ageing (after_flush e.routes h.flush) (next_second e.clock - e.ageing)) (after_flush e.routes h.flush))) [
+      | true ↦ second_leaves e.routes h.flush (next_second e.clock - e.ageing) good.routes
+      | false ↦ flush_leaves e.routes h.flush good.routes
+    ])
 
 pin_says : (e : Edge) (s : Station) (port : ℕ) (told : Option Alert) (e' : Edge) (c : PinCase)
     → DoesPin c e s port told e' → Saying e.routes.speaker e e'
 pin_says e s port told e' Keep h = same e e' h.1
-pin_says e s port told e' Shift h = nothing_said e.routes.speaker e e' (ap (λ (x : Edge). x.routes.speaker) h.1)
+pin_says e s port told e' Shift h = nothing_said e.routes.speaker e e' (rw h.1)
 pin_says e s port told e' (Deny alert) h = same e e' h.1
 pin_says e s port told e' Pin h = or_refused (Saying e.routes.speaker e) (same e e refl)
     (one_said e.routes.speaker e _ (key_of s) fixed refl) h
@@ -146,25 +148,21 @@ pins_say None e s port (Ok reply) e' h = pin_says e s port reply.alert e' (pin_c
 pins_say None e s port (Err r) e' h = absurd h
 
 unpin_says : (e : Edge) (s : Station) (e' : Edge) → e' ≡ after_unpin e s → Saying e.routes.speaker e e'
-unpin_says e s e' is = go (is_pinned (entry_at e.routes.learned s)) is
-  where
-    go : (b : Bool) → e' ≡ cond b (record e { routes = after_removal e.routes s }) e → Saying e.routes.speaker e e'
-    go true is = one_said e.routes.speaker e e' (key_of s) Withdrawn (ap (λ (x : Edge). x.routes.speaker) is)
-    go false is = same e e' is
+unpin_says e s e' is = elim (cases_Bool (is_pinned (entry_at e.routes.learned s))) [
+  | inl pinned ↦ one_said e.routes.speaker e e' (key_of s) Withdrawn (rw (is, pinned))
+  | inr free ↦ nothing_said e.routes.speaker e e' (rw (is, free))
+]
 
 -- ---- updates
 
 taken_says : (e : Edge) (u : Fields) (e' : Edge) (k : Key) → e'.routes ≡ after_losing (after_update e.routes u) k
     → Saying (after_importing e.routes.speaker u) e e'
-taken_says e u e' (Flood v) is = nothing_said (after_importing e.routes.speaker u) e e'
-    (ap (λ (c : LocalRoutes). c.speaker) is)
-taken_says e u e' (Mac v m ip) is = go (is_lost (after_update e.routes u) (record { vni = v; mac = m })) is
-  where
-    go : (b : Bool) → e'.routes ≡ cond b (after_removal (after_update e.routes u) (record { vni = v; mac = m }))
-        (after_update e.routes u) → Saying (after_importing e.routes.speaker u) e e'
-    go true is = one_said (after_importing e.routes.speaker u) e e' (key_of (record { vni = v; mac = m })) Withdrawn
-        (ap (λ (c : LocalRoutes). c.speaker) is)
-    go false is = nothing_said (after_importing e.routes.speaker u) e e' (ap (λ (c : LocalRoutes). c.speaker) is)
+taken_says e u e' (Flood v) is = nothing_said (after_importing e.routes.speaker u) e e' (rw is)
+taken_says e u e' (Mac v m ip) is = (let s : Station = record { vni = v; mac = m } in
+    elim (cases_Bool (is_lost (after_update e.routes u) s)) [
+      | inl lost ↦ one_said (after_importing e.routes.speaker u) e e' (key_of s) Withdrawn (rw (is, lost))
+      | inr kept ↦ nothing_said (after_importing e.routes.speaker u) e e' (rw (is, kept))
+    ])
 
 own_says : (e : Edge) (u : Fields) (e' : Edge) (b : Bool)
     → e'.routes.speaker ≡ cond b (after_originating (after_importing e.routes.speaker u) u.register.key Withdrawn)
@@ -175,36 +173,28 @@ own_says e u e' false is = nothing_said (after_importing e.routes.speaker u) e e
 -- an own update that isn't ahead leaves no value of a later incarnation or with a later number
 own_behind : (v : Speaker) (u : Fields) → KeepsNumbers v → u.register.originator ≡ v.address → is_ahead v u ≡ false
     → IsBehind (after_importing v u)
-own_behind v u h mine behind = go (is_newest v u) refl
+own_behind v u h mine behind = elim (cases_Bool (is_newest v u)) [
+  | inl new ↦ record {
+    past = λ k w at. elim (key_or_other k u.register.key) [
+      | inl same ↦ (let is = ap (λ (x : Value). x.incarnation) (now new k w same at) in
+          let less = past_if_newest v u behind new in omega (arith, is, less))
+      | inr ne ↦ h.past k w (before k w ne at)
+    ];
+    counted = λ k w at present. elim (key_or_other k u.register.key) [
+      | inl same ↦ (let is = ap (λ (x : Value). x.incarnation) (now new k w same at) in
+          let less = past_if_newest v u behind new in absurd (omega (arith, is, less, present)))
+      | inr ne ↦ h.counted k w (before k w ne at) present
+    ];
+  }
+  | inr old ↦ rw (unheard v u old) (kept_behind v h)
+]
   where
-    known : is_newest v u ≡ false → IsBehind (after_importing v u)
-    known old = subst IsBehind (sym (unheard v u old)) (kept_behind v h)
-
     now : is_newest v u ≡ true → (k : Key) (w : Value) → k ≡ u.register.key → own (after_importing v u) k ≡ Some w
         → u.value ≡ w
-    now new k w same at = let both : Some u.value ≡ Some w = sym (there_now v u mine new)
-        ∙ subst (λ j. own (after_importing v u) j ≡ Some w) same at in cc
+    now new k w same at = same_Some u.value w (sym (there_now v u mine new) ∙ rw same at at)
 
     before : (k : Key) (w : Value) → k ≢ u.register.key → own (after_importing v u) k ≡ Some w → own v k ≡ Some w
     before k w ne at = sym (elsewhere v u k ne) ∙ at
-
-    news : is_newest v u ≡ true → IsBehind (after_importing v u)
-    news new = record {
-      past = λ k w at. elim (key_or_other k u.register.key) as (λ _. w.incarnation ≤ v.incarnation) [
-        | inl same ↦ let is = ap (λ (x : Value). x.incarnation) (now new k w same at) in
-            let less = past_if_newest v u behind new in omega (arith, is, less)
-        | inr ne ↦ h.past k w (before k w ne at)
-      ];
-      counted = λ k w at present. elim (key_or_other k u.register.key) as (λ _. w.counter ≤ v.counter) [
-        | inl same ↦ let is = ap (λ (x : Value). x.incarnation) (now new k w same at) in
-            let less = past_if_newest v u behind new in absurd (omega (arith, is, less, present))
-        | inr ne ↦ h.counted k w (before k w ne at) present
-      ];
-    }
-
-    go : (b : Bool) → is_newest v u ≡ b → IsBehind (after_importing v u)
-    go true new = news new
-    go false old = known old
 
 -- ---- each event
 
@@ -257,10 +247,6 @@ heard_table events.Announce (Ok reply) v = refl
 heard_table (events.Away a) (Ok reply) v = refl
 heard_table (events.Back a) (Ok reply) v = refl
 
-length_map : (us : List Fields) → length (registers_in us) ≡ length us
-length_map [] = refl
-length_map (u ∷ us) = ap suc (length_map us)
-
 changed : (e : Edge) (event : Event) (result : Result Reply Refusal) (e' : Edge)
     → Saying (heard event result e.routes.speaker) e e' → IsBehind (heard event result e.routes.speaker)
     → Changes e event result e'
@@ -270,10 +256,11 @@ changed e event result e' h behind = record {
   says = it;
   address = it.changes.address ∙ heard_address event result e.routes.speaker;
   incarnation = it.changes.incarnation ∙ heard_incarnation event result e.routes.speaker;
-  counter = let counter = it.changes.counter in let count = it.count in let size = length_map (said_updates v h.said) in
+  counter = let counter = it.changes.counter in let count = it.count in
+      let size = length-map (said_updates v h.said) (λ (u : Fields). u.register) in
       let before = heard_counter event result e.routes.speaker in omega (arith, counter, count, size, before);
-  table = it.table ∙ ap (λ t. with_updates t (said_updates v h.said)) (heard_table event result e.routes.speaker)
-      ∙ sym (updates_append e.routes.speaker.table (accepted event result) (said_updates v h.said));
+  table = rw (it.table, heard_table event result e.routes.speaker)
+      (sym (updates_append e.routes.speaker.table (accepted event result) (said_updates v h.said)));
 }
   where
     v : Speaker
@@ -290,14 +277,13 @@ still event h (Err r) v = refl
 
 quiet : (e : Edge) (event : Event) (result : Result Reply Refusal) (e' : Edge) → ((v : Speaker) → heard_in event v ≡ v)
     → IsGoodEdge e → Saying e.routes.speaker e e' → Changes e event result e'
-quiet e event result e' h good said = changed e event result e'
-    (subst (λ v. Saying v e e') (sym (still event h result e.routes.speaker)) said)
-    (subst IsBehind (sym (still event h result e.routes.speaker)) (kept_behind e.routes.speaker good.routes.numbers))
+quiet e event result e' h good said = changed e event result e' (rw (still event h result e.routes.speaker) said)
+    (rw (still event h result e.routes.speaker) (kept_behind e.routes.speaker good.routes.numbers))
 
 other_change : (e : Edge) (u : Fields) (result : Result Reply Refusal) (e' : Edge) → IsGoodEdge e
     → u.register.originator ≢ e.routes.speaker.address → TakesOther e u result e' → Changes e (events.Take u) result e'
 other_change e u (Ok reply) e' good other h =
-    changed e (events.Take u) (Ok reply) e' (taken_says e u e' u.register.key (ap (λ (x : Edge). x.routes) h.2))
+    changed e (events.Take u) (Ok reply) e' (taken_says e u e' u.register.key (rw h.2))
     (heard_behind e.routes.speaker u other (kept_behind e.routes.speaker good.routes.numbers))
 other_change e u (Err r) e' good other h = changed e (events.Take u) (Err r) e' (same e e' h.1)
     (kept_behind e.routes.speaker good.routes.numbers)
@@ -306,7 +292,7 @@ own_change : (e : Edge) (u : Fields) (result : Result Reply Refusal) (e' : Edge)
     → u.register.originator ≡ e.routes.speaker.address → TakesOwn e u result e' → Changes e (events.Take u) result e'
 own_change e u (Ok reply) e' good mine h =
     changed e (events.Take u) (Ok reply) e' (own_says e u e' (is_returning e.routes.speaker u)
-    (ap (λ (x : Edge). x.routes.speaker) h.3)) (own_behind e.routes.speaker u good.routes.numbers mine h.0)
+    (rw h.3)) (own_behind e.routes.speaker u good.routes.numbers mine h.0)
 own_change e u (Err r) e' good mine h = changed e (events.Take u) (Err r) e' (same e e' h.1)
     (kept_behind e.routes.speaker good.routes.numbers)
 
@@ -321,41 +307,40 @@ announced_behind v h = record { past = h.past; counted = h.counted }
 
 marks_speaker : (e : Edge) (away : List ℕ) (result : Result Reply Refusal) (e' : Edge) (b : Bool)
     → Marks b e away result e' → e'.routes.speaker ≡ e.routes.speaker
-marks_speaker e away result e' true h = ap (λ (x : Edge). x.routes.speaker) h.1
-marks_speaker e away result e' false h = ap (λ (x : Edge). x.routes.speaker) h.1
+marks_speaker e away result e' true h = rw h.1
+marks_speaker e away result e' false h = rw h.1
 
 pub steps_change : (e : Edge) (event : Event) (result : Result Reply Refusal) (e' : Edge) → IsGoodEdge e
     → Steps e event result e' → Changes e event result e'
 steps_change e (events.Frame port octets) result e' good h =
-    quiet e (events.Frame port octets) result e' (λ v. refl) good
+    quiet e _ result e' (λ v. refl) good
     (frame_says (frame_arrival e port octets.now) e port result e' good h)
 steps_change e (events.TunnelFrame from octets) result e' good h =
-    quiet e (events.TunnelFrame from octets) result e' (λ v. refl) good
+    quiet e _ result e' (λ v. refl) good
     (tunnel_says (tunnel_arrival e from octets.now) e result e' h)
 steps_change e (events.Take u) result e' good h = take_change e u result e' good
     (eqb u.register.originator (address_of e)) refl h
-steps_change e (events.Pin s port) result e' good h = quiet e (events.Pin s port) result e' (λ v. refl) good
+steps_change e (events.Pin s port) result e' good h = quiet e _ result e' (λ v. refl) good
     (pins_say (refused_pin e s port) e s port result e' h)
-steps_change e (events.Unpin s) result e' good h = quiet e (events.Unpin s) result e' (λ v. refl) good
+steps_change e (events.Unpin s) result e' good h = quiet e _ result e' (λ v. refl) good
     (unpin_says e s e' h.1)
-steps_change e (events.Thaw s) result e' good h = quiet e (events.Thaw s) result e' (λ v. refl) good
-    (nothing_said e.routes.speaker e e' (ap (λ (x : Edge). x.routes.speaker) h.1))
-steps_change e events.Second result e' good h = quiet e events.Second result e' (λ v. refl) good
+steps_change e (events.Thaw s) result e' good h = quiet e _ result e' (λ v. refl) good
+    (nothing_said e.routes.speaker e e' (rw h.1))
+steps_change e events.Second result e' good h = quiet e _ result e' (λ v. refl) good
     (second_says e result e' good h)
-steps_change e (events.PortUp port) result e' good h = quiet e (events.PortUp port) result e' (λ v. refl) good
+steps_change e (events.PortUp port) result e' good h = quiet e _ result e' (λ v. refl) good
     (bridge_at (vni_at e.routes.ports port) _ e result e' good h)
 steps_change e (events.PortDown port) result e' good h =
-    quiet e (events.PortDown port) result e' (λ v. refl) good
+    quiet e _ result e' (λ v. refl) good
     (bridge_at (vni_at e.routes.ports port) _ e result e' good h)
-steps_change e (events.Mcheck port) result e' good h = quiet e (events.Mcheck port) result e' (λ v. refl) good
+steps_change e (events.Mcheck port) result e' good h = quiet e _ result e' (λ v. refl) good
     (bridge_at (vni_at e.routes.ports port) _ e result e' good h)
 steps_change e events.Announce result e' good h =
-    subst (λ r. Changes e events.Announce r e') (sym h.0)
-    (changed e events.Announce (Ok _) e' (nothing_said (after_announcing e.routes.speaker) e e'
-    (ap (λ (x : Edge). x.routes.speaker) h.1)) (announced_behind e.routes.speaker good.routes.numbers))
-steps_change e (events.Away a) result e' good h = quiet e (events.Away a) result e' (λ v. refl) good
+    rw h.0 (changed e events.Announce (Ok _) e' (nothing_said (after_announcing e.routes.speaker) e e' (rw h.1))
+    (announced_behind e.routes.speaker good.routes.numbers))
+steps_change e (events.Away a) result e' good h = quiet e _ result e' (λ v. refl) good
     (nothing_said e.routes.speaker e e' (marks_speaker e _ result e' (is_listed (table_of e) a) h))
-steps_change e (events.Back a) result e' good h = quiet e (events.Back a) result e' (λ v. refl) good
+steps_change e (events.Back a) result e' good h = quiet e _ result e' (λ v. refl) good
     (nothing_said e.routes.speaker e e' (marks_speaker e _ result e' (is_listed (table_of e) a) h))
 
 -- ---- the opening

@@ -1,9 +1,11 @@
 -- The destinations of frames, by the frames' kinds.
 use Rattle.std.proofs.Common.{◌≡◌, inl, inr, ℕ, Bool, true, false, cond, Option, Some, None, Result, Ok, Err, List}
-use Rattle.std.proofs.Common.{drop, refl, sym, ap, subst, ◌∙◌, arith}
+use Rattle.std.proofs.Common.{drop, refl, sym, ap, ◌∙◌, arith}
 use Rattle.std.specs.Option.{ForSome, option_map}
 use Rattle.std.proofs.lemmas.Bool.{eq-eqb}
+use Rattle.std.proofs.lemmas.Option.{none-some, same_Some}
 use Rattle.std.proofs.lemmas.Bool.Decides.{nat_tests}
+use Rattle.std.proofs.lemmas.Bool.{cases_Bool, false≢true}
 use Rattle.ether_wire.specs.Ports.{IsPort, has_port}
 use Rattle.ether_wire.specs.Frame.{frame_of, destination_of, source_of, payload_of}
 use Rattle.ether_wire.specs.declared.frame.FrameRefusal.{FrameRefusal}
@@ -51,11 +53,11 @@ use Rattle.ev_edge.proofs.Places.{set_port}
 
 pub none : (result : Result Reply Refusal) → decision_in result ≡ None → (P : Decision → Type 0)
     → ForSome (decision_in result) P
-none result is P d at = absurd (let no : None ≡ Some d = sym is ∙ at in cc)
+none result is P d at = absurd (none-some d (sym is ∙ at))
 
 pub bridged : (event : tree.Event) (e : Edge) (result : Result Reply Refusal) (e' : Edge) → Bridges event e result e'
     → decision_in result ≡ None
-bridged event e (Ok reply) e' h = ap (λ (r : Reply). r.decision) h.reply_is
+bridged event e (Ok reply) e' h = rw h.reply_is
 bridged event e (Err r) e' h = refl
 
 -- a frame to a reserved destination
@@ -66,18 +68,18 @@ reserved_none e port frame result e' h = held (holds_bpdu frame) h
     message : (r : Result Bpdu bpdu.BpduRefusal) → FrameSteps (message_in r) e port result e' → decision_in result
         ≡ None
     message (Ok b) h = bridged _ e result e' h
-    message (Err r) h = ap decision_in h.0
+    message (Err r) h = rw h.0
 
     held : (b : Bool) → FrameSteps (cond b (message_in (reading (drop 3 (payload_of frame)))) (Ok Dropped)) e port
         result e' → decision_in result ≡ None
     held true h = message (reading (drop 3 (payload_of frame))) h
-    held false h = ap decision_in h.0
+    held false h = rw h.0
 
 -- ---- where a decision sends a frame
 
 at_true : (o : Option ℕ) (v : ℕ) → is_at o v ≡ true → o ≡ Some v
 at_true None v h = cc
-at_true (Some w) v h = ap Some (let same : w ≡ v = grind (arith, nat_tests) in same)
+at_true (Some w) v h = grind (arith, nat_tests)
 
 -- by members that pass
 decided : (e : Edge) (vni destination : ℕ) (from : Source) (d : Decision) → KeepsRoutes e.routes
@@ -100,9 +102,7 @@ decided e vni destination from d keeps i p port there =
         → option_map (λ (x : Entry). x.port) o ≡ Some q → is_member e.routes.ports vni q ≡ true
     member None is q at = cc
     member (Some x) is q at =
-        let same : x.port ≡ q = cc in
-        ap (is_member e.routes.ports vni) (sym same) ∙ ap (λ o. is_at o vni)
-        (keeps.ports (record { vni = vni; mac = destination }) x is) ∙ eq-eqb vni vni refl
+        rw (← same_Some x.port q at, keeps.ports (record { vni = vni; mac = destination }) x is, eq-eqb vni vni refl)
 
 -- and not by the frame's own port
 not_back : (e : Edge) (vni destination port : ℕ) (d : Decision) → IsPort port
@@ -128,15 +128,15 @@ learnt_stays e s port told e' b h =
 module _ (e : Edge) (port : ℕ) (result : Result Reply Refusal) (e' : Edge) (keeps : KeepsRoutes e'.routes) where
   sent : (vni destination : ℕ) (d : Decision) → vni_at e.routes.ports port ≡ Some vni → Stays e e' → (b : Bool)
       → SendsIf b e' vni destination (Port port) (Some d) → LeavesBy e port d
-  sent vni destination d at stays false h p is there = absurd (let no : false ≡ true = sym (has_port-none p)
-      ∙ ap (λ n. has_port n p) (sym h.0) ∙ there in cc)
+  sent vni destination d at stays false h p is there = absurd (false≢true
+      (sym (has_port-none p) ∙ rw h.0 at there))
   sent vni destination d at stays true h p is there =
       let both = decided e' vni destination (Port port) d keeps h p is there in
-      let own : vni_at e'.routes.ports port ≡ Some vni = ap (λ ps. vni_at ps port) stays.0 ∙ at in
+      let own : vni_at e'.routes.ports port ≡ Some vni = rw stays.0 at in
       let back = not_back e' vni destination port d (set_port e'.routes.ports port vni keeps.few own) h in (
-        ap (λ ps. vni_at ps p) (sym stays.0) ∙ both.0 ∙ sym at,
-        subst (λ t. Passes t p) stays.1 both.1,
-        λ same. (let no : false ≡ true = sym back ∙ ap (has_port d.local) (sym same) ∙ there in cc),
+        rw stays.0 at both.0 ∙ sym at,
+        rw stays.1 at both.1,
+        λ same. false≢true (sym back ∙ rw same at there),
       )
 
   data_leaves : (vni destination source : ℕ) (reply : Reply) → vni_at e.routes.ports port ≡ Some vni
@@ -145,7 +145,7 @@ module _ (e : Edge) (port : ℕ) (result : Result Reply Refusal) (e' : Edge) (ke
   data_leaves vni destination source reply at h d is =
       sent vni destination d at (learnt_stays (taking_on e port vni destination) (record { vni = vni; mac = source })
       port reply.alert e' _ h.learning.learning) h.passes
-      (subst (SendsIf h.passes e' vni destination (Port port)) is h.sending)
+      (rw is at h.sending)
 
   in_frame : (vni : ℕ) (frame : List ℕ) → vni_at e.routes.ports port ≡ Some vni → (b : Bool)
       → (r : Result Reply Refusal) → FrameSteps (cond b (reserved_arrival frame) (Ok (data_in vni frame))) e port r e'
@@ -156,21 +156,21 @@ module _ (e : Edge) (port : ℕ) (result : Result Reply Refusal) (e' : Edge) (ke
 
   at_port : (vni : ℕ) (up : Bool) (f : Result (List ℕ) FrameRefusal) → vni_at e.routes.ports port ≡ Some vni
       → FrameSteps (arrival_at up vni f) e port result e' → ForSome (decision_in result) (LeavesBy e port)
-  at_port vni up (Err r) at h = none result (ap decision_in h.0) (LeavesBy e port)
-  at_port vni false (Ok frame) at h = none result (ap decision_in h.0) (LeavesBy e port)
+  at_port vni up (Err r) at h = none result (rw h.0) _
+  at_port vni false (Ok frame) at h = none result (rw h.0) _
   at_port vni true (Ok frame) at h = in_frame vni frame at (is_reserved (destination_of frame)) result h
 
   pub frame_leaves : (octets : List ℕ) → FrameSteps (frame_arrival e port octets) e port result e'
       → ForSome (decision_in result) (LeavesBy e port)
   frame_leaves octets h = elim (unadmitted (port_arrival e port octets) e port result e' h) [
     | inl steps ↦ go (vni_at e.routes.ports port) refl steps
-    | inr refused ↦ none result (ap decision_in refused.0) (LeavesBy e port)
+    | inr refused ↦ none result (rw refused.0) _
   ]
     where
       go : (o : Option ℕ) → vni_at e.routes.ports port ≡ o
           → FrameSteps (arrival_on o (is_up e.tree port) octets) e port result e'
           → ForSome (decision_in result) (LeavesBy e port)
-      go None at h = none result (ap decision_in h.0) (LeavesBy e port)
+      go None at h = none result (rw h.0) _
       go (Some vni) at h = at_port vni (is_up e.tree port) (frame_of octets) at h
 
 pub reserved_frame : (e : Edge) (port : ℕ) (octets : List ℕ) (result : Result Reply Refusal) (e' : Edge)
@@ -178,20 +178,20 @@ pub reserved_frame : (e : Edge) (port : ℕ) (octets : List ℕ) (result : Resul
 reserved_frame e port octets result e' (frame, is, reserved) h =
     elim (unadmitted (port_arrival e port octets) e port result e' h) [
       | inl steps ↦ go (vni_at e.routes.ports port) steps
-      | inr refused ↦ ap decision_in refused.0
+      | inr refused ↦ rw refused.0
     ]
   where
     up_or_down : (vni : ℕ) (up : Bool) → FrameSteps (arrival_at up vni (Ok frame)) e port result e'
         → decision_in result ≡ None
-    up_or_down vni false h = ap decision_in h.0
+    up_or_down vni false h = rw h.0
     up_or_down vni true h = reserved_none e port frame result e'
-        (subst (λ b. FrameSteps (cond b (reserved_arrival frame) (Ok (data_in vni frame))) e port result e') reserved h)
+        (rw reserved at h)
 
     go : (o : Option ℕ) → FrameSteps (arrival_on o (is_up e.tree port) octets) e port result e'
         → decision_in result ≡ None
-    go None h = ap decision_in h.0
+    go None h = rw h.0
     go (Some vni) h = up_or_down vni (is_up e.tree port)
-        (subst (λ f. FrameSteps (arrival_at (is_up e.tree port) vni f) e port result e') is h)
+        (rw is at h)
 
 -- ---- from a tunnel
 
@@ -204,7 +204,8 @@ module _ (e : Edge) (octets : List ℕ) (result : Result Reply Refusal) (e' : Ed
   inner_sent inner is destination d i = record {
     remote = i.remote;
     local = λ vni rest whole p port there.
-        let same : inner ≡ (vni, rest) = (let both : Ok inner ≡ Ok (vni, rest) = sym is ∙ whole in cc) in
+        let both = sym is ∙ whole in
+        let same : inner ≡ (vni, rest) = cc in
         let h = decided e inner.0 destination Tunnel d keeps i p port there in
         (h.0 ∙ ap (λ (q : ℕ × List ℕ). Some q.0) same, h.1);
   }
@@ -212,34 +213,32 @@ module _ (e : Edge) (octets : List ℕ) (result : Result Reply Refusal) (e' : Ed
   inner_leaves : (inner : ℕ × List ℕ) → instance_of octets ≡ Ok inner
       → (f : Result (List ℕ) FrameRefusal) (r : Result Reply Refusal) → TunnelSteps (inner_arrival inner.0 f) e r e'
       → ForSome (decision_in r) (LeavesTunnel e octets)
-  inner_leaves inner is (Err f) r h = none r (ap decision_in h.0) (LeavesTunnel e octets)
+  inner_leaves inner is (Err f) r h = none r (rw h.0) _
   inner_leaves inner is (Ok frame) r h = go (is_reserved (destination_of frame)) r h
     where
       go : (b : Bool) (r : Result Reply Refusal) → TunnelSteps (cond b (Ok Dropped) (Ok (data_in inner.0 frame))) e r e'
           → ForSome (decision_in r) (LeavesTunnel e octets)
-      go true r h = none r (ap decision_in h.0) (LeavesTunnel e octets)
+      go true r h = none r (rw h.0) _
       go false (Ok reply) h = λ d at. inner_sent inner is (destination_of frame) d
-          (subst (SendsIf true e inner.0 (destination_of frame) Tunnel) at h.0)
+          (rw at at h.0)
       go false (Err r) h = absurd h
 
   datagram_leaves : (i : Result (ℕ × List ℕ) vxlan.VxlanRefusal) → instance_of octets ≡ i
       → TunnelSteps (datagram_arrival e i) e result e' → ForSome (decision_in result) (LeavesTunnel e octets)
-  datagram_leaves (Err r) is h = none result (ap decision_in h.0) (LeavesTunnel e octets)
+  datagram_leaves (Err r) is h = none result (rw h.0) _
   datagram_leaves (Ok inner) is h = go (serves e inner.0) h
     where
       go : (b : Bool) → TunnelSteps (cond b (inner_arrival inner.0 (frame_of inner.1)) (Err (OfEdge NoSuchVni))) e
           result e' → ForSome (decision_in result) (LeavesTunnel e octets)
       go true h = inner_leaves inner is (frame_of inner.1) result h
-      go false h = none result (ap decision_in h.0) (LeavesTunnel e octets)
+      go false h = none result (rw h.0) _
 
   pub tunnel_leaves : (from : ℕ) → TunnelSteps (tunnel_arrival e from octets) e result e'
       → ForSome (decision_in result) (LeavesTunnel e octets)
-  tunnel_leaves from h = go (is_other e from) h
-    where
-      go : (b : Bool) → TunnelSteps (cond b (datagram_arrival e (instance_of octets)) (Err (OfEdge UnknownOriginator)))
-          e result e' → ForSome (decision_in result) (LeavesTunnel e octets)
-      go true h = datagram_leaves (instance_of octets) refl h
-      go false h = none result (ap decision_in h.0) (LeavesTunnel e octets)
+  tunnel_leaves from h = elim (cases_Bool (is_other e from)) [
+    | inl other ↦ datagram_leaves (instance_of octets) refl (rw other at h)
+    | inr own ↦ none result (let r = rw own at h in rw r.0) _
+  ]
 
 pub reserved_datagram : (e : Edge) (from : ℕ) (octets : List ℕ) (result : Result Reply Refusal) (e' : Edge)
     → HoldsReserved octets → TunnelSteps (tunnel_arrival e from octets) e result e' → decision_in result ≡ None
@@ -247,13 +246,12 @@ reserved_datagram e from octets result e' (vni, inner, is, (frame, framed, reser
   where
     served : (b : Bool) → TunnelSteps (cond b (inner_arrival vni (frame_of inner)) (Err (OfEdge NoSuchVni))) e result e'
         → decision_in result ≡ None
-    served false h = ap decision_in h.0
+    served false h = rw h.0
     served true h =
-        let dropped = subst (λ b. TunnelSteps (cond b (Ok Dropped) (Ok (data_in vni frame))) e result e') reserved
-        (subst (λ f. TunnelSteps (inner_arrival vni f) e result e') framed h) in
-        ap decision_in dropped.0
+        let dropped = rw reserved at (rw framed at h) in
+        rw dropped.0
 
     go : (b : Bool) → TunnelSteps (cond b (datagram_arrival e (instance_of octets)) (Err (OfEdge UnknownOriginator))) e
         result e' → decision_in result ≡ None
-    go false h = ap decision_in h.0
-    go true h = served (serves e vni) (subst (λ i. TunnelSteps (datagram_arrival e i) e result e') is h)
+    go false h = rw h.0
+    go true h = served (serves e vni) (rw is at h)

@@ -1,6 +1,6 @@
 -- An edge stays good when its local routes change.
 use Rattle.std.proofs.Common.{◌≡◌, ℕ, ◌+◌, ◌≤◌, ◌^◌, Bool, true, false, cond, Result, Ok, Err, List, [], ◌∷◌, length}
-use Rattle.std.proofs.Common.{refl, sym, ap, subst, ◌∙◌, arith}
+use Rattle.std.proofs.Common.{refl, sym, ap, ◌∙◌, arith}
 use Rattle.std.specs.Prelude.{OnOk, OnErr, nat_le, ◌==◌, ◌-◌, filter}
 use Rattle.std.proofs.lemmas.Bool.Decides.{nat_tests}
 use Rattle.ether_wire.specs.Addr.{is_group}
@@ -14,17 +14,18 @@ use Rattle.mac_arena.proofs.Values.{latest_learn, latest_pin, latest_later, chai
 use Rattle.mac_arena.specs.Learning.{learnt_of}
 use Rattle.ev_claims.specs.LocalRoutes.{LocalRoutes, after_removals, after_removal, after_update, after_losing}
 use Rattle.ev_claims.specs.LocalRoutes.{after_take, after_own}
-use Rattle.ev_claims.specs.Speaker.{is_returning, after_originating, after_importing}
-use Rattle.route_wire.specs.declared.update.Content.TheVariants.{Withdrawn}
+use Rattle.ev_claims.specs.Speaker.{is_returning}
 use Rattle.ev_tunnel.specs.Decision.{is_away}
 use Rattle.ev_claims.specs.LocalRoutes.{after_refresh, after_shift, after_announcement, is_lost}
 use Rattle.ev_edge.specs.declared.storms.Storm.{Storm}
 use Rattle.ev_edge.specs.Edge.{Edge, IsEdge, AreListed, table_of}
 use Rattle.std.specs.FinMap.{FinMap}
+use Rattle.std.proofs.lemmas.Bool.{cases_Bool}
+use Rattle.std.proofs.Common.{inl, inr}
 use Rattle.mac_arena.specs.Station.{station_cmp}
 use Rattle.ev_mobility.specs.declared.window.Window.{Window}
 use Rattle.rstp_run.specs.Rules.{Tree}
-use Rattle.ev_claims.specs.Leaving.{after_ageing, after_flush, due_in, flushed_in}
+use Rattle.ev_claims.specs.Leaving.{after_flush, due_in, flushed_in}
 use Rattle.ev_edge.specs.Edge.{ArePassing}
 use Rattle.ev_edge.specs.Bridging.{next_second, aged}
 use Rattle.ev_edge.specs.declared.limits.Quota.{Quota}
@@ -32,8 +33,8 @@ use Rattle.ev_edge.specs.Limits.{AreKept}
 use Rattle.ev_edge.proofs.Quotas.{later_kept}
 use Rattle.ev_edge.proofs.Owning.{Holds, changed_individual, some_bucket, removals_hold}
 
-pub holds_of : (e : Edge) (passing : ℕ) → IsEdge e passing → Holds e.routes e.clock
-holds_of e passing h = record {
+pub holds_of : {e : Edge} {passing : ℕ} → IsEdge e passing → Holds e.routes e.clock
+holds_of h = record {
   owns = h.keeps.owns;
   latest = h.keeps.latest;
   individual = h.keeps.individual;
@@ -83,45 +84,47 @@ taken_list c u = go u.register.key ∙ update_lists c u
     go (Mac v m ip) = pick (record { vni = v; mac = m }) (is_lost (after_update c u) (record { vni = v; mac = m }))
 
 pub own_list : (c : LocalRoutes) (u : Fields) → ListsAs (after_own c u) c
-own_list c u = go (is_returning c.speaker u)
-  where
-    go : (b : Bool) → ListsAs (record c {
-      speaker = cond b (after_originating (after_importing c.speaker u) u.register.key Withdrawn)
-          (after_importing c.speaker u);
-    }) c
-    go true = update_lists c u
-    go false = update_lists c u
+own_list c u = elim (cases_Bool (is_returning c.speaker u)) [
+  | inl again ↦ rw again (update_lists c u)
+  | inr new ↦ rw new (update_lists c u)
+]
 
 -- so those that are away are listed still
 pub listed_still : (e : Edge) (c : LocalRoutes) → AreListed e.away (table_of e) → ListsAs c e.routes
     → AreListed e.away c.speaker.table
 listed_still e c listed same = listed ∙ ap (filter (is_away e.away)) (sym same)
 
--- ---- other local routes
-pub kept : (e : Edge) (passing : ℕ) (c d : LocalRoutes) → IsEdge e passing → d ≡ c → Holds c e.clock
-    → c.ports ≡ e.routes.ports → ListsAs c e.routes → IsEdge (record e { routes = d }) passing
-kept e passing c d h is holds ports same = subst (λ x. IsEdge (record e { routes = x }) passing) (sym is) (record {
+-- an edge by the parts of its invariant
+is_edge : {x : Edge} {passing : ℕ} → Holds x.routes x.clock → length x.tree.ports ≡ length x.routes.ports
+    → x.clock ≤ 2 ^ 63 → AreListed x.away (table_of x) → AreKept x.quotas x.clock → ArePassing x.tree passing
+    → IsEdge x passing
+is_edge holds ports early away quotas exact = record {
   keeps = record {
     owns = holds.owns;
     latest = holds.latest;
     individual = holds.individual;
     served = holds.served;
     buckets = holds.buckets;
-    ports = h.keeps.ports ∙ sym (ap length ports);
-    early = h.keeps.early;
-    away = listed_still e c h.keeps.away same;
-    quotas = h.keeps.quotas;
+    ports = ports;
+    early = early;
+    away = away;
+    quotas = quotas;
   };
-  exact = h.exact;
-})
+  exact = exact;
+}
 
-pub either : {X E : Type 0} (e : Edge) (passing : ℕ) (c d : LocalRoutes) (r : Result X E) → IsEdge e passing
+-- ---- other local routes
+pub kept : {e : Edge} {passing : ℕ} {c d : LocalRoutes} → IsEdge e passing → d ≡ c → Holds c e.clock
+    → c.ports ≡ e.routes.ports → ListsAs c e.routes → IsEdge (record e { routes = d }) passing
+kept {e} {c = c} h is holds ports same = rw is (is_edge holds (h.keeps.ports ∙ sym (ap length ports)) h.keeps.early
+    (listed_still e c h.keeps.away same) h.keeps.quotas h.exact)
+
+pub either : {X E : Type 0} {e : Edge} {passing : ℕ} (c d : LocalRoutes) (r : Result X E) → IsEdge e passing
     → OnOk r (d ≡ c)
     → OnErr r (d ≡ e.routes) → Holds c e.clock → c.ports ≡ e.routes.ports → ListsAs c e.routes
     → IsEdge (record e { routes = d }) passing
-either e passing c d (Ok x) h ok err holds ports same = kept e passing c d h ok holds ports same
-either e passing c d (Err x) h ok err holds ports same =
-    kept e passing e.routes d h err (holds_of e passing h) refl refl
+either c d (Ok x) h ok err holds ports same = kept h ok holds ports same
+either c d (Err x) h ok err holds ports same = kept h err (holds_of h) refl refl
 
 pub refresh_holds : (c : LocalRoutes) (s : Station) (port second : ℕ) → is_group s.mac ≡ false → Holds c second
     → Holds (after_refresh c s port second) second
@@ -157,76 +160,28 @@ announced_holds c second h = record {
 }
 
 -- other windows
-pub other_windows : (e : Edge) (passing : ℕ) (windows : FinMap station_cmp Window) → IsEdge e passing
+pub other_windows : {e : Edge} {passing : ℕ} (windows : FinMap station_cmp Window) → IsEdge e passing
     → IsEdge (record e { windows = windows }) passing
-other_windows e passing windows h = record {
-  keeps = record {
-    owns = h.keeps.owns;
-    latest = h.keeps.latest;
-    individual = h.keeps.individual;
-    served = h.keeps.served;
-    buckets = h.keeps.buckets;
-    ports = h.keeps.ports;
-    early = h.keeps.early;
-    away = h.keeps.away;
-    quotas = h.keeps.quotas;
-  };
-  exact = h.exact;
-}
+other_windows windows h = is_edge (holds_of h) h.keeps.ports h.keeps.early h.keeps.away
+    h.keeps.quotas h.exact
 
 -- other quotas
-pub other_quotas : (e : Edge) (passing : ℕ) (quotas : List Quota) → IsEdge e passing → AreKept quotas e.clock
+pub other_quotas : {e : Edge} {passing : ℕ} (quotas : List Quota) → IsEdge e passing → AreKept quotas e.clock
     → IsEdge (record e { quotas = quotas }) passing
-other_quotas e passing quotas h kept = record {
-  keeps = record {
-    owns = h.keeps.owns;
-    latest = h.keeps.latest;
-    individual = h.keeps.individual;
-    served = h.keeps.served;
-    buckets = h.keeps.buckets;
-    ports = h.keeps.ports;
-    early = h.keeps.early;
-    away = h.keeps.away;
-    quotas = kept;
-  };
-  exact = h.exact;
-}
+other_quotas quotas h kept = is_edge (holds_of h) h.keeps.ports h.keeps.early h.keeps.away kept
+    h.exact
 
 -- other counts of storms
-pub other_storms : (e : Edge) (passing : ℕ) (storms : List Storm) → IsEdge e passing
+pub other_storms : {e : Edge} {passing : ℕ} (storms : List Storm) → IsEdge e passing
     → IsEdge (record e { storms = storms }) passing
-other_storms e passing storms h = record {
-  keeps = record {
-    owns = h.keeps.owns;
-    latest = h.keeps.latest;
-    individual = h.keeps.individual;
-    served = h.keeps.served;
-    buckets = h.keeps.buckets;
-    ports = h.keeps.ports;
-    early = h.keeps.early;
-    away = h.keeps.away;
-    quotas = h.keeps.quotas;
-  };
-  exact = h.exact;
-}
+other_storms storms h = is_edge (holds_of h) h.keeps.ports h.keeps.early h.keeps.away
+    h.keeps.quotas h.exact
 
 -- other edges are away
-pub other_away : (e : Edge) (passing : ℕ) (away : List ℕ) → IsEdge e passing → AreListed away (table_of e)
+pub other_away : {e : Edge} {passing : ℕ} (away : List ℕ) → IsEdge e passing → AreListed away (table_of e)
     → IsEdge (record e { away = away }) passing
-other_away e passing away h listed = record {
-  keeps = record {
-    owns = h.keeps.owns;
-    latest = h.keeps.latest;
-    individual = h.keeps.individual;
-    served = h.keeps.served;
-    buckets = h.keeps.buckets;
-    ports = h.keeps.ports;
-    early = h.keeps.early;
-    away = listed;
-    quotas = h.keeps.quotas;
-  };
-  exact = h.exact;
-}
+other_away away h listed = is_edge (holds_of h) h.keeps.ports h.keeps.early listed h.keeps.quotas
+    h.exact
 
 -- ---- the bridge goes on
 pub bridged : (e : Edge) (was passing clock : ℕ) (tree : Tree) (c d : LocalRoutes) → IsEdge e was
@@ -234,20 +189,8 @@ pub bridged : (e : Edge) (was passing clock : ℕ) (tree : Tree) (c d : LocalRou
     → Holds c clock → c.ports ≡ e.routes.ports → ListsAs c e.routes
     → IsEdge (record e { tree = tree; clock = clock; routes = d }) passing
 bridged e was passing clock tree c d h size exact later early is holds ports same =
-    subst (λ x. IsEdge (record e { tree = tree; clock = clock; routes = x }) passing) (sym is) (record {
-      keeps = record {
-        owns = holds.owns;
-        latest = holds.latest;
-        individual = holds.individual;
-        served = holds.served;
-        buckets = holds.buckets;
-        ports = size ∙ h.keeps.ports ∙ sym (ap length ports);
-        early = early;
-        away = listed_still e c h.keeps.away same;
-        quotas = later_kept e.quotas e.clock clock later h.keeps.quotas;
-      };
-      exact = exact;
-    })
+    rw is (is_edge holds (size ∙ h.keeps.ports ∙ sym (ap length ports)) early (listed_still e c h.keeps.away same)
+    (later_kept e.quotas e.clock clock later h.keeps.quotas) exact)
 
 pub second_early : (clock : ℕ) → clock ≤ 2 ^ 63 → (clock ≤ next_second clock) × (next_second clock ≤ 2 ^ 63)
 second_early clock low = go (clock == 2 ^ 63) refl
@@ -269,22 +212,19 @@ pub flush_holds : (c : LocalRoutes) (set second : ℕ) → Holds c second → Ho
 flush_holds c set second h = removals_hold c (flushed_in c.learned set) second h
 
 pub aged_holds : (c : LocalRoutes) (ageing clock : ℕ) → Holds c clock → Holds (aged c ageing clock) clock
-aged_holds c ageing clock h = go (nat_le ageing clock)
-  where
-    go : (b : Bool) → Holds (cond b (after_ageing c (clock - ageing)) c) clock
-    go true = removals_hold c (due_in c.learned (clock - ageing)) clock h
-    go false = h
+aged_holds c ageing clock h = elim (cases_Bool (nat_le ageing clock)) [
+  | inl late ↦ rw late (removals_hold c (due_in c.learned (clock - ageing)) clock h)
+  | inr early ↦ rw early h
+]
 
 pub aged_ports : (c : LocalRoutes) (ageing clock : ℕ) → (aged c ageing clock).ports ≡ c.ports
-aged_ports c ageing clock = go (nat_le ageing clock)
-  where
-    go : (b : Bool) → (cond b (after_ageing c (clock - ageing)) c).ports ≡ c.ports
-    go true = removals_ports c (due_in c.learned (clock - ageing))
-    go false = refl
+aged_ports c ageing clock = elim (cases_Bool (nat_le ageing clock)) [
+  | inl late ↦ rw late (removals_ports c (due_in c.learned (clock - ageing)))
+  | inr early ↦ rw early
+]
 
 pub aged_list : (c : LocalRoutes) (ageing clock : ℕ) → ListsAs (aged c ageing clock) c
-aged_list c ageing clock = go (nat_le ageing clock)
-  where
-    go : (b : Bool) → ListsAs (cond b (after_ageing c (clock - ageing)) c) c
-    go true = removals_list c (due_in c.learned (clock - ageing))
-    go false = refl
+aged_list c ageing clock = elim (cases_Bool (nat_le ageing clock)) [
+  | inl late ↦ rw late (removals_list c (due_in c.learned (clock - ageing)))
+  | inr early ↦ rw early
+]

@@ -1,7 +1,9 @@
 -- The events that never report refused memory.
 use Rattle.std.proofs.Common.{◌≡◌, ◌≢◌, inl, inr, ℕ, Bool, true, false, cond, eqb, Option, Some, None, Result, Ok, Err}
-use Rattle.std.proofs.Common.{List, drop, refl, sym, ap, subst, ◌∙◌}
+use Rattle.std.proofs.Common.{List, drop, refl, sym, ◌∙◌}
 use Rattle.std.specs.Prelude.{not, is_some, ◌&&◌}
+use Rattle.std.proofs.lemmas.Bool.{false≢true}
+use Rattle.std.proofs.lemmas.Option.{none-some}
 use Rattle.ether_wire.specs.Frame.{frame_of, destination_of, payload_of}
 use Rattle.ether_wire.specs.declared.frame.FrameRefusal.{FrameRefusal}
 use Rattle.bpdu_wire.specs.Reading.{reading}
@@ -39,22 +41,19 @@ use Rattle.ev_edge.specs.Laws.{is_data, takes_none, TellsNoMemory}
 -- another refusal
 refused : (result : Result Reply Refusal) (r : Refusal) → result ≡ Err r → r ≢ OfEdge NoMemory → TellsNoMemory result
     → ⊥
-refused result r is ne told = ne (subst TellsNoMemory is told)
+refused result r is ne told = ne (rw is at told)
 
 -- idle alert
 silent : (result : Result Reply Refusal) (reply : Reply) → result ≡ Ok reply → reply.alert ≡ None → TellsNoMemory result
     → ⊥
-silent result reply is idle told =
-    let there : reply.alert ≡ Some Unroomed = subst TellsNoMemory is told in
-    let bad : None ≡ Some Unroomed = sym idle ∙ there in
-    absurd cc
+silent result reply is idle told = none-some Unroomed (sym idle ∙ rw is at told)
 
 quiet : (reply : Reply) → reply.alert ≡ None → TellsNoMemory (Ok reply) → ⊥
 quiet reply idle told = silent (Ok reply) reply refl idle told
 
 bridged : (event : tree.Event) (e : Edge) (result : Result Reply Refusal) (e' : Edge) → Bridges event e result e'
     → TellsNoMemory result → ⊥
-bridged event e (Ok reply) e' h = quiet reply (ap (λ (r : Reply). r.alert) h.reply_is)
+bridged event e (Ok reply) e' h = quiet reply (rw h.reply_is)
 bridged event e (Err r) e' h = absurd h
 
 bridged_at : (vni : Option ℕ) (event : tree.Event) (e : Edge) (result : Result Reply Refusal) (e' : Edge)
@@ -63,7 +62,7 @@ bridged_at None event e result e' h = refused result (OfEdge NoSuchPort) h.0 (λ
 bridged_at (Some vni) event e result e' h = bridged event e result e' h
 
 seconds : (e : Edge) (result : Result Reply Refusal) (e' : Edge) → Seconds e result e' → TellsNoMemory result → ⊥
-seconds e (Ok reply) e' h = quiet reply (ap (λ (r : Reply). r.alert) h.reply_is)
+seconds e (Ok reply) e' h = quiet reply (rw h.reply_is)
 seconds e (Err r) e' h = absurd h
 
 -- ---- frames
@@ -83,7 +82,7 @@ module _ (e : Edge) (port : ℕ) (result : Result Reply Refusal) (e' : Edge) whe
       → FrameSteps (cond b (reserved_arrival frame) (Ok (data_in vni frame))) e port result e' → TellsNoMemory result
       → ⊥
   in_frame vni frame true idle h = held frame (holds_bpdu frame) h
-  in_frame vni frame false idle h = absurd (let bad : false ≡ true = idle in cc)
+  in_frame vni frame false idle h = absurd (false≢true idle)
 
   at_port : (vni : ℕ) (up : Bool) (f : Result (List ℕ) FrameRefusal) → not (is_data (arrival_at up vni f)) ≡ true
       → FrameSteps (arrival_at up vni f) e port result e' → TellsNoMemory result → ⊥
@@ -109,13 +108,13 @@ module _ (e : Edge) (port : ℕ) (result : Result Reply Refusal) (e' : Edge) whe
           → FrameSteps (cond b (Err (OfEdge (PortStorm port))) (Ok (Data v d s))) e port result e'
           → TellsNoMemory result → ⊥
       go true idle h = refused result _ h.0 (λ same. cc)
-      go false idle h = absurd (let bad : false ≡ true = idle in cc)
+      go false idle h = absurd (false≢true idle)
 
 module _ (e : Edge) (result : Result Reply Refusal) (e' : Edge) where
   in_tunnel : (vni : ℕ) (frame : List ℕ) (b : Bool) (r : Result Reply Refusal)
       → TunnelSteps (cond b (Ok Dropped) (Ok (data_in vni frame))) e r e' → TellsNoMemory r → ⊥
   in_tunnel vni frame true r h = silent r _ h.0 refl
-  in_tunnel vni frame false (Ok reply) h = quiet reply (ap (λ (r : Reply). r.alert) h.1)
+  in_tunnel vni frame false (Ok reply) h = quiet reply (rw h.1)
   in_tunnel vni frame false (Err r) h = absurd h
 
   inner : (vni : ℕ) (f : Result (List ℕ) FrameRefusal) → TunnelSteps (inner_arrival vni f) e result e'
@@ -142,7 +141,7 @@ module _ (e : Edge) (result : Result Reply Refusal) (e' : Edge) where
 
 lost : (b : Bool) → lost_alert b ≢ Some Unroomed
 lost true same = let bad : Some LostStatic ≡ Some Unroomed = same in cc
-lost false same = let bad : None ≡ Some Unroomed = same in cc
+lost false same = none-some Unroomed same
 
 there_not_none : (o : Option Value) → is_some o ≡ true → o ≢ None
 there_not_none None there is = cc
@@ -150,7 +149,7 @@ there_not_none (Some v) there is = cc
 
 others : (e : Edge) (u : Fields) (result : Result Reply Refusal) (e' : Edge)
     → is_some (value_at (table_of e) u.register) ≡ true → TakesOther e u result e' → TellsNoMemory result → ⊥
-others e u (Ok reply) e' there h told = lost (loses_pinned e.routes u) (sym (ap (λ (r : Reply). r.alert) h.1) ∙ told)
+others e u (Ok reply) e' there h told = lost (loses_pinned e.routes u) (sym (rw h.1) ∙ told)
 others e u (Err r) e' there h told = elim h.0 as (λ _. ⊥) [
   | inl unknown ↦ (let bad : OfEdge UnknownOriginator ≡ OfEdge NoMemory = sym unknown.0 ∙ told in absurd cc)
   | inr full ↦ there_not_none (value_at (table_of e) u.register) there full.2
@@ -158,7 +157,7 @@ others e u (Err r) e' there h told = elim h.0 as (λ _. ⊥) [
 
 taken : (e : Edge) (u : Fields) (result : Result Reply Refusal) (e' : Edge) (b : Bool)
     → (not b && is_some (value_at (table_of e) u.register)) ≡ true → Takes b e u result e' → TellsNoMemory result → ⊥
-taken e u result e' true idle h = absurd (let bad : false ≡ true = idle in cc)
+taken e u result e' true idle h = absurd (false≢true idle)
 taken e u result e' false there h = others e u result e' there h
 
 marked : (e : Edge) (away : List ℕ) (result : Result Reply Refusal) (e' : Edge) (b : Bool) → Marks b e away result e'
@@ -173,7 +172,7 @@ tells_none e (events.Frame port octets) result e' idle h =
     (frames e port result e' (vni_at e.routes.ports port) octets.now)
 tells_none e (events.TunnelFrame from octets) result e' idle h = tunnels e result e' octets.now (is_other e from) h
 tells_none e (events.Take u) result e' idle h = taken e u result e' (eqb u.register.originator (address_of e)) idle h
-tells_none e (events.Pin s port) result e' idle h = absurd (let bad : false ≡ true = idle in cc)
+tells_none e (events.Pin s port) result e' idle h = absurd (false≢true idle)
 tells_none e (events.Unpin s) result e' idle h = silent result _ h.0 refl
 tells_none e (events.Thaw s) result e' idle h = silent result _ h.0 refl
 tells_none e events.Second result e' idle h = seconds e result e' h

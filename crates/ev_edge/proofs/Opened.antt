@@ -1,10 +1,11 @@
 -- An edge that is opened is good: it advertises no station, has heard none, and no port passes.
-use Rattle.std.proofs.Common.{◌≡◌, ℕ, zero, suc, ◌+◌, ◌-◌, true, false, Option, Some, None, List, [], ◌∷◌, length, refl}
-use Rattle.std.proofs.Common.{sym, ap, subst, ◌∙◌, arith}
+use Rattle.std.proofs.Common.{◌≡◌, ℕ, zero, suc, ◌+◌, ◌-◌, false, Option, Some, None, List, [], ◌∷◌, length, refl}
+use Rattle.std.proofs.Common.{sym, ap, ◌∙◌, arith}
 use Rattle.std.specs.Prelude.{IsSome, Contains, replicate, ◌<◌, ◌&&◌}
 use Rattle.std.proofs.lemmas.List.{length-replicate}
 use Rattle.std.proofs.lemmas.List.Sorted.{Contains-permutation}
 use Rattle.std.specs.FinMap.{get-empty}
+use Rattle.std.proofs.lemmas.Bool.{false≢true}
 use Rattle.route_wire.specs.declared.update.Key.TheVariants.{Flood, Mac}
 use Rattle.route_wire.specs.declared.update.Value.{Value}
 use Rattle.route_wire.specs.declared.update.Content.TheVariants.{Advert as Advertised}
@@ -16,7 +17,7 @@ use Rattle.ether_wire.proofs.PortLemmas.{has_port-none}
 use Rattle.mac_arena.specs.declared.station.Station.{Station}
 use Rattle.mac_arena.specs.declared.station.Entry.{Entry}
 use Rattle.mac_arena.specs.Station.{station_cmp}
-use Rattle.mac_arena.specs.Learning.{Learning, entry_at, nothing_learnt, IsLatest}
+use Rattle.mac_arena.specs.Learning.{entry_at, nothing_learnt}
 use Rattle.mac_arena.proofs.Values.{latest_nothing}
 use Rattle.rstp_state.specs.declared.start.PortSettings.{PortSettings}
 use Rattle.rstp_state.specs.declared.start.Settings.{Settings}
@@ -70,9 +71,8 @@ ports_length settings (p ∷ ports) n = ap suc (ports_length settings ports (n +
 
 none_passing : (settings : Settings) (ports : List PortSettings) → ArePassing (start settings ports) 0
 none_passing settings ports p = (
-  λ h. absurd (let no : false ≡ true = sym (has_port-none p) ∙ h in cc),
-  λ h. absurd (let up : test_at (p - 1) (λ port. port.enabled && port.forwarding) (ports_from 1 settings ports) ≡ true =
-      h.1.1 in let no : false ≡ true = sym (down settings ports 1 (p - 1)) ∙ up in cc),
+  λ h. absurd (false≢true (sym (has_port-none p) ∙ h)),
+  λ h. absurd (false≢true (sym (down settings ports 1 (p - 1)) ∙ h.1.1)),
 )
 
 abbrev none_there : List Station
@@ -80,8 +80,8 @@ none_there = []
 
 -- no station is learnt
 nobody_individual : (s : Start) (c : LocalRoutes) → IsOpening s c → AreIndividual c.learned
-nobody_individual s c h = subst AreIndividual (sym h.learned)
-    (λ r some. absurd (never_learnt (entry_at (nothing_learnt s.capacity (length s.ports.items) s.buckets s.salt) r)
+nobody_individual s c h = rw h.learned (λ r some. absurd (never_learnt (entry_at (nothing_learnt s.capacity (length
+    s.ports.items) s.buckets s.salt) r)
     (get-empty {X = Entry} station_cmp r) some))
   where
     never_learnt : (o : Option Entry) → o ≡ None → IsSome o → ⊥
@@ -94,18 +94,18 @@ pub opened : (s : Start) (c : LocalRoutes) (settings : Settings) (ports : List P
     → ((v : ℕ) → Contains s.ports.items v → Contains s.vnis.items v) → 0 < s.buckets
     → AreKept quotas 0 → IsEdge (edge_of c 0 ageing tree moves [] quotas storms) 0
 opened s c settings ports ageing tree moves quotas storms h is size serves some kept =
-    subst (λ t. IsEdge (edge_of c 0 ageing t moves [] quotas storms) 0) (sym is) (record {
+    rw is (record {
       keeps = record {
         owns = λ r some. absurd (never_some (own_advert c.speaker (key_of r))
             (ap (λ v. own_advert v (key_of r)) h.speaker
             ∙ nothing_said s.address s.incarnation s.originators.items c.vnis r) some);
-        latest = subst (λ l. IsLatest l 0) (sym h.learned) (latest_nothing s.capacity (length s.ports.items) s.buckets
+        latest = rw h.learned (latest_nothing s.capacity (length s.ports.items) s.buckets
             s.salt 0);
         individual = nobody_individual s c h;
         served = λ v in'. Contains-permutation s.vnis.items c.vnis v h.vnis
-            (serves v (subst (λ l. Contains l v) h.ports in'));
-        buckets = subst (λ (l : Learning). 0 < length l.chains) (sym h.learned)
-            (let many : length (replicate s.buckets none_there) ≡ s.buckets = length-replicate s.buckets none_there in
+            (serves v (rw h.ports at in'));
+        buckets = rw h.learned (let many : length (replicate s.buckets none_there) ≡ s.buckets = length-replicate
+            s.buckets none_there in
             omega (arith, many, some));
         ports = ports_length settings ports 1 ∙ sym size ∙ sym (ap length h.ports);
         early = omega arith;

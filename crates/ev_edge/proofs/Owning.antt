@@ -1,7 +1,7 @@
 -- An edge owns each MAC that it advertises, and no station's last second is later than now, through each change of its
 -- local routes.
 use Rattle.std.proofs.Common.{◌≡◌, ◌≢◌, inl, inr, ℕ, ◌<◌, Bool, true, false, cond, not, Option, Some, None, List, []}
-use Rattle.std.proofs.Common.{◌∷◌, length, refl, sym, ap, subst, ◌∙◌, arith}
+use Rattle.std.proofs.Common.{◌∷◌, length, refl, sym, ap, ◌∙◌, arith}
 use Rattle.std.specs.Prelude.{IsSome, is_some, ◌&&◌, MatchOption}
 use Rattle.std.proofs.lemmas.Bool.Decides.{nat_tests}
 use Rattle.ether_wire.specs.Addr.{is_group}
@@ -20,7 +20,7 @@ use Rattle.route_join.proofs.Joins.{others_stay}
 use Rattle.route_join.proofs.Tables.{at_same}
 use Rattle.mac_arena.specs.declared.station.Station.{Station}
 use Rattle.mac_arena.specs.declared.station.Entry.{Entry}
-use Rattle.mac_arena.specs.Learning.{Learning, entry_at, IsLatest, after_removal as gone}
+use Rattle.mac_arena.specs.Learning.{Learning, IsLatest, after_removal as gone}
 use Rattle.mac_arena.specs.Laws.{ChangesEntry}
 use Rattle.mac_arena.proofs.Entries.{same_or_other}
 use Rattle.mac_arena.proofs.Looking.{removal_entry}
@@ -46,7 +46,7 @@ pub saying_owns : (c : LocalRoutes) (k : Key) (content : Content) (r : Station)
 saying_owns c k content r ne h some =
     owner_along c.speaker.table (after_originating c.speaker k content).table r.vni r.mac c.speaker.address
     (λ o j. sym (said_other c.speaker k content (Mac r.vni r.mac j) o (ne j)))
-    (h (subst IsSome (said_other c.speaker k content (key_of r) c.speaker.address (ne None)) some))
+    (h (rw (said_other c.speaker k content (key_of r) c.speaker.address (ne None)) at some))
 
 -- ---- a removal
 pub never_some : (o : Option Advert) → o ≡ None → IsSome o → ⊥
@@ -59,8 +59,8 @@ removed_owns c s some = absurd (never_some (own_advert (after_removal c s).speak
 
 pub removal_owns : (c : LocalRoutes) (s : Station) → ((r : Station) → r ≢ s → OwnsAt c r) → (r : Station)
     → OwnsAt (after_removal c s) r
-removal_owns c s others r = elim (same_or_other r s) as (λ _. OwnsAt (after_removal c s) r) [
-  | inl same ↦ subst (OwnsAt (after_removal c s)) (sym same) (removed_owns c s)
+removal_owns c s others r = elim (same_or_other r s) [
+  | inl same ↦ rw same (removed_owns c s)
   | inr ne ↦ saying_owns c (key_of s) Withdrawn r (λ j. other_key r s j None ne) (others r ne)
 ]
 
@@ -69,10 +69,9 @@ removal_owns c s others r = elim (same_or_other r s) as (λ _. OwnsAt (after_rem
 -- no group address is learnt, if one entry changes
 pub changed_individual : (t t' : Learning) (s : Station) (o : Option Entry) → ChangesEntry t t' s o
     → (IsSome o → is_group s.mac ≡ false) → AreIndividual t → AreIndividual t'
-changed_individual t t' s o change free h r some = elim (same_or_other r s) as (λ _. is_group r.mac ≡ false) [
-  | inl same ↦ subst (λ (q : Station). is_group q.mac ≡ false) (sym same)
-      (free (subst IsSome change.here (subst (λ q. IsSome (entry_at t' q)) same some)))
-  | inr ne ↦ h r (subst IsSome (change.others r ne) some)
+changed_individual t t' s o change free h r some = elim (same_or_other r s) [
+  | inl same ↦ rw same (free (rw change.here at (rw same at some)))
+  | inr ne ↦ h r (rw (change.others r ne) at some)
 ]
 
 no_entry : {P : Type 0} → IsSome {T = Entry} None → P
@@ -117,7 +116,7 @@ elsewhere : (c : LocalRoutes) (u : Fields) (r : Station) → ((j : Option Ip) �
 elsewhere c u r ne h some =
     owner_along c.speaker.table (with_update c.speaker.table u) r.vni r.mac c.speaker.address
     (λ o j. sym (update_stays c.speaker.table u (Mac r.vni r.mac j) o (ne j)))
-    (h (subst IsSome (update_stays c.speaker.table u (key_of r) c.speaker.address (ne None)) some))
+    (h (rw (update_stays c.speaker.table u (key_of r) c.speaker.address (ne None)) at some))
 
 -- an edge that isn't beaten is the owner
 not_lost : (c : LocalRoutes) (s : Station) → is_lost c s ≡ false → OwnsAt c s
@@ -125,21 +124,15 @@ not_lost c s h some = go (owner c.speaker.table s.vni s.mac) (at (own_advert c.s
     (owner_is c.speaker.table s.vni s.mac)
   where
     at : (o : Option Advert) → IsSome o → (is_some o && not (is_at (owner c.speaker.table s.vni s.mac)
-        c.speaker.address))
-        ≡ false → is_at (owner c.speaker.table s.vni s.mac) c.speaker.address ≡ true
+        c.speaker.address)) ≡ false → is_at (owner c.speaker.table s.vni s.mac) c.speaker.address ≡ true
     at None some h = cc
-    at (Some a) some h = tests (is_at (owner c.speaker.table s.vni s.mac) c.speaker.address) h
-      where
-        tests : (b : Bool) → not b ≡ false → b ≡ true
-        tests true e = refl
-        tests false e = absurd cc
+    at (Some a) some h = grind (arith, h)
 
     go : (o : Option ℕ) → is_at o c.speaker.address ≡ true
         → MatchOption o (IsUnowned c.speaker.table s.vni s.mac) (IsOwner c.speaker.table s.vni s.mac)
         → IsOwner c.speaker.table s.vni s.mac c.speaker.address
     go None p q = cc
-    go (Some o) p q = let same : o ≡ c.speaker.address = grind (arith, nat_tests) in
-        subst (IsOwner c.speaker.table s.vni s.mac) same q
+    go (Some o) p q = let same : o ≡ c.speaker.address = grind (arith, nat_tests) in rw same at q
 
 losing_holds : (c : LocalRoutes) (s : Station) (second : ℕ) → ((r : Station) → r ≢ s → OwnsAt c r)
     → IsLatest c.learned second → AreIndividual c.learned → ServesPorts c → 0 < length c.learned.chains
@@ -155,9 +148,9 @@ losing_holds c s second others latest single served buckets = go (is_lost c s) r
       buckets = some_bucket c.learned (gone c.learned s) (chains_removal c.learned s) buckets;
     }
     go false lost = record {
-      owns = λ r. elim (same_or_other r s) as (λ _. OwnsAt c r) [
+      owns = λ r. elim (same_or_other r s) [
         | inl same ↦
-            subst (OwnsAt c) (sym same) (not_lost c s lost)
+            rw same (not_lost c s lost)
         | inr ne ↦ others r ne
       ];
       latest = latest;

@@ -1,11 +1,14 @@
 -- Ports that are there are ports.
-use Rattle.std.proofs.Common.{◌≡◌, ℕ, zero, suc, ◌≤◌, ◌<◌, Bool, false, eqb, ◌||◌, Some, List, [], ◌∷◌, length}
-use Rattle.std.proofs.Common.{Contains, refl, sym, ap, arith}
+use Rattle.std.proofs.Common.{◌≡◌, ℕ, zero, suc, ◌≤◌, ◌<◌, Bool, false, eqb, Some, List, [], ◌∷◌, length}
+use Rattle.std.proofs.Common.{Contains, refl, sym, arith}
 use Rattle.std.proofs.lemmas.Bool.{eq-eqb}
 use Rattle.std.proofs.lemmas.Bool.Decides.{nat_tests}
+use Rattle.std.proofs.lemmas.Bool.{or_cases}
 use Rattle.std.specs.List.{list_any}
 use Rattle.ether_wire.specs.Ports as ports_of_sets
-use Rattle.std.specs.Prelude.{slice_get, slice_index_or, is_some, true, ◌↔◌}
+use Rattle.std.specs.Prelude.{slice_get, is_some, true, ◌↔◌}
+use Rattle.std.proofs.lemmas.Bool.{cases_Bool, or_right}
+use Rattle.std.proofs.Common.{inl, inr, ◌∙◌}
 use Rattle.rstp_run.specs.Events.{IsPort}
 use Rattle.ev_claims.specs.LocalRoutes.{vni_at}
 
@@ -19,40 +22,30 @@ there_port ports zero h = cc
 there_port ports (suc l) h = let less = get_within ports l h in (omega arith, omega (arith, less))
 
 pub some_port : (ports : List ℕ) (p v : ℕ) → vni_at ports p ≡ Some v → 0 < p
-some_port ports p v is = (there_port ports p (ap is_some is)).0
+some_port ports p v is = (there_port ports p (rw is)).0
 
 -- ports of an edge are ports of sets, too
 pub set_port : (ports : List ℕ) (p v : ℕ) → length ports ≤ 64 → vni_at ports p ≡ Some v → ports_of_sets.IsPort p
-set_port ports p v few is = let there = there_port ports p (ap is_some is) in
+set_port ports p v few is = let there = there_port ports p (rw is) in
     record { least = there.0; most = (let low = there.1 in omega (arith, low, few)) }
 
 -- ---- whether a number is in a list
 any_contains : (xs : List ℕ) (q : ℕ) → list_any (λ v. eqb v q) xs ≡ true → Contains xs q
 any_contains [] q e = cc
-any_contains (x ∷ xs) q e = go (eqb x q) refl e (any_contains xs q)
-  where
-    go : (b : Bool) → eqb x q ≡ b → (b || list_any (λ v. eqb v q) xs) ≡ true
-        → (list_any (λ v. eqb v q) xs ≡ true → Contains xs q) → Contains (x ∷ xs) q
-    go true t e later = (0, omega arith, grind (arith, nat_tests))
-    go false t e later = let h = later e in (suc h.0, omega (arith, h.1), h.2)
+any_contains (x ∷ xs) q e = elim (or_cases (eqb x q) (list_any (λ v. eqb v q) xs) e) [
+  | inl t ↦ (0, omega arith, grind (arith, nat_tests))
+  | inr later ↦ (let h = any_contains xs q later in (suc h.0, omega (arith, h.1), h.2))
+]
 
 contains_any : (xs : List ℕ) (q : ℕ) → Contains xs q → list_any (λ v. eqb v q) xs ≡ true
 contains_any [] q c = let less = c.1 in absurd (omega (arith, less))
-contains_any (x ∷ xs) q c = go (contains_any xs q) c.0 c.1 c.2
-  where
-    later : (b : Bool) → list_any (λ v. eqb v q) xs ≡ true → (b || list_any (λ v. eqb v q) xs) ≡ true
-    later true e = refl
-    later false e = e
-
-    go : (Contains xs q → list_any (λ v. eqb v q) xs ≡ true) → (k : ℕ) → k < length (x ∷ xs)
-        → slice_index_or (x ∷ xs) k q ≡ q → (eqb x q || list_any (λ v. eqb v q) xs) ≡ true
-    go rest zero less is = ap (λ b. b || list_any (λ v. eqb v q) xs) (eq-eqb x q is)
-    go rest (suc k) less is = later (eqb x q) (rest (k, omega (arith, less), is))
+contains_any (x ∷ xs) q (zero, less, is) = rw (eq-eqb x q is)
+contains_any (x ∷ xs) q (suc k, less, is) = or_right (eqb x q) (list_any (λ v. eqb v q) xs)
+    (contains_any xs q (k, omega (arith, less), is))
 
 pub any_is : (b : Bool) (xs : List ℕ) (q : ℕ) → (b ≡ true) ↔ Contains xs q → b ≡ list_any (λ v. eqb v q) xs
 any_is true xs q h = sym (contains_any xs q (h.0 refl))
-any_is false xs q h = go (list_any (λ v. eqb v q) xs) refl
-  where
-    go : (x : Bool) → list_any (λ v. eqb v q) xs ≡ x → false ≡ x
-    go true e = absurd (let no : false ≡ true = h.1 (any_contains xs q e) in cc)
-    go false e = refl
+any_is false xs q h = elim (cases_Bool (list_any (λ v. eqb v q) xs)) [
+  | inl there ↦ h.1 (any_contains xs q there) ∙ sym there
+  | inr away ↦ sym away
+]

@@ -1,11 +1,12 @@
 -- The invariant of the quotas of ports.
-use Rattle.std.proofs.Common.{◌≡◌, ℕ, zero, suc, ◌+◌, ◌-◌, ◌≤◌, Bool, true, false, cond, not, Option, Some, None, List}
+use Rattle.std.proofs.Common.{◌≡◌, ℕ, zero, suc, ◌+◌, ◌-◌, ◌≤◌, Bool, true, false, not, Option, Some, None, List}
 use Rattle.std.proofs.Common.{[], ◌∷◌, length}
-use Rattle.std.proofs.Common.{refl, sym, ap, subst, arith}
+use Rattle.std.proofs.Common.{refl, sym, ap, arith}
 use Rattle.std.specs.Prelude.{◌&&◌, is_some, slice_set}
 use Rattle.std.proofs.Math.Seq.{set_out}
-use Rattle.std.proofs.lemmas.Bool.{false≢true}
 use Rattle.std.proofs.lemmas.Bool.Decides.{nat_tests}
+use Rattle.std.proofs.lemmas.Bool.{cases_Bool}
+use Rattle.std.proofs.Common.{inl, inr}
 use Rattle.ether_wire.specs.Ports.{place_of_port}
 use Rattle.mac_arena.specs.declared.station.Station.{Station}
 use Rattle.ev_edge.specs.declared.config.PortConfig.{PortConfig}
@@ -46,18 +47,17 @@ pub met_above : (limit : Option ℕ) (n most : ℕ) → is_met limit n ≡ false
 met_above None n most free is = cc
 met_above (Some m) n most free is = let same : m ≡ most = cc in
     let less : m ≤ n → ⊥ = (λ h. grind (arith, nat_tests)) in
-    subst (λ k. n + 1 ≤ k) same (grind (arith, nat_tests))
+    rw (← same) (grind (arith, nat_tests))
 
 counting_kept : (q : Quota) (second : ℕ) → IsKept q second
     → is_met q.limits.new_stations (count_in q second) ≡ false → IsKept (counting q second) second
 counting_kept q second h free = record {
-  started = start (runs q second);
+  started = elim (cases_Bool (runs q second)) [
+    | inl on ↦ rw on h.started
+    | inr off ↦ rw off (omega arith)
+  ];
   within = λ most is. met_above q.limits.new_stations (count_in q second) most free is;
 }
-  where
-    start : (b : Bool) → cond b q.start second ≤ second
-    start true = h.started
-    start false = omega arith
 
 set_kept : (qs : List Quota) (l : ℕ) (q : Quota) (second : ℕ) → IsKept q second
     → ((n : ℕ) → IsKept (quota_in qs n) second) → (n : ℕ) → IsKept (quota_in (slice_set qs l q) n) second
@@ -70,7 +70,7 @@ set_kept (x ∷ xs) (suc l) q second new old (suc n) = set_kept xs l q second ne
 -- by index, as the ports are counted from 1
 by_index : (qs : List Quota) (second : ℕ) → AreKept qs second → (n : ℕ) → IsKept (quota_in qs n) second
 by_index qs second h n = let is : suc n - 1 ≡ n = omega arith in
-    subst (λ k. IsKept (quota_in qs k) second) is (h (suc n))
+    rw is at (h (suc n))
 
 pub counted_kept : (qs : List Quota) (port second : ℕ) → AreKept qs second
     → is_met (quota_at qs port).limits.new_stations (count_in (quota_at qs port) second) ≡ false
@@ -81,19 +81,12 @@ counted_kept qs port second h free = λ p.
 
 -- a station that is counted and not one too many
 pub room_for_one : (some needs met : Bool) → (met && needs) ≡ false → (some && needs) ≡ true → met ≡ false
-room_for_one true true met calm counted = first met calm
-  where
-    first : (met : Bool) → (met && true) ≡ false → met ≡ false
-    first true e = e
-    first false e = refl
-room_for_one true false met calm counted = absurd (false≢true counted)
-room_for_one false needs met calm counted = absurd (false≢true counted)
+room_for_one some needs met calm counted = grind (arith, calm, counted)
 
 pub quotas_kept : (e : Edge) (s : Station) (port : ℕ) → AreKept e.quotas e.clock → is_busy e s port ≡ false
     → AreKept (quotas_with e s port) e.clock
-quotas_kept e s port h calm = go (is_counted e s port) refl
-  where
-    go : (b : Bool) → is_counted e s port ≡ b → AreKept (cond b (with_counted e.quotas port e.clock) e.quotas) e.clock
-    go true counted = counted_kept e.quotas port e.clock h
-        (room_for_one (is_some (limits_at e port).new_stations) (needs_register e s) _ calm counted)
-    go false counted = h
+quotas_kept e s port h calm = elim (cases_Bool (is_counted e s port)) [
+  | inl counted ↦ rw counted (counted_kept e.quotas port e.clock h
+      (room_for_one (is_some (limits_at e port).new_stations) (needs_register e s) _ calm counted))
+  | inr uncounted ↦ rw uncounted h
+]

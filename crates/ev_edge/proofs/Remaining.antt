@@ -1,12 +1,15 @@
 -- An edge stays good at each event: a consequence of the relation of edge, event, answer and next edge.
 use Rattle.std.proofs.Common.{◌≡◌, ℕ, ◌<◌, ◌^◌, Bool, true, false, cond, eqb, not, ◌&&◌}
 use Rattle.std.proofs.Common.{Option, Some, None, Result, Ok, Err, List, drop, length, refl, sym, ap}
-use Rattle.std.proofs.Common.{subst, ◌∙◌, arith}
+use Rattle.std.proofs.Common.{◌∙◌, arith}
 use Rattle.std.specs.Prelude.{IsSome}
 use Rattle.std.specs.FinMap.{FinMap}
 use Rattle.std.proofs.lemmas.List.{length-map}
 use Rattle.std.proofs.lemmas.Bool.{false≢true}
 use Rattle.std.proofs.lemmas.Bool.Decides.{nat_tests}
+use Rattle.std.proofs.lemmas.Bool.{cases_Bool}
+use Rattle.std.proofs.lemmas.Option.{none-some}
+use Rattle.std.proofs.Common.{inl, inr}
 use Rattle.ether_wire.specs.Addr.{is_group}
 use Rattle.ether_wire.specs.Frame.{frame_of, destination_of, payload_of}
 use Rattle.ether_wire.specs.declared.frame.FrameRefusal.{FrameRefusal}
@@ -28,9 +31,7 @@ use Rattle.rstp_run.specs.Rules.{Tree}
 use Rattle.rstp_run.specs.Runs.{Firing, Run}
 use Rattle.rstp_run.proofs.Steps.{length-change_at}
 use Rattle.ev_mobility.specs.declared.alert.Alert.{Alert}
-use Rattle.ev_mobility.specs.declared.alert.Alert.TheVariants.{StaticElsewhere, CounterSpent, TableFull}
 use Rattle.ev_mobility.specs.declared.window.Window.{Window}
-use Rattle.ev_mobility.specs.Seq.{seq_for}
 use Rattle.ev_claims.specs.LocalRoutes.{LocalRoutes, vni_at, after_advert, after_refresh, after_pin, after_shift}
 use Rattle.ev_claims.specs.LocalRoutes.{after_removal}
 use Rattle.ev_claims.specs.LocalRoutes.{after_take, after_own, after_announcement}
@@ -52,7 +53,7 @@ use Rattle.ev_edge.specs.Bridging.{next_second, aged}
 use Rattle.ev_edge.specs.declared.storms.Storm.{Storm}
 use Rattle.ev_edge.specs.Edge.{Edge, IsGoodEdge, AreListed, table_of, address_of}
 use Rattle.ev_edge.specs.Learning.{is_spent}
-use Rattle.ev_edge.specs.Pinning.{is_static, unpinned_case, pin_case_at, pin_case, refused_pin, DoesPin, after_unpin}
+use Rattle.ev_edge.specs.Pinning.{unpinned_case, pin_case_at, pin_case, refused_pin, DoesPin, after_unpin}
 use Rattle.ev_edge.specs.Storms.{storms_with, taking_on}
 use Rattle.ev_edge.specs.Steps.{Steps, LearnsIf, FrameSteps, TunnelSteps, Bridges, BridgesAt, Seconds, Takes}
 use Rattle.ev_edge.specs.Steps.{Pins, Marks}
@@ -70,13 +71,13 @@ use Rattle.ev_edge.proofs.Staying.{announced_keeps}
 use Rattle.rstp_run.proofs.Within.{run_length}
 
 same_good : (e e' : Edge) → e' ≡ e → IsGoodEdge e → IsGoodEdge e'
-same_good e e' is h = subst IsGoodEdge (sym is) h
+same_good e e' is h = rw is h
 
 -- other local routes, of the same ports
 routes_good : (e e' : Edge) (c : LocalRoutes) → IsGoodEdge e → Keeps c e.clock → c.ports ≡ e.routes.ports
     → ListsAs c e.routes → e' ≡ record e { routes = c } → IsGoodEdge e'
-routes_good e e' c h k ports same is = subst IsGoodEdge (sym is)
-    (good_by (record e { routes = c }) k (h.keeps.ports ∙ sym (ap length ports)) h.keeps.early
+routes_good e e' c h k ports same is = rw is (good_by (record e { routes = c }) k (h.keeps.ports ∙ sym (ap length
+    ports)) h.keeps.early
     (listed_still e c h.keeps.away same) h.keeps.quotas)
 
 windows_good : (e : Edge) (windows : FinMap station_cmp Window) → IsGoodEdge e
@@ -92,8 +93,8 @@ storms_good e storms h = good_by (record e { storms = storms }) (keeps_of e h) h
 -- other edges are away
 marks_good : (e : Edge) (away : List ℕ) (result : Result Reply Refusal) (e' : Edge) → IsGoodEdge e
     → AreListed away (table_of e) → (b : Bool) → Marks b e away result e' → IsGoodEdge e'
-marks_good e away result e' h listed true d = subst IsGoodEdge (sym d.1)
-    (good_by (record e { away = away }) (keeps_of e h) h.keeps.ports h.keeps.early listed
+marks_good e away result e' h listed true d = rw d.1 (good_by (record e { away = away }) (keeps_of e h) h.keeps.ports
+    h.keeps.early listed
     h.keeps.quotas)
 marks_good e away result e' h listed false d = same_good e e' d.1 h
 
@@ -141,8 +142,7 @@ goes_length event old new firings run = run_length firings (direct event old) ne
 bridges_good : (event : tree.Event) (e : Edge) (result : Result Reply Refusal) (e' : Edge) → IsGoodEdge e
     → Bridges event e result e' → IsGoodEdge e'
 bridges_good event e (Ok reply) e' h d =
-    subst IsGoodEdge (sym d.after)
-    (good_by _ (flush_keeps e.routes d.flush e.clock (keeps_of e h))
+    rw d.after (good_by _ (flush_keeps e.routes d.flush e.clock (keeps_of e h))
     (goes_length event e.tree e'.tree d.goes.happens.firings d.goes.happens.run ∙ h.keeps.ports
     ∙ sym (ap length (removals_ports e.routes (flushed_in e.routes.learned d.flush)))) h.keeps.early
     (listed_still e (after_flush e.routes d.flush) h.keeps.away
@@ -159,8 +159,7 @@ seconds_good : (e : Edge) (result : Result Reply Refusal) (e' : Edge) → IsGood
 seconds_good e (Err r) e' h d = absurd d
 seconds_good e (Ok reply) e' h d =
     let times = second_early e.clock h.keeps.early in
-    subst IsGoodEdge (sym d.after)
-    (good_by _ (aged_keeps (after_flush e.routes d.flush) e.ageing (next_second e.clock)
+    rw d.after (good_by _ (aged_keeps (after_flush e.routes d.flush) e.ageing (next_second e.clock)
     (later_keeps (after_flush e.routes d.flush) e.clock (next_second e.clock) times.0
     (flush_keeps e.routes d.flush e.clock (keeps_of e h))))
     (goes_length tree_events.Second e.tree e'.tree d.goes.happens.firings d.goes.happens.run ∙ h.keeps.ports
@@ -255,57 +254,20 @@ record IsPinnable (e : Edge) (s : Station) : Type 0 where
 
 unpinned_fits : (e : Edge) (s : Station) (known : Bool) → unpinned_case e s known ≡ Pin
     → (is_spent e.routes ≡ false) × ((not known && is_full e.routes.learned) ≡ false)
-unpinned_fits e s known is = go (is_static (seq_for (table_of e) (address_of e) s.vni s.mac)) (is_spent e.routes)
-    (not known && is_full e.routes.learned) is
-  where
-    go : (a b d : Bool) → cond a (Deny StaticElsewhere) (cond b (Deny CounterSpent) (cond d (Deny TableFull) Pin)) ≡ Pin
-        → (b ≡ false) × (d ≡ false)
-    go true b d q = cc
-    go false true d q = cc
-    go false false true q = cc
-    go false false false q = (refl, refl)
+unpinned_fits e s known is = (grind (arith, is), grind (arith, is))
 
 pinnable : (e : Edge) (s : Station) (port : ℕ) (o : Option Entry) → entry_at e.routes.learned s ≡ o
     → pin_case_at e s port o ≡ Pin → IsPinnable e s
 pinnable e s port None at is = let f = unpinned_fits e s false is in record { few = f.0; room = λ none. f.1 }
-pinnable e s port (Some x) at is = go x.pinned (eqb x.port port) is
-  where
-    go : (b d : Bool) → cond b (cond d Keep Shift) (unpinned_case e s true) ≡ Pin → IsPinnable e s
-    go true true q = cc
-    go true false q = cc
-    go false d q = let f = unpinned_fits e s true q in record {
-      few = f.0;
-      room = λ none. absurd (let bad : None ≡ Some x = sym none ∙ at in cc);
-    }
+pinnable e s port (Some x) at is =
+    let f = unpinned_fits e s true (grind (arith, is)) in
+    record { few = f.0; room = λ none. absurd (none-some x (sym none ∙ at)) }
 
 -- a station that goes to another port is pinned
 shifts_pinned : (e : Edge) (s : Station) (port : ℕ) (o : Option Entry) → pin_case_at e s port o ≡ Shift
     → is_pinned o ≡ true
-shifts_pinned e s port None is = absurd (never false is)
-  where
-    never : (known : Bool) → unpinned_case e s known ≡ Shift → ⊥
-    never known q = go (is_static (seq_for (table_of e) (address_of e) s.vni s.mac)) (is_spent e.routes)
-        (not known && is_full e.routes.learned) q
-      where
-        go : (a b d : Bool) → cond a (Deny StaticElsewhere) (cond b (Deny CounterSpent) (cond d (Deny TableFull) Pin))
-            ≡ Shift → ⊥
-        go true b d q = cc
-        go false true d q = cc
-        go false false true q = cc
-        go false false false q = cc
-shifts_pinned e s port (Some x) is = go x.pinned (eqb x.port port) is
-  where
-    never : (a b d : Bool) → cond a (Deny StaticElsewhere) (cond b (Deny CounterSpent) (cond d (Deny TableFull) Pin))
-        ≡ Shift → ⊥
-    never true b d q = cc
-    never false true d q = cc
-    never false false true q = cc
-    never false false false q = cc
-
-    go : (b d : Bool) → cond b (cond d Keep Shift) (unpinned_case e s true) ≡ Shift → b ≡ true
-    go true d q = refl
-    go false d q = absurd (never (is_static (seq_for (table_of e) (address_of e) s.vni s.mac)) (is_spent e.routes)
-        (not true && is_full e.routes.learned) q)
+shifts_pinned e s port None is = grind (arith, is)
+shifts_pinned e s port (Some x) is = grind (arith, is)
 
 does_pin_good : (e : Edge) (s : Station) (port : ℕ) (told : Option Alert) (e' : Edge) → IsGoodEdge e
     → refused_pin e s port ≡ None → (c : PinCase) → pin_case e s port ≡ c → DoesPin c e s port told e' → IsGoodEdge e'
@@ -330,17 +292,15 @@ pins_good e s port (Ok reply) e' h None is d = does_pin_good e s port reply.aler
 pins_good e s port (Err r) e' h None is d = absurd d
 
 unpin_good : (e : Edge) (s : Station) → IsGoodEdge e → IsGoodEdge (after_unpin e s)
-unpin_good e s h = go (is_pinned (entry_at e.routes.learned s)) refl
+unpin_good e s h = elim (cases_Bool (is_pinned (entry_at e.routes.learned s))) [
+  | inl pinned ↦ rw pinned (routes_good e _ (after_removal e.routes s) h
+      (removal_keeps e.routes s e.clock (keeps_of e h) (known (entry_at e.routes.learned s) pinned)) refl refl refl)
+  | inr free ↦ rw free h
+]
   where
     known : (o : Option Entry) → is_pinned o ≡ true → IsSome o
     known None is = absurd (false≢true is)
     known (Some x) is = refl
-
-    go : (b : Bool) → is_pinned (entry_at e.routes.learned s) ≡ b
-        → IsGoodEdge (cond b (record e { routes = after_removal e.routes s }) e)
-    go true is = routes_good e _ (after_removal e.routes s) h
-        (removal_keeps e.routes s e.clock (keeps_of e h) (known (entry_at e.routes.learned s) is)) refl refl refl
-    go false is = h
 
 -- ---- all events
 

@@ -40,13 +40,11 @@ own_steps e u d (Err NoMemory) taken ok ahead spent memory err = (
   λ i. record e { routes = err i },
 )
 
-pub own_kept : (e : Edge) (passing : ℕ) (u : Fields) (d : LocalRoutes) (r : Result Taken OwnError) → IsEdge e passing
+pub own_kept : {e : Edge} {passing : ℕ} (u : Fields) (d : LocalRoutes) (r : Result Taken OwnError) → IsEdge e passing
     → KeepsNumbers e.routes.speaker → u.register.originator ≡ e.routes.speaker.address
     → OnOk r (d ≡ after_own e.routes u)
     → (r ≡ Err Ahead) ↔ (is_ahead e.routes.speaker u ≡ true) → OnErr r (d ≡ e.routes)
     → IsEdge (record e { routes = d }) passing
-own_kept e passing u d (Ok t) h numbers own ok ahead err =
-    kept e passing (after_own e.routes u) d h ok (own_holds e.routes u e.clock numbers own (never _ _ ahead (λ p. cc))
-    (holds_of e passing h)) refl (own_list e.routes u)
-own_kept e passing u d (Err x) h numbers own ok ahead err =
-    kept e passing e.routes d h err (holds_of e passing h) refl refl
+own_kept {e} u d (Ok t) h numbers own ok ahead err = kept h ok
+    (own_holds e.routes u e.clock numbers own (never _ _ ahead (λ p. cc)) (holds_of h)) refl (own_list e.routes u)
+own_kept u d (Err x) h numbers own ok ahead err = kept h err (holds_of h) refl refl

@@ -1,8 +1,7 @@
 -- After an update under its own name an edge still owns each MAC that it advertises: no own advert changes.
-use Rattle.std.proofs.Common.{◌≡◌, ◌≢◌, ℕ, Bool, true, false, cond, eqb, Option, refl, sym, ap, subst, ◌∙◌, arith}
-use Rattle.std.specs.Prelude.{IsSome}
-use Rattle.std.proofs.lemmas.Bool.{eq-eqb}
-use Rattle.std.proofs.lemmas.Bool.Decides.{nat_tests}
+use Rattle.std.proofs.Common.{◌≡◌, ◌≢◌, ℕ, Bool, true, false, cond, Option, refl, sym, ap, ◌∙◌}
+use Rattle.std.proofs.lemmas.Bool.{cases_eq}
+use Rattle.std.proofs.Common.{inl, inr}
 use Rattle.route_wire.specs.declared.update.Ip.{Ip}
 use Rattle.route_wire.specs.declared.update.Key.{Key}
 use Rattle.route_wire.specs.declared.update.Key.TheVariants.{Mac}
@@ -10,7 +9,7 @@ use Rattle.route_wire.specs.declared.update.Register.{Register}
 use Rattle.route_wire.specs.declared.update.Content.TheVariants.{Withdrawn}
 use Rattle.route_wire.specs.Fields.{Fields}
 use Rattle.route_join.specs.Table.{register_of}
-use Rattle.route_join.specs.Owner.{advert_of, advert_at, IsOwner}
+use Rattle.route_join.specs.Owner.{advert_of, advert_at}
 use Rattle.route_join.proofs.Owners.{owner_along}
 use Rattle.route_join.proofs.Joins.{others_stay}
 use Rattle.route_join.proofs.Tables.{at_other}
@@ -39,23 +38,21 @@ same_holds : (c : LocalRoutes) (v : Speaker) (second : ℕ) → v.address ≡ c.
     → ((o : ℕ) (k : Key) → o ≢ c.speaker.address → advert_at v.table o k ≡ advert_at c.speaker.table o k)
     → Holds c second → Holds (record c { speaker = v }) second
 same_holds c v second address own others h = record {
-  owns = λ s some. subst (λ a. IsOwner v.table s.vni s.mac a) (sym address)
-      (owner_along c.speaker.table v.table s.vni s.mac c.speaker.address
-      (λ o j. go s o j (eqb o c.speaker.address) refl)
-      (h.owns s (subst IsSome (own (key_of s)) some)));
+  owns = λ s some. rw address (owner_along c.speaker.table v.table s.vni s.mac c.speaker.address
+      (there s)
+      (h.owns s (rw (own (key_of s)) at some)));
   latest = h.latest;
   individual = h.individual;
   served = h.served;
   buckets = h.buckets;
 }
   where
-    go : (s : Station) (o : ℕ) (j : Option Ip) (b : Bool) → eqb o c.speaker.address ≡ b
-        → advert_at c.speaker.table o (Mac s.vni s.mac j) ≡ advert_at v.table o (Mac s.vni s.mac j)
-    go s o j true t =
-        let same : o ≡ c.speaker.address = grind (arith, nat_tests) in
-        ap (λ p. advert_at c.speaker.table p (Mac s.vni s.mac j)) same ∙ sym (own (Mac s.vni s.mac j))
-        ∙ ap (λ p. advert_at v.table p (Mac s.vni s.mac j)) (address ∙ sym same)
-    go s o j false t = sym (others o (Mac s.vni s.mac j) (λ same. (let yes = eq-eqb o c.speaker.address same in cc)))
+    there : (s : Station) (o : ℕ) (j : Option Ip) → advert_at c.speaker.table o (Mac s.vni s.mac j)
+        ≡ advert_at v.table o (Mac s.vni s.mac j)
+    there s o j = elim (cases_eq o c.speaker.address) [
+      | inl same ↦ rw same (sym (rw address at (own (Mac s.vni s.mac j))))
+      | inr other ↦ sym (others o (Mac s.vni s.mac j) other)
+    ]
 
 pub own_holds : (c : LocalRoutes) (u : Fields) (second : ℕ) → KeepsNumbers c.speaker → u.register.originator
     ≡ c.speaker.address

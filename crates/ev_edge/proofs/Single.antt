@@ -1,5 +1,6 @@
 -- An event of the bridge has one outcome.
 use Rattle.std.proofs.Common.{◌≡◌, ℕ, true, Option, Some, None, Result, Ok, Err, List, sym, ap, ◌∙◌}
+use Rattle.std.proofs.lemmas.Bool.{false≢true}
 use Rattle.bpdu_wire.specs.declared.bpdu.Bpdu.{Bpdu}
 use Rattle.rstp_run.specs.declared.event.Event as tree
 use Rattle.rstp_run.specs.declared.event.Event.TheVariants as tree_events
@@ -67,7 +68,7 @@ module _ (law : OneOutcome) where
   same_frame (Ok Dropped) e a b port x y is h k = cc
   same_frame (Ok (Message message)) e a b port x y is h k =
       same_bridge (tree_events.Bpdu port message) e a b x y h k
-  same_frame (Ok (Data vni destination source)) e a b port x y is h k = absurd (let no : ⊥ = cc in no)
+  same_frame (Ok (Data vni destination source)) e a b port x y is h k = absurd (false≢true is)
 
   pub one_outcome : (e a b : Edge) (event : Event) (x y : Result Reply Refusal) → is_of_bridge e event ≡ true
       → Steps e event x a → Steps e event y b → (x ≡ y) × (a ≡ b)
@@ -80,11 +81,11 @@ module _ (law : OneOutcome) where
       same_at (vni_at e.routes.ports port) (tree_events.PortDown port) e a b x y h k
   one_outcome e a b (events.Mcheck port) x y is h k =
       same_at (vni_at e.routes.ports port) (tree_events.Mcheck port) e a b x y h k
-  one_outcome e a b (events.TunnelFrame from octets) x y is h k = absurd (let no : ⊥ = cc in no)
-  one_outcome e a b (events.Take u) x y is h k = absurd (let no : ⊥ = cc in no)
-  one_outcome e a b (events.Pin s port) x y is h k = absurd (let no : ⊥ = cc in no)
-  one_outcome e a b (events.Unpin s) x y is h k = absurd (let no : ⊥ = cc in no)
-  one_outcome e a b (events.Thaw s) x y is h k = absurd (let no : ⊥ = cc in no)
-  one_outcome e a b events.Announce x y is h k = absurd (let no : ⊥ = cc in no)
-  one_outcome e a b (events.Away o) x y is h k = absurd (let no : ⊥ = cc in no)
-  one_outcome e a b (events.Back o) x y is h k = absurd (let no : ⊥ = cc in no)
+  one_outcome e a b (events.TunnelFrame from octets) x y is h k = absurd (false≢true is)
+  one_outcome e a b (events.Take u) x y is h k = absurd (false≢true is)
+  one_outcome e a b (events.Pin s port) x y is h k = absurd (false≢true is)
+  one_outcome e a b (events.Unpin s) x y is h k = absurd (false≢true is)
+  one_outcome e a b (events.Thaw s) x y is h k = absurd (false≢true is)
+  one_outcome e a b events.Announce x y is h k = absurd (false≢true is)
+  one_outcome e a b (events.Away o) x y is h k = absurd (false≢true is)
+  one_outcome e a b (events.Back o) x y is h k = absurd (false≢true is)

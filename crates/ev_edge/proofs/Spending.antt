@@ -1,13 +1,14 @@
 -- How many registers the frames of a port make: no more in each minute than the port's limit allows.
 use Rattle.std.proofs.Common.{◌≡◌, ◌≢◌, ◌⊎◌, inl, inr, ℕ, zero, suc, ◌+◌, ◌-◌, ◌*◌, ◌<◌, ◌≤◌, Bool, true, false, cond}
 use Rattle.std.proofs.Common.{not}
-use Rattle.std.proofs.Common.{◌&&◌, ◌||◌, eqb, Option, Some, None, Result, Ok, Err, List, [], ◌∷◌, refl, sym}
-use Rattle.std.proofs.Common.{ap, subst}
+use Rattle.std.proofs.Common.{◌&&◌, eqb, Option, Some, None, Result, Ok, Err, List, [], ◌∷◌, refl, sym}
+use Rattle.std.proofs.Common.{ap}
 use Rattle.std.proofs.Common.{◌∙◌, arith}
-use Rattle.std.specs.Prelude.{is_some, IsSome, nat_lt, slice_set}
+use Rattle.std.specs.Prelude.{is_some, IsSome, slice_set}
 use Rattle.std.specs.Option.{option_map}
 use Rattle.std.specs.FinMap.{len, len-insert}
-use Rattle.std.proofs.lemmas.Bool.{false≢true}
+use Rattle.std.proofs.lemmas.Bool.{cases_Bool, cases_eq, eq-eqb, ne_eqb, or_right}
+use Rattle.std.proofs.lemmas.Option.{none-some}
 use Rattle.std.proofs.lemmas.Bool.Decides.{nat_tests}
 use Rattle.ether_wire.specs.Addr.{is_group}
 use Rattle.ether_wire.specs.Ports.{place_of_port}
@@ -35,7 +36,6 @@ use Rattle.ev_edge.specs.declared.arrival.Arrival.{Arrival}
 use Rattle.ev_edge.specs.declared.arrival.Arrival.TheVariants.{Dropped, Message, Data}
 use Rattle.ev_edge.specs.declared.config.PortConfig.{PortConfig}
 use Rattle.ev_edge.specs.declared.event.Event.{Event}
-use Rattle.ev_edge.specs.declared.limits.Limits.{Limits}
 use Rattle.ev_edge.specs.declared.limits.Quota.{Quota}
 use Rattle.ev_edge.specs.declared.refusal.Refusal.{Refusal}
 use Rattle.ev_edge.specs.declared.reply.Reply.{Reply}
@@ -49,11 +49,8 @@ use Rattle.ev_edge.specs.Steps.{Steps, FrameSteps}
 use Rattle.ev_edge.specs.AwayLaws.{Entered}
 use Rattle.ev_edge.specs.LimitLaws.{comes_at, registers, made_at, Makes, RegistersAreFew, RegistersAreFewFromTheOpening}
 use Rattle.ev_edge.proofs.Cases.{learnt_by}
-use Rattle.ev_edge.proofs.Limiting.{KindOf, kind_of, bridge_rests, steps_limits, port_there}
+use Rattle.ev_edge.proofs.Limiting.{kind_of, bridge_rests, steps_limits, port_there}
 use Rattle.ev_edge.proofs.Remaining.{steps_good}
-
-no_more : (n : ℕ) → n ≤ n
-no_more n = omega arith
 
 -- ---- registers that are made
 
@@ -66,22 +63,20 @@ said_size : (v : Speaker) (k : Key) (c : Content)
 said_size v k c = len-insert register_total v.table.registers (own_register v k) (next_value v c)
 
 one_more : (v : Speaker) (k : Key) (c : Content) → size (after_originating v k c) ≤ size v + 1
-one_more v k c = go (is_some (own v k)) (said_size v k c)
-  where
-    go : (b : Bool) → size (after_originating v k c) ≡ cond b (size v) (size v + 1)
-        → size (after_originating v k c) ≤ size v + 1
-    go true is = omega (arith, is)
-    go false is = omega (arith, is)
+one_more v k c = (let is = said_size v k c in elim (cases_Bool (is_some (own v k))) [
+  | inl there ↦ (let h = rw there at is in omega (arith, h))
+  | inr new ↦ (let h = rw new at is in omega (arith, h))
+])
 
 none_made : (v : Speaker) (k : Key) (c : Content) → is_some (own v k) ≡ true → size (after_originating v k c) ≡ size v
-none_made v k c there = said_size v k c ∙ ap (λ b. cond b (size v) (size v + 1)) there
+none_made v k c there = rw there at (said_size v k c)
 
 -- a station that needs no register has one
 has_register : (e : Edge) (s : Station) → needs_register e s ≡ false → is_some (own e.routes.speaker (key_of s)) ≡ true
 has_register e s is = go (own e.routes.speaker (key_of s)) is
   where
     go : (o : Option Value) → not (originated_in e.routes.speaker.incarnation o) ≡ false → is_some o ≡ true
-    go None is = absurd (false≢true (sym is))
+    go None is = sym is
     go (Some v) is = refl
 
 -- ---- a flush makes none
@@ -89,24 +84,17 @@ has_register e s is = go (own e.routes.speaker (key_of s)) is
 still_there : (v : Speaker) (j k : Key) (c : Content) → is_some (own v k) ≡ true
     → is_some (own (after_originating v j c) k) ≡ true
 still_there v j k c there = elim (key_or_other k j) [
-  | inl same ↦ ap is_some (ap (own (after_originating v j c)) same ∙ own_same v j c)
-  | inr ne ↦ ap is_some (own_other v j c k ne) ∙ there
+  | inl same ↦ rw (same, own_same v j c)
+  | inr ne ↦ rw (own_other v j c k ne) there
 ]
 
 removals_size : (c : LocalRoutes) (ss : List Station)
     → ((s : Station) → stands ss s ≡ true → is_some (own c.speaker (key_of s)) ≡ true)
     → size (after_removals c ss).speaker ≡ size c.speaker
 removals_size c [] there = refl
-removals_size c (s ∷ ss) there = removals_size (after_removal c s) ss later
-    ∙ none_made c.speaker (key_of s) Withdrawn (there s (ap (λ b. b || stands ss s) (eq_same s s refl)))
-  where
-    or_true : (b : Bool) → (b || true) ≡ true
-    or_true true = refl
-    or_true false = refl
-
-    later : (q : Station) → stands ss q ≡ true → is_some (own (after_removal c s).speaker (key_of q)) ≡ true
-    later q on = still_there c.speaker (key_of s) (key_of q) Withdrawn
-        (there q (ap (λ b. is_same s q || b) on ∙ or_true (is_same s q)))
+removals_size c (s ∷ ss) there = removals_size (after_removal c s) ss
+    (λ q on. still_there c.speaker (key_of s) (key_of q) Withdrawn (there q (or_right (is_same s q) (stands ss q) on)))
+    ∙ none_made c.speaker (key_of s) Withdrawn (there s (rw (eq_same s s refl)))
 
 -- a learnt station has a register
 learnt_register : (c : LocalRoutes) (s : Station) → KeepsRoutes c → IsSome (entry_at c.learned s)
@@ -117,7 +105,7 @@ learnt_register c s h known = go (entry_at c.learned s) (own c.speaker (key_of s
         ≡ option_map (λ (a : Advert). a.is_static) (advert_of o) → IsSome x → is_some o ≡ true
     go x (Some v) same is = refl
     go None None same is = cc
-    go (Some x) None same is = absurd (let bad : Some x.pinned ≡ None = same in cc)
+    go (Some x) None same is = absurd (none-some x.pinned (sym same))
 
 flush_size : (c : LocalRoutes) (set : ℕ) → KeepsRoutes c → ListsName c.learned
     → size (after_flush c set).speaker ≡ size c.speaker
@@ -172,74 +160,65 @@ learns_here : (e x : Edge) (event : Event) (s : Station) (port n limit : ℕ)
     → made_at port event e x ≡ registers x - registers e
     → registers x ≡ size (after_originating e.routes.speaker (key_of s) (moving n))
     → x.quotas ≡ quotas_with e s port → x.clock ≡ e.clock → Counts port event e x
-learns_here e x event s port n limit is made more quotas clock = go (needs_register e s) refl
-  where
-    counted : (needs : Bool) → needs_register e s ≡ needs
-        → quotas_with e s port ≡ cond needs (with_counted e.quotas port e.clock) e.quotas
-    counted needs h = λ i. cond (is_some (is i) && h i) (with_counted e.quotas port e.clock) e.quotas
-
-    go : (needs : Bool) → needs_register e s ≡ needs → Counts port event e x
-    go true h = inr (record {
-      one = let few = one_more e.routes.speaker (key_of s) (moving n) in omega (arith, made, more, few);
-      quota = ap (λ qs. quota_at qs port) (quotas ∙ counted true h)
-          ∙ set_here e.quotas (place_of_port port) (counting (quota_at e.quotas port) e.clock) limit is;
-      clock = clock;
-    })
-    go false h = inl (record {
-      none = let same = none_made e.routes.speaker (key_of s) (moving n) (has_register e s h) in
-          omega (arith, made, more, same);
-      quota = ap (λ qs. quota_at qs port) (quotas ∙ counted false h);
-      later = omega (arith, clock);
-    })
+learns_here e x event s port n limit is made more quotas clock = elim (cases_Bool (needs_register e s)) [
+  | inl new ↦ inr (record {
+    one = let few = one_more e.routes.speaker (key_of s) (moving n) in omega (arith, made, more, few);
+    quota = rw (quotas, is, new)
+        (set_here e.quotas (place_of_port port) (counting (quota_at e.quotas port) e.clock) limit is);
+    clock = clock;
+  })
+  | inr known ↦ inl (record {
+    none = let same = none_made e.routes.speaker (key_of s) (moving n) (has_register e s known) in
+        omega (arith, made, more, same);
+    quota = rw (quotas, is, known);
+    later = omega (arith, clock);
+  })
+]
 
 -- at whatever port the frame comes
 learns_at : (e x : Edge) (event : Event) (s : Station) (port p n limit : ℕ) → 0 < p → 0 < port
     → (limits_at e p).new_stations ≡ Some limit → comes_at p event ≡ eqb port p
     → x.routes ≡ after_advert e.routes s port e.clock n → x.quotas ≡ quotas_with e s port → x.clock ≡ e.clock
     → Counts p event e x
-learns_at e x event s port p n limit some some' is at routes quotas clock = go (eqb port p) refl
-  where
-    made : (b : Bool) → eqb port p ≡ b → made_at p event e x ≡ cond b (registers x - registers e) 0
-    made b h = ap (λ b. cond b (registers x - registers e) 0) (at ∙ h)
-
-    go : (b : Bool) → eqb port p ≡ b → Counts p event e x
-    go true h = let same : p ≡ port = grind (arith, nat_tests) in
-        learns_here e x event s p n limit is (made true h) (ap (λ (c : LocalRoutes). size c.speaker) routes)
-        (quotas ∙ ap (quotas_with e s) (sym same)) clock
-    go false h = inl (record {
-      none = made false h;
-      quota = ap (λ qs. quota_at qs p) quotas
-          ∙ learns_other e x s port p some some' (λ same. grind (arith, nat_tests)) (is_counted e s port);
-      later = omega (arith, clock);
-    })
+learns_at e x event s port p n limit some some' is at routes quotas clock = elim (cases_eq port p) [
+  | inl same ↦ learns_here e x event s p n limit is (rw (at, eq-eqb port p same))
+      (ap (λ (c : LocalRoutes). size c.speaker) routes) (rw same at quotas) clock
+  | inr ne ↦ inl (record {
+    none = rw (at, ne_eqb port p ne);
+    quota = rw quotas (learns_other e x s port p some some' ne (is_counted e s port));
+    later = omega (arith, clock);
+  })
+]
 
 idle : (e x : Edge) (event : Event) (p : ℕ) → registers x ≡ registers e → quota_at x.quotas p ≡ quota_at e.quotas p
     → e.clock ≤ x.clock → Counts p event e x
-idle e x event p same quota later = inl (record { none = go (comes_at p event); quota = quota; later = later })
-  where
-    go : (b : Bool) → cond b (registers x - registers e) 0 ≡ 0
-    go true = omega (arith, same)
-    go false = refl
+idle e x event p same quota later = inl (record {
+  none = elim (cases_Bool (comes_at p event)) [
+    | inl comes ↦ rw comes (omega (arith, same))
+    | inr away ↦ rw away
+  ];
+  quota = quota;
+  later = later;
+})
 
 frame_counts : (a : Result Arrival Refusal) (e : Edge) (event : Event) (port p limit : ℕ)
     (result : Result Reply Refusal) (e' : Edge) → IsGoodEdge e → 0 < p
     → ((vni destination source : ℕ) → a ≡ Ok (Data vni destination source) → 0 < port)
     → (limits_at e p).new_stations ≡ Some limit → comes_at p event ≡ eqb port p → FrameSteps a e port result e'
     → Counts p event e e'
-frame_counts (Err r) e event port p limit result e' good some there is at h = idle e e' event p (ap registers h.1)
-    (ap (λ (x : Edge). quota_at x.quotas p) h.1) (let same = ap (λ (x : Edge). x.clock) h.1 in omega (arith, same))
+frame_counts (Err r) e event port p limit result e' good some there is at h =
+    rw h.1 (idle e e event p refl refl (omega arith))
 frame_counts (Ok Dropped) e event port p limit result e' good some there is at h =
-    idle e e' event p (ap registers h.1)
-    (ap (λ (x : Edge). quota_at x.quotas p) h.1) (let same = ap (λ (x : Edge). x.clock) h.1 in omega (arith, same))
+    rw h.1 (idle e e event p refl refl (omega arith))
 frame_counts (Ok (Message b)) e event port p limit (Ok reply) e' good some there is at h =
     let r = bridge_rests _ e (Ok reply) e' h in
-    idle e e' event p (ap registers h.after ∙ flush_size e.routes h.flush good.routes.routes good.routes.lists)
-    (ap (λ qs. quota_at qs p) r.quotas) r.later
+    idle e e' event p (rw h.after (flush_size e.routes h.flush good.routes.routes good.routes.lists)) (rw r.quotas)
+    r.later
 frame_counts (Ok (Message b)) e event port p limit (Err r) e' good some there is at h = absurd h
 frame_counts (Ok (Data vni destination source)) e event port p limit (Ok reply) e' good some there is at h =
     learnt_by (Counts p event e) (taking_on e port vni destination) s port reply.alert e'
-    (idle e _ event p refl refl (no_more e.clock))
-    (λ heard. idle e _ event p refl refl (no_more e.clock)) (idle e _ event p refl refl (no_more e.clock))
+    (idle e _ event p refl refl (omega arith))
+    (λ heard. idle e _ event p refl refl (omega arith)) (idle e _ event p refl refl (omega arith))
     (λ new. learns_at e _ event s port p 0 limit some (there vni destination source refl) is at refl refl refl)
     (λ n new. learns_at e _ event s port p n limit some (there vni destination source refl) is at refl refl refl)
     (h.learning.learns && not (is_group source)) h.learning.learning
@@ -250,21 +229,12 @@ frame_counts (Ok (Data vni destination source)) e event port p limit (Err r) e' 
 
 step_counts : (e : Edge) (event : Event) (result : Result Reply Refusal) (e' : Edge) (p limit : ℕ) → IsGoodEdge e
     → 0 < p → (limits_at e p).new_stations ≡ Some limit → Steps e event result e' → Counts p event e e'
-step_counts e event result e' p limit good some is h = go (kind_of e event result e' h)
-  where
-    go : KindOf e event result e' → Counts p event e e'
-    go (inl k) = inl (record {
-      none = ap (λ b. cond b (registers e' - registers e) 0) (k.none p);
-      quota = ap (λ qs. quota_at qs p) k.rests.quotas;
-      later = k.rests.later;
-    })
-    go (inr (inl k)) = frame_counts (frame_arrival e k.port k.octets) e event k.port p limit result e' good some
-        (port_there e k.port k.octets) is (k.at p) k.steps
-    go (inr (inr k)) = inl (record {
-      none = ap (λ b. cond b (registers e' - registers e) 0) (k.none p);
-      quota = ap (λ qs. quota_at qs p) k.same;
-      later = k.later;
-    })
+step_counts e event result e' p limit good some is h = elim (kind_of e event result e' h) [
+  | inl k ↦ inl (record { none = rw (k.none p); quota = rw k.rests.quotas; later = k.rests.later })
+  | inr (inl k) ↦ frame_counts (frame_arrival e k.port k.octets) e event k.port p limit result e' good some
+      (port_there e k.port k.octets) is (k.at p) k.steps
+  | inr (inr k) ↦ inl (record { none = rw (k.none p); quota = rw k.same; later = k.later })
+]
 
 -- ---- a run
 
@@ -285,10 +255,10 @@ Allows q second end limit n =
 -- the window of a quota, running or over
 running : (q : Quota) (second : ℕ) → runs q second ≡ true
     → (start_in q second ≡ q.start) × (count_in q second ≡ q.count)
-running q second is = (ap (λ b. cond b q.start second) is, ap (λ b. cond b q.count 0) is)
+running q second is = (rw is, rw is)
 
 over : (q : Quota) (second : ℕ) → runs q second ≡ false → (start_in q second ≡ second) × (count_in q second ≡ 0)
-over q second is = (ap (λ b. cond b q.start second) is, ap (λ b. cond b q.count 0) is)
+over q second is = (rw is, rw is)
 
 -- the same quota at a later second allows no more
 waits : (q : Quota) (second later end limit n : ℕ) → IsKept q second → q.count ≤ limit → second ≤ later → later ≤ end
@@ -322,16 +292,10 @@ waits q second later end limit n kept few after before h minutes below =
 counted_in : (q : Quota) (second : ℕ)
     → (start_in (counting q second) second ≡ start_in q second)
     × (count_in (counting q second) second ≡ count_in q second + 1)
-counted_in q second = go (runs q second) refl
-  where
-    go : (b : Bool) → runs q second ≡ b
-        → (start_in (counting q second) second ≡ start_in q second)
-        × (count_in (counting q second) second ≡ count_in q second + 1)
-    go b is = let on : runs (counting q second) second ≡ true = still b is in running (counting q second) second on
-      where
-        still : (b : Bool) → runs q second ≡ b → nat_lt second (start_in q second + 60) ≡ true
-        still true is = ap (λ n. nat_lt second (n + 60)) (running q second is).0 ∙ is
-        still false is = ap (λ n. nat_lt second (n + 60)) (over q second is).0 ∙ grind (arith, nat_tests)
+counted_in q second = elim (cases_Bool (runs q second)) [
+  | inl on ↦ running (counting q second) second (rw (on, on))
+  | inr off ↦ running (counting q second) second (rw off (grind (arith, nat_tests)))
+]
 
 spent : (run : List Entered) (e e' : Edge) (p limit n : ℕ) → IsGoodEdge e → 0 < p
     → (limits_at e p).new_stations ≡ Some limit → Makes p e run e' n
@@ -342,18 +306,16 @@ spent [] e e' p limit n good some is h minutes below = go minutes below
     kept = good.keeps.quotas p
 
     few : count_in (quota_at e.quotas p) e.clock ≤ limit
-    few = at (runs (quota_at e.quotas p) e.clock)
-      where
-        at : (b : Bool) → cond b (quota_at e.quotas p).count 0 ≤ limit
-        at true = kept.within limit is
-        at false = omega arith
+    few = elim (cases_Bool (runs (quota_at e.quotas p) e.clock)) [
+      | inl on ↦ rw on (kept.within limit is)
+      | inr off ↦ rw off (omega arith)
+    ]
 
     early : start_in (quota_at e.quotas p) e.clock ≤ e.clock
-    early = at (runs (quota_at e.quotas p) e.clock)
-      where
-        at : (b : Bool) → cond b (quota_at e.quotas p).start e.clock ≤ e.clock
-        at true = kept.started
-        at false = omega arith
+    early = elim (cases_Bool (runs (quota_at e.quotas p) e.clock)) [
+      | inl on ↦ rw on kept.started
+      | inr off ↦ rw off (omega arith)
+    ]
 
     go : (minutes : ℕ) → e'.clock < start_in (quota_at e.quotas p) e.clock + minutes * 60
         → n + count_in (quota_at e.quotas p) e.clock ≤ minutes * limit
@@ -361,7 +323,7 @@ spent [] e e' p limit n good some is h minutes below = go minutes below
     go (suc m) below = let none = h.1 in let more = times_more m limit in omega (arith, none, few, more)
 spent (x ∷ run) e e' p limit n good some is h minutes below =
     go (spent run h.0 e' p limit h.2 (steps_good e x.0 x.1 h.0 good h.1) some
-    (ap (λ (l : Limits). l.new_stations) (steps_limits e h.0 x.0 x.1 p h.1).0 ∙ is) h.3)
+    (rw (steps_limits e h.0 x.0 x.1 p h.1).0 is) h.3)
     (step_counts e x.0 x.1 h.0 p limit good some is h.1) minutes below
   where
     go : Allows (quota_at h.0.quotas p) h.0.clock e'.clock limit h.2 → Counts p x.0 e h.0
@@ -370,11 +332,10 @@ spent (x ∷ run) e e' p limit n good some is h minutes below =
         let end = runs_later run h.0 e' p h.2 h.3 in
         let all = waits (quota_at e.quotas p) e.clock h.0.clock e'.clock limit h.2 (good.keeps.quotas p)
         ((good.keeps.quotas p).within limit is) idles.later end
-        (subst (λ q. Allows q h.0.clock e'.clock limit h.2) idles.quota rest) minutes below in
+        (rw idles.quota at rest) minutes below in
         let sum = h.4 in let none = idles.none in omega (arith, all, sum, none)
     go rest (inr spends) minutes below =
-        let now = subst (λ second. Allows (quota_at h.0.quotas p) second e'.clock limit h.2) spends.clock rest in
-        let q = subst (λ q. Allows q e.clock e'.clock limit h.2) spends.quota now in
+        let q = rw (spends.clock, spends.quota) at rest in
         let c = counted_in (quota_at e.quotas p) e.clock in let c0 = c.0 in let c1 = c.1 in
         let all = q minutes (omega (arith, below, c0)) in
         let sum = h.4 in let one = spends.one in omega (arith, all, sum, one, c1)
@@ -382,14 +343,12 @@ spent (x ∷ run) e e' p limit n good some is h minutes below =
 pub registers_are_few : RegistersAreFew
 registers_are_few run e e' port limit minutes n good some is h below =
     let near : e.clock < start_in (quota_at e.quotas port) e.clock + 60 =
-    at (runs (quota_at e.quotas port) e.clock) refl in
+    elim (cases_Bool (runs (quota_at e.quotas port) e.clock)) [
+      | inl on ↦ rw on (grind (arith, nat_tests))
+      | inr off ↦ rw off (omega arith)
+    ] in
     let all = spent run e e' port limit n good some is h (suc minutes) (omega (arith, near, below)) in
     omega (arith, all)
-  where
-    at : (b : Bool) → runs (quota_at e.quotas port) e.clock ≡ b
-        → e.clock < cond b (quota_at e.quotas port).start e.clock + 60
-    at true on = grind (arith, nat_tests)
-    at false on = omega arith
 
 opened_at : (ports : List PortConfig) (n : ℕ) → (quota_in (quotas_of ports) n).start ≡ 0
 opened_at [] n = refl
@@ -398,9 +357,9 @@ opened_at (p ∷ ports) (suc n) = opened_at ports n
 
 pub registers_from_the_opening : RegistersAreFewFromTheOpening
 registers_from_the_opening c run e e' port limit minutes n opening good some is h below =
-    let start : start_in (quota_at e.quotas port) e.clock ≡ 0 = at (runs (quota_at e.quotas port) e.clock) in
+    let start : start_in (quota_at e.quotas port) e.clock ≡ 0 =
+    elim (cases_Bool (runs (quota_at e.quotas port) e.clock)) [
+      | inl on ↦ rw (on, opening.quotas) (opened_at c.ports.items (place_of_port port))
+      | inr off ↦ rw off opening.clock
+    ] in
     let all = spent run e e' port limit n good some is h minutes (omega (arith, start, below)) in omega (arith, all)
-  where
-    at : (b : Bool) → cond b (quota_at e.quotas port).start e.clock ≡ 0
-    at true = ap (λ qs. (quota_at qs port).start) opening.quotas ∙ opened_at c.ports.items (place_of_port port)
-    at false = opening.clock

@@ -1,11 +1,14 @@
 -- An edge stays good at every event: a consequence of the relation of edge, event, answer and next edge.
 use Rattle.std.proofs.Common.{◌≡◌, ◌≢◌, ℕ, ◌-◌, ◌<◌, ◌≤◌, ◌^◌, Bool, true, false, cond}
-use Rattle.std.proofs.Common.{not, ◌&&◌, ◌||◌, Option, Some, None, Ok, List, [], ◌∷◌, length}
-use Rattle.std.proofs.Common.{refl, sym, ap, subst, ◌∙◌, arith}
+use Rattle.std.proofs.Common.{◌&&◌, Option, Some, None, Ok, List, [], ◌∷◌, length}
+use Rattle.std.proofs.Common.{refl, sym, ap, ◌∙◌, arith}
 use Rattle.std.specs.Prelude.{IsSome, is_some, nat_le, nat_lt}
 use Rattle.std.specs.Option.{option_map}
 use Rattle.std.proofs.lemmas.Bool.{false≢true}
 use Rattle.std.proofs.lemmas.Bool.Decides.{nat_tests}
+use Rattle.std.proofs.lemmas.Bool.{cases_Bool, or_right, and_parts}
+use Rattle.std.proofs.lemmas.Option.{none-some}
+use Rattle.std.proofs.Common.{inl, inr}
 use Rattle.ether_wire.specs.Addr.{is_group}
 use Rattle.ether_wire.specs.Ports.{ports_of}
 use Rattle.route_wire.specs.declared.update.Key.{Key}
@@ -13,18 +16,18 @@ use Rattle.route_wire.specs.declared.update.Key.TheVariants.{Flood, Mac}
 use Rattle.route_wire.specs.declared.update.Advert.{Advert}
 use Rattle.route_wire.specs.declared.update.Content.TheVariants.{Withdrawn}
 use Rattle.route_wire.specs.Fields.{Fields}
-use Rattle.route_join.specs.Owner.{advert_of, advert_in, owner}
+use Rattle.route_join.specs.Owner.{advert_of, advert_in}
 use Rattle.route_join.specs.declared.table.Taken.TheVariants.{Known}
 use Rattle.mac_arena.specs.declared.station.Station.{Station}
 use Rattle.mac_arena.specs.declared.station.Entry.{Entry}
 use Rattle.mac_arena.specs.declared.table.Learnt.TheVariants.{New}
 use Rattle.mac_arena.specs.Station.{is_same}
-use Rattle.mac_arena.specs.Learning.{Learning, entry_at, is_full, is_pinned, answer_of, learnt_of, after_learn}
+use Rattle.mac_arena.specs.Learning.{Learning, entry_at, is_full, is_pinned, learnt_of, after_learn}
 use Rattle.mac_arena.specs.Learning.{after_pin as pinned_on}
 use Rattle.mac_arena.specs.ListsName.{ListsName, AreOnce, stands}
 use Rattle.mac_arena.proofs.Entries.{eq_same}
 use Rattle.mac_arena.proofs.Held.{learn_names, hear_names, pin_names, removal_names}
-use Rattle.ev_claims.specs.Speaker.{Speaker, KeepsNumbers, own_advert, is_at, is_newest, is_ahead}
+use Rattle.ev_claims.specs.Speaker.{Speaker, KeepsNumbers, own_advert, is_newest, is_ahead}
 use Rattle.ev_claims.specs.Speaker.{is_spent as has_spent}
 use Rattle.ev_claims.specs.Speaker.{is_returning, after_originating, after_importing, after_importing_own}
 use Rattle.ev_claims.specs.LocalRoutes.{LocalRoutes, KeepsRoutes, key_of, moving, fixed, vni_at, is_lost}
@@ -106,7 +109,7 @@ port_there c s port h is =
 
 new_answer : (t : Learning) (s : Station) (port : ℕ) → entry_at t s ≡ None → is_full t ≡ false
     → New ≡ learnt_of t s port
-new_answer t s port none room = sym (λ i. answer_of (none i) (room i) port)
+new_answer t s port none room = rw (none, room)
 
 pub advert_keeps : (c : LocalRoutes) (s : Station) (port second n : ℕ) → Keeps c second → entry_at c.learned s ≡ None
     → is_full c.learned ≡ false → c.speaker.counter < 2 ^ 63 → vni_at c.ports port ≡ Some s.vni → is_group s.mac ≡ false
@@ -180,16 +183,9 @@ pub removals_keep : (c : LocalRoutes) (ss : List Station) (second : ℕ) → Kee
     → ((s : Station) → stands ss s ≡ true → IsSome (entry_at c.learned s)) → Keeps (after_removals c ss) second
 removals_keep c [] second h once known = h
 removals_keep c (s ∷ ss) second h once known = removals_keep (after_removal c s) ss second
-    (removal_keeps c s second h (known s (ap (λ b. b || stands ss s) (eq_same s s refl)))) once.1 rest
-  where
-    rest : (q : Station) → stands ss q ≡ true → IsSome (entry_at (after_removal c s).learned q)
-    rest q on =
-        let other : q ≢ s = (λ same. false≢true (sym once.0 ∙ ap (stands ss) (sym same) ∙ on)) in
-        subst IsSome (sym (removal_there c.learned s q other)) (known q (go (is_same s q) on))
-      where
-        go : (b : Bool) → stands ss q ≡ true → (b || stands ss q) ≡ true
-        go true on = refl
-        go false on = on
+    (removal_keeps c s second h (known s (rw (eq_same s s refl)))) once.1 (λ q on.
+    rw (removal_there c.learned s q (λ same. false≢true (rw (same, once.0) at on)))
+    (known q (or_right (is_same s q) (stands ss q) on)))
 
 -- ---- by a flush, and by age
 
@@ -202,11 +198,10 @@ age_keeps c limit second h = removals_keep c (due_in c.learned limit) second h
     (due_once c.learned limit c.learned.ageing h.lists.ageing_once) (age_known c.learned limit h.lists)
 
 pub aged_keeps : (c : LocalRoutes) (ageing second : ℕ) → Keeps c second → Keeps (aged c ageing second) second
-aged_keeps c ageing second h = go (nat_le ageing second)
-  where
-    go : (b : Bool) → Keeps (cond b (after_ageing c (second - ageing)) c) second
-    go true = age_keeps c (second - ageing) second h
-    go false = h
+aged_keeps c ageing second h = elim (cases_Bool (nat_le ageing second)) [
+  | inl late ↦ rw late (age_keeps c (second - ageing) second h)
+  | inr early ↦ rw early h
+]
 
 pub later_keeps : (c : LocalRoutes) (second later : ℕ) → second ≤ later → Keeps c second → Keeps c later
 later_keeps c second later less h = record {
@@ -227,16 +222,13 @@ advert_known c s h some = go (entry_at c.learned s) (own_advert c.speaker (key_o
         ≡ option_map (λ (a : Advert). a.is_static) y → is_some y ≡ true → IsSome x
     go (Some x) y same yes' = refl
     go None None same yes' = absurd (false≢true yes')
-    go None (Some y) same yes' = absurd (let bad : None ≡ Some y.is_static = same in cc)
+    go None (Some y) same yes' = absurd (none-some y.is_static same)
 
 pub other_keeps : (c : LocalRoutes) (u : Fields) (second : ℕ) → u.register.originator ≢ c.speaker.address
     → Keeps c second
     → Keeps (after_take c u) second
 other_keeps c u second other h = losing u.register.key (taken_holds c u second h.holds)
   where
-    mid : LocalRoutes
-    mid = after_update c u
-
     heard : KeepsRoutes (after_update c u)
     heard = spoken_routes c (after_importing c.speaker u) h.routes (λ k. ap advert_of (own_stays c.speaker u other k))
         h.routes.left
@@ -244,18 +236,13 @@ other_keeps c u second other h = losing u.register.key (taken_holds c u second h
     told : KeepsNumbers (after_importing c.speaker u)
     told = heard_numbers c.speaker u other h.numbers
 
-    first : (x y : Bool) → (x && not y) ≡ true → x ≡ true
-    first true y e = refl
-    first false y e = absurd (false≢true e)
-
     pick : (s : Station) (b : Bool) → is_lost (after_update c u) s ≡ b
         → Holds (cond b (after_removal (after_update c u) s) (after_update c u)) second
         → Keeps (cond b (after_removal (after_update c u) s) (after_update c u)) second
     pick s false is holds = record { routes = heard; numbers = told; lists = h.lists; holds = holds }
     pick s true is holds =
         let known = advert_known (after_update c u) s heard
-        (first (is_some (own_advert (after_importing c.speaker u) (key_of s)))
-        (is_at (owner (after_importing c.speaker u).table s.vni s.mac) c.speaker.address) is) in
+        (and_parts (is_some (own_advert (after_importing c.speaker u) (key_of s))) _ is).0 in
         let x = known_entry (after_update c u) s known in
         record {
           routes = removal_routes (after_update c u) s x.0 x.1 heard;
@@ -280,7 +267,7 @@ own_numbers e u n mine ahead = go (is_returning e u) refl
     none false o p e = absurd (false≢true p)
 
     quiet : (b : Bool) → is_newest e u ≡ b → is_returning e u ≡ false → KeepsNumbers (after_importing e u)
-    quiet false newest is = subst KeepsNumbers (sym (unheard e u newest)) n
+    quiet false newest is = rw (unheard e u newest) n
     quiet true newest is =
         let less = past_if_newest e u ahead newest in
         let past : nat_lt u.value.incarnation e.incarnation ≡ true = grind (arith, nat_tests) in
@@ -292,7 +279,7 @@ own_numbers e u n mine ahead = go (is_returning e u) refl
 
     go : (b : Bool) → is_returning e u ≡ b → KeepsNumbers
         (cond b (after_originating (after_importing e u) u.register.key Withdrawn) (after_importing e u))
-    go true is = subst KeepsNumbers (sym (refuted_is e u Withdrawn mine)) (said_numbers e u.register.key Withdrawn n)
+    go true is = rw (refuted_is e u Withdrawn mine) (said_numbers e u.register.key Withdrawn n)
     go false is = quiet (is_newest e u) refl is
 
 pub own_keeps : (c : LocalRoutes) (u : Fields) (second : ℕ) → u.register.originator ≡ c.speaker.address

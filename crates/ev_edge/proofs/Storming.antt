@@ -1,14 +1,13 @@
 -- The storm limits of ports: they spare all other frames, no event changes them, and the edge takes on no more group
 -- and unknown frames than they allow.
 use Rattle.std.proofs.Common.{◌≡◌, ◌≢◌, ◌⊎◌, inl, inr, ℕ, zero, suc, ◌+◌, ◌-◌, ◌*◌, ◌<◌, ◌≤◌, Bool, true, false, cond}
-use Rattle.std.proofs.Common.{◌&&◌, not, eqb, Option, Some, None, Result, Ok, Err, List, [], ◌∷◌, refl, sym, ap}
-use Rattle.std.proofs.Common.{subst, ◌∙◌, arith}
+use Rattle.std.proofs.Common.{◌&&◌, not, eqb, Option, Some, None, Result, Ok, Err, List, [], ◌∷◌, refl, ap}
+use Rattle.std.proofs.Common.{◌∙◌, arith}
 use Rattle.std.specs.Prelude.{is_some, slice_set}
-use Rattle.std.proofs.lemmas.Bool.{false≢true, eq-eqb}
-use Rattle.std.proofs.lemmas.Bool.Decides.{nat_tests}
+use Rattle.std.proofs.Math.Bool.{and-false}
+use Rattle.std.proofs.lemmas.Bool.{cases_Bool, cases_eq, eq-eqb, ne_eqb}
 use Rattle.ether_wire.specs.Addr.{is_group}
 use Rattle.ether_wire.specs.Ports.{place_of_port}
-use Rattle.mac_arena.specs.declared.station.Station.{Station}
 use Rattle.ev_edge.specs.declared.arrival.Arrival.{Arrival}
 use Rattle.ev_edge.specs.declared.arrival.Arrival.TheVariants.{Dropped, Message, Data}
 use Rattle.ev_edge.specs.declared.event.Event.{Event}
@@ -28,13 +27,10 @@ use Rattle.ev_edge.specs.StormLaws.{floods, taken_at, TakesOnAll, StormsSpare, S
 use Rattle.ev_edge.specs.StormLaws.{StormsAreFew}
 use Rattle.ev_edge.proofs.Admitting.{admits}
 use Rattle.ev_edge.proofs.Cases.{learnt_by}
-use Rattle.ev_edge.proofs.Limiting.{KindOf, kind_of, bridge_rests, steps_limits}
+use Rattle.ev_edge.proofs.Limiting.{kind_of, bridge_rests, steps_limits}
 use Rattle.ev_edge.proofs.Places.{there_port}
 use Rattle.ev_edge.proofs.Quotas.{met_above}
 use Rattle.ev_edge.proofs.Remaining.{data_port_of}
-
-no_more : (n : ℕ) → n ≤ n
-no_more n = omega arith
 
 -- ---- one storm of a list is replaced
 
@@ -66,18 +62,12 @@ set_here (x ∷ xs) (suc l) s limit is = set_here xs l s limit is
 
 -- without a limit none is met
 unmet : (limit : Option ℕ) (n : ℕ) (b : Bool) → (limit ≡ None) ⊎ (b ≡ false) → (is_met limit n && b) ≡ false
-unmet limit n b (inl none) = ap (λ (o : Option ℕ). is_met o n && b) none
-unmet None n b (inr out) = refl
-unmet (Some m) n b (inr out) = right (is_met (Some m) n) b out
-  where
-    right : (a b : Bool) → b ≡ false → (a && b) ≡ false
-    right true b out = out
-    right false b out = refl
+unmet limit n b (inl none) = rw none
+unmet limit n b (inr out) = rw out (and-false (is_met limit n))
 
 uncounted : (limit : Option ℕ) (b : Bool) → (limit ≡ None) ⊎ (b ≡ false) → (is_some limit && b) ≡ false
-uncounted limit b (inl none) = ap (λ (o : Option ℕ). is_some o && b) none
-uncounted None b (inr out) = refl
-uncounted (Some m) b (inr out) = out
+uncounted limit b (inl none) = rw none
+uncounted limit b (inr out) = rw out (and-false (is_some limit))
 
 pub storms_spare : StormsSpare
 storms_spare e port octets h = go (port_arrival e port octets) h
@@ -93,8 +83,7 @@ storms_spare e port octets h = go (port_arrival e port octets) h
 
 pub storms_count_none : StormsCountNone
 storms_count_none e port vni destination h =
-    ap (λ b. record e { storms = cond b (with_taken e.storms port e.clock) e.storms })
-    (uncounted (storm_at e.storms port).limit (is_flooded e vni destination) h)
+    rw (uncounted (storm_at e.storms port).limit (is_flooded e vni destination) h)
 
 -- ---- each step
 
@@ -128,12 +117,11 @@ after_data e port vni destination source reply e' h =
 data_there : (e : Edge) (port : ℕ) (octets : List ℕ) (vni destination source : ℕ)
     → port_arrival e port octets ≡ Ok (Data vni destination source) → 0 < port
 data_there e port octets vni destination source is =
-    (there_port e.routes.ports port (ap is_some (data_port_of e port octets vni destination source is))).0
+    (there_port e.routes.ports port (rw (data_port_of e port octets vni destination source is))).0
 
 -- nothing is taken on, by whatever of these tests
 not_here : (b : Bool) → ◌≡◌ {A = ℕ} (cond b (cond false 1 0) 0) 0
-not_here true = refl
-not_here false = refl
+not_here b = grind arith
 
 same_port : (port p : ℕ) → 0 < port → 0 < p → place_of_port port ≡ place_of_port p → port ≡ p
 same_port port p some some' same = omega (arith, some, some', same)
@@ -149,27 +137,15 @@ module _ (e : Edge) (event : Event) (p limit : ℕ) (some : 0 < p) (is : (storm_
       → is_flooded e vni destination ≡ f → taken_at p e event ≡ cond f 1 0 → Takes p event e x
   here vni destination x same storms clock calm true f taken = inr (record {
     one = taken;
-    storm = ap (λ ss. storm_at ss p) (storms ∙ with)
-        ∙ ap (λ q. storm_at (with_taken e.storms q e.clock) p) same
-        ∙ set_here e.storms (place_of_port p) (taking (storm_at e.storms p) e.clock) limit is;
+    storm = let counted : storms_with e p vni destination ≡ with_taken e.storms p e.clock = rw (is, f) in
+        rw (storms, same, counted)
+        (set_here e.storms (place_of_port p) (taking (storm_at e.storms p) e.clock) limit is);
     clock = clock;
-    free = first (is_met (storm_at e.storms p).limit (taken_in (storm_at e.storms p) e.clock))
-        (ap (λ b. is_met (storm_at e.storms p).limit (taken_in (storm_at e.storms p) e.clock) && b) (sym f)
-        ∙ ap (λ q. is_stormy e q vni destination) (sym same) ∙ calm);
+    free = (let free = rw (same, f) at calm in grind (arith, free));
   })
-    where
-      with : storms_with e port vni destination ≡ with_taken e.storms port e.clock
-      with = ap (λ b. cond b (with_taken e.storms port e.clock) e.storms)
-          (ap (λ q. is_taken e q vni destination) same
-          ∙ ap (λ (o : Option ℕ). is_some o && is_flooded e vni destination) is ∙ f)
-
-      first : (b : Bool) → (b && true) ≡ false → b ≡ false
-      first true h = h
-      first false h = refl
   here vni destination x same storms clock calm false f taken = inl (record {
     none = taken;
-    storm = ap (λ ss. storm_at ss p) (storms ∙ ap (λ (y : Edge). y.storms)
-        (storms_count_none e port vni destination (inr f)));
+    storm = rw storms (ap (λ (y : Edge). storm_at y.storms p) (storms_count_none e port vni destination (inr f)));
     later = omega (arith, clock);
   })
 
@@ -178,22 +154,18 @@ module _ (e : Edge) (event : Event) (p limit : ℕ) (some : 0 < p) (is : (storm_
       → x.clock ≡ e.clock → taken_at p e event ≡ 0 → Takes p event e x
   elsewhere vni destination x there ne storms clock none = inl (record {
     none = none;
-    storm = ap (λ ss. storm_at ss p) storms ∙ apart (is_taken e port vni destination);
+    storm = rw storms (elim (cases_Bool (is_taken e port vni destination)) [
+      | inl t ↦ rw t (set_apart e.storms (place_of_port port) (taking (storm_at e.storms port) e.clock) (place_of_port
+          p)
+          (λ same. ne (same_port port p there some same)))
+      | inr t ↦ rw t
+    ]);
     later = omega (arith, clock);
   })
-    where
-      apart : (b : Bool) → storm_at (cond b (with_taken e.storms port e.clock) e.storms) p ≡ storm_at e.storms p
-      apart true = set_apart e.storms (place_of_port port) (taking (storm_at e.storms port) e.clock) (place_of_port p)
-          (λ same. ne (same_port port p there some same))
-      apart false = refl
 
   -- nothing changed
   stays : (x : Edge) → x ≡ e → taken_at p e event ≡ 0 → Takes p event e x
-  stays x same none = inl (record {
-    none = none;
-    storm = ap (λ (y : Edge). storm_at y.storms p) same;
-    later = let clock = ap (λ (y : Edge). y.clock) same in omega (arith, clock);
-  })
+  stays x same none = rw same (inl (record { none = none; storm = refl; later = omega arith }))
 
   of_data : (vni destination source : ℕ) (result : Result Reply Refusal) (x : Edge) → 0 < port → (b : Bool)
       → is_stormy e port vni destination ≡ b
@@ -203,16 +175,13 @@ module _ (e : Edge) (event : Event) (p limit : ℕ) (some : 0 < p) (is : (storm_
       → Takes p event e x
   of_data vni destination source result x there true stormy taken h = stays x h.1 (taken ∙ not_here (eqb port p))
   of_data vni destination source (Err r) x there false calm taken h = absurd h
-  of_data vni destination source (Ok reply) x there false calm taken h = go (eqb port p) refl
-    where
-      after : (x.storms ≡ storms_with e port vni destination) × (x.clock ≡ e.clock)
-      after = after_data e port vni destination source reply x h
-
-      go : (b : Bool) → eqb port p ≡ b → Takes p event e x
-      go true at = here vni destination x (grind (arith, nat_tests)) after.0 after.1 calm (is_flooded e vni destination)
-          refl (taken ∙ ap (λ b. cond b (cond (is_flooded e vni destination) 1 0) 0) at)
-      go false at = elsewhere vni destination x there (λ same. grind (arith, nat_tests)) after.0 after.1
-          (taken ∙ ap (λ b. cond b (cond (is_flooded e vni destination) 1 0) 0) at)
+  of_data vni destination source (Ok reply) x there false calm taken h =
+      let after = after_data e port vni destination source reply x h in
+      elim (cases_eq port p) [
+        | inl same ↦ here vni destination x same after.0 after.1 calm (is_flooded e vni destination) refl
+            (rw (eq-eqb port p same) at taken)
+        | inr ne ↦ elsewhere vni destination x there ne after.0 after.1 (rw (ne_eqb port p ne) at taken)
+      ]
 
   of_frame : (a : Result Arrival Refusal) (result : Result Reply Refusal) (x : Edge)
       → ((vni destination source : ℕ) → a ≡ Ok (Data vni destination source) → 0 < port)
@@ -222,7 +191,7 @@ module _ (e : Edge) (event : Event) (p limit : ℕ) (some : 0 < p) (is : (storm_
   of_frame (Ok Dropped) result x there taken h = stays x h.1 (taken ∙ not_here (eqb port p))
   of_frame (Ok (Message b)) result x there taken h = let r = bridge_rests _ e result x h in inl (record {
     none = taken ∙ not_here (eqb port p);
-    storm = ap (λ ss. storm_at ss p) r.storms;
+    storm = rw r.storms;
     later = r.later;
   })
   of_frame (Ok (Data vni destination source)) result x there taken h =
@@ -231,52 +200,39 @@ module _ (e : Edge) (event : Event) (p limit : ℕ) (some : 0 < p) (is : (storm_
 
 step_takes : (e : Edge) (event : Event) (result : Result Reply Refusal) (x : Edge) (p limit : ℕ) → 0 < p
     → (storm_at e.storms p).limit ≡ Some limit → Steps e event result x → Takes p event e x
-step_takes e event result x p limit some is h = go (kind_of e event result x h)
-  where
-    go : KindOf e event result x → Takes p event e x
-    go (inl k) = inl (record {
-      none = k.calm p;
-      storm = ap (λ ss. storm_at ss p) k.rests.storms;
-      later = k.rests.later;
-    })
-    go (inr (inl k)) = of_frame e event p limit some is k.port (port_arrival e k.port k.octets) result x
-        (data_there e k.port k.octets) (k.taken p) k.steps
-    go (inr (inr k)) = inl (record {
-      none = k.calm p;
-      storm = ap (λ ss. storm_at ss p) k.storms;
-      later = k.later;
-    })
+step_takes e event result x p limit some is h = elim (kind_of e event result x h) [
+  | inl k ↦ inl (record { none = k.calm p; storm = rw k.rests.storms; later = k.rests.later })
+  | inr (inl k) ↦ of_frame e event p limit some is k.port (port_arrival e k.port k.octets) result x
+      (data_there e k.port k.octets) (k.taken p) k.steps
+  | inr (inr k) ↦ inl (record { none = k.calm p; storm = rw k.storms; later = k.later })
+]
 
 -- ---- no event changes a limit
 
 data_limit : (e : Edge) (port vni destination p : ℕ)
     → (storm_at (storms_with e port vni destination) p).limit ≡ (storm_at e.storms p).limit
-data_limit e port vni destination p = go (is_taken e port vni destination)
-  where
-    go : (b : Bool) → (storm_at (cond b (with_taken e.storms port e.clock) e.storms) p).limit
-        ≡ (storm_at e.storms p).limit
-    go true = same_in (λ (s : Storm). s.limit) e.storms (place_of_port port) (taking (storm_at e.storms port) e.clock)
-        (place_of_port p) refl
-    go false = refl
+data_limit e port vni destination p = elim (is_taken e port vni destination) as
+    (λ b. (storm_at (cond b (with_taken e.storms port e.clock) e.storms) p).limit ≡ (storm_at e.storms p).limit) [
+      | true ↦ same_in (λ (s : Storm). s.limit) e.storms (place_of_port port) (taking (storm_at e.storms port) e.clock)
+          (place_of_port p) refl
+      | false ↦ refl
+    ]
 
 frame_limit : (a : Result Arrival Refusal) (e : Edge) (port : ℕ) (result : Result Reply Refusal) (x : Edge) (p : ℕ)
     → FrameSteps a e port result x → (storm_at x.storms p).limit ≡ (storm_at e.storms p).limit
-frame_limit (Err r) e port result x p h = ap (λ (y : Edge). (storm_at y.storms p).limit) h.1
-frame_limit (Ok Dropped) e port result x p h = ap (λ (y : Edge). (storm_at y.storms p).limit) h.1
-frame_limit (Ok (Message b)) e port result x p h =
-    ap (λ ss. (storm_at ss p).limit) (bridge_rests _ e result x h).storms
+frame_limit (Err r) e port result x p h = rw h.1
+frame_limit (Ok Dropped) e port result x p h = rw h.1
+frame_limit (Ok (Message b)) e port result x p h = rw (bridge_rests _ e result x h).storms
 frame_limit (Ok (Data vni destination source)) e port (Ok reply) x p h =
-    ap (λ ss. (storm_at ss p).limit) (after_data e port vni destination source reply x h).0
-    ∙ data_limit e port vni destination p
+    rw (after_data e port vni destination source reply x h).0 (data_limit e port vni destination p)
 frame_limit (Ok (Data vni destination source)) e port (Err r) x p h = absurd h
 
 pub keeps_storm_limits : KeepsStormLimits
-keeps_storm_limits e x event result p h = go (kind_of e event result x h)
-  where
-    go : KindOf e event result x → (storm_at x.storms p).limit ≡ (storm_at e.storms p).limit
-    go (inl k) = ap (λ ss. (storm_at ss p).limit) k.rests.storms
-    go (inr (inl k)) = frame_limit (frame_arrival e k.port k.octets) e k.port result x p k.steps
-    go (inr (inr k)) = ap (λ ss. (storm_at ss p).limit) k.storms
+keeps_storm_limits e x event result p h = elim (kind_of e event result x h) [
+  | inl k ↦ rw k.rests.storms
+  | inr (inl k) ↦ frame_limit (frame_arrival e k.port k.octets) e k.port result x p k.steps
+  | inr (inr k) ↦ rw k.storms
+]
 
 -- ---- a run
 
@@ -295,7 +251,7 @@ left s second limit = limit - taken_in s second
 
 -- one that is taken on counts in its second
 counted_in : (s : Storm) (second : ℕ) → taken_in (taking s second) second ≡ taken_in s second + 1
-counted_in s second = ap (λ b. cond b (taken_in s second + 1) 0) (eq-eqb second second refl)
+counted_in s second = rw (eq-eqb second second refl)
 
 bounded : (run : List Entered) (e e' : Edge) (p limit n seconds : ℕ) → 0 < p
     → (storm_at e.storms p).limit ≡ Some limit → TakesOnAll p e run e' n → e'.clock ≤ e.clock + seconds
@@ -315,28 +271,20 @@ bounded (x ∷ run) e e' p limit n seconds some is h below =
     waits now (suc k) less past = let rest = now k (omega (arith, less, past)) in let more = times_more k limit in
         omega (arith, rest, more)
 
-    still : Later → (b : Bool) → eqb e.clock h.0.clock ≡ b → storm_at h.0.storms p ≡ storm_at e.storms p
-        → e.clock ≤ h.0.clock → h.2 ≤ left (storm_at e.storms p) e.clock limit + seconds * limit
-    still now true at storm later =
-        let same : e.clock ≡ h.0.clock = grind (arith, nat_tests) in
-        subst (λ s. h.2 ≤ left s e.clock limit + seconds * limit) storm
-        (subst (λ c. h.2 ≤ left (storm_at h.0.storms p) c limit + seconds * limit) (sym same)
-        (now seconds (omega (arith, below, same))))
-    still now false at storm later =
-        let ne : e.clock ≢ h.0.clock = (λ same. grind (arith, nat_tests)) in
-        waits now seconds below (omega (arith, ne, later))
-
     go : Later → Takes p x.0 e h.0 → n ≤ left (storm_at e.storms p) e.clock limit + seconds * limit
     go now (inl quiet) =
-        let none = quiet.none in let sum = h.4 in
-        let all = still now (eqb e.clock h.0.clock) refl quiet.storm quiet.later in omega (arith, none, sum, all)
+        let later = quiet.later in
+        let all : h.2 ≤ left (storm_at e.storms p) e.clock limit + seconds * limit =
+        elim (cases_eq h.0.clock e.clock) [
+          | inl same ↦ rw (same, quiet.storm) at (now seconds (omega (arith, below, same)))
+          | inr ne ↦ waits now seconds below (omega (arith, ne, later))
+        ] in
+        let none = quiet.none in let sum = h.4 in omega (arith, none, sum, all)
     go now (inr one) =
         let c = one.clock in let sum = h.4 in let taken = one.one in
         let free = met_above (storm_at e.storms p).limit (taken_in (storm_at e.storms p) e.clock) limit one.free is in
-        let rest = subst (λ s. h.2 ≤ left s e.clock limit + seconds * limit) one.storm
-        (subst (λ c. h.2 ≤ left (storm_at h.0.storms p) c limit + seconds * limit) c
-        (now seconds (omega (arith, below, c)))) in
-        let count = counted_in (storm_at e.storms p) e.clock in omega (arith, rest, count, free, sum, taken)
+        let rest = rw (c, one.storm, counted_in) at (now seconds (omega (arith, below, c))) in
+        omega (arith, rest, free, sum, taken)
 
 pub storms_are_few : StormsAreFew
 storms_are_few run e e' port limit zero n some is h below =

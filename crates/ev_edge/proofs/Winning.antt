@@ -1,9 +1,10 @@
 -- An edge that advertises a station with the next number above all others', or as static where no other does, owns it.
-use Rattle.std.proofs.Common.{◌≡◌, ◌≢◌, inl, inr, ℕ, ◌<◌, Bool, true, false, cond, eqb, not, ◌&&◌, Option, Some, None}
-use Rattle.std.proofs.Common.{refl, sym, ap, subst, ◌∙◌, arith}
+use Rattle.std.proofs.Common.{◌≡◌, ◌≢◌, inl, inr, ℕ, ◌<◌, Bool, true, false, Option, Some, None}
+use Rattle.std.proofs.Common.{refl, sym, ap, ◌∙◌, arith}
 use Rattle.std.specs.declared.cmp.Ordering.{Ordering}
-use Rattle.std.proofs.lemmas.Bool.{eq-eqb}
 use Rattle.std.proofs.lemmas.Bool.Decides.{nat_tests}
+use Rattle.std.proofs.lemmas.Bool.{cases_eq}
+use Rattle.std.proofs.lemmas.Option.{none-some}
 use Rattle.ether_wire.specs.Addr.{is_group}
 use Rattle.route_wire.specs.declared.update.Ip.{Ip}
 use Rattle.route_wire.specs.declared.update.Key.TheVariants.{Mac}
@@ -12,14 +13,13 @@ use Rattle.route_wire.specs.declared.update.Content.TheVariants.{Advert as Adver
 use Rattle.route_wire.specs.declared.update.Register.{Register}
 use Rattle.route_wire.specs.Order.{register_cmp}
 use Rattle.route_join.specs.Table.{Table, register_of}
-use Rattle.route_join.specs.Owner.{advert_of, advert_at, IsBetter, IsBetterBy}
+use Rattle.route_join.specs.Owner.{advert_of, advert_at, IsBetterBy}
 use Rattle.route_join.specs.Updates.{updates_of}
 use Rattle.route_join.proofs.Abouts.{updates_of_are}
 use Rattle.route_join.proofs.Tables.{at_same, at_other}
 use Rattle.mac_arena.specs.declared.station.Station.{Station}
 use Rattle.mac_arena.specs.declared.station.Entry.{Entry}
 use Rattle.mac_arena.specs.declared.table.Learnt.TheVariants.{New}
-use Rattle.mac_arena.specs.Learning.{is_full}
 use Rattle.mac_arena.proofs.Entries.{same_or_other}
 use Rattle.mac_arena.proofs.Looking.{learn_entry, pin_entry}
 use Rattle.mac_arena.proofs.Values.{latest_learn, latest_pin, chains_learn, chains_pin}
@@ -27,13 +27,10 @@ use Rattle.ev_mobility.specs.declared.seq.Seq.{Seq}
 use Rattle.ev_mobility.specs.declared.seq.Seq.TheVariants.{Next, Static, Spent}
 use Rattle.ev_mobility.specs.Seq.{EveryElsewhere, IsSeqFor, seq_for}
 use Rattle.ev_mobility.proofs.Hearing.{seq_is}
-use Rattle.ev_mobility.specs.declared.alert.Alert.TheVariants.{StaticElsewhere, CounterSpent, TableFull}
 use Rattle.ev_claims.specs.Speaker.{Speaker, own_register, next_value, after_originating}
 use Rattle.ev_claims.specs.LocalRoutes.{LocalRoutes, KeepsRoutes, key_of, vni_at, after_advert, after_pin}
-use Rattle.ev_edge.specs.declared.pinning.PinCase.TheVariants.{Keep, Shift, Deny, Pin}
+use Rattle.ev_edge.specs.declared.pinning.PinCase.TheVariants.{Pin}
 use Rattle.ev_edge.specs.Edge.{Edge, OwnsAt, table_of, address_of}
-use Rattle.ev_edge.specs.Learning.{is_spent}
-use Rattle.ev_edge.specs.declared.refusal.EdgeRefusal.TheVariants.{BadMac, NoSuchVni}
 use Rattle.ev_edge.specs.Pinning.{is_static, unpinned_case, pin_case_at, pin_refusal, refused_pin}
 use Rattle.ev_edge.proofs.Owning.{Holds, changed_individual, some_bucket, other_key, saying_owns}
 use Rattle.ev_claims.proofs.Numbers.{key_stays as said_other}
@@ -54,7 +51,11 @@ said_owns c s a good beats some = record {
   advert = a;
   own = ap advert_of (at_same c.speaker.table (own_register c.speaker (key_of s))
       (next_value c.speaker (Advertised a)));
-  best = λ p j b ne is. go p j b ne is (eqb p c.speaker.address) refl;
+  best = λ p j b ne is. elim (cases_eq p c.speaker.address) [
+    | inl same ↦ absurd (same_ip p j b same ne is)
+    | inr other ↦ beats b (register_cmp (register_of c.speaker.address (Mac s.vni s.mac None))
+        (register_of p (Mac s.vni s.mac j))) p j other (sym (key_other p j other) ∙ is)
+  ];
 }
   where
     now : Speaker
@@ -68,8 +69,8 @@ said_owns c s a good beats some = record {
         let differ : Mac s.vni s.mac (Some ip) ≢ key_of s = λ e. (let no : Some ip ≡ None = cc in cc) in
         let none : advert_at now.table p (Mac s.vni s.mac (Some ip)) ≡ None =
         said_other c.speaker (key_of s) (Advertised a) (Mac s.vni s.mac (Some ip)) p differ
-        ∙ ap (λ o. advert_at c.speaker.table o (Mac s.vni s.mac (Some ip))) same ∙ good.bare s ip in
-        let no : None ≡ Some b = sym none ∙ is in cc
+        ∙ rw same (good.bare s ip) in
+        none-some b (sym none ∙ is)
 
     key_other : (p : ℕ) (j : Option Ip) → p ≢ c.speaker.address
         → advert_at now.table p (Mac s.vni s.mac j) ≡ advert_at c.speaker.table p (Mac s.vni s.mac j)
@@ -77,27 +78,12 @@ said_owns c s a good beats some = record {
         (next_value c.speaker (Advertised a)) (register_of p (Mac s.vni s.mac j))
         (λ h. ne (ap (λ (q : Register). q.originator) h)))
 
-    go : (p : ℕ) (j : Option Ip) (b : Advert) → register_of p (Mac s.vni s.mac j) ≢ register_of c.speaker.address
-        (Mac s.vni s.mac None) → advert_at now.table p (Mac s.vni s.mac j) ≡ Some b → (x : Bool)
-        → eqb p c.speaker.address ≡ x
-        → IsBetter a (register_of c.speaker.address (Mac s.vni s.mac None)) b (register_of p (Mac s.vni s.mac j))
-    go p j b ne is true t = let same : p ≡ c.speaker.address = grind (arith, nat_tests) in
-        absurd (same_ip p j b same ne is)
-    go p j b ne is false t =
-        let other : p ≢ c.speaker.address = λ same. (let yes = eq-eqb p c.speaker.address same in cc) in
-        beats b (register_cmp (register_of c.speaker.address (Mac s.vni s.mac None))
-        (register_of p (Mac s.vni s.mac j)))
-        p j other (sym (key_other p j other) ∙ is)
-
 said_holds : (c : LocalRoutes) (s : Station) (a : Advert) → KeepsRoutes c → Beats c s a → ((r : Station) → OwnsAt c r)
     → (r : Station) → OwnsAt (record c { speaker = after_originating c.speaker (key_of s) (Advertised a) }) r
-said_holds c s a good beats owns r = elim (same_or_other r s) as (λ _. OwnsAt
-    (record c { speaker = after_originating c.speaker (key_of s) (Advertised a) }) r) [
-      | inl same ↦ subst (OwnsAt (record c { speaker = after_originating c.speaker (key_of s) (Advertised a) }))
-          (sym same)
-          (said_owns c s a good beats)
-      | inr ne ↦ saying_owns c (key_of s) (Advertised a) r (λ j. other_key r s j None ne) (owns r)
-    ]
+said_holds c s a good beats owns r = elim (same_or_other r s) [
+  | inl same ↦ rw same (said_owns c s a good beats)
+  | inr ne ↦ saying_owns c (key_of s) (Advertised a) r (λ j. other_key r s j None ne) (owns r)
+]
 
 -- ---- learning
 
@@ -106,8 +92,7 @@ next_beats : (c : LocalRoutes) (s : Station) (n : ℕ) → seq_for c.speaker.tab
 next_beats c s n next b o p j other is = pick b.is_static loose
   where
     exact : IsSeqFor c.speaker.table c.speaker.address s.vni s.mac (Next n)
-    exact = subst (IsSeqFor c.speaker.table c.speaker.address s.vni s.mac) next
-        (seq_exact c.speaker.table c.speaker.address s.vni s.mac)
+    exact = rw next at (seq_exact c.speaker.table c.speaker.address s.vni s.mac)
 
     loose : b.is_static ≡ false
     loose = exact.0 p j b other is
@@ -169,46 +154,17 @@ pub pin_fits : (e : Edge) (s : Station) (port : ℕ) → refused_pin e s port �
     → (vni_at e.routes.ports port ≡ Some s.vni) × (is_group s.mac ≡ false)
 pin_fits e s port is = go (vni_at e.routes.ports port) refl is
   where
-    single : (b : Bool) → cond b (Some BadMac) None ≡ None → b ≡ false
-    single true q = cc
-    single false q = refl
-
-    there : (vni : ℕ) → vni_at e.routes.ports port ≡ Some vni → (b : Bool) → eqb vni s.vni ≡ b
-        → cond b (cond (is_group s.mac) (Some BadMac) None) (Some NoSuchVni) ≡ None
-        → (vni_at e.routes.ports port ≡ Some s.vni) × (is_group s.mac ≡ false)
-    there vni at true t q = (
-      at ∙ ap Some (let same : vni ≡ s.vni = grind (arith, nat_tests) in same),
-      single (is_group s.mac) q,
-    )
-    there vni at false t q = cc
-
     go : (o : Option ℕ) → vni_at e.routes.ports port ≡ o → pin_refusal o s ≡ None
         → (vni_at e.routes.ports port ≡ Some s.vni) × (is_group s.mac ≡ false)
     go None at q = cc
-    go (Some vni) at q = there vni at (eqb vni s.vni) refl q
+    go (Some vni) at q = (at ∙ grind (arith, nat_tests, q), grind (arith, q))
 
 -- a pinned station is not static elsewhere
 not_static : (e : Edge) (s : Station) (known : Bool) → unpinned_case e s known ≡ Pin
     → is_static (seq_for (table_of e) (address_of e) s.vni s.mac) ≡ false
-not_static e s known is = go (is_static (seq_for (table_of e) (address_of e) s.vni s.mac)) refl is
-  where
-    go : (b : Bool) → is_static (seq_for (table_of e) (address_of e) s.vni s.mac) ≡ b
-        → cond b (Deny StaticElsewhere) (cond (is_spent e.routes) (Deny CounterSpent)
-        (cond (not known && is_full e.routes.learned) (Deny TableFull) Pin)) ≡ Pin
-        → is_static (seq_for (table_of e) (address_of e) s.vni s.mac) ≡ false
-    go true t q = cc
-    go false t q = t
+not_static e s known is = grind (arith, is)
 
 pub pinned_alone : (e : Edge) (s : Station) (port : ℕ) (o : Option Entry) → pin_case_at e s port o ≡ Pin
     → is_static (seq_for (table_of e) (address_of e) s.vni s.mac) ≡ false
 pinned_alone e s port None is = not_static e s false is
-pinned_alone e s port (Some x) is = go x.pinned is
-  where
-    inner : (b : Bool) → cond b Keep Shift ≡ Pin → ⊥
-    inner true q = cc
-    inner false q = cc
-
-    go : (b : Bool) → cond b (cond (eqb x.port port) Keep Shift) (unpinned_case e s true) ≡ Pin
-        → is_static (seq_for (table_of e) (address_of e) s.vni s.mac) ≡ false
-    go true q = absurd (inner (eqb x.port port) q)
-    go false q = not_static e s true q
+pinned_alone e s port (Some x) is = not_static e s true (grind (arith, is))

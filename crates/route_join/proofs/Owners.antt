@@ -1,20 +1,17 @@
 -- The walk over a table's registers finds the owner of an address, and there is at most one.
-use Rattle.std.proofs.Common.{◌≡◌, ◌≢◌, inl, inr, ℕ, ◌≤◌, Bool, true, false, cond, ◌&&◌, ◌||◌, Option, Some, None}
-use Rattle.std.proofs.Common.{MatchOption, List, [], ◌∷◌, ◌++◌, refl, sym, ap, subst, ◌∙◌, append_assoc, append-nil}
-use Rattle.std.proofs.Common.{arith, ◌<◌, ◌↔◌}
+use Rattle.std.proofs.Common.{◌≡◌, ◌≢◌, ℕ, Bool, true, false, cond, Option, Some, None, MatchOption, List, [], ◌∷◌}
+use Rattle.std.proofs.Common.{◌++◌, refl, sym, ap, subst, ◌∙◌, append_assoc, append-nil, arith}
 use Rattle.std.proofs.lemmas.Bool.Decides.{nat_tests}
-use Rattle.std.specs.Prelude.{nat_lt, ◌==◌}
+use Rattle.std.proofs.Math.Logic.{⊎_elim}
 use Rattle.std.specs.declared.cmp.Ordering.{Ordering}
-use Rattle.std.specs.declared.cmp.Ordering.TheVariants.{Less, Equal, Greater}
-use Rattle.std.specs.Option.{option_map}
-use Rattle.std.specs.Cmp.{IsTotalOrder, IsStrictWeakOrder, ranked, nat_cmp_total, bool_cmp_total, tied_itself}
-use Rattle.std.specs.Ordering.{MatchOrdering, nat_cmp, bool_cmp, ordering_then, is_lt, ordering_reverse}
-use Rattle.std.proofs.lemmas.Cmp.{on_total, then_total, back_total}
+use Rattle.std.specs.declared.cmp.Ordering.TheVariants.{Less, Equal}
+use Rattle.std.specs.Option.{option_map, option_and_then}
+use Rattle.std.specs.Cmp.{IsStrictWeakOrder, tied_itself}
+use Rattle.std.specs.Ordering.{is_lt, ordering_reverse}
 use Rattle.std.proofs.lemmas.List.MinMax.{ranks_by}
 use Rattle.std.specs.FinMap.{entries, entries_sorted, get-entries}
 use Rattle.std.specs.FinMap.Entries.{find, find-append, is_sorted, below_all}
 use Rattle.route_wire.specs.declared.update.Ip.{Ip}
-use Rattle.route_wire.specs.declared.update.Key.{Key}
 use Rattle.route_wire.specs.declared.update.Key.TheVariants.{Mac}
 use Rattle.route_wire.specs.declared.update.Register.{Register}
 use Rattle.route_wire.specs.declared.update.Advert.{Advert}
@@ -23,301 +20,227 @@ use Rattle.route_wire.specs.Order.{register_cmp}
 use Rattle.route_wire.specs.Inner.Totals.{register_total, register_exact}
 use Rattle.route_join.specs.Table.{Table, register_of, value_at}
 use Rattle.route_join.specs.Owner.{advert_in, advert_of, IsBetterBy, IsBetter, IsOwner, IsUnowned, is_better_by}
-use Rattle.route_join.specs.Owner.{is_better, is_about, said_of, better_of, best_among, owner}
+use Rattle.route_join.specs.Owner.{advert_at, is_better, is_about, said_of, better_of, best_among, owner}
+use Rattle.route_join.specs.Inner.Group.{wins}
 use Rattle.route_join.specs.Laws.{OneOwner, OwnerAlong}
-use Rattle.route_join.specs.Subject.{subject_of}
 use Rattle.route_join.proofs.Orders.{less, from_T}
 use Rattle.route_join.proofs.Subjects.{address_key, about_address, about_itself}
 use Rattle.route_join.proofs.Tables.{itself_register, same_or_other, other_register}
 use Rattle.std.proofs.lemmas.Bool.{and_parts as both}
 
--- ---- better is before in a total order, and of two registers one is better
-later_by_number : (m n : ℕ) (o : Ordering) → ((n ≤ m) × (m ≡ n → o ≡ Less)) ↔ (ordering_then (nat_cmp n m) o ≡ Less)
-later_by_number m n o = go (nat_cmp n m) (ranked n m (nat_cmp n m) refl)
-  where
-    go : (k : Ordering) → MatchOrdering k (n < m) (n ≡ m) (m < n)
-        → ((n ≤ m) × (m ≡ n → o ≡ Less)) ↔ (ordering_then k o ≡ Less)
-    go Less l = (λ h. refl, λ h. (omega (arith, l), λ e. absurd (omega (arith, l, e))))
-    go Equal l = (λ h. h.1 (sym l), λ h. (omega (arith, l), λ e. h))
-    go Greater l = (λ h. absurd (omega (arith, l, h.0)), λ h. cc)
+-- ---- which of two adverts is better, by the order of their registers
+abbrev IsBetterAt : Ordering → Advert → Advert → Type 0
+IsBetterAt o a b = IsBetterBy a.is_static b.is_static a.sequence b.sequence o
 
-tested_number : (m n : ℕ) (o : Ordering) → (nat_lt n m || (n == m && is_lt o)) ≡ is_lt (ordering_then (nat_cmp n m) o)
-tested_number m n o = go (nat_cmp n m) (ranked n m (nat_cmp n m) refl) (is_lt o) refl
-  where
-    go : (k : Ordering) → MatchOrdering k (n < m) (n ≡ m) (m < n) → (b : Bool) → is_lt o ≡ b
-        → (nat_lt n m || (n == m && b)) ≡ is_lt (ordering_then k o)
-    go Less l true e = grind (arith, nat_tests)
-    go Less l false e = grind (arith, nat_tests)
-    go Equal l true e = let t : (nat_lt n m || (n == m && true)) ≡ true = grind (arith, nat_tests) in t ∙ sym e
-    go Equal l false e = let t : (nat_lt n m || (n == m && false)) ≡ false = grind (arith, nat_tests) in t ∙ sym e
-    go Greater l true e = grind (arith, nat_tests)
-    go Greater l false e = grind (arith, nat_tests)
+abbrev is_better_at : Ordering → Advert → Advert → Bool
+is_better_at o a b = is_better_by a.is_static b.is_static a.sequence b.sequence o
 
-better_by : (f g : Bool) (m n : ℕ) (o : Ordering)
-    → IsBetterBy f g m n o ↔ (ordering_then (bool_cmp g f) (ordering_then (nat_cmp n m) o) ≡ Less)
-better_by true true m n o = later_by_number m n o
-better_by true false m n o = (λ h. refl, λ h. tt)
-better_by false true m n o = (λ h. absurd h, λ h. cc)
-better_by false false m n o = later_by_number m n o
+better_at : (o : Ordering) (a b : Advert) → is_better_at o a b ≡ true → IsBetterAt o a b
+better_at o a b t = grind (arith, nat_tests)
 
-tested_by : (f g : Bool) (m n : ℕ) (o : Ordering)
-    → is_better_by f g m n o ≡ is_lt (ordering_then (bool_cmp g f) (ordering_then (nat_cmp n m) o))
-tested_by true true m n o = tested_number m n o
-tested_by true false m n o = refl
-tested_by false true m n o = refl
-tested_by false false m n o = tested_number m n o
+beaten_at : (o : Ordering) (a b : Advert) → o ≢ Equal → is_better_at o a b ≡ false → IsBetterAt (ordering_reverse o) b a
+beaten_at o a b ne t = grind (arith, nat_tests)
 
--- adverts of registers, the best one first
-abbrev advert_cmp : Register × Advert → Register × Advert → Ordering
-advert_cmp c d = ordering_then (bool_cmp d.1.is_static c.1.is_static)
-    (ordering_then (nat_cmp d.1.sequence c.1.sequence) (register_cmp c.0 d.0))
+one_way_at : (o : Ordering) (a b : Advert) → IsBetterAt o a b → IsBetterAt (ordering_reverse o) b a → ⊥
+one_way_at o a b h k = grind arith
 
-advert_total : IsTotalOrder advert_cmp
-advert_total = then_total (back_total (on_total (λ (c : Register × Advert). c.1.is_static) bool_cmp_total))
-    (then_total (back_total (on_total (λ (c : Register × Advert). c.1.sequence) nat_cmp_total))
-    (on_total (λ (c : Register × Advert). c.0) register_total))
+-- an advert that is no worse
+pub as_good_at : (o p : Ordering) (a now b : Advert) → is_better_at o a now ≡ false → IsBetterAt p a b
+    → IsBetterAt p now b
+as_good_at o p a now b t h = grind (arith, nat_tests)
 
-tested : (c d : Register × Advert) → is_better c.1 c.0 d.1 d.0 ≡ is_lt (advert_cmp c d)
-tested c d = tested_by c.1.is_static d.1.is_static c.1.sequence d.1.sequence (register_cmp c.0 d.0)
+along_at : (o p q : Ordering) (a b c : Advert) → (o ≡ Less → p ≡ Less → q ≡ Less) → IsBetterAt o a b
+    → IsBetterAt p b c → IsBetterAt q a c
+along_at o p q a b c less h k = grind arith
 
-pub better_ranks : IsStrictWeakOrder (λ (c d : Register × Advert). is_better c.1 c.0 d.1 d.0)
-better_ranks = subst IsStrictWeakOrder (λ i c d. sym (tested c d) i) (ranks_by advert_total (λ c. c))
+not_back_at : (o : Ordering) (a b : Advert) → is_better_at o a b ≡ true → is_better_at (ordering_reverse o) b a ≡ false
+not_back_at o a b t = grind (arith, nat_tests)
 
-module _ (a : Advert) (r : Register) (b : Advert) (q : Register) where
-  is_first : IsBetter a r b q ↔ (advert_cmp (r, a) (q, b) ≡ Less)
-  is_first = better_by a.is_static b.is_static a.sequence b.sequence (register_cmp r q)
+chain_at : (o p q : Ordering) (a b c : Advert) → (is_lt o ≡ false → is_lt p ≡ false → is_lt q ≡ false)
+    → is_better_at o a b ≡ false → is_better_at p b c ≡ false → is_better_at q a c ≡ false
+chain_at o p q a b c chain s t = grind (arith, nat_tests)
 
-  pub is_better_is : is_better a r b q ≡ true → IsBetter a r b q
-  is_better_is e = is_first.1 (less (advert_cmp (r, a) (q, b)) (sym (tested (r, a) (q, b)) ∙ e))
-
-pub better_not_back : (a : Advert) (r : Register) (b : Advert) (q : Register) → IsBetter a r b q → IsBetter b q a r → ⊥
-better_not_back a r b q h k =
-    let there = (is_first a r b q).0 h in
-    let back = advert_total.antisymm (r, a) (q, b) ∙ ap ordering_reverse ((is_first b q a r).0 k) in
-    cc
-
-pub better_trans : (a : Advert) (r : Register) (b : Advert) (q : Register) (c : Advert) (p : Register)
-    → IsBetter a r b q → IsBetter b q c p → IsBetter a r c p
-better_trans a r b q c p h k = (is_first a r c p).1
-    (advert_total.trans (r, a) (q, b) (p, c) ((is_first a r b q).0 h) ((is_first b q c p).0 k))
-
-tied_last : (o p : Ordering) → ordering_then o p ≡ Equal → p ≡ Equal
-tied_last Less p h = cc
-tied_last Equal p h = h
-tied_last Greater p h = cc
-
+-- ---- of two registers one is better
 pub not_better_is : (a : Advert) (r : Register) (b : Advert) (q : Register) → r ≢ q → is_better a r b q ≡ false
     → IsBetter b q a r
-not_better_is a r b q ne e = (is_first b q a r).1 (go (advert_cmp (r, a) (q, b)) refl)
-  where
-    go : (o : Ordering) → advert_cmp (r, a) (q, b) ≡ o → advert_cmp (q, b) (r, a) ≡ Less
-    go Less t = let yes = tested (r, a) (q, b) ∙ ap is_lt t in cc
-    go Equal t = absurd (ne (register_exact r q (tied_last (nat_cmp b.sequence a.sequence) (register_cmp r q)
-        (tied_last (bool_cmp b.is_static a.is_static) _ t))))
-    go Greater t = advert_total.antisymm (q, b) (r, a) ∙ ap ordering_reverse t
+not_better_is a r b q ne t = rw (register_total.antisymm q r)
+    (beaten_at (register_cmp r q) a b (λ e. ne (register_exact r q e)) t)
 
--- if an advert is no worse than another advert of the same register, it is better than each advert that the other one
--- is better than
-pub as_good : (a now : Advert) (r : Register) (b : Advert) (q : Register) → is_better a r now r ≡ false
-    → IsBetter a r b q → IsBetter now r b q
-as_good a now r b q e h = (is_first now r b q).1 (go (advert_cmp (r, a) (r, now)) refl)
-  where
-    go : (o : Ordering) → advert_cmp (r, a) (r, now) ≡ o → advert_cmp (r, now) (q, b) ≡ Less
-    go Less t = let yes = tested (r, a) (r, now) ∙ ap is_lt t in cc
-    go Equal t = sym (advert_total.congr (r, a) (r, now) (q, b) t) ∙ (is_first a r b q).0 h
-    go Greater t = advert_total.trans (r, now) (r, a) (q, b)
-        (advert_total.antisymm (r, now) (r, a) ∙ ap ordering_reverse t) ((is_first a r b q).0 h)
+pub better_ranks : IsStrictWeakOrder (λ (c d : Register × Advert). is_better c.1 c.0 d.1 d.0)
+better_ranks = record {
+  one_way = λ c d t. rw (register_total.antisymm d.0 c.0) (not_back_at (register_cmp c.0 d.0) c.1 d.1 t);
+  chain = λ c d e. chain_at (register_cmp c.0 d.0) (register_cmp d.0 e.0) (register_cmp c.0 e.0) c.1 d.1 e.1
+      ((ranks_by register_total (λ r. r)).chain c.0 d.0 e.0);
+}
+
+-- ---- the best of some adverts
+-- r advertises by a, which is better than the advert of each other register
+pub record IsBestAmong (says : Register → Option Advert) (r : Register) (a : Advert) : Type 0 where
+  pub own : says r ≡ Some a
+  pub best : (q : Register) (b : Advert) → q ≢ r → says q ≡ Some b → IsBetter a r b q
+
+abbrev pub Candidate : Type 0
+Candidate = Option (Register × Advert)
+
+abbrev pub IsBest : (Register → Option Advert) → Candidate → Type 0
+IsBest says None = (q : Register) → says q ≡ None
+IsBest says (Some best) = IsBestAmong says best.0 best.1
+
+abbrev pub advert_by : Register → Option Advert → Candidate
+advert_by r o = option_map (λ (a : Advert). (r, a)) o
+
+abbrev pub IsApart : Register → Candidate → Type 0
+IsApart e best = (c : Register × Advert) → best ≡ Some c → c.0 ≢ e
+
+pub was_silent : (says : Register → Option Advert) (e : Register) (best : Candidate) → IsBest says best
+    → says e ≡ None → IsApart e best
+was_silent says e None h none c is same = cc
+was_silent says e (Some d) h none c is same = cc (h.own)
+
+-- the advert of one register is another one now
+module _ (says after : Register → Option Advert) (e : Register)
+    (others : (q : Register) → q ≢ e → after q ≡ says q) where
+  winner_says : (best : Candidate) → wins (advert_by e (after e)) best ≡ true
+      → (b : Advert) × (after e ≡ Some b)
+  winner_says best t = grind arith
+
+  silent : wins (advert_by e (after e)) None ≡ false → after e ≡ None
+  silent t = grind arith
+
+  better_is : (best : Candidate)
+      → cond (wins (advert_by e (after e)) best) (advert_by e (after e)) best ≡ better_of e (after e) best
+  better_is best = grind arith
+
+  beats : (b : Advert) (best : Candidate) → IsBest says best → wins (Some (e, b)) best ≡ true
+      → (q : Register) (d : Advert) → says q ≡ Some d → IsBetter b e d q
+  beats b None h t q d is = cc (h q)
+  beats b (Some c) h t q d is =
+      let better = better_at (register_cmp e c.0) b c.1 t in
+      ⊎_elim (λ same. let equal : d ≡ c.1 = cc in rw same (rw equal better))
+      (λ other. along_at (register_cmp e c.0) (register_cmp c.0 q) (register_cmp e q) b c.1 d
+      (register_total.trans e c.0 q) better (h.best q d other is)) (same_or_other q c.0)
+
+  pub won : (best : Candidate) → IsBest says best → wins (advert_by e (after e)) best ≡ true
+      → (b : Advert) × IsBestAmong after e b
+  won best h t = let b = winner_says best t in (
+    b.0,
+    record {
+      own = b.1;
+      best = λ q d ne is. beats b.0 best h (rw b.1 at t) q d (sym (others q ne) ∙ is);
+    },
+  )
+
+  pub lost : (best : Candidate) → IsBest says best → IsApart e best
+      → wins (advert_by e (after e)) best ≡ false → IsBest after best
+  lost None h apart t = λ q. ⊎_elim (λ same. rw same (silent t)) (λ ne. others q ne ∙ h q)
+      (same_or_other q e)
+  lost (Some c) h apart t = record {
+    own = others c.0 (apart c refl) ∙ h.own;
+    best = λ q b ne is. ⊎_elim
+        (λ same. rw same (not_better_is b e c.1 c.0 (λ here. apart c refl (sym here)) (rw (rw same at is) at t)))
+        (λ other. h.best q b ne (sym (others q other) ∙ is)) (same_or_other q e);
+  }
+
+  next_best : (best : Candidate) → IsBest says best → IsApart e best
+      → IsBest after (better_of e (after e) best)
+  next_best best h apart = subst (IsBest after) (better_is best) (go (wins (advert_by e (after e)) best) refl)
+    where
+      go : (t : Bool) → wins (advert_by e (after e)) best ≡ t → IsBest after (cond t (advert_by e (after e)) best)
+      go true t = let top = (won best h t).1 in rw top.own top
+      go false t = lost best h apart t
 
 -- ---- there is at most one owner
 pub one_owner : OneOwner
-one_owner t vni mac o p a b = elim (same_or_other (register_of o (Mac vni mac a.ip))
-    (register_of p (Mac vni mac b.ip))) as (λ _. o ≡ p) [
-      | inl same ↦ ap (λ (r : Register). r.originator) same
-      | inr ne ↦ absurd (better_not_back a.advert (register_of o (Mac vni mac a.ip)) b.advert
-          (register_of p (Mac vni mac b.ip)) (a.best p b.ip b.advert (λ h. ne (sym h)) b.own)
-          (b.best o a.ip a.advert ne a.own))
-    ]
-
--- ---- registers of an address
-abbrev IsAbout : ℕ → ℕ → Key → Type 0
-IsAbout vni mac k = (ip : Option Ip) × (k ≡ Mac vni mac ip)
-
-said_some : (vni mac : ℕ) (r : Register) (v : Value) (b : Advert) → said_of vni mac r v ≡ Some b
-    → IsAbout vni mac r.key × (advert_in v.content ≡ Some b)
-said_some vni mac r v b e = go (is_about vni mac r.key) refl e
-  where
-    go : (c : Bool) → is_about vni mac r.key ≡ c → cond c (advert_in v.content) None ≡ Some b
-        → IsAbout vni mac r.key × (advert_in v.content ≡ Some b)
-    go true t e = (address_key vni mac r.key (about_address vni mac r.key t), e)
-    go false t e = cc
-
-said_none : (vni mac : ℕ) (r : Register) (v : Value) → said_of vni mac r v ≡ None → IsAbout vni mac r.key
-    → advert_in v.content ≡ None
-said_none vni mac r v e h = ap (λ c. cond c (advert_in v.content) None)
-    (sym (about_itself vni mac r.key (ap subject_of h.1))) ∙ e
+one_owner t vni mac o p a b =
+    let r = register_of o (Mac vni mac a.ip) in
+    let q = register_of p (Mac vni mac b.ip) in
+    ⊎_elim (ap (λ (r : Register). r.originator))
+    (λ ne. absurd (one_way_at (register_cmp r q) a.advert b.advert
+    (a.best p b.ip b.advert (λ h. ne (sym h)) b.own)
+    (rw (register_total.antisymm q r) at (b.best o a.ip a.advert ne a.own)))) (same_or_other r q)
 
 -- ---- the walk, register by register
 abbrev pub in_list : List (Register × Value) → Register → Option Advert
 in_list es q = advert_of (find register_cmp q es)
 
-pub at_last : (es : List (Register × Value)) (e : Register × Value) → find register_cmp e.0 es ≡ None
-    → in_list (es ++ e ∷ []) e.0 ≡ advert_in e.1.content
-at_last es e absent = ap advert_of (find-append register_cmp register_total es e.0 e.1 e.0 absent
-    ∙ ap (λ b. cond b (Some e.1) (find register_cmp e.0 es)) (itself_register e.0))
+module _ (es : List (Register × Value)) (e : Register × Value) (absent : find register_cmp e.0 es ≡ None) where
+  pub find_last : find register_cmp e.0 (es ++ e ∷ []) ≡ Some e.1
+  find_last = rw (find-append register_cmp register_total es e.0 e.1 e.0 absent, itself_register)
 
-pub at_before : (es : List (Register × Value)) (e : Register × Value) (q : Register) → find register_cmp e.0 es ≡ None
-    → q ≢ e.0 → in_list (es ++ e ∷ []) q ≡ in_list es q
-at_before es e q absent ne = ap advert_of (find-append register_cmp register_total es e.0 e.1 q absent
-    ∙ ap (λ b. cond b (Some e.1) (find register_cmp q es)) (other_register q e.0 ne))
-
--- r advertises the address by a, which is better than the advert of each other register
-record IsBestAmong (vni mac : ℕ) (es : List (Register × Value)) (r : Register) (a : Advert) : Type 0 where
-  about : IsAbout vni mac r.key
-  own : in_list es r ≡ Some a
-  best : (q : Register) (b : Advert) → IsAbout vni mac q.key → q ≢ r → in_list es q ≡ Some b → IsBetter a r b q
-
--- no register advertises the address
-abbrev AllSilent : ℕ → ℕ → List (Register × Value) → Type 0
-AllSilent vni mac es = (q : Register) → IsAbout vni mac q.key → in_list es q ≡ None
-
--- the best of these registers
-abbrev IsBest : ℕ → ℕ → List (Register × Value) → Option (Register × Advert) → Type 0
-IsBest vni mac es None = AllSilent vni mac es
-IsBest vni mac es (Some best) = IsBestAmong vni mac es best.0 best.1
-
-module _ (vni mac : ℕ) (es : List (Register × Value)) (e : Register × Value)
-    (absent : find register_cmp e.0 es ≡ None) where
-  -- an entry of the list is not at the new register
-  not_last : (r : Register) (a : Advert) → in_list es r ≡ Some a → r ≢ e.0
-  not_last r a is same =
-      let none : in_list es e.0 ≡ None = ap advert_of absent in
-      let here : in_list es e.0 ≡ Some a = subst (λ q. in_list es q ≡ Some a) same is in
-      cc
-
-  -- the new register is passed over
-  kept : (r : Register) (a : Advert) → IsBestAmong vni mac es r a
-      → ((b : Advert) → IsAbout vni mac e.0.key → advert_in e.1.content ≡ Some b → IsBetter a r b e.0)
-      → IsBestAmong vni mac (es ++ e ∷ []) r a
-  kept r a h beats = record {
-    about = h.about;
-    own = at_before es e r absent (not_last r a h.own) ∙ h.own;
-    best = λ q b about ne is. elim (same_or_other q e.0) as (λ _. IsBetter a r b q) [
-      | inl same ↦ subst (λ x. IsBetter a r b x) (sym same)
-          (beats b (subst (λ (x : Register). IsAbout vni mac x.key) same about) (sym (at_last es e absent)
-          ∙ subst (λ x. in_list (es ++ e ∷ []) x ≡ Some b) same is))
-      | inr other ↦ h.best q b about ne (sym (at_before es e q absent other) ∙ is)
-    ];
-  }
-
-  silent : AllSilent vni mac es → said_of vni mac e.0 e.1 ≡ None → AllSilent vni mac (es ++ e ∷ [])
-  silent h says q about = elim (same_or_other q e.0) as (λ _. in_list (es ++ e ∷ []) q ≡ None) [
-    | inl same ↦ ap (in_list (es ++ e ∷ [])) same ∙ at_last es e absent
-        ∙ said_none vni mac e.0 e.1 says (subst (λ (x : Register). IsAbout vni mac x.key) same about)
-    | inr ne ↦ at_before es e q absent ne ∙ h q about
-  ]
-
-  first : (b : Advert) → AllSilent vni mac es → said_of vni mac e.0 e.1 ≡ Some b
-      → IsBestAmong vni mac (es ++ e ∷ []) e.0 b
-  first b h says = let s = said_some vni mac e.0 e.1 b says in record {
-    about = s.0;
-    own = at_last es e absent ∙ s.1;
-    best = λ q d about ne at. let none = h q about in let there : in_list es q ≡ Some d =
-        sym (at_before es e q absent ne) ∙ at in cc;
-  }
-
-  replaced : (r : Register) (a b : Advert) → IsBestAmong vni mac es r a → said_of vni mac e.0 e.1 ≡ Some b
-      → IsBetter b e.0 a r → IsBestAmong vni mac (es ++ e ∷ []) e.0 b
-  replaced r a b h says better = let s = said_some vni mac e.0 e.1 b says in record {
-    about = s.0;
-    own = at_last es e absent ∙ s.1;
-    best = λ q d about ne at. let there : in_list es q ≡ Some d = sym (at_before es e q absent ne) ∙ at in
-        elim (same_or_other q r) as (λ _. IsBetter b e.0 d q) [
-          | inl same ↦
-              let here : in_list es r ≡ Some d = subst (λ y. in_list es y ≡ Some d) same there in
-              let own = h.own in
-              let equal : a ≡ d = cc in
-              subst (λ y. IsBetter b e.0 d y) (sym same) (subst (λ y. IsBetter b e.0 y r) equal better)
-          | inr other ↦ better_trans b e.0 a r d q better (h.best q d about other there)
-        ];
-  }
-
-  step : (best : Option (Register × Advert)) → IsBest vni mac es best
-      → IsBest vni mac (es ++ e ∷ []) (better_of e.0 (said_of vni mac e.0 e.1) best)
-  step best h = go (said_of vni mac e.0 e.1) refl best h
-    where
-      pick : (b : Advert) (best : Register × Advert) → IsBestAmong vni mac es best.0 best.1
-          → said_of vni mac e.0 e.1 ≡ Some b → (c : Bool) → is_better b e.0 best.1 best.0 ≡ c
-          → IsBest vni mac (es ++ e ∷ []) (cond c (Some (e.0, b)) (Some best))
-      pick b best h says true t = replaced best.0 best.1 b h says (is_better_is b e.0 best.1 best.0 t)
-      pick b best h says false t = kept best.0 best.1 h (λ d about is.
-          let s = said_some vni mac e.0 e.1 b says in
-          let own = s.1 in
-          let equal : b ≡ d = cc in
-          subst (λ y. IsBetter best.1 best.0 y e.0) equal
-          (not_better_is b e.0 best.1 best.0 (λ same. not_last best.0 best.1 h.own (sym same)) t))
-
-      go : (here : Option Advert) → said_of vni mac e.0 e.1 ≡ here → (best : Option (Register × Advert))
-          → IsBest vni mac es best → IsBest vni mac (es ++ e ∷ []) (better_of e.0 here best)
-      go None says None h = silent h says
-      go None says (Some best) h = kept best.0 best.1 h (λ b about is. let none =
-          said_none vni mac e.0 e.1 says about in cc)
-      go (Some b) says None h = first b h says
-      go (Some b) says (Some best) h = pick b best h says (is_better b e.0 best.1 best.0) refl
+  pub find_before : (q : Register) → q ≢ e.0 → find register_cmp q (es ++ e ∷ []) ≡ find register_cmp q es
+  find_before q ne = rw (find-append register_cmp register_total es e.0 e.1 q absent, other_register q e.0 ne)
 
 pub not_less_itself : (k q : Register) → register_cmp k q ≡ Less → k ≡ q → ⊥
-not_less_itself k q l same = let e : register_cmp k q ≡ Equal = ap (register_cmp k) (sym same)
-    ∙ tied_itself register_total k in cc
+not_less_itself k q l same = cc (tied_itself register_total k)
 
 -- in a list in order, a later register is not among those before it
+pub below_last : (k : Register) (es fs : List (Register × Value)) (e : Register × Value)
+    → below_all register_cmp k (es ++ e ∷ fs) ≡ true → register_cmp k e.0 ≡ Less
+below_last k [] fs e h = less (register_cmp k e.0) (both _ _ h).0
+below_last k (x ∷ es) fs e h = below_last k es fs e (both _ _ h).1
+
 pub fresh : (ps es : List (Register × Value)) (e : Register × Value) → is_sorted register_cmp (ps ++ e ∷ es) ≡ true
     → find register_cmp e.0 ps ≡ None
 fresh [] es e s = refl
 fresh (p ∷ ps) es e s =
-    let parts = both (below_all register_cmp p.0 (ps ++ e ∷ es)) (is_sorted register_cmp (ps ++ e ∷ es)) s in
-    ap (λ b. cond b (Some p.1) (find register_cmp e.0 ps))
-    (other_register e.0 p.0 (λ same. not_less_itself p.0 e.0 (above ps parts.0) (sym same))) ∙ fresh ps es e parts.1
-  where
-    above : (qs : List (Register × Value)) → below_all register_cmp p.0 (qs ++ e ∷ es) ≡ true
-        → register_cmp p.0 e.0 ≡ Less
-    above [] h = less (register_cmp p.0 e.0) (both (is_lt (register_cmp p.0 e.0)) (below_all register_cmp p.0 es) h).0
-    above (q ∷ qs) h = above qs (both (is_lt (register_cmp p.0 q.0)) (below_all register_cmp p.0 (qs ++ e ∷ es)) h).1
-
-walk : (vni mac : ℕ) (ps es : List (Register × Value)) (best : Option (Register × Advert))
-    → is_sorted register_cmp (ps ++ es) ≡ true → IsBest vni mac ps best
-    → IsBest vni mac (ps ++ es) (best_among vni mac es best)
-walk vni mac ps [] best s h = subst (λ x. IsBest vni mac x best) (sym (append-nil ps)) h
-walk vni mac ps (e ∷ es) best s h =
-    let moved : (ps ++ e ∷ []) ++ es ≡ ps ++ e ∷ es = append_assoc ps (e ∷ []) es in
-    let next = better_of e.0 (said_of vni mac e.0 e.1) best in
-    subst (λ x. IsBest vni mac x (best_among vni mac es next)) moved
-    (walk vni mac (ps ++ e ∷ []) es next (ap (is_sorted register_cmp) moved ∙ s)
-    (step vni mac ps e (fresh ps es e s) best h))
+    let parts = both _ _ s in
+    rw (other_register e.0 p.0 (λ same. not_less_itself p.0 e.0 (below_last p.0 ps es e parts.0) (sym same)))
+    (fresh ps es e parts.1)
 
 pub in_table : (t : Table) (r : Register) → in_list (entries t.registers) r ≡ advert_of (value_at t r)
-in_table t r = ap advert_of (sym (get-entries t.registers r))
+in_table t r = rw get-entries
+
+-- the advert of a value, if a test is passed
+passed : (b : Bool) (o : Option Value) (a : Advert)
+    → option_and_then (λ (v : Value). cond b (advert_in v.content) None) o ≡ Some a → b ≡ true
+passed b o a e = grind arith
+
+told_by : (b : Bool) (o : Option Value) → b ≡ true
+    → option_and_then (λ (v : Value). cond b (advert_in v.content) None) o ≡ advert_of o
+told_by b o e = grind arith
+
+module _ (vni mac : ℕ) where
+  -- the register's advert of the address
+  abbrev told : List (Register × Value) → Register → Option Advert
+  told es q = option_and_then (said_of vni mac q) (find register_cmp q es)
+
+  walk : (ps es : List (Register × Value)) (best : Candidate) → is_sorted register_cmp (ps ++ es) ≡ true
+      → IsBest (told ps) best → IsBest (told (ps ++ es)) (best_among vni mac es best)
+  walk ps [] best s h = rw append-nil h
+  walk ps (e ∷ es) best s h =
+      let absent = fresh ps es e s in
+      let more = ps ++ e ∷ [] in
+      let top = next_best (told ps) (told more) e.0 (λ q ne. rw (find_before ps e absent q ne)) best h
+      (was_silent (told ps) e.0 best h (rw absent)) in
+      rw (← append_assoc ps (e ∷ []) es) (walk more es (better_of e.0 (said_of vni mac e.0 e.1) best)
+      (rw append_assoc s) (rw (find_last ps e absent) at top))
+
+  told_is : (t : Table) (o : ℕ) (ip : Option Ip)
+      → told (entries t.registers) (register_of o (Mac vni mac ip)) ≡ advert_at t o (Mac vni mac ip)
+  told_is t o ip = let r = register_of o (Mac vni mac ip) in
+      rw (← get-entries t.registers r)
+      (told_by (is_about vni mac r.key) (value_at t r) (about_itself vni mac r.key refl))
 
 -- the walk returns the owner, or `None` if no originator advertises the address
 pub owner_is : (t : Table) (vni mac : ℕ) → MatchOption (owner t vni mac) (IsUnowned t vni mac) (IsOwner t vni mac)
 owner_is t vni mac = go (best_among vni mac (entries t.registers) None)
-    (walk vni mac [] (entries t.registers) None (from_T _ (entries_sorted t.registers)) (λ q about. refl))
+    (walk vni mac [] (entries t.registers) None (from_T _ (entries_sorted t.registers)) (λ q. refl))
   where
-    go : (best : Option (Register × Advert)) → IsBest vni mac (entries t.registers) best
+    go : (best : Candidate) → IsBest (told vni mac (entries t.registers)) best
         → MatchOption (option_map (λ (best : Register × Advert). best.0.originator) best) (IsUnowned t vni mac)
         (IsOwner t vni mac)
-    go None h = λ o ip. sym (in_table t (register_of o (Mac vni mac ip)))
-        ∙ h (register_of o (Mac vni mac ip)) (ip, refl)
+    go None h = λ o ip. sym (told_is vni mac t o ip) ∙ h (register_of o (Mac vni mac ip))
     go (Some best) h =
-        let named : best.0 ≡ register_of best.0.originator (Mac vni mac h.about.0) =
-        λ i. register_of best.0.originator (h.about.1 i) in
-        record {
-          ip = h.about.0;
+        let found = find register_cmp best.0 (entries t.registers) in
+        let about = passed (is_about vni mac best.0.key) found best.1 h.own in
+        let key = address_key vni mac best.0.key (about_address vni mac best.0.key about) in
+        let named : best.0 ≡ register_of best.0.originator (Mac vni mac key.0) =
+        λ i. register_of best.0.originator (key.1 i) in
+        let leads = rw named at h in record {
+          ip = key.0;
           advert = best.1;
-          own = ap (λ q. advert_of (value_at t q)) (sym named) ∙ sym (in_table t best.0) ∙ h.own;
-          best = λ p j b ne at. subst (λ q. IsBetter best.1 q b (register_of p (Mac vni mac j))) named
-              (h.best (register_of p (Mac vni mac j)) b (
-                j,
-                refl,
-              ) (λ q. ne (q ∙ named)) (in_table t (register_of p (Mac vni mac j)) ∙ at));
+          own = sym (told_is vni mac t best.0.originator key.0) ∙ leads.own;
+          best = λ p j b ne is. leads.best (register_of p (Mac vni mac j)) b ne (told_is vni mac t p j ∙ is);
         }
 
 -- equal adverts keep the owner

@@ -1,113 +1,114 @@
 -- Pages one after the other: their updates are in order, and are those of a table.
-use Rattle.std.proofs.Common.{◌≡◌, ℕ, suc, ◌-◌, true, false, ◌&&◌, ◌⊎◌, inl, inr, Option, Some, None, List}
-use Rattle.std.proofs.Common.{[], ◌∷◌, ◌++◌, length, refl, sym, ap, subst, ◌∙◌, append-nil, arith}
+use Rattle.std.proofs.Common.{◌≡◌, ℕ, suc, ◌-◌, true, false, cond, Option, Some, None, List, [], ◌∷◌, ◌++◌}
+use Rattle.std.proofs.Common.{length, refl, sym, ap, ◌∙◌, append-nil, arith}
 use Rattle.std.specs.Prelude.{slice_get}
-use Rattle.std.specs.declared.cmp.Ordering.TheVariants.{Less}
+use Rattle.std.specs.declared.cmp.Ordering.TheVariants.{Less, Equal, Greater}
 use Rattle.std.specs.Cmp.{tied_itself}
-use Rattle.std.specs.Ordering.{is_lt}
-use Rattle.std.specs.FinMap.Entries.{below_all, is_sorted}
+use Rattle.std.specs.Ordering.{is_lt, is_le, ordering_reverse}
+use Rattle.std.specs.FinMap.Entries.{below_all}
+use Rattle.std.proofs.lemmas.Bool.{cond_both, false≢true, false_from_ne_true, and_parts as both}
+use Rattle.std.proofs.lemmas.List.Elements.{filter-append}
 use Rattle.route_wire.specs.declared.update.Register.{Register}
 use Rattle.route_wire.specs.Fields.{Fields}
 use Rattle.route_wire.specs.Order.{register_cmp}
 use Rattle.route_wire.specs.Inner.Totals.{register_total, value_total}
 use Rattle.route_join.specs.Table.{entries_of, IsOrdered, IsTableOf, table_from}
-use Rattle.route_join.specs.After.{IsPage, is_last, register_or, last_from}
+use Rattle.route_join.specs.After.{comes_after, updates_after, updates_from, AreAfter, IsPage, is_last}
+use Rattle.route_join.specs.After.{register_or, last_from}
 use Rattle.route_join.proofs.Orders.{less}
 use Rattle.route_join.proofs.Edits.{found}
 use Rattle.route_join.proofs.Abouts.{found_contains, contains_found}
-use Rattle.route_join.proofs.Afters.{below_later}
-use Rattle.std.proofs.lemmas.Bool.{and_parts as both}
+use Rattle.route_join.proofs.Afters.{below_from, kept_below}
 
 -- ---- the last update
 abbrev pub last_of : Fields → List Fields → Fields
 last_of v [] = v
 last_of v (w ∷ ws) = last_of w ws
 
-last_is : (v : Fields) (vs : List Fields) → slice_get (v ∷ vs) (length (v ∷ vs) - 1) ≡ Some (last_of v vs)
-last_is v [] = refl
-last_is v (w ∷ ws) =
-    let place : length (v ∷ w ∷ ws) - 1 ≡ suc (length (w ∷ ws) - 1) = omega arith in
-    ap (slice_get (v ∷ w ∷ ws)) place ∙ last_is w ws
-
 pub last_some : (r : Option Register) (v : Fields) (vs : List Fields) → last_from r (v ∷ vs)
     ≡ Some (last_of v vs).register
-last_some r v vs = ap (register_or r) (last_is v vs)
+last_some r v [] = refl
+last_some r v (w ∷ ws) =
+    let place : length (v ∷ w ∷ ws) - 1 ≡ suc (length (w ∷ ws) - 1) = omega arith in
+    ap (λ n. register_or r (slice_get (v ∷ w ∷ ws) n)) place ∙ last_some r w ws
 
 -- a register below all of them is below the last one
-last_above : (r : Register) (v : Fields) (vs : List Fields) → below_all register_cmp r (entries_of (v ∷ vs)) ≡ true
-    → register_cmp r (last_of v vs).register ≡ Less
-last_above r v [] h = less _ (both (is_lt (register_cmp r v.register)) true h).0
-last_above r v (w ∷ ws) h = last_above r w ws
-    (both (is_lt (register_cmp r v.register)) (below_all register_cmp r (entries_of (w ∷ ws))) h).1
+pub last_above : (r : Register) (v : Fields) (vs us : List Fields)
+    → below_all register_cmp r (entries_of (v ∷ vs ++ us)) ≡ true → register_cmp r (last_of v vs).register ≡ Less
+last_above r v [] us h = less _ (both _ _ h).0
+last_above r v (w ∷ ws) us h = last_above r w ws us (both _ _ h).1
 
--- ---- updates up to a register
-abbrev pub AllUpTo : Register → List Fields → Type 0
-AllUpTo r [] = Unit {0}
-AllUpTo r (u ∷ us) = ((register_cmp u.register r ≡ Less) ⊎ (u.register ≡ r)) × AllUpTo r us
+-- of updates in order, those after the last of the first ones are the others
+pub after_last : (v : Fields) (vs us : List Fields) → IsOrdered (v ∷ vs ++ us)
+    → updates_after (last_of v vs).register (v ∷ vs ++ us) ≡ us
+after_last v [] us s = rw (tied_itself register_total v.register) (kept_below v.register us (both _ _ s).0)
+after_last v (w ∷ ws) us s =
+    let last = (last_of w ws).register in
+    let parts = both _ _ s in
+    rw (register_total.antisymm last v.register, last_above v.register w ws us parts.0)
+    (after_last w ws us parts.1)
 
+-- an update after a later register is also after an earlier one
+pub after_later : (r q : Register) (us : List Fields) → register_cmp r q ≡ Less
+    → updates_after q (updates_after r us) ≡ updates_after q us
+after_later r q [] l = refl
+after_later r q (u ∷ us) l =
+    let rest = after_later r q us l in
+    cond_both (comes_after r u) (u ∷ updates_after r us) (updates_after r us)
+    (λ xs. updates_after q xs ≡ updates_after q (u ∷ us)) (λ e. rw rest)
+    (λ e. rw (false_from_ne_true (comes_after q u)
+    (λ h. false≢true (sym e ∙ ap is_lt (register_total.trans r q u.register l (less _ h))))) rest)
+
+-- an update after the last of some updates after a register is after the register
+pub from_later : (r : Option Register) (v : Fields) (vs us all : List Fields) → AreAfter r (v ∷ vs ++ us)
+    → updates_after (last_of v vs).register all ≡ updates_after (last_of v vs).register (updates_from r all)
+from_later None v vs us all b = refl
+from_later (Some r) v vs us all b = sym (after_later r (last_of v vs).register all (last_above r v vs us b))
+
+-- ---- a page more
 -- none comes after the register, and if there is no register, there is none
 abbrev pub AreUpTo : Option Register → List Fields → Type 0
-AreUpTo None us = us ≡ []
-AreUpTo (Some r) us = AllUpTo r us
-
-up_to_later : (r q : Register) (us : List Fields) → register_cmp r q ≡ Less → AllUpTo r us → AllUpTo q us
-up_to_later r q [] l a = tt
-up_to_later r q (u ∷ us) l a = (
-  elim a.0 as (λ _. (register_cmp u.register q ≡ Less) ⊎ (u.register ≡ q)) [
-    | inl e ↦ inl (register_total.trans u.register r q e l)
-    | inr e ↦ inl (subst (λ x. register_cmp x q ≡ Less) (sym e) l)
-  ],
-  up_to_later r q us l a.1,
-)
-
-up_to_last : (v : Fields) (vs : List Fields) → IsOrdered (v ∷ vs) → AllUpTo (last_of v vs).register (v ∷ vs)
-up_to_last v [] s = (inr refl, tt)
-up_to_last v (w ∷ ws) s =
-    let parts = both (below_all register_cmp v.register (entries_of (w ∷ ws)))
-    (is_sorted register_cmp (entries_of (w ∷ ws))) s in
-    (inl (last_above v.register w ws parts.0), up_to_last w ws parts.1)
-
-up_to_both : (r : Register) (us vs : List Fields) → AllUpTo r us → AllUpTo r vs → AllUpTo r (us ++ vs)
-up_to_both r [] vs a b = b
-up_to_both r (u ∷ us) vs a b = (a.0, up_to_both r us vs a.1 b)
+AreUpTo r us = updates_from r us ≡ []
 
 below_both : (r : Register) (us vs : List Fields) → below_all register_cmp r (entries_of us) ≡ true
     → below_all register_cmp r (entries_of vs) ≡ true → below_all register_cmp r (entries_of (us ++ vs)) ≡ true
 below_both r [] vs a b = b
 below_both r (u ∷ us) vs a b =
-    let parts = both (is_lt (register_cmp r u.register)) (below_all register_cmp r (entries_of us)) a in
-    ap (λ x. x && below_all register_cmp r (entries_of (us ++ vs))) parts.0 ∙ below_both r us vs parts.1 b
+    let parts = both (comes_after r u) (below_all register_cmp r (entries_of us)) a in
+    rw parts.0 (below_both r us vs parts.1 b)
 
-ordered_both : (r : Register) (us vs : List Fields) → IsOrdered us → AllUpTo r us → IsOrdered vs
-    → below_all register_cmp r (entries_of vs) ≡ true → IsOrdered (us ++ vs)
-ordered_both r [] vs s a t b = t
-ordered_both r (u ∷ us) vs s a t b =
-    let parts = both (below_all register_cmp u.register (entries_of us)) (is_sorted register_cmp (entries_of us)) s in
-    let later : below_all register_cmp u.register (entries_of vs) ≡ true =
-    elim a.0 as (λ _. below_all register_cmp u.register (entries_of vs) ≡ true) [
-      | inl e ↦ below_later u.register r (entries_of vs) e b
-      | inr e ↦ subst (λ x. below_all register_cmp x (entries_of vs) ≡ true) (sym e) b
-    ] in
-    ap (λ x. x && is_sorted register_cmp (entries_of (us ++ vs))) (below_both u.register us vs parts.0 later)
-    ∙ ordered_both r us vs parts.1 a.1 t b
+first_up_to : (r : Register) (u : Fields) (us : List Fields) → AreUpTo (Some r) (u ∷ us)
+    → (is_le (register_cmp u.register r) ≡ true) × AreUpTo (Some r) us
+first_up_to r u us a = rw (register_total.antisymm u.register r) (elim (register_cmp r u.register) as (λ o.
+    cond (is_lt o) (u ∷ updates_after r us) (updates_after r us) ≡ []
+    → (is_le (ordering_reverse o) ≡ true) × AreUpTo (Some r) us) [
+      | Less ↦ λ h. cc
+      | Equal ↦ λ h. (refl, h)
+      | Greater ↦ λ h. (refl, h)
+    ] a)
 
--- ---- a page more
 pub page_ordered : (r : Option Register) (us vs : List Fields) → IsOrdered us → AreUpTo r us → IsPage r vs
     → IsOrdered (us ++ vs)
-page_ordered None us vs s a p = subst (λ xs. IsOrdered (xs ++ vs)) (sym a) p.ordered
-page_ordered (Some r) us vs s a p = ordered_both r us vs s a p.ordered p.behind
+page_ordered r [] vs s a p = p.ordered
+page_ordered None (u ∷ us) vs s a p = cc
+page_ordered (Some r) (u ∷ us) vs s a p =
+    let parts = both _ _ s in
+    let first = first_up_to r u us a in
+    rw (below_both u.register us vs parts.0 (below_from u.register r (entries_of vs) first.0 p.behind))
+    (page_ordered (Some r) us vs parts.1 first.1 p)
 
 pub page_up_to : (r : Option Register) (us vs : List Fields) → AreUpTo r us → IsPage r vs
     → AreUpTo (last_from r vs) (us ++ vs)
-page_up_to None us [] a p = append-nil us ∙ a
-page_up_to (Some r) us [] a p = subst (λ xs. AllUpTo r xs) (sym (append-nil us)) a
-page_up_to None us (v ∷ vs) a p =
-    subst (λ k. AreUpTo k (us ++ v ∷ vs)) (sym (last_some None v vs))
-    (subst (λ xs. AllUpTo (last_of v vs).register (xs ++ v ∷ vs)) (sym a) (up_to_last v vs p.ordered))
-page_up_to (Some r) us (v ∷ vs) a p =
-    subst (λ k. AreUpTo k (us ++ v ∷ vs)) (sym (last_some (Some r) v vs))
-    (up_to_both (last_of v vs).register us (v ∷ vs)
-    (up_to_later r (last_of v vs).register us (last_above r v vs p.behind) a) (up_to_last v vs p.ordered))
+page_up_to r us [] a p = rw (append-nil us) a
+page_up_to r us (v ∷ vs) a p =
+    let last = (last_of v vs).register in
+    rw (
+      last_some r v vs,
+      filter-append (comes_after last) us (v ∷ vs),
+      from_later r v vs [] us (rw (append-nil (v ∷ vs)) p.behind),
+      a,
+    )
+    (rw (append-nil vs) at (after_last v vs [] (rw (append-nil vs) p.ordered)))
 
 -- a full page has a last register
 pub full_end : (r : Option Register) (us : List Fields) → is_last us ≡ false

@@ -1,286 +1,170 @@
 -- Each record that is written is read as its update.
-use Rattle.std.proofs.Common.{◌≡◌, ℕ, ◌%◌, ◌<◌, ◌^◌, Bool, true, false, not, ◌||◌, ◌==◌, cond, List, [], ◌∷◌, ◌++◌}
-use Rattle.std.proofs.Common.{Option, Some, None, Ok, refl, sym, ap, subst, ◌∙◌, eq-eqb, arith, length, length-append}
+use Rattle.std.proofs.Common.{◌≡◌, ℕ, ◌<◌, ◌^◌, Bool, true, false, not, ◌&&◌, ◌||◌, ◌==◌, cond, List, [], ◌∷◌, ◌++◌}
+use Rattle.std.proofs.Common.{Option, Some, None, Result, Ok, refl, ap, ◌∙◌, eq-eqb, arith, length}
 use Rattle.std.proofs.Math.Seq.{take-append_seam, drop-append_seam}
-use Rattle.std.proofs.Math.ListN.{get_or-append}
-use Rattle.std.proofs.lemmas.Bool.{not-true, not-false}
+use Rattle.std.proofs.lemmas.Bool.{and_right, not-true, ne_eqb}
 use Rattle.std.proofs.lemmas.Bool.Decides.{nat_tests}
-use Rattle.std.proofs.lemmas.Map.Views.{exact_unsigned_eq}
 use Rattle.byteorder.specs.Endian.{big_number, big_bytes}
 use Rattle.byteorder.specs.Numbers.{big_number-reads_back}
 use Rattle.ether_wire.specs.Addr.{is_group}
-use Rattle.route_wire.specs.declared.record.Header.{Header}
+use Rattle.ether_wire.specs.Frame.{first_of}
 use Rattle.route_wire.specs.declared.update.Ip.{Ip}
 use Rattle.route_wire.specs.declared.update.Ip.TheVariants.{V4, V6}
 use Rattle.route_wire.specs.declared.update.Key.{Key}
 use Rattle.route_wire.specs.declared.update.Key.TheVariants.{Flood, Mac}
 use Rattle.route_wire.specs.declared.update.Content.{Content}
 use Rattle.route_wire.specs.declared.update.Content.TheVariants.{Withdrawn, Advert as Advertised}
-use Rattle.route_wire.specs.declared.update.Advert.{Advert}
-use Rattle.route_wire.specs.Fields.{Fields, IsUpdate, flood_advert}
+use Rattle.route_wire.specs.declared.update.Register.{Register}
+use Rattle.route_wire.specs.declared.update.Value.{Value}
+use Rattle.route_wire.specs.Fields.{Fields, FitsKey, IsUpdate, is_individual}
 use Rattle.route_wire.specs.Order.{vni_of}
-use Rattle.ether_wire.specs.Frame.{first_of}
 use Rattle.route_wire.specs.Stream.{IsWhole}
-use Rattle.route_wire.specs.Refusal.{refusal_of, refusal_tests}
-use Rattle.route_wire.specs.Record.{header_in, update_in, unless_refused, reading, Spells, Reads}
-use Rattle.route_wire.specs.Encode.{mac_route, flood_route, route_octets, kind_of, record_octets}
-use Rattle.route_wire.specs.Inner.Encode.{IpFits, Label2Fits}
-use Rattle.route_wire.specs.Inner.Encode.{RouteFits}
-use Rattle.route_wire.proofs.Wholes.{AllUnmet, found_long}
-use Rattle.route_wire.proofs.Prefixes.{whole_again}
+use Rattle.route_wire.specs.Record.{unless_refused, reading, Spells, Reads}
+use Rattle.route_wire.specs.Encode.{mac_route, route_octets, kind_of, record_octets, spelling_of}
+use Rattle.route_wire.specs.Inner.Encode.{IpFits, Label2Fits, RouteFits}
+use Rattle.route_wire.proofs.Prefixes.{whole_followed}
 
-pub none_of : (tests : List (Bool × ℕ)) → AllUnmet tests → first_of tests ≡ None
-none_of [] u = refl
-none_of (test ∷ tests) u = ap (λ b. cond b (Some test.1) (first_of tests)) u.0 ∙ none_of tests u.1
+-- ---- the octets of a number are read as it, and so those of an address, a key or a content
+abbrev back : ℕ → ℕ → ℕ
+back width n = big_number width (big_bytes width n ++ [])
 
--- the octets after the route of an advert: a community, or nothing
-abbrev after : Bool → Bool → ℕ → List ℕ
-after true s n = 6 ∷ 0 ∷ cond s 1 0 ∷ 0 ∷ big_bytes 4 n
-after false s n = []
+abbrev ip_back : Option Ip → Option Ip
+ip_back None = None
+ip_back (Some (V4 n)) = Some (V4 (back 4 n))
+ip_back (Some (V6 n)) = Some (V6 (back 16 n))
 
-abbrev told : Bool → Bool → ℕ → Option ℕ → Advert
-told true s n label2 = record { is_static = s; sequence = n; label2 = label2 }
-told false s n label2 = record { is_static = false; sequence = 0; label2 = label2 }
+abbrev label2_back : Option ℕ → Option ℕ
+label2_back None = None
+label2_back (Some n) = Some (back 3 n)
 
-bit_again : (s : Bool) → (cond s 1 0 % 2 == 1) ≡ s
-bit_again true = refl
-bit_again false = refl
+abbrev key_back : Key → Key
+key_back (Flood vni) = Flood (back 3 vni)
+key_back (Mac vni mac ip) = Mac (back 3 vni) (back 6 mac) (ip_back ip)
 
-abbrev update : ℕ → ℕ → ℕ → Key → Content → Fields
-update o incarnation counter key content = record {
+-- an advert with a community, or without one
+abbrev advert_back : Bool → Bool → ℕ → Option ℕ → Content
+advert_back b s n label2 = Advertised (record {
+  is_static = b && s;
+  sequence = cond b (back 4 n) 0;
+  label2 = label2_back label2;
+})
+
+abbrev content_back : Content → Content
+content_back Withdrawn = Withdrawn
+content_back (Advertised a) =
+    advert_back (a.is_static || not (a.sequence == 0)) a.is_static a.sequence a.label2
+
+ip_again : (ip : Option Ip) → IpFits ip → ip_back ip ≡ ip
+ip_again None fits = refl
+ip_again (Some (V4 n)) fits = ap (λ m. Some (V4 m)) (big_number-reads_back 4 n [] fits)
+ip_again (Some (V6 n)) fits = ap (λ m. Some (V6 m)) (big_number-reads_back 16 n [] fits)
+
+label2_again : (label2 : Option ℕ) → Label2Fits label2 → label2_back label2 ≡ label2
+label2_again None fits = refl
+label2_again (Some n) fits = ap Some (big_number-reads_back 3 n [] fits)
+
+key_again : (key : Key) (content : Content) → vni_of key < 2 ^ 24 → RouteFits key content → key_back key ≡ key
+key_again (Flood vni) content hv fits = ap Flood (big_number-reads_back 3 vni [] hv)
+key_again (Mac vni mac ip) content hv fits =
+    let v = big_number-reads_back 3 vni [] hv in
+    let m = big_number-reads_back 6 mac [] fits.0 in
+    let a = ip_again ip fits.1 in λ i. Mac (v i) (m i) (a i)
+
+advert_again : (s : Bool) (n m : ℕ) → m ≡ n
+    → ((s || not (n == 0)) && s ≡ s) × (cond (s || not (n == 0)) m 0 ≡ n)
+advert_again s n m e = grind (arith, nat_tests)
+
+content_again : (key : Key) (content : Content) → RouteFits key content → FitsKey key content
+    → content_back content ≡ content
+content_again key Withdrawn fits good = refl
+content_again (Flood vni) (Advertised a) fits good = rw good refl
+content_again (Mac vni mac ip) (Advertised a) fits good =
+    let again = advert_again a.is_static a.sequence _ (big_number-reads_back 4 a.sequence [] fits.3) in
+    let l = label2_again a.label2 fits.2 in
+    λ i. Advertised (record { is_static = again.0 i; sequence = again.1 i; label2 = l i })
+
+-- ---- the record of an update
+abbrev fields : ℕ → ℕ → ℕ → Key → Content → Fields
+fields o incarnation counter key content = record {
   register = record { originator = o; key = key };
   value = record { incarnation = incarnation; counter = counter; content = content };
 }
 
-module _ (o incarnation counter vni : ℕ) (ho : o < 2 ^ 32) (hi : incarnation < 2 ^ 32) (hc : counter < 2 ^ 64)
-    (hv : vni < 2 ^ 24) (some : counter == 0 ≡ false) where
-  abbrev header : Bool → Header
-  header is_withdrawal = record {
-    version = 3;
-    is_withdrawal = is_withdrawal;
-    originator = o;
-    incarnation = incarnation;
-    counter = counter;
-    vni = vni;
-  }
+-- the refusals that depend on its numbers, and the answer
+abbrev tests : ℕ → ℕ → ℕ → Key → List (Bool × ℕ)
+tests kind o counter (Flood vni) = (not (o == o) || not (o == o), 7) ∷ (counter == 0, 14) ∷ []
+tests kind o counter (Mac vni mac ip) =
+    (not (o == o) || false, 7) ∷ (not (kind == 2) && not (vni == vni), 10) ∷ (is_group mac, 11)
+    ∷ (counter == 0, 14) ∷ []
 
-  abbrev octets : ℕ → List ℕ → List ℕ
-  octets kind route = record_octets kind o incarnation counter vni route
+abbrev answer : ℕ → ℕ → ℕ → ℕ → Key → Content → Result Fields ℕ
+answer kind o incarnation counter key content =
+    unless_refused (first_of (tests kind o counter key)) (fields o incarnation counter key content)
 
-  header_again : (kind : ℕ) (route : List ℕ) → header_in (octets kind route) ≡ header (kind == 2)
-  header_again kind route =
-      let eo = big_number-reads_back 4 o [] ho in
-      let ei = big_number-reads_back 4 incarnation [] hi in
-      let ec = big_number-reads_back 8 counter [] hc in
-      let ev = big_number-reads_back 3 vni [] hv in
-      λ i. record {
-        version = 3;
-        is_withdrawal = kind == 2;
-        originator = eo i;
-        incarnation = ei i;
-        counter = ec i;
-        vni = ev i;
-      }
+unrefused : (kind o counter : ℕ) (key : Key) → 0 < counter → is_individual key ≡ true
+    → first_of (tests kind o counter key) ≡ None
+unrefused kind o counter (Flood vni) counted e = simp (eq-eqb o o refl, ne_eqb counter 0 (λ z. omega arith))
+unrefused kind o counter (Mac vni mac ip) counted e =
+    simp (
+      eq-eqb o o refl,
+      eq-eqb vni vni refl,
+      and_right (not (kind == 2)) false refl,
+      not-true (is_group mac) e,
+      ne_eqb counter 0 (λ z. omega arith),
+    )
 
-  spells : (kind : ℕ) (route : List ℕ) (u : Fields) → IsWhole (octets kind route)
-      → AllUnmet (refusal_tests (header (kind == 2)) route) → update_in (header (kind == 2)) route ≡ u
-      → Spells (octets kind route) u
+module _ (o incarnation counter : ℕ) where
+  -- the octets with this route are one whole record, and the answer is that of its parts
+  abbrev Computes : ℕ → Key → Content → List ℕ → Type 0
+  Computes kind key content route =
+      IsWhole (record_octets kind o incarnation counter (vni_of key) route)
+      × (reading (record_octets kind o incarnation counter (vni_of key) route)
+      ≡ answer kind (back 4 o) (back 4 incarnation) (back 8 counter) (key_back key) content)
+
+  -- the patterns only separate the cases, by address, second label, community and static flag, so that each computes
+  advert_computes : (vni mac : ℕ) (ip : Option Ip) (label2 : Option ℕ) (b s : Bool) (n : ℕ)
+      → Computes 1 (Mac vni mac ip) (advert_back b s n label2)
+      (mac_route o vni mac ip label2 ++ cond b (6 ∷ 0 ∷ cond s 1 0 ∷ 0 ∷ big_bytes 4 n) [])
   unfolding reading
-  spells kind route u w unmet e = (
-    w,
-    ap (λ (h : Header). unless_refused (refusal_of h route) (update_in h route)) (header_again kind route)
-        ∙ ap (λ o. unless_refused o (update_in (header (kind == 2)) route))
-        (none_of (refusal_tests (header (kind == 2)) route) unmet) ∙ ap Ok e,
-  )
+  advert_computes vni mac (Some (V4 a)) None true true n = (refl, refl)
+  advert_computes vni mac ip (Some l) true true n = (refl, refl)
+  advert_computes vni mac ip None true true n = (refl, refl)
+  advert_computes vni mac ip label2 b s n = (refl, refl)
 
-  same_originator : (big_number 4 (big_bytes 4 o ++ []) == o) ≡ true
-  same_originator = let e = big_number-reads_back 4 o [] ho in eq-eqb (big_number 4 (big_bytes 4 o ++ [])) o e
-
-  pub flood_withdrawn : Spells (octets 2 (flood_route o)) (update o incarnation counter (Flood vni) Withdrawn)
-  flood_withdrawn =
-      spells 2 (flood_route o) (update o incarnation counter (Flood vni) Withdrawn) refl
-      (refl, (refl, (ap (λ b. not b || not b) same_originator, (refl, (refl, (refl, (refl, (some, tt)))))))) refl
-
-  pub flood_up : Spells (octets 1 (flood_route o)) (update o incarnation counter (Flood vni) (Advertised flood_advert))
-  flood_up =
-      spells 1 (flood_route o) (update o incarnation counter (Flood vni) (Advertised flood_advert)) refl
-      (refl, (refl, (ap (λ b. not b || not b) same_originator, (refl, (refl, (refl, (refl, (some, tt)))))))) refl
-
-  module _ (mac : ℕ) (hm : mac < 2 ^ 48) (individual : is_group mac ≡ false) where
-    right_originator : not (big_number 4 (big_bytes 4 o ++ []) == o) || false ≡ false
-    right_originator = ap (λ b. not b || false) same_originator
-
-    right_label : not (big_number 3 (big_bytes 3 vni ++ []) == vni) ≡ false
-    right_label = let e = big_number-reads_back 3 vni [] hv in
-        ap not (eq-eqb (big_number 3 (big_bytes 3 vni ++ [])) vni e)
-
-    mac_again : big_number 6 (big_bytes 6 mac ++ []) ≡ mac
-    mac_again = big_number-reads_back 6 mac [] hm
-
-    right_mac : is_group (big_number 6 (big_bytes 6 mac ++ [])) ≡ false
-    right_mac = ap is_group mac_again ∙ individual
-
-    abbrev of_mac : ℕ → Option Ip → Content → Fields
-    of_mac m ip content = update o incarnation counter (Mac vni m ip) content
-
-    withdraws : (ip : Option Ip) → IsWhole (octets 2 (mac_route o vni mac ip None ++ []))
-        → AllUnmet (refusal_tests (header true) (mac_route o vni mac ip None ++ []))
-        → update_in (header true) (mac_route o vni mac ip None ++ []) ≡ of_mac mac ip Withdrawn
-        → Spells (octets 2 (mac_route o vni mac ip None ++ [])) (of_mac mac ip Withdrawn)
-    withdraws ip = spells 2 (mac_route o vni mac ip None ++ []) (of_mac mac ip Withdrawn)
-
-    abbrev advert_route : Option Ip → Option ℕ → Bool → Bool → ℕ → List ℕ
-    advert_route ip label2 b s n = mac_route o vni mac ip label2 ++ after b s n
-
-    advertises : (ip : Option Ip) (label2 : Option ℕ) (b s : Bool) (n : ℕ)
-        → IsWhole (octets 1 (advert_route ip label2 b s n))
-        → AllUnmet (refusal_tests (header false) (advert_route ip label2 b s n))
-        → update_in (header false) (advert_route ip label2 b s n) ≡ of_mac mac ip (Advertised (told b s n label2))
-        → Spells (octets 1 (advert_route ip label2 b s n)) (of_mac mac ip (Advertised (told b s n label2)))
-    advertises ip label2 b s n =
-        spells 1 (advert_route ip label2 b s n) (of_mac mac ip (Advertised (told b s n label2)))
-
-    pub withdrawn : (ip : Option Ip) → IpFits ip → Spells (octets 2 (mac_route o vni mac ip None ++ []))
-        (of_mac mac ip Withdrawn)
-    withdrawn None fits =
-        withdraws None refl (refl, (refl, (right_originator, (refl, (refl, (refl, (right_mac, (some, tt))))))))
-        (λ i. of_mac (mac_again i) None Withdrawn)
-    withdrawn (Some (V4 a)) fits =
-        let address = big_number-reads_back 4 a [] fits in
-        withdraws (Some (V4 a)) refl (refl, (refl, (right_originator, (refl, (refl, (refl, (right_mac, (some, tt))))))))
-        (λ i. of_mac (mac_again i) (Some (V4 (address i))) Withdrawn)
-    withdrawn (Some (V6 a)) fits =
-        let address = big_number-reads_back 16 a [] fits in
-        withdraws (Some (V6 a)) refl (refl, (refl, (right_originator, (refl, (refl, (refl, (right_mac, (some, tt))))))))
-        (λ i. of_mac (mac_again i) (Some (V6 (address i))) Withdrawn)
-
-    pub advertised : (ip : Option Ip) → IpFits ip → (label2 : Option ℕ) → Label2Fits label2 → (b s : Bool) (n : ℕ)
-        → n < 2 ^ 32
-        → Spells (octets 1 (mac_route o vni mac ip label2 ++ after b s n))
-        (of_mac mac ip (Advertised (told b s n label2)))
-    advertised None fits None label_fits true s n hn =
-        let number = big_number-reads_back 4 n [] hn in
-        advertises None None true s n refl
-        (refl, (refl, (right_originator, (refl, (refl, (right_label, (right_mac, (some, tt))))))))
-        (λ i. of_mac (mac_again i) None (Advertised (told true (bit_again s i) (number i) None)))
-    advertised None fits None label_fits false s n hn =
-        advertises None None false s n refl
-        (refl, (refl, (right_originator, (refl, (refl, (right_label, (right_mac, (some, tt))))))))
-        (λ i. of_mac (mac_again i) None (Advertised (told false s n None)))
-    advertised None fits (Some l) label_fits true s n hn =
-        let label = big_number-reads_back 3 l [] label_fits in
-        let number = big_number-reads_back 4 n [] hn in
-        advertises None (Some l) true s n refl
-        (refl, (refl, (right_originator, (refl, (refl, (right_label, (right_mac, (some, tt))))))))
-        (λ i. of_mac (mac_again i) None (Advertised (told true (bit_again s i) (number i) (Some (label i)))))
-    advertised None fits (Some l) label_fits false s n hn =
-        let label = big_number-reads_back 3 l [] label_fits in
-        advertises None (Some l) false s n refl
-        (refl, (refl, (right_originator, (refl, (refl, (right_label, (right_mac, (some, tt))))))))
-        (λ i. of_mac (mac_again i) None (Advertised (told false s n (Some (label i)))))
-    advertised (Some (V4 a)) fits None label_fits true s n hn =
-        let address = big_number-reads_back 4 a [] fits in
-        let number = big_number-reads_back 4 n [] hn in
-        advertises (Some (V4 a)) None true s n refl
-        (refl, (refl, (right_originator, (refl, (refl, (right_label, (right_mac, (some, tt))))))))
-        (λ i. of_mac (mac_again i) (Some (V4 (address i))) (Advertised (told true (bit_again s i) (number i) None)))
-    advertised (Some (V4 a)) fits None label_fits false s n hn =
-        let address = big_number-reads_back 4 a [] fits in
-        advertises (Some (V4 a)) None false s n refl
-        (refl, (refl, (right_originator, (refl, (refl, (right_label, (right_mac, (some, tt))))))))
-        (λ i. of_mac (mac_again i) (Some (V4 (address i))) (Advertised (told false s n None)))
-    advertised (Some (V4 a)) fits (Some l) label_fits true s n hn =
-        let address = big_number-reads_back 4 a [] fits in
-        let label = big_number-reads_back 3 l [] label_fits in
-        let number = big_number-reads_back 4 n [] hn in
-        advertises (Some (V4 a)) (Some l) true s n refl
-        (refl, (refl, (right_originator, (refl, (refl, (right_label, (right_mac, (some, tt))))))))
-        (λ i. of_mac (mac_again i) (Some (V4 (address i)))
-        (Advertised (told true (bit_again s i) (number i) (Some (label i)))))
-    advertised (Some (V4 a)) fits (Some l) label_fits false s n hn =
-        let address = big_number-reads_back 4 a [] fits in
-        let label = big_number-reads_back 3 l [] label_fits in
-        advertises (Some (V4 a)) (Some l) false s n refl
-        (refl, (refl, (right_originator, (refl, (refl, (right_label, (right_mac, (some, tt))))))))
-        (λ i. of_mac (mac_again i) (Some (V4 (address i))) (Advertised (told false s n (Some (label i)))))
-    advertised (Some (V6 a)) fits None label_fits true s n hn =
-        let address = big_number-reads_back 16 a [] fits in
-        let number = big_number-reads_back 4 n [] hn in
-        advertises (Some (V6 a)) None true s n refl
-        (refl, (refl, (right_originator, (refl, (refl, (right_label, (right_mac, (some, tt))))))))
-        (λ i. of_mac (mac_again i) (Some (V6 (address i))) (Advertised (told true (bit_again s i) (number i) None)))
-    advertised (Some (V6 a)) fits None label_fits false s n hn =
-        let address = big_number-reads_back 16 a [] fits in
-        advertises (Some (V6 a)) None false s n refl
-        (refl, (refl, (right_originator, (refl, (refl, (right_label, (right_mac, (some, tt))))))))
-        (λ i. of_mac (mac_again i) (Some (V6 (address i))) (Advertised (told false s n None)))
-    advertised (Some (V6 a)) fits (Some l) label_fits true s n hn =
-        let address = big_number-reads_back 16 a [] fits in
-        let label = big_number-reads_back 3 l [] label_fits in
-        let number = big_number-reads_back 4 n [] hn in
-        advertises (Some (V6 a)) (Some l) true s n refl
-        (refl, (refl, (right_originator, (refl, (refl, (right_label, (right_mac, (some, tt))))))))
-        (λ i. of_mac (mac_again i) (Some (V6 (address i)))
-        (Advertised (told true (bit_again s i) (number i) (Some (label i)))))
-    advertised (Some (V6 a)) fits (Some l) label_fits false s n hn =
-        let address = big_number-reads_back 16 a [] fits in
-        let label = big_number-reads_back 3 l [] label_fits in
-        advertises (Some (V6 a)) (Some l) false s n refl
-        (refl, (refl, (right_originator, (refl, (refl, (right_label, (right_mac, (some, tt))))))))
-        (λ i. of_mac (mac_again i) (Some (V6 (address i))) (Advertised (told false s n (Some (label i)))))
-
-no_zero : (n : ℕ) → 0 < n → n == 0 ≡ false
-no_zero n h = grind (arith, nat_tests)
-
-nothing_told : (s : Bool) (n : ℕ) → s || not (n == 0) ≡ false → (s ≡ false) × (n ≡ 0)
-nothing_told true n e = cc
-nothing_told false n e = (refl, exact_unsigned_eq n 0 (not-false (n == 0) e))
+  computes : (key : Key) (content : Content) → FitsKey key content
+      → Computes (kind_of content) key (content_back content) (route_octets o key content)
+  unfolding reading
+  computes (Flood vni) Withdrawn fits = (refl, refl)
+  computes (Flood vni) (Advertised a) fits = rw fits (refl, refl)
+  computes (Mac vni mac (Some (V4 a))) Withdrawn fits = (refl, refl)
+  computes (Mac vni mac ip) Withdrawn fits = (refl, refl)
+  computes (Mac vni mac ip) (Advertised a) fits =
+      advert_computes vni mac ip a.label2 (a.is_static || not (a.sequence == 0)) a.is_static a.sequence
 
 -- the octets that are written for a well formed update spell it
-pub written : (o incarnation counter : ℕ) (key : Key) (content : Content) → o < 2 ^ 32 → incarnation < 2 ^ 32
-    → counter < 2 ^ 64 → vni_of key < 2 ^ 24 → RouteFits key content
-    → IsUpdate (update o incarnation counter key content)
-    → Spells (record_octets (kind_of content) o incarnation counter (vni_of key) (route_octets o key content))
-    (update o incarnation counter key content)
-written o incarnation counter (Flood vni) Withdrawn ho hi hc hv fits good =
-    flood_withdrawn o incarnation counter vni ho hi hc hv (no_zero counter good.counted)
-written o incarnation counter (Flood vni) (Advertised a) ho hi hc hv fits good =
-    subst (λ (b : Advert). Spells (record_octets 1 o incarnation counter vni (flood_route o))
-    (update o incarnation counter (Flood vni) (Advertised b)))
-    (sym good.fits) (flood_up o incarnation counter vni ho hi hc hv (no_zero counter good.counted))
-written o incarnation counter (Mac vni mac ip) Withdrawn ho hi hc hv fits good =
-    withdrawn o incarnation counter vni ho hi hc hv (no_zero counter good.counted) mac fits.0
-    (not-true (is_group mac) good.individual) ip fits.1
-written o incarnation counter (Mac vni mac ip) (Advertised a) ho hi hc hv fits good =
-    go (a.is_static || not (a.sequence == 0)) refl
-  where
-    spelt_by : Bool → Advert → Type 0
-    spelt_by b t = Spells (record_octets 1 o incarnation counter vni
-        (mac_route o vni mac ip a.label2 ++ after b a.is_static a.sequence))
-        (update o incarnation counter (Mac vni mac ip) (Advertised t))
-
-    some : (b : Bool) → spelt_by b (told b a.is_static a.sequence a.label2)
-    some b = advertised o incarnation counter vni ho hi hc hv (no_zero counter good.counted) mac fits.0
-        (not-true (is_group mac) good.individual) ip fits.1 a.label2 fits.2 b a.is_static a.sequence fits.3
-
-    go : (b : Bool) → a.is_static || not (a.sequence == 0) ≡ b
-        → Spells (record_octets 1 o incarnation counter vni
-        (mac_route o vni mac ip a.label2 ++ cond b (6 ∷ 0 ∷ cond a.is_static 1 0 ∷ 0 ∷ big_bytes 4 a.sequence) []))
-        (update o incarnation counter (Mac vni mac ip) (Advertised a))
-    go true e = some true
-    go false e =
-        let h = nothing_told a.is_static a.sequence e in
-        subst (λ (t : Advert). spelt_by false t) (λ i. record {
-          is_static = sym h.0 i;
-          sequence = sym h.1 i;
-          label2 = a.label2;
-        }) (some false)
+pub written : (r : Register) (v : Value) → r.originator < 2 ^ 32 → v.incarnation < 2 ^ 32 → v.counter < 2 ^ 64
+    → vni_of r.key < 2 ^ 24 → RouteFits r.key v.content → IsUpdate (record { register = r; value = v })
+    → Spells (spelling_of (record { register = r; value = v })) (record { register = r; value = v })
+unfolding spelling_of
+written r v ho hi hc hv fits good =
+    let o = big_number-reads_back 4 r.originator [] ho in
+    let incarnation = big_number-reads_back 4 v.incarnation [] hi in
+    let counter = big_number-reads_back 8 v.counter [] hc in
+    let key = key_again r.key v.content hv fits in
+    let content = content_again r.key v.content fits good.fits in
+    let all = computes r.originator v.incarnation v.counter r.key v.content good.fits in
+    let none = unrefused (kind_of v.content) r.originator v.counter r.key good.counted good.individual in (
+      all.0,
+      all.1 ∙ (λ i. answer (kind_of v.content) (o i) (incarnation i) (counter i) (key i) (content i))
+          ∙ ap (λ t. unless_refused t (record { register = r; value = v })) none,
+    )
 
 -- what spells an update is read as it, whatever follows
 pub read_again : (bytes : List ℕ) (u : Fields) → Spells bytes u → (rest : List ℕ)
     → Reads (bytes ++ rest) (Ok u ∷ []) rest
-read_again bytes u s rest =
-    let l = found_long 3 bytes (length bytes) s.0 in
-    let first = whole_again 3 bytes (bytes ++ rest) (length bytes) s.0 (omega (arith, length-append {A = ℕ}))
-    (λ i lt. get_or-append bytes rest 0 i (omega arith)) in
-    (length bytes, first, ap reading (take-append_seam bytes rest) ∙ s.1, drop-append_seam bytes rest)
+read_again bytes u s rest = (
+  length bytes,
+  whole_followed 3 bytes rest (length bytes) s.0,
+  ap reading (take-append_seam bytes rest) ∙ s.1,
+  drop-append_seam bytes rest,
+)

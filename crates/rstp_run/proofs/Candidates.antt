@@ -1,10 +1,8 @@
 -- If candidates for the root leave that aren't the best one, the best one and the root stay.
-use Rattle.std.proofs.Common.{◌≡◌, ℕ, zero, suc, ◌+◌, ◌≤◌, ◌⊎◌, inl, inr, Bool, true, false, not, ◌==◌, cond}
-use Rattle.std.proofs.Common.{List}
-use Rattle.std.proofs.Common.{[], ◌∷◌, Contains, Option, Some, None, slice_get, refl, sym, ap, subst, ◌∙◌}
-use Rattle.std.proofs.Common.{arith}
-use Rattle.std.proofs.lemmas.Bool.{eqb-true, and_from as both}
-use Rattle.std.proofs.lemmas.Bool.Decides.{nat_tests}
+use Rattle.std.proofs.Common.{◌≡◌, ℕ, zero, suc, ◌+◌, ◌≤◌, ◌⊎◌, inl, inr, Bool, true, false, not, ◌==◌, cond, List, []}
+use Rattle.std.proofs.Common.{◌∷◌, Contains, Option, Some, None, slice_get, refl, sym, ap, subst, ◌∙◌, arith}
+use Rattle.std.proofs.lemmas.Bool.{cases_Bool, eq-eqb, eqb-true, and_from as both}
+use Rattle.std.proofs.lemmas.Option.{none-some, same_Some}
 use Rattle.std.specs.List.{cons_option, enumerate_from, filter_map, list_all}
 use Rattle.std.specs.Option.{option_map_or}
 use Rattle.std.specs.Ordering.{is_lt}
@@ -31,21 +29,14 @@ Remains s path n x y =
     ((path_at s (n, y) ≡ path_at s (n, x)) × (y.port_times ≡ x.port_times))
     ⊎ ((path_at s (n, y) ≡ None) × (is_through path n ≡ false))
 
-itself : (n : ℕ) → (n == n) ≡ true
-itself n = grind (arith, nat_tests)
-
-some_same : (a b : ℕ) → Some a ≡ Some b → a ≡ b
-some_same a b h = cc
-
 later : (q : Path) (qs : List Path) (path : Path) → Contains qs path → Contains (q ∷ qs) path
 later q qs path (k, within, at) = (suc k, omega arith, at)
 
 place_of : (s : Settings) (n : ℕ) (x : PortState) (q : Path) → path_at s (n, x) ≡ Some q → q.place ≡ Some n
-place_of s n x q h = from (is_told s x) h
-  where
-    from : (b : Bool) → cond b (Some (path_through n x)) None ≡ Some q → q.place ≡ Some n
-    from true h = let same : path_through n x ≡ q = cc in ap (λ (p : Path). p.place) (sym same)
-    from false h = let e : ⊥ = cc in absurd e
+place_of s n x q h = elim (cases_Bool (is_told s x)) [
+  | inl t ↦ rw (← same_Some (path_through n x) q (rw t at h)) refl
+  | inr t ↦ absurd (none-some q (rw t at h))
+]
 
 module _ (s : Settings) (path : Path) where
   abbrev found : ℕ → List PortState → List Path
@@ -61,23 +52,8 @@ module _ (s : Settings) (path : Path) where
       → is_through path n ≡ false → Contains (cons_option o qs) path → Contains qs path
   gone_among n None qs place off c = c
   gone_among n (Some q) qs place off (zero, within, at) =
-      let here : path.place ≡ Some n = ap (λ (p : Path). p.place) (sym at) ∙ place q refl in
-      no (sym off ∙ ap (λ o. option_map_or (λ m. m == n) o false) here ∙ itself n)
+      let here : path.place ≡ Some n = rw (← at) (place q refl) in no (sym off ∙ rw here (eq-eqb n n refl))
   gone_among n (Some q) qs place off (suc k, within, at) = (k, omega arith, at)
-
-  among : (n : ℕ) (xs ys : List PortState) → AtEach (Remains s path) n xs ys → Contains (found n xs) path
-      → Contains (found n ys) path
-  among n [] [] h c = c
-  among n [] (y ∷ ys) h c = absurd h
-  among n (x ∷ xs) [] h c = absurd h
-  among n (x ∷ xs) (y ∷ ys) h c =
-      elim h.0 as (λ _. Contains (found n (y ∷ ys)) path) [
-        | inl same ↦ subst (λ o. Contains (cons_option o (found (n + 1) ys)) path) (sym same.0)
-            (kept_among (path_at s (n, x)) (found (n + 1) xs) (found (n + 1) ys) (among (n + 1) xs ys h.1) c)
-        | inr gone ↦ subst (λ o. Contains (cons_option o (found (n + 1) ys)) path) (sym gone.0)
-            (among (n + 1) xs ys h.1
-            (gone_among n (path_at s (n, x)) (found (n + 1) xs) (place_of s n x) gone.1 c))
-      ]
 
   kept_all : (test : Path → Bool) (o : Option Path) (qs rs : List Path)
       → (list_all test qs ≡ true → list_all test rs ≡ true)
@@ -90,18 +66,30 @@ module _ (s : Settings) (path : Path) where
   gone_all test None qs h = h
   gone_all test (Some q) qs h = right (test q) _ h
 
+  -- what a candidate that stays keeps, and one that leaves doesn't end, stays true of the candidates
+  remains : (C : List Path → Type 0)
+      → ((o : Option Path) (qs rs : List Path) → (C qs → C rs) → C (cons_option o qs) → C (cons_option o rs))
+      → ((n : ℕ) (x : PortState) (qs : List Path) → is_through path n ≡ false → C (cons_option (path_at s (n, x)) qs)
+      → C qs)
+      → (n : ℕ) (xs ys : List PortState) → AtEach (Remains s path) n xs ys → C (found n xs) → C (found n ys)
+  remains C kept gone n [] [] h c = c
+  remains C kept gone n (x ∷ xs) (y ∷ ys) h c =
+      let rest = remains C kept gone (n + 1) xs ys h.1 in
+      elim h.0 as (λ _. C (found n (y ∷ ys))) [
+        | inl same ↦ rw same.0 (kept (path_at s (n, x)) (found (n + 1) xs) (found (n + 1) ys) rest c)
+        | inr leaves ↦ rw leaves.0 (rest (gone n x (found (n + 1) xs) leaves.1 c))
+      ]
+  remains C kept gone n xs ys h c = absurd h
+
+  among : (n : ℕ) (xs ys : List PortState) → AtEach (Remains s path) n xs ys → Contains (found n xs) path
+      → Contains (found n ys) path
+  among =
+      remains (λ qs. Contains qs path) kept_among (λ n x qs. gone_among n (path_at s (n, x)) qs (place_of s n x))
+
   all : (test : Path → Bool) (n : ℕ) (xs ys : List PortState) → AtEach (Remains s path) n xs ys
       → list_all test (found n xs) ≡ true → list_all test (found n ys) ≡ true
-  all test n [] [] h c = c
-  all test n [] (y ∷ ys) h c = absurd h
-  all test n (x ∷ xs) [] h c = absurd h
-  all test n (x ∷ xs) (y ∷ ys) h c =
-      elim h.0 as (λ _. list_all test (found n (y ∷ ys)) ≡ true) [
-        | inl same ↦ subst (λ o. list_all test (cons_option o (found (n + 1) ys)) ≡ true) (sym same.0)
-            (kept_all test (path_at s (n, x)) (found (n + 1) xs) (found (n + 1) ys) (all test (n + 1) xs ys h.1) c)
-        | inr gone ↦ subst (λ o. list_all test (cons_option o (found (n + 1) ys)) ≡ true) (sym gone.0)
-            (all test (n + 1) xs ys h.1 (gone_all test (path_at s (n, x)) (found (n + 1) xs) c))
-      ]
+  all test =
+      remains (λ qs. list_all test qs ≡ true) (kept_all test) (λ n x qs off. gone_all test (path_at s (n, x)) qs)
 
   -- a path found at a place has at least that place
   place_above : (n : ℕ) (xs : List PortState) → Contains (found n xs) path → (k : ℕ) → path.place ≡ Some k → n ≤ k
@@ -113,7 +101,7 @@ module _ (s : Settings) (path : Path) where
           → Contains (cons_option o (found (n + 1) xs)) path → n ≤ m
       from None place rest d = let more = rest d in omega arith
       from (Some q) place rest (zero, within, at) =
-          let here : n ≡ m = some_same n m (sym (place q refl) ∙ ap (λ (p : Path). p.place) at ∙ h) in omega arith
+          let here : n ≡ m = same_Some n m (sym (place q refl) ∙ rw at h) in omega arith
       from (Some q) place rest (suc k, within, at) = let more = rest (k, omega arith, at) in omega arith
 
   told_at : (n : ℕ) (xs : List PortState) → Contains (found n xs) path → (k : ℕ) (x : PortState)
@@ -137,14 +125,12 @@ module _ (s : Settings) (path : Path) where
           → Contains (cons_option o (found (n + 1) ys)) path → is_told s x ≡ true
       from None place e rest d = rest d
       from (Some q) place e rest (zero, within, at) =
-          let same : n ≡ n + 1 + k = some_same n (n + 1 + k) (sym (place q refl) ∙ ap (λ (p : Path). p.place) at ∙ e) in
-          absurd (omega arith)
+          let same : n ≡ n + 1 + k = same_Some n (n + 1 + k) (sym (place q refl) ∙ rw at e) in absurd (omega arith)
       from (Some q) place e rest (suc j, within, at) = rest (j, omega arith, at)
 
   told_in : (xs : List PortState) → Contains (candidates s xs) path → (k : ℕ) (x : PortState) → path.place ≡ Some k
       → slice_get xs k ≡ Some x → is_told s x ≡ true
-  told_in xs (zero, within, at) k x h here =
-      let e : None ≡ Some k = ap (λ (p : Path). p.place) at ∙ h in let e' : ⊥ = cc in absurd e'
+  told_in xs (zero, within, at) k x h here = absurd (none-some k (ap (λ (p : Path). p.place) at ∙ h))
   told_in xs (suc j, within, at) k x h here =
       let zeroth : k ≡ 0 + k = omega arith in
       told_at 0 xs (j, omega arith, at) k x (h ∙ ap Some zeroth) here
@@ -158,8 +144,7 @@ module _ (s : Settings) (path : Path) where
       → best_path s ys ≡ path
   best_stays xs ys is h =
       let found_least = least_of_candidates s xs in
-      let P : Path → Type 0 = λ p. IsLeastOf (candidates s xs) p in
-      let least = subst P (least_is_best s xs _ found_least ∙ is) found_least in
+      let least = subst (IsLeastOf (candidates s xs)) (least_is_best s xs _ found_least ∙ is) found_least in
       let test : Path → Bool = λ other. not (is_lt (path_cmp other path)) in
       sym (least_is_best s ys path (record {
         among = among_candidates xs ys h least.among;
@@ -171,22 +156,19 @@ module _ (s : Settings) (path : Path) where
       → option_map_or (λ (port : PortState). times_beyond port.port_times) (slice_get ys k) (own_times s)
       ≡ option_map_or (λ (port : PortState). times_beyond port.port_times) (slice_get xs k) (own_times s)
   times_stay n [] [] h k t = refl
-  times_stay n [] (y ∷ ys) h k t = absurd h
-  times_stay n (x ∷ xs) [] h k t = absurd h
   times_stay n (x ∷ xs) (y ∷ ys) h zero t =
       elim h.0 [
         | inl same ↦ ap times_beyond same.1
-        | inr gone ↦ let here : n + 0 ≡ n = omega arith in no (sym gone.1 ∙ ap (is_through path) (sym here) ∙ t)
+        | inr gone ↦ let here : n + 0 ≡ n = omega arith in no (sym gone.1 ∙ rw here at t)
       ]
   times_stay n (x ∷ xs) (y ∷ ys) h (suc k) t =
-      let next : n + 1 + k ≡ n + suc k = omega arith in
-      times_stay (n + 1) xs ys h.1 k (ap (is_through path) next ∙ t)
+      let next : n + suc k ≡ n + 1 + k = omega arith in times_stay (n + 1) xs ys h.1 k (rw next at t)
+  times_stay n xs ys h k t = absurd h
 
   pub root_stays : (xs ys : List PortState) → AtEach (Remains s path) 0 xs ys
       → root_along s ys path ≡ root_along s xs path
   root_stays xs ys h =
-      let times = from path.place refl in
-      λ i. record { priority = path.vector; times = times i }
+      let times = from path.place refl in λ i. record { priority = path.vector; times = times i }
     where
       from : (o : Option ℕ) → path.place ≡ o
           → option_map_or (λ (port : PortState). times_beyond port.port_times) (option_and_then (slice_get ys) o)
@@ -195,11 +177,9 @@ module _ (s : Settings) (path : Path) where
           (own_times s)
       from None e = refl
       from (Some k) e =
-          let zeroth : 0 + k ≡ k = omega arith in
-          times_stay 0 xs ys h k (ap (λ m. is_through path m) zeroth
-          ∙ ap (λ o. option_map_or (λ at. at == k) o false) e ∙ itself k)
+          let zeroth : 0 + k ≡ k = omega arith in times_stay 0 xs ys h k (rw (zeroth, e) (eq-eqb k k refl))
 
-place_is : (o : Option ℕ) (k : ℕ) → option_map_or (λ at. at == k) o false ≡ true → o ≡ Some k
+pub place_is : (o : Option ℕ) (k : ℕ) → option_map_or (λ at. at == k) o false ≡ true → o ≡ Some k
 place_is None k h = no h
 place_is (Some a) k h = ap Some (eqb-true a k h)
 
@@ -208,6 +188,5 @@ pub best_told : (s : Settings) (xs : List PortState) (k : ℕ) (x : PortState) �
     → is_through (best_path s xs) k ≡ true → is_told s x ≡ true
 best_told s xs k x at t =
     let found_least = least_of_candidates s xs in
-    let P : Path → Type 0 = λ p. IsLeastOf (candidates s xs) p in
-    let least = subst P (least_is_best s xs _ found_least) found_least in
+    let least = subst (IsLeastOf (candidates s xs)) (least_is_best s xs _ found_least) found_least in
     told_in s (best_path s xs) xs least.among k x (place_is (best_path s xs).place k t) at

@@ -1,10 +1,8 @@
 -- The firings of a pass, by the cost of the rules that are left at a port, and by what each port may still cost after
 -- its visit.
-use Rattle.std.proofs.Common.{◌≡◌, ℕ, zero, suc, ◌+◌, ◌*◌, ◌≤◌, ◌<◌, ◌==◌, ◌⊎◌, inl, inr, Bool, true, false, List, []}
-use Rattle.std.proofs.Common.{◌∷◌, Option, Some, ◌&&◌, length, slice_get}
-use Rattle.std.proofs.Common.{refl, sym, ap, subst, ◌∙◌, arith, if◌then◌else◌}
-use Rattle.std.proofs.lemmas.Bool.{and_parts, cases_lt, eqb-false, ne_eqb}
-use Rattle.std.specs.Option.{option_map_or}
+use Rattle.std.proofs.Common.{◌≡◌, ℕ, zero, suc, ◌+◌, ◌≤◌, ◌<◌, ◌==◌, ◌⊎◌, inl, inr, Bool, true, false, List, [], ◌∷◌}
+use Rattle.std.proofs.Common.{Option, Some, ◌&&◌, length, slice_get, refl, sym, ap, subst, ◌∙◌, arith, if◌then◌else◌}
+use Rattle.std.proofs.lemmas.Bool.{and_parts, cases_Bool, cases_lt, eq-eqb, ne_eqb}
 use Rattle.rstp_state.specs.declared.port.PortState.{PortState}
 use Rattle.rstp_state.specs.declared.port.Timing.{Timing}
 use Rattle.rstp_run.specs.declared.rule.Rule.{Rule}
@@ -30,11 +28,7 @@ abbrev pub put : ℕ → ℕ → (ℕ → ℕ) → ℕ → ℕ
 put p v f q = if q == p then v else f q
 
 pub put-there : (p v : ℕ) (f : ℕ → ℕ) (q : ℕ) → q ≡ p → put p v f q ≡ v
-put-there p v f q e = go (q == p) refl
-  where
-    go : (b : Bool) → (q == p) ≡ b → (if b then v else f q) ≡ v
-    go true is = refl
-    go false is = absurd (eqb-false q p is e)
+put-there p v f q e = rw (eq-eqb q p e) refl
 
 pub put-apart : (p v : ℕ) (f : ℕ → ℕ) (q : ℕ) → (q ≡ p → ⊥) → put p v f q ≡ f q
 put-apart p v f q apart = rw (ne_eqb q p apart) refl
@@ -42,33 +36,21 @@ put-apart p v f q apart = rw (ne_eqb q p apart) refl
 pub sum-below : (p v : ℕ) (f : ℕ → ℕ) (n : ℕ) → n ≤ p → sum n (put p v f) ≡ sum n f
 sum-below p v f zero h = refl
 sum-below p v f (suc n) h =
-    let first = put-apart p v f n (λ e. (let no : ⊥ = omega (arith, h, e) in no)) in
-    let rest = sum-below p v f n (omega (arith, h)) in
-    omega (arith, first, rest)
+    let first = put-apart p v f n (λ e. omega (arith, e)) in
+    let rest = sum-below p v f n (omega arith) in
+    omega arith
 
 pub sum-put : (p v : ℕ) (f : ℕ → ℕ) (n : ℕ) → p < n → sum n (put p v f) + f p ≡ sum n f + v
-sum-put p v f zero h = absurd (omega (arith, h))
-sum-put p v f (suc n) h = go (cases_lt p n) (λ less. sum-put p v f n less)
-  where
-    go : (p < n) ⊎ (n ≤ p) → (p < n → sum n (put p v f) + f p ≡ sum n f + v)
-        → sum (suc n) (put p v f) + f p ≡ sum (suc n) f + v
-    go (inl less) rest =
-        let first = put-apart p v f n (λ e. (let no : ⊥ = omega (arith, less, e) in no)) in
-        let others = rest less in
-        omega (arith, first, others)
-    go (inr from) rest =
-        let same : n ≡ p = omega (arith, h, from) in
-        let first = put-there p v f n same in
-        let others = sum-below p v f n from in
-        let here : f n ≡ f p = ap f same in
-        omega (arith, first, others, here)
+sum-put p v f zero h = absurd (omega arith)
+sum-put p v f (suc n) h = elim (cases_lt p n) [
+  | inl less ↦ (let first = put-apart p v f n (λ e. omega (arith, less, e)) in
+      omega (arith, first, sum-put p v f n less))
+  | inr from ↦ (let same : n ≡ p = omega (arith, h, from) in
+      omega (arith, put-there p v f n same, sum-below p v f n from, ap f same))
+]
 
 one_port : (o : Option PortState) (x y : PortState) → o ≡ Some x → o ≡ Some y → x ≡ y
 one_port o x y h k = cc
-
-pub sum_more : (w : ℕ) (f : ℕ → ℕ) (n : ℕ) → sum n (λ q. f q + w) ≡ sum n f + n * w
-sum_more w f zero = omega arith
-sum_more w f (suc n) = let rest = sum_more w f n in omega (arith, rest)
 
 -- ---- a port whose rules are tried
 
@@ -80,36 +62,24 @@ all_are only (rule ∷ rest) = only rule && all_are only rest
 pub unselected : (only : Rule → Bool) → only rules.Select ≡ false → (rule : Rule) → only rule ≡ true
     → is_select rule ≡ false
 unselected only none rules.Select sort = no (sym none ∙ sort)
-unselected only none (rules.Receive rule) sort = refl
-unselected only none (rules.Migration rule) sort = refl
-unselected only none (rules.Detection rule) sort = refl
-unselected only none (rules.Information rule) sort = refl
-unselected only none (rules.Role rule) sort = refl
-unselected only none (rules.State rule) sort = refl
-unselected only none (rules.Topology rule) sort = refl
-unselected only none (rules.Transmit rule) sort = refl
+unselected only none rule sort = refl
 
 -- only Select changes the values of the bridge that the rules of a port read
 same_timing : (rule : Rule) (s : Tree) (p : ℕ) → is_select rule ≡ false → timing_in (after rule s p) ≡ timing_in s
 same_timing rules.Select s p other = no (sym other)
-same_timing (rules.Receive rule) s p other = refl
-same_timing (rules.Migration rule) s p other = refl
-same_timing (rules.Detection rule) s p other = refl
-same_timing (rules.Information rule) s p other = refl
-same_timing (rules.Role rule) s p other = refl
-same_timing (rules.State rule) s p other = refl
-same_timing (rules.Topology rule) s p other = refl
-same_timing (rules.Transmit rule) s p other = refl
+same_timing rule s p other = refl
 
 -- R is known of every port. A port may still cost U before its visit, and V after it. Select isn't enabled meanwhile.
 module _ (R : PortState → Type 0) (U V : PortState → ℕ) (timing : Timing) (n limit b : ℕ) where
   -- at most b firings, with those that the ports may still cost
-  abbrev Bounded : (ℕ → (ℕ → ℕ) → PortState → Type 0) → Going → Type 0
-  Bounded P g =
-      (length g.firings ≤ b) × (length g.tree.ports ≡ n)
-      × ((limit ≤ length g.firings)
+  abbrev Shared : (ℕ → (ℕ → ℕ) → PortState → Type 0) → Going → Type 0
+  Shared P g =
+      (limit ≤ length g.firings)
       ⊎ ((f : ℕ → ℕ) × AtAll (λ q x. R x × P q f x) g.tree.ports × (length g.firings + sum n f ≤ b)
-      × (timing_in g.tree ≡ timing)))
+      × (timing_in g.tree ≡ timing))
+
+  abbrev Bounded : (ℕ → (ℕ → ℕ) → PortState → Type 0) → Going → Type 0
+  Bounded P g = (length g.firings ≤ b) × (length g.tree.ports ≡ n) × Shared P g
 
   -- before the visit of the port at place p
   abbrev pub Shares : ℕ → ℕ → (ℕ → ℕ) → PortState → Type 0
@@ -129,12 +99,7 @@ module _ (R : PortState → Type 0) (U V : PortState → ℕ) (timing : Timing) 
       → ((q : ℕ) (f : ℕ → ℕ) (x : PortState) → R x → P q f x → Q q f x) → Bounded P g → Bounded Q g
   bounded_as P Q g by h = (h.0, h.1, go h.2)
     where
-      go : (limit ≤ length g.firings)
-          ⊎ ((f : ℕ → ℕ) × AtAll (λ q x. R x × P q f x) g.tree.ports × (length g.firings + sum n f ≤ b)
-          × (timing_in g.tree ≡ timing))
-          → (limit ≤ length g.firings)
-          ⊎ ((f : ℕ → ℕ) × AtAll (λ q x. R x × Q q f x) g.tree.ports × (length g.firings + sum n f ≤ b)
-          × (timing_in g.tree ≡ timing))
+      go : Shared P g → Shared Q g
       go (inl full) = inl full
       go (inr s) = inr (s.0, λ q x at. (let d = s.1 q x at in (d.0, by q s.0 x d.0 d.1)), s.2, s.3)
 
@@ -142,7 +107,7 @@ module _ (R : PortState → Type 0) (U V : PortState → ℕ) (timing : Timing) 
       → ((x : PortState) → R x → d x ≤ c x) → Paid c p g → Paid d p g
   paid-as c d p g less =
       bounded_as (Due c p) (Due d p) g
-      (λ q f x r k. (k.0, λ e. (let a = less x r in let due = k.1 e in omega (arith, a, due)), k.2))
+      (λ q f x r k. (k.0, λ e. omega (arith, less x r, k.1 e), k.2))
 
   -- changes of other ports that fit raise no cost
   module _ (fit : Spread → Bool)
@@ -154,26 +119,24 @@ module _ (R : PortState → Type 0) (U V : PortState → ℕ) (timing : Timing) 
         → (fit (spread_of rule) ≡ true) × R (own rule (timing_in s) x) × (d (own rule (timing_in s) x) < c x))
         → ((s : Tree) (x : PortState) → asks rule s p x ≡ false → R x → d x ≤ c x)
         → (g : Going) → Paid c p g → Paid d p (tries rule p limit g)
-    one rule other c d fires rests g h = go (cases_lt (length g.firings) limit) (guard rule g.tree p) refl h.2
+    one rule other c d fires rests g h = elim (cases_lt (length g.firings) limit) [
+      | inr full ↦ subst (Paid d p) (sym (tries-full rule p limit g full)) (h.0, h.1, inl full)
+      | inl below ↦ elim h.2 [
+        | inl full ↦ absurd (omega (arith, below, full))
+        | inr s ↦ elim (cases_Bool (guard rule g.tree p)) [
+          | inl is ↦ fire s.0 s.1 s.2 s.3 below is
+          | inr is ↦ subst (Paid d p) (sym (tries-off rule p limit g is))
+              (h.0, h.1, inr (s.0, off s.0 is s.1, s.2, s.3))
+        ]
+      ]
+    ]
       where
-        here : (x : PortState) → guard rule g.tree p ≡ false → slice_get g.tree.ports p ≡ Some x
-            → asks rule g.tree p x ≡ false
-        here x is at = sym (ap (λ o. option_map_or (asks rule g.tree p) o false) at) ∙ is
-
         off : (f : ℕ → ℕ) → guard rule g.tree p ≡ false → AtAll (λ q x. R x × Due c p q f x) g.tree.ports
             → AtAll (λ q x. R x × Due d p q f x) g.tree.ports
         off f is all q x at =
             let k = all q x at in
-            let S : ℕ → Type 0 = λ j. slice_get g.tree.ports j ≡ Some x in (
-              k.0,
-              (
-                k.1.0,
-                λ e. (let less = rests g.tree x (here x is (subst S e at)) k.0 in
-                    let due = k.1.1 e in
-                    omega (arith, less, due)),
-                k.1.2,
-              ),
-            )
+            let less : q ≡ p → d x ≤ c x = λ e. (let here = rw e at at in rests g.tree x (rw here at is) k.0) in
+            (k.0, (k.1.0, λ e. omega (arith, less e, k.1.1 e), k.1.2))
 
         on : (f : ℕ → ℕ) (port : PortState) → slice_get g.tree.ports p ≡ Some port
             → asks rule g.tree p port ≡ true → guard rule g.tree p ≡ true → timing_in g.tree ≡ timing
@@ -186,13 +149,13 @@ module _ (R : PortState → Type 0) (U V : PortState → ℕ) (timing : Timing) 
             after-at rule g.tree p
             (λ q x. (slice_get g.tree.ports q ≡ Some x) × R x × Due c p q f x)
             (λ q x. R x × Due d p q (put p v f) x) other is
-            (λ q x apart k. (let s = spreads (spread_of rule) x fits k.1 in
+            (λ q x apart k. (let (kept, before, after) = spreads (spread_of rule) x fits k.1 in
             let e = put-apart p v f q apart in (
-              s.0,
+              kept,
               (
-                λ less. (let a = s.2 in let due = k.2.0 less in omega (arith, a, due, e)),
+                λ less. omega (arith, after, k.2.0 less, e),
                 λ equal. absurd (apart equal),
-                λ more. (let a = s.1 in let due = k.2.2 more in omega (arith, a, due, e)),
+                λ more. omega (arith, before, k.2.2 more, e),
               ),
             )))
             (λ x j k. (
@@ -200,9 +163,7 @@ module _ (R : PortState → Type 0) (U V : PortState → ℕ) (timing : Timing) 
               (
                 λ less. absurd (omega (arith, less)),
                 λ e. (let alike : x ≡ port = one_port (slice_get g.tree.ports p) x port k.0 at in
-                    let there = put-there p v f p refl in
-                    let Q : PortState → Type 0 = λ y. d (own rule (timing_in g.tree) y) ≤ put p v f p in
-                    subst Q (sym alike) (omega (arith, there))),
+                    rw alike (omega (arith, put-there p v f p refl))),
                 λ more. absurd (omega (arith, more)),
               ),
             )) (λ q x got. (let k = all q x got in (got, k.0, k.1)))
@@ -211,10 +172,10 @@ module _ (R : PortState → Type 0) (U V : PortState → ℕ) (timing : Timing) 
             → length g.firings + sum n f ≤ b → timing_in g.tree ≡ timing → length g.firings < limit
             → guard rule g.tree p ≡ true → Paid d p (tries rule p limit g)
         fire f all few same below is =
-            let port = tested_at (asks rule g.tree p) g.tree.ports p is in
-            let k = all p port.0 port.1 in
-            let v : ℕ = d (own rule (timing_in g.tree) port.0) in
-            let less = (fires g.tree port.0 same port.2 k.0).2 in
+            let (port, at, asked) = tested_at (asks rule g.tree p) g.tree.ports p is in
+            let k = all p port at in
+            let v : ℕ = d (own rule (timing_in g.tree) port) in
+            let less = (fires g.tree port same asked k.0).2 in
             let due = k.1.1 refl in
             let whole = sum-put p v f n within in
             subst (Paid d p) (sym (tries-on rule p limit g below is)) (
@@ -222,22 +183,11 @@ module _ (R : PortState → Type 0) (U V : PortState → ℕ) (timing : Timing) 
               length-ports_after rule g.tree p ∙ h.1,
               inr (
                 put p v f,
-                on f port.0 port.1 port.2 is same all,
+                on f port at asked is same all,
                 omega (arith, few, less, due, whole),
                 same_timing rule g.tree p other ∙ same,
               ),
             )
-
-        go : (length g.firings < limit) ⊎ (limit ≤ length g.firings) → (k : Bool) → guard rule g.tree p ≡ k
-            → (limit ≤ length g.firings)
-            ⊎ ((f : ℕ → ℕ) × AtAll (λ q x. R x × Due c p q f x) g.tree.ports
-            × (length g.firings + sum n f ≤ b) × (timing_in g.tree ≡ timing)) → Paid d p (tries rule p limit g)
-        go (inr full) k is facts =
-            subst (Paid d p) (sym (tries-full rule p limit g full)) (h.0, h.1, inl full)
-        go (inl below) k is (inl full) = absurd (omega (arith, below, full))
-        go (inl below) true is (inr s) = fire s.0 s.1 s.2 s.3 below is
-        go (inl below) false is (inr s) =
-            subst (Paid d p) (sym (tries-off rule p limit g is)) (h.0, h.1, inr (s.0, off s.0 is s.1, s.2, s.3))
 
     -- The rules of a list are of one sort.
     module _ (cost : List Rule → PortState → ℕ) (only : Rule → Bool)
@@ -252,11 +202,10 @@ module _ (R : PortState → Type 0) (U V : PortState → ℕ) (timing : Timing) 
           → Paid (cost []) p (tries_all list p limit g)
       many [] sort g h = h
       many (rule ∷ rest) sort g h =
-          let parts = and_parts (only rule) (all_are only rest) sort in
-          many rest parts.1 (tries rule p limit g)
-          (one rule (other rule parts.0) (cost (rule ∷ rest)) (cost rest)
-          (λ s x same on r. fires rule rest s x parts.0 same on r)
-          (λ s x off r. rests rule rest s x parts.0 off r) g h)
+          let (first, later) = and_parts (only rule) (all_are only rest) sort in
+          many rest later (tries rule p limit g)
+          (one rule (other rule first) (cost (rule ∷ rest)) (cost rest) (λ s x. fires rule rest s x first)
+          (λ s x. rests rule rest s x first) g h)
 
   -- the visit of a port
   pub visit : (first last : PortState → ℕ) (list : List Rule) (p : ℕ) (g : Going)
@@ -266,23 +215,18 @@ module _ (R : PortState → Type 0) (U V : PortState → ℕ) (timing : Timing) 
   visit first last list p g walk begins ends h =
       bounded_as (Due last p) (Shares (suc p)) (tries_all list p limit g)
       (λ q f x r k. (
-        λ less. early q f x r k less (cases_lt q p),
+        λ below. elim (cases_lt q p) [
+          | inl less ↦ k.0 less
+          | inr from ↦ (omega (arith, ends x r, k.1 (omega (arith, below, from))))
+        ],
         λ from. k.2 (omega (arith, from)),
       ))
       (walk (bounded_as (Shares p) (Due first p) g
       (λ q f x r k. (
         k.0,
-        λ e. (let a = begins x r in let due = k.1 (omega (arith, e)) in omega (arith, a, due)),
+        λ e. omega (arith, begins x r, k.1 (omega (arith, e))),
         λ less. k.1 (omega (arith, less)),
       )) h))
-    where
-      early : (q : ℕ) (f : ℕ → ℕ) (x : PortState) → R x → Due last p q f x → q < suc p → (q < p) ⊎ (p ≤ q)
-          → V x ≤ f q
-      early q f x r k below (inl less) = k.0 less
-      early q f x r k below (inr from) =
-          let a = ends x r in
-          let due = k.1 (let same : q ≡ p = omega (arith, below, from) in same) in
-          omega (arith, a, due)
 
   -- a pass over all ports, if there is one
   pub pass-within : (list : List Rule)
@@ -296,11 +240,10 @@ module _ (R : PortState → Type 0) (U V : PortState → ℕ) (timing : Timing) 
       below (suc m) within =
           let x : Going = tries_below (rules.Select ∷ list) (suc m) limit g in
           visits (suc m) (tries rules.Select (suc m) limit x) within
-          (subst (Within (suc m)) (sym (select-later m limit x)) (below m (omega (arith, within))))
+          (rw (select-later m limit x) (below m (omega (arith, within))))
 
       go : (m : ℕ) → n ≡ m → Within n (pass (rules.Select ∷ list) limit g)
       go zero is = absurd (omega (arith, some, is))
       go (suc m) is =
           let Q : ℕ → Type 0 = λ k. Within k (tries_below (rules.Select ∷ list) k limit g) in
-          let P : ℕ → Type 0 = λ k. Within n (tries_below (rules.Select ∷ list) k limit g) in
-          subst P (sym count) (subst Q (sym is) (below m (omega (arith, is))))
+          rw count (subst Q (sym is) (below m (omega (arith, is))))

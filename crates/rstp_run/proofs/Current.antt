@@ -1,12 +1,11 @@
 -- While all ports' roles are selected, the bridge's root and roles are those of its present information.
 use Rattle.std.proofs.Common.{◌≡◌, ℕ, zero, suc, ◌+◌, ◌⊎◌, inl, inr, Bool, true, false, not, ◌&&◌, ◌==◌, cond, min}
-use Rattle.std.proofs.Common.{List}
-use Rattle.std.proofs.Common.{[], ◌∷◌, map, Option, Some, None, slice_get, refl, sym, ap, subst, ◌∙◌, arith}
+use Rattle.std.proofs.Common.{List, [], ◌∷◌, map, Option, Some, None, slice_get, refl, sym, ap, subst, ◌∙◌, arith}
 use Rattle.std.proofs.lemmas.Bool.Decides.{nat_tests}
 use Rattle.std.specs.List.{enumerate_from, filter_map}
 use Rattle.bpdu_wire.specs.Id.{bridge_address}
 use Rattle.bpdu_wire.specs.declared.bpdu.Bpdu.{Bpdu}
-use Rattle.bpdu_wire.specs.declared.bpdu.Bpdu.TheVariants.{Config, Rst, Tcn}
+use Rattle.bpdu_wire.specs.declared.bpdu.Bpdu.TheVariants.{Tcn}
 use Rattle.rstp_state.specs.declared.port.PortState.{PortState}
 use Rattle.rstp_state.specs.declared.port.InfoIs.{InfoIs}
 use Rattle.rstp_state.specs.declared.port.InfoIs.TheVariants as info_is
@@ -19,15 +18,13 @@ use Rattle.rstp_state.specs.declared.vector.Times.{Times}
 use Rattle.rstp_state.specs.declared.vector.Vector.{Vector}
 use Rattle.rstp_state.specs.Port.{is_out, is_received}
 use Rattle.rstp_state.specs.Selection.{best_path, designated_times, designated_vector, is_own, is_better, is_through}
-use Rattle.rstp_state.specs.Selection.{own_path, own_root, path_at, path_cmp, role_by, root_along, selected_ports}
+use Rattle.rstp_state.specs.Selection.{own_path, own_root, path_at, role_by, root_along, selected_ports}
 use Rattle.rstp_state.specs.Selection.{selected_root, updates_by, with_choice}
 use Rattle.rstp_state.specs.Start.{ports_from}
 use Rattle.rstp_state.specs.Vector.{is_less, same_times, same_vector}
-use Rattle.rstp_state.proofs.Least.{least}
 use Rattle.rstp_state.proofs.Paths.{least_is_best, least_of_candidates}
 use Rattle.rstp_machines.specs.Information.{handled, message_has, rst_has, with_change_flags, with_info_of}
-use Rattle.rstp_machines.specs.Information.{with_info_time}
-use Rattle.rstp_machines.specs.Information.{with_proposal, with_superior_flags}
+use Rattle.rstp_machines.specs.Information.{with_info_time, with_proposal, with_superior_flags}
 use Rattle.rstp_run.specs.declared.event.Event.{Event}
 use Rattle.rstp_run.specs.declared.rule.InformationRule.{InformationRule}
 use Rattle.rstp_run.specs.declared.rule.InformationRule.TheVariants as information_rule
@@ -111,32 +108,19 @@ updated c = record c {
 abbrev IsUpdate : Choice → Choice → Type 0
 IsUpdate a b = (a.update_info ≡ true) × (b ≡ updated a)
 
-itself : (n : ℕ) → (n == n) ≡ true
-itself n = grind (arith, nat_tests)
-
 vector_itself : (v : Vector) → same_vector v v ≡ true
-vector_itself v = both _ _ (itself v.root) (both _ _ (itself v.cost) (both _ _ (itself v.bridge) (itself v.port)))
+vector_itself v = grind (arith, nat_tests)
 
 times_itself : (t : Times) → same_times t t ≡ true
-times_itself t =
-    both _ _ (itself t.message_age) (both _ _ (itself t.max_age) (both _ _ (itself t.hello) (itself t.forward_delay)))
+times_itself t = grind (arith, nat_tests)
 
 -- a port whose update is pending becomes designated, and isn't the root port
 role_of_update : (i : InfoIs) (t b o s : Bool) → updates_by i t b s ≡ true
     → role_by i t b o ≡ role_by info_is.Mine t b o
-role_of_update info_is.Disabled t b o s h = no h
-role_of_update info_is.Aged t b o s h = refl
-role_of_update info_is.Mine t b o s h = refl
-role_of_update info_is.Received true b o s h = no h
-role_of_update info_is.Received false true o s h = refl
-role_of_update info_is.Received false false o s h = no h
+role_of_update i t b o s h = grind arith
 
 not_through : (i : InfoIs) (t b s : Bool) → updates_by i t b s ≡ true → (t ≡ true → is_received i ≡ true) → t ≡ false
-not_through i false b s h r = refl
-not_through info_is.Disabled true b s h r = no h
-not_through info_is.Aged true b s h r = no (r refl)
-not_through info_is.Mine true b s h r = no (r refl)
-not_through info_is.Received true b s h r = no h
+not_through i t b s h r = grind arith
 
 module _ (s : Settings) (root : Root) where
   off_path : (through : Bool) (c d : Choice) → IsChosenOf s root through c → IsUpdate c d → through ≡ false
@@ -145,16 +129,14 @@ module _ (s : Settings) (root : Root) where
   updated_chosen : (through : Bool) (c d : Choice) → IsChosenOf s root through c → IsUpdate c d
       → IsChosenOf s root through d
   updated_chosen through c d is up =
-      let off = off_path through c d is up in
-      let P : Choice → Type 0 = λ e. IsChosenOf s root through e in
-      let vector = ap (λ v. same_vector c.designated_priority v) (sym is.2) ∙ vector_itself c.designated_priority in
-      let times = ap (λ t. same_times c.designated_times t) (sym is.3) ∙ times_itself c.designated_times in
-      subst P (sym up.1) (
+      let vector = ap (same_vector c.designated_priority) (sym is.2) ∙ vector_itself c.designated_priority in
+      let times = ap (same_times c.designated_times) (sym is.3) ∙ times_itself c.designated_times in
+      subst (IsChosenOf s root through) (sym up.1) (
         is.0 ∙ role_of_update c.info_is through _ _ _ (sym is.1 ∙ up.0),
         ap not (sym (both _ _ vector times)),
         is.2,
         is.3,
-        λ t. no (sym off ∙ t),
+        λ t. no (sym (off_path through c d is up) ∙ t),
       )
 
 -- ---- a port's change
@@ -165,32 +147,29 @@ Turns x y =
     y.selected ≡ true → (x.selected ≡ true) × ((choice_of y ≡ choice_of x) ⊎ IsUpdate (choice_of x) (choice_of y))
 
 turns_quiet : (x y : PortState) → IsQuiet x y → Turns x y
-turns_quiet x y h = λ s. (sym (ap (λ k. k.selected) h) ∙ s, inl (ap choice_in h))
+turns_quiet x y h s = (sym (ap (λ k. k.selected) h) ∙ s, inl (ap choice_in h))
 
 taken : (m : Option Bpdu) (port : PortState) → port.selected ≡ false
     → (handled (with_info_time (with_info_of m port))).selected ≡ false
-taken None port s = s
 taken (Some Tcn) port s = s
-taken (Some (Config message)) port s = s
-taken (Some (Rst message)) port s = s
+taken m port s = s
 
 information_turns : (rule : InformationRule) (port : PortState) → information_asks rule port ≡ true
     → Turns port (information_does rule port)
-information_turns information_rule.Disabled port g = λ h. no h
-information_turns information_rule.Drop port g = λ h. (h, inl refl)
-information_turns information_rule.Enabled port g = λ h. no h
-information_turns information_rule.Update port g =
-    λ h. (h, inr (right (not (is_out port.information) && port.selected) port.update_info g, refl))
-information_turns information_rule.Aged port g = λ h. no h
-information_turns information_rule.Superior port g =
-    λ h. no (sym (taken port.message (with_superior_flags (with_change_flags (with_proposal port))) refl) ∙ h)
-information_turns information_rule.Repeated port g = λ h. (h, inl refl)
-information_turns information_rule.Inferior port g = turns_quiet port (information_does information_rule.Inferior port)
-    (inferior_quiet (rst_has 16 port.message) port)
-information_turns information_rule.NotDesignated port g =
+information_turns information_rule.Disabled port g h = no h
+information_turns information_rule.Enabled port g h = no h
+information_turns information_rule.Update port g h =
+    (h, inr (right (not (is_out port.information) && port.selected) port.update_info g, refl))
+information_turns information_rule.Aged port g h = no h
+information_turns information_rule.Superior port g h =
+    no (sym (taken port.message (with_superior_flags (with_change_flags (with_proposal port))) refl) ∙ h)
+information_turns information_rule.Inferior port g h =
+    turns_quiet port (information_does information_rule.Inferior port)
+    (inferior_quiet (rst_has 16 port.message) port) h
+information_turns information_rule.NotDesignated port g h =
     turns_quiet port (information_does information_rule.NotDesignated port)
-    (answer_quiet (port.point_to_point && message_has 64 port.message) port)
-information_turns information_rule.Other port g = λ h. (h, inl refl)
+    (answer_quiet (port.point_to_point && message_has 64 port.message) port) h
+information_turns rule port g h = (h, inl refl)
 
 -- ---- a bridge
 
@@ -211,35 +190,28 @@ StaysCurrent s = AllSelected s.ports → IsCurrent s
 
 selected_before : (xs ys : List PortState) → Each Turns xs ys → AllSelected ys → AllSelected xs
 selected_before [] [] h a = tt
-selected_before [] (y ∷ ys) h a = absurd h
-selected_before (x ∷ xs) [] h a = absurd h
 selected_before (x ∷ xs) (y ∷ ys) h a = ((h.0 a.0).0, selected_before xs ys h.1 a.1)
+selected_before xs ys h a = absurd h
 
 module _ (s : Settings) (root : Root) (path : Path) where
-  remain : (n : ℕ) (xs ys : List PortState) → Each Turns xs ys → AllSelected ys → AreChosen s root path n xs
-      → AtEach (Remains s path) n xs ys
-  remain n [] [] h a c = tt
-  remain n [] (y ∷ ys) h a c = absurd h
-  remain n (x ∷ xs) [] h a c = absurd h
-  remain n (x ∷ xs) (y ∷ ys) h a c =
-      let here : Remains s path n x y = elim (h.0 a.0).1 [
-        | inl same ↦ inl (ap (path_in s n) same, ap (λ (d : Choice). d.port_times) same)
-        | inr up ↦ inr (ap (path_in s n) up.1, off_path s root (is_through path n) (choice_of x) (choice_of y) c.0 up)
+  -- the candidates remain, and each port has its choice
+  still : (n : ℕ) (xs ys : List PortState) → Each Turns xs ys → AllSelected ys → AreChosen s root path n xs
+      → AtEach (Remains s path) n xs ys × AreChosen s root path n ys
+  still n [] [] h a c = (tt, tt)
+  still n (x ∷ xs) (y ∷ ys) h a c =
+      let here : Remains s path n x y × IsChosenOf s root (is_through path n) (choice_of y) = elim (h.0 a.0).1 [
+        | inl same ↦ (
+          inl (ap (path_in s n) same, ap (λ (d : Choice). d.port_times) same),
+          subst (IsChosenOf s root (is_through path n)) (sym same) c.0,
+        )
+        | inr up ↦ (
+          inr (ap (path_in s n) up.1, off_path s root (is_through path n) (choice_of x) (choice_of y) c.0 up),
+          updated_chosen s root (is_through path n) (choice_of x) (choice_of y) c.0 up,
+        )
       ] in
-      (here, remain (n + 1) xs ys h.1 a.1 c.1)
-
-  chosen_still : (n : ℕ) (xs ys : List PortState) → Each Turns xs ys → AllSelected ys → AreChosen s root path n xs
-      → AreChosen s root path n ys
-  chosen_still n [] [] h a c = tt
-  chosen_still n [] (y ∷ ys) h a c = absurd h
-  chosen_still n (x ∷ xs) [] h a c = absurd h
-  chosen_still n (x ∷ xs) (y ∷ ys) h a c =
-      let P : Choice → Type 0 = λ e. IsChosenOf s root (is_through path n) e in
-      let here : P (choice_of y) = elim (h.0 a.0).1 [
-        | inl same ↦ subst P (sym same) c.0
-        | inr up ↦ updated_chosen s root (is_through path n) (choice_of x) (choice_of y) c.0 up
-      ] in
-      (here, chosen_still (n + 1) xs ys h.1 a.1 c.1)
+      let rest = still (n + 1) xs ys h.1 a.1 c.1 in
+      ((here.0, rest.0), (here.1, rest.1))
+  still n xs ys h a c = absurd h
 
   -- selection keeps the candidates
   choices_remain : (n : ℕ) (xs : List PortState)
@@ -254,24 +226,21 @@ module _ (s : Settings) (root : Root) (path : Path) where
   choices_chosen n [] told = tt
   choices_chosen n (x ∷ xs) told =
       let here : n + 0 ≡ n = omega arith in (
-        (refl, refl, refl, refl, λ t. told 0 x refl (ap (is_through path) here ∙ t)),
+        (refl, refl, refl, refl, λ t. told 0 x refl (rw here t)),
         choices_chosen (n + 1) xs (λ k y at t.
-            let next : n + suc k ≡ n + 1 + k = omega arith in
-            told (suc k) y at (ap (is_through path) next ∙ t)),
+            let next : n + suc k ≡ n + 1 + k = omega arith in told (suc k) y at (rw next t)),
       )
 
 turned : (s : Tree) (ports : List PortState) → Each Turns s.ports ports → StaysCurrent s
     → StaysCurrent (record s { ports = ports })
-turned s ports h k = λ all.
+turned s ports h k all =
     let cur = k (selected_before s.ports ports h all) in
     let path = best_path s.settings s.ports in
-    let remains = remain s.settings s.root path 0 s.ports ports h all cur.ports in
+    let (remains, chosen) = still s.settings s.root path 0 s.ports ports h all cur.ports in
     let best = best_stays s.settings path s.ports ports refl remains in
-    let P : Path → Type 0 = λ q. AreChosen s.settings s.root q 0 ports in
     record {
-      root = cur.root ∙ sym (root_stays s.settings path s.ports ports remains)
-          ∙ ap (λ q. root_along s.settings ports q) (sym best);
-      ports = subst P (sym best) (chosen_still s.settings s.root path 0 s.ports ports h all cur.ports);
+      root = cur.root ∙ sym (rw best (root_stays s.settings path s.ports ports remains));
+      ports = rw best chosen;
     }
 
 selected_now : (s : Settings) (ports : List PortState)
@@ -283,25 +252,21 @@ selected_now s ports =
     let root = selected_root s ports in
     let remains = choices_remain s root path 0 ports in
     let best : best_path s (selected_ports s ports) ≡ path = best_stays s path ports (selected_ports s ports) refl
-    remains in
-    let P : Path → Type 0 = λ q. AreChosen s root q 0 (selected_ports s ports) in (
-      sym (root_stays s path ports (selected_ports s ports) remains)
-          ∙ ap (λ q. root_along s (selected_ports s ports) q) (sym best),
-      subst P (sym best) (choices_chosen s root path 0 ports (λ k x at t.
-          let zeroth : 0 + k ≡ k = omega arith in
-          left _ _ (best_told s ports k x at (ap (is_through path) (sym zeroth) ∙ t)))),
+    remains in (
+      sym (rw best (root_stays s path ports (selected_ports s ports) remains)),
+      rw best (choices_chosen s root path 0 ports (λ k x at t.
+          let zeroth : 0 + k ≡ k = omega arith in left _ _ (best_told s ports k x at (rw zeroth at t)))),
     )
 
 current_walks : Walks StaysCurrent (λ s. Turns)
 current_walks = record {
   moves = record {
-    by = λ s ports h k. turned s ports h k;
+    by = turned;
     quiet = λ s. turns_quiet;
     informed = λ s. information_turns;
-    second = λ s port. (λ h. (h, inl refl));
+    second = λ s port h. (h, inl refl);
   };
-  chosen = λ s p k. λ all.
-      let now = selected_now s.settings s.ports in record { root = now.0; ports = now.1 };
+  chosen = λ s p k all. let now = selected_now s.settings s.ports in record { root = now.0; ports = now.1 };
 }
 
 -- ---- the start
@@ -313,8 +278,8 @@ none_told s n m (x ∷ xs) = none_told s (n + 1) (m + 1) xs
 
 own_is_best : (s : Settings) (ports : List PortSettings) → best_path s (ports_from 1 s ports) ≡ own_path s
 own_is_best s ports =
-    sym (least_is_best s (ports_from 1 s ports) _ (least_of_candidates s (ports_from 1 s ports)))
-    ∙ ap (λ paths. least path_cmp (own_path s) paths) (none_told s 0 1 ports)
+    rw (none_told s 0 1 ports) at
+    (sym (least_is_best s (ports_from 1 s ports) _ (least_of_candidates s (ports_from 1 s ports))))
 
 start_chosen : (s : Settings) (n m : ℕ) (ports : List PortSettings)
     → AreChosen s (own_root s) (own_path s) n (ports_from m s ports)
@@ -322,13 +287,10 @@ start_chosen s n m [] = tt
 start_chosen s n m (x ∷ xs) = ((refl, refl, refl, refl, λ t. no t), start_chosen s (n + 1) (m + 1) xs)
 
 start_current : (s : Settings) (ports : List PortSettings) → StaysCurrent (start s ports)
-start_current s ports = λ all.
-    let best = own_is_best s ports in
-    let P : Path → Type 0 = λ q. AreChosen s (own_root s) q 0 (ports_from 1 s ports) in
-    record {
-      root = ap (λ q. root_along s (ports_from 1 s ports) q) (sym best);
-      ports = subst P (sym best) (start_chosen s 0 1 ports);
-    }
+start_current s ports all = record {
+  root = rw (own_is_best s ports) refl;
+  ports = rw (own_is_best s ports) (start_chosen s 0 1 ports);
+}
 
 -- ---- settled bridges
 
@@ -342,7 +304,7 @@ pub comes_current : (history : List Event) (settings : Settings) (ports : List P
 comes_current history settings ports s comes kept settled =
     comes_holds StaysCurrent (λ s. Turns) current_walks history (start settings ports) s comes
     (start_current settings ports)
-    (all_selected s.ports (λ p port at. is_selected s kept settled p port at))
+    (all_selected s.ports (is_selected s kept settled))
 
 pub chosen_at : (s : Settings) (root : Root) (path : Path) (n : ℕ) (ports : List PortState) (p : ℕ) (port : PortState)
     → slice_get ports p ≡ Some port → AreChosen s root path n ports
@@ -350,13 +312,10 @@ pub chosen_at : (s : Settings) (root : Root) (path : Path) (n : ℕ) (ports : Li
 chosen_at s root path n [] p port at c = let e : ⊥ = cc in absurd e
 chosen_at s root path n (x ∷ xs) zero port at c =
     let same : x ≡ port = cc in
-    let here : n ≡ n + 0 = omega arith in
-    let P : ℕ → PortState → Type 0 = λ k y. IsChosenOf s root (is_through path k) (choice_of y) in
-    subst (λ k. P k port) here (subst (P n) same c.0)
+    let here : n + 0 ≡ n = omega arith in
+    rw (here, ← same) c.0
 chosen_at s root path n (x ∷ xs) (suc p) port at c =
-    let next : n + 1 + p ≡ n + suc p = omega arith in
-    subst (λ k. IsChosenOf s root (is_through path k) (choice_of port)) next
-    (chosen_at s root path (n + 1) xs p port at c.1)
+    let next : n + suc p ≡ n + 1 + p = omega arith in rw next (chosen_at s root path (n + 1) xs p port at c.1)
 
 pub role_current : (s : Tree) → IsKept s.ports → IsSettled s → IsCurrent s → (p : ℕ) (port : PortState)
     → slice_get s.ports p ≡ Some port
@@ -364,14 +323,12 @@ pub role_current : (s : Tree) → IsKept s.ports → IsSettled s → IsCurrent s
     (is_better s.settings s.root port) (is_own s.settings port)
 role_current s kept settled current p port at =
     let zeroth : 0 + p ≡ p = omega arith in
-    has_selected s kept settled p port at
-    ∙ (chosen_at s.settings s.root (best_path s.settings s.ports) 0 s.ports p port at current.ports).0
-    ∙ ap (λ k. role_by port.info_is (is_through (best_path s.settings s.ports) k) (is_better s.settings s.root port)
-    (is_own s.settings port)) zeroth
+    let chosen = chosen_at s.settings s.root (best_path s.settings s.ports) 0 s.ports p port at current.ports in
+    has_selected s kept settled p port at ∙ rw zeroth at chosen.0
 
 pub selection_current : (s : Tree) → IsKept s.ports → IsSettled s → IsCurrent s → IsSelection s
 unfolding selected_root
 selection_current s kept settled current = record {
   root = current.root;
-  roles = λ p port at. role_current s kept settled current p port at;
+  roles = role_current s kept settled current;
 }

@@ -1,6 +1,5 @@
 -- A port of a settled bridge that isn't the root port goes down: each port keeps its role, or has no role any more.
-use Rattle.std.proofs.Common.{◌≡◌, ℕ, zero, suc, ◌+◌, ◌-◌, ◌⊎◌, inl, inr, Bool, true, false, not, ◌&&◌, ◌==◌}
-use Rattle.std.proofs.Common.{List, []}
+use Rattle.std.proofs.Common.{◌≡◌, ℕ, zero, suc, ◌+◌, ◌-◌, ◌⊎◌, inl, inr, Bool, true, false, not, ◌&&◌, ◌==◌, List, []}
 use Rattle.std.proofs.Common.{◌∷◌, map, Option, Some, None, slice_get, slice_set, refl, sym, ap, subst, ◌∙◌, arith}
 use Rattle.std.specs.List.{enumerate_from}
 use Rattle.std.specs.Option.{option_map_or}
@@ -17,7 +16,6 @@ use Rattle.bpdu_wire.specs.Id.{bridge_address}
 use Rattle.rstp_state.specs.Selection.{best_path, designated_times, designated_vector, is_better, is_own, is_through}
 use Rattle.rstp_state.specs.Selection.{role_by, root_along, selected_ports, selected_root, updates_by, with_choice}
 use Rattle.rstp_state.specs.Vector.{is_less, same_times, same_vector}
-use Rattle.rstp_machines.specs.Information.{may_take}
 use Rattle.rstp_run.specs.declared.event.Event.TheVariants as events
 use Rattle.rstp_run.specs.declared.rule.InformationRule.{InformationRule}
 use Rattle.rstp_run.specs.declared.rule.InformationRule.TheVariants as information_rule
@@ -34,7 +32,7 @@ use Rattle.rstp_run.proofs.Current.{choice_in, path_in}
 use Rattle.rstp_run.proofs.Each.{Each, each_map, each_then}
 use Rattle.rstp_run.proofs.Quiet.{IsStill, Known, Still, still_of}
 use Rattle.rstp_run.proofs.Walk.{is_plain, still_after}
-use Rattle.rstp_state.proofs.Basics.{no, and_left as left, and_right as right}
+use Rattle.rstp_state.proofs.Basics.{no}
 
 -- ---- places
 
@@ -50,9 +48,8 @@ at_same R same n (x ∷ xs) = (same n x, at_same R same (n + 1) xs)
 at_weaker : (R : PortState → PortState → Type 0) (S : ℕ → PortState → PortState → Type 0)
     → ((n : ℕ) (x y : PortState) → R x y → S n x y) → (n : ℕ) (xs ys : List PortState) → Each R xs ys → AtEach S n xs ys
 at_weaker R S w n [] [] h = tt
-at_weaker R S w n [] (y ∷ ys) h = absurd h
-at_weaker R S w n (x ∷ xs) [] h = absurd h
 at_weaker R S w n (x ∷ xs) (y ∷ ys) h = (w n x y h.0, at_weaker R S w (n + 1) xs ys h.1)
+at_weaker R S w n xs ys h = absurd h
 
 module _ (R : ℕ → PortState → PortState → Type 0) (same : (n : ℕ) (x : PortState) → R n x x) where
   push : (n : ℕ) (does : PortState → PortState) (x : PortState) (xs : List PortState) (p : ℕ) (o : Option PortState)
@@ -66,26 +63,18 @@ module _ (R : ℕ → PortState → PortState → Type 0) (same : (n : ℕ) (x :
       → AtEach R n ports (change_at p does ports)
   at_change does n [] p h = tt
   at_change does n (x ∷ xs) zero h =
-      let here : n + 0 ≡ n = omega arith in
-      (subst (λ k. R k x (does x)) here (h x refl), at_same R same (n + 1) xs)
+      let here : n + 0 ≡ n = omega arith in (rw here at (h x refl), at_same R same (n + 1) xs)
   at_change does n (x ∷ xs) (suc p) h =
       let next : n + suc p ≡ n + 1 + p = omega arith in
-      push n does x xs p (slice_get xs p) (at_change does (n + 1) xs p (λ port at.
-      subst (λ k. R k port (does port)) next (h port at)))
+      push n does x xs p (slice_get xs p) (at_change does (n + 1) xs p (λ port at. rw next at (h port at)))
 
 -- ---- truth values
 
-yes : {A : Type 0} → true ≡ false → A
-yes h = let e : ⊥ = cc in absurd e
-
 down_receives_not : (b e m : Bool) → e ≡ false → b && e && not m ≡ false
-down_receives_not true true m h = yes h
-down_receives_not true false m h = refl
-down_receives_not false e m h = refl
+down_receives_not b e m h = grind arith
 
 down_is : (e o : Bool) → not e && not o ≡ true → e ≡ false
-down_is true o h = no h
-down_is false o h = refl
+down_is e o h = grind arith
 
 -- ---- a calm port
 
@@ -95,8 +84,7 @@ Loses x y = (y.selected_role ≡ x.selected_role) ⊎ (y.selected_role ≡ role.
 
 loses_then : (x y z : PortState) → Loses x y → Loses y z → Loses x z
 loses_then x y z h (inr k) = inr k
-loses_then x y z (inl h) (inl k) = inl (k ∙ h)
-loses_then x y z (inr h) (inl k) = inr (k ∙ h)
+loses_then x y z h (inl k) = rw k h
 
 module _ (settings : Settings) (root : Root) (path : Path) where
   abbrev role_in : ℕ → Known → Role
@@ -131,37 +119,25 @@ module _ (settings : Settings) (root : Root) (path : Path) where
   Step n x y = IsCalm n x → IsCalm n y × Remains settings path n x y × Loses x y
 
   unchanged : (n : ℕ) (x : PortState) → Step n x x
-  unchanged n x = λ c. (c, inl (refl, refl), inl refl)
+  unchanged n x c = (c, inl (refl, refl), inl refl)
 
   still_step : (n : ℕ) (x y : PortState) → IsStill x y → Step n x y
-  still_step n x y h =
-      let P : Still → Type 0 = λ s. IsCalmOf n s in λ c. (
-        subst P (sym h) c,
-        inl (ap (λ (s : Still). path_in settings n (choice_in s.known)) h, ap (λ (s : Still). s.known.port_times) h),
-        inl (ap (λ (s : Still). s.known.selected_role) h),
-      )
+  still_step n x y h c = (
+    subst (IsCalmOf n) (sym h) c,
+    inl (ap (λ (s : Still). path_in settings n (choice_in s.known)) h, ap (λ (s : Still). s.known.port_times) h),
+    inl (ap (λ (s : Still). s.known.selected_role) h),
+  )
 
   receive_step : (rule : ReceiveRule) (n : ℕ) (x : PortState) → receive_asks rule x ≡ true
       → Step n x (receive_does rule x)
-  receive_step receive_rule.Discard n x g = λ c. (
-    (refl, λ i. refl, λ o. (refl, (c.2 o).1), c.3, c.4, c.5, c.6, c.7),
-    inl (refl, refl),
-    inl refl,
-  )
-  receive_step receive_rule.Receive n x g = λ c. no (sym c.0 ∙ g)
+  receive_step receive_rule.Discard n x g c =
+      ((refl, λ i. refl, λ o. (refl, (c.2 o).1), c.3, c.4, c.5, c.6, c.7), inl (refl, refl), inl refl)
+  receive_step receive_rule.Receive n x g c = no (sym c.0 ∙ g)
 
-  -- no message waits at a calm port
-  takes_none : (n : ℕ) (x : PortState) (b : Bool) → may_take x && b ≡ true → IsCalm n x → ⊥
-  takes_none n x b g c =
-      let takes = left (may_take x) b g in
-      let both = left (is_current x.information && x.received_message) _ takes in
-      let current = left (is_current x.information) _ both in
-      let waits = right (is_current x.information) _ both in
-      no (sym (c.1 current) ∙ waits)
-
+  -- no rule of information but Disabled is enabled at a calm port
   information_step : (rule : InformationRule) (n : ℕ) (x : PortState) → information_asks rule x ≡ true
       → Step n x (information_does rule x)
-  information_step information_rule.Disabled n x g = λ c.
+  information_step information_rule.Disabled n x g c =
       let down = down_is x.enabled (is_out x.information) g in
       let off : is_through path n ≡ false = from (is_through path n) c.3 down in (
         (
@@ -181,26 +157,11 @@ module _ (settings : Settings) (root : Root) (path : Path) where
       from : (t : Bool) → (t ≡ true → x.enabled ≡ true) → x.enabled ≡ false → t ≡ false
       from true h d = no (sym d ∙ h refl)
       from false h d = refl
-  information_step information_rule.Drop n x g = λ c.
-      no (sym (c.2 (left (is_out x.information) _ g)).0 ∙ right (is_out x.information) _ g)
-  information_step information_rule.Enabled n x g = λ c.
-      no (sym (c.2 (left (is_out x.information) _ g)).1 ∙ right (is_out x.information) _ g)
-  information_step information_rule.Update n x g = λ c.
-      no (sym c.5 ∙ right (not (is_out x.information) && x.selected) x.update_info g)
-  information_step information_rule.Aged n x g = λ c.
-      let over = left (is_current x.information && is_received x.info_is && x.received_info_while == 0) _
-      (left _ _ g) in
-      let told = right (is_current x.information) _ (left (is_current x.information && is_received x.info_is) _ over) in
-      no (sym (c.4 told) ∙ right (is_current x.information && is_received x.info_is) _ over)
-  information_step information_rule.Superior n x g = λ c. absurd (takes_none n x _ g c)
-  information_step information_rule.Repeated n x g = λ c. absurd (takes_none n x _ g c)
-  information_step information_rule.Inferior n x g = λ c. absurd (takes_none n x _ g c)
-  information_step information_rule.NotDesignated n x g = λ c. absurd (takes_none n x _ g c)
-  information_step information_rule.Other n x g = λ c. absurd (takes_none n x _ g c)
+  information_step rule n x g c = let no_rule : ⊥ = grind arith in absurd no_rule
 
   -- a port that isn't the root port goes down
   down_step : (n : ℕ) (x : PortState) → is_through path n ≡ false → Step n x (with_enabled false x)
-  down_step n x off = λ c. (
+  down_step n x off c = (
     (
       down_receives_not x.received_bpdu false x.received_message refl,
       c.1,
@@ -223,35 +184,21 @@ module _ (settings : Settings) (root : Root) (path : Path) where
   ]
 
   choice_step : (n : ℕ) (x : PortState) → Step n x (with_choice settings root (is_through path n) x)
-  choice_step n x = λ c. (
-    (c.0, c.1, c.2, c.3, c.4, c.6, c.6, inl refl),
-    inl (refl, refl),
-    choice_loses n x c,
-  )
+  choice_step n x c = ((c.0, c.1, c.2, c.3, c.4, c.6, c.6, inl refl), inl (refl, refl), choice_loses n x c)
 
   choice_steps : (n : ℕ) (xs : List PortState)
       → AtEach Step n xs (map (λ e. with_choice settings root (is_through path e.0) e.1) (enumerate_from n xs))
   choice_steps n [] = tt
   choice_steps n (x ∷ xs) = (choice_step n x, choice_steps (n + 1) xs)
 
-  calm_of : (n : ℕ) (xs ys : List PortState) → AtEach Step n xs ys → IsEach IsCalm n xs → IsEach IsCalm n ys
-  calm_of n [] [] h c = tt
-  calm_of n [] (y ∷ ys) h c = absurd h
-  calm_of n (x ∷ xs) [] h c = absurd h
-  calm_of n (x ∷ xs) (y ∷ ys) h c = ((h.0 c.0).0, calm_of (n + 1) xs ys h.1 c.1)
-
-  remain_of : (n : ℕ) (xs ys : List PortState) → AtEach Step n xs ys → IsEach IsCalm n xs
-      → AtEach (Remains settings path) n xs ys
-  remain_of n [] [] h c = tt
-  remain_of n [] (y ∷ ys) h c = absurd h
-  remain_of n (x ∷ xs) [] h c = absurd h
-  remain_of n (x ∷ xs) (y ∷ ys) h c = ((h.0 c.0).1, remain_of (n + 1) xs ys h.1 c.1)
-
-  lose_of : (n : ℕ) (xs ys : List PortState) → AtEach Step n xs ys → IsEach IsCalm n xs → Each Loses xs ys
-  lose_of n [] [] h c = tt
-  lose_of n [] (y ∷ ys) h c = absurd h
-  lose_of n (x ∷ xs) [] h c = absurd h
-  lose_of n (x ∷ xs) (y ∷ ys) h c = ((h.0 c.0).2, lose_of (n + 1) xs ys h.1 c.1)
+  all_step : (n : ℕ) (xs ys : List PortState) → AtEach Step n xs ys → IsEach IsCalm n xs
+      → IsEach IsCalm n ys × AtEach (Remains settings path) n xs ys × Each Loses xs ys
+  all_step n [] [] h c = (tt, tt, tt)
+  all_step n (x ∷ xs) (y ∷ ys) h c =
+      let here = h.0 c.0 in
+      let rest = all_step (n + 1) xs ys h.1 c.1 in
+      ((here.0, rest.0), (here.1, rest.1), (here.2, rest.2))
+  all_step n xs ys h c = absurd h
 
   -- ---- a calm bridge
 
@@ -266,14 +213,14 @@ module _ (settings : Settings) (root : Root) (path : Path) where
   calm_by : (first : List PortState) (s : Tree) (ports : List PortState) → AtEach Step 0 s.ports ports → Calm first s
       → Calm first (record s { ports = ports })
   calm_by first s ports h k =
-      let remains = remain_of 0 s.ports ports h k.calm in
+      let (calm, remains, lose) = all_step 0 s.ports ports h k.calm in
       record {
         set = k.set;
         rooted = k.rooted;
         best = best_stays settings path s.ports ports k.best remains;
         along = root_stays settings path s.ports ports remains ∙ k.along;
-        calm = calm_of 0 s.ports ports h k.calm;
-        loses = each_then Loses loses_then first s.ports ports k.loses (lose_of 0 s.ports ports h k.calm);
+        calm = calm;
+        loses = each_then Loses loses_then first s.ports ports k.loses lose;
       }
 
   at_rule : (asks : PortState → Bool) (does : PortState → PortState) (ports : List PortState) (p : ℕ)
@@ -281,8 +228,7 @@ module _ (settings : Settings) (root : Root) (path : Path) where
       → AtEach Step 0 ports (change_at p does ports)
   at_rule asks does ports p h g =
       let zeroth : p ≡ 0 + p = omega arith in
-      at_change Step unchanged does 0 ports p (λ port at. subst (λ k. Step k port (does port)) zeroth (h port
-      (sym (ap (λ o. option_map_or asks o false) at) ∙ g)))
+      at_change Step unchanged does 0 ports p (λ port at. rw (← zeroth) (h port (rw at at g)))
 
   plain : (first : List PortState) (rule : Rule) (s : Tree) (p : ℕ) → is_plain rule ≡ true → guard rule s p ≡ true
       → Calm first s → Calm first (record s { ports = ports_after rule s p })
@@ -294,21 +240,13 @@ module _ (settings : Settings) (root : Root) (path : Path) where
       → Calm first (after rules.Select s p)
   unfolding selected_ports selected_root
   select_calm first s is p k =
-      let new : selected_root s.settings s.ports ≡ root =
-      ap (λ t. selected_root t s.ports) is ∙ ap (λ q. root_along settings s.ports q) k.best ∙ k.along in
+      let new : selected_root s.settings s.ports ≡ root = rw (is, k.best) k.along in
       let ports : selected_ports s.settings s.ports
       ≡ map (λ e. with_choice settings root (is_through path e.0) e.1) (enumerate_from 0 s.ports) =
-      ap (λ t. selected_ports t s.ports) is
-      ∙ ap (λ q. map (λ e. with_choice settings (root_along settings s.ports q) (is_through q e.0) e.1)
-      (enumerate_from 0 s.ports)) k.best
-      ∙ ap (λ r. map (λ e. with_choice settings r (is_through path e.0) e.1) (enumerate_from 0 s.ports)) k.along in
-      let done = calm_by first s _ (choice_steps 0 s.ports) k in
-      let P : List PortState → Type 0 = λ l. Calm first (record {
-        settings = s.settings;
-        root = s.root;
-        ports = l;
-      }) in
-      let there = subst P (sym ports) done in
+      simp (is, k.best)
+      (ap (λ r. map (λ e. with_choice settings r (is_through path e.0) e.1) (enumerate_from 0 s.ports)) k.along) in
+      let P : List PortState → Type 0 = λ l. Calm first (record s { ports = l }) in
+      let there = subst P (sym ports) (calm_by first s _ (choice_steps 0 s.ports) k) in
       record {
         set = is;
         rooted = new;
@@ -326,12 +264,7 @@ module _ (settings : Settings) (root : Root) (path : Path) where
   calm_rule first (rules.Information rule) s p g k =
       calm_by first s _
       (at_rule (information_asks rule) (information_does rule) s.ports p (information_step rule p) g) k
-  calm_rule first (rules.Migration rule) s p g k = plain first (rules.Migration rule) s p refl g k
-  calm_rule first (rules.Detection rule) s p g k = plain first (rules.Detection rule) s p refl g k
-  calm_rule first (rules.Role rule) s p g k = plain first (rules.Role rule) s p refl g k
-  calm_rule first (rules.State rule) s p g k = plain first (rules.State rule) s p refl g k
-  calm_rule first (rules.Topology rule) s p g k = plain first (rules.Topology rule) s p refl g k
-  calm_rule first (rules.Transmit rule) s p g k = plain first (rules.Transmit rule) s p refl g k
+  calm_rule first rule s p g k = plain first rule s p refl g k
 
   calm_run : (first : List PortState) (firings : List Firing) (s t : Tree) → Run firings s t → Calm first s
       → Calm first t
@@ -348,5 +281,5 @@ module _ (settings : Settings) (root : Root) (path : Path) where
       (at_weaker IsStill Step still_step 0 s.ports _ (each_map IsStill without_slot (λ port. refl) s.ports)) k in
       let down = calm_by first (record s { ports = map without_slot s.ports }) _
       (at_change Step unchanged (with_enabled false) 0 (map without_slot s.ports) (p - 1)
-      (λ port at. subst (λ n. Step n port (with_enabled false port)) zeroth (down_step (p - 1) port off))) empty in
+      (λ port at. rw (← zeroth) (down_step (p - 1) port off))) empty in
       calm_run first firings (direct (events.PortDown p) s) t run down

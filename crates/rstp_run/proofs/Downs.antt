@@ -1,13 +1,10 @@
 -- A settled bridge is calm, and after a port other than the root port went down its ports in the tree were there.
-use Rattle.std.proofs.Common.{◌≡◌, ℕ, zero, suc, ◌+◌, ◌-◌, inl, inr, Bool, true, false, not, ◌&&◌, ◌||◌, ◌==◌}
-use Rattle.std.proofs.Common.{List, []}
-use Rattle.std.proofs.Common.{◌∷◌, Option, Some, None, slice_get, refl, sym, ap, subst, ◌∙◌, arith}
-use Rattle.std.specs.Option.{option_map_or}
+use Rattle.std.proofs.Common.{◌≡◌, ℕ, zero, suc, ◌+◌, ◌-◌, inl, inr, Bool, true, false, not, ◌&&◌, ◌||◌, ◌==◌, List}
+use Rattle.std.proofs.Common.{[], ◌∷◌, Option, Some, None, slice_get, refl, sym, subst, ◌∙◌, arith}
+use Rattle.std.proofs.lemmas.Bool.{cases_Bool}
 use Rattle.rstp_state.specs.declared.port.PortState.{PortState}
-use Rattle.rstp_state.specs.declared.port.InfoIs.{InfoIs}
-use Rattle.rstp_state.specs.declared.port.InfoIs.TheVariants as info_is
 use Rattle.rstp_state.specs.Port.{is_current, is_designated, is_out, is_received, is_root}
-use Rattle.rstp_state.specs.Selection.{best_path, is_better, is_own, is_through, role_by}
+use Rattle.rstp_state.specs.Selection.{best_path, is_through}
 use Rattle.rstp_machines.specs.Class.{class_of}
 use Rattle.rstp_machines.specs.Information.{may_take}
 use Rattle.rstp_machines.specs.TopologyChange.{is_in_tree}
@@ -30,15 +27,7 @@ use Rattle.rstp_state.proofs.Basics.{no, and_second_off as and_off}
 use Rattle.rstp_run.proofs.Basics.{current_not_out as current_in}
 
 up_is : (e o : Bool) → not e && not o ≡ false → o ≡ false → e ≡ true
-up_is true o h k = refl
-up_is false true h k = no (sym k)
-up_is false false h k = no (sym h)
-
-through_root : (i : InfoIs) (b o : Bool) → is_received i ≡ true → is_root (role_by i true b o) ≡ true
-through_root info_is.Disabled b o h = no h
-through_root info_is.Aged b o h = no h
-through_root info_is.Mine b o h = no h
-through_root info_is.Received b o h = refl
+up_is e o h k = grind arith
 
 -- ---- a settled bridge is calm
 
@@ -47,9 +36,8 @@ each_from : (P : ℕ → PortState → Type 0) (n : ℕ) (ports : List PortState
 each_from P n [] h = tt
 each_from P n (x ∷ xs) h =
     let here : n + 0 ≡ n = omega arith in (
-      subst (λ k. P k x) here (h 0 x refl),
-      each_from P (n + 1) xs (λ p y at.
-          let next : n + suc p ≡ n + 1 + p = omega arith in subst (λ k. P k y) next (h (suc p) y at)),
+      rw here at (h 0 x refl),
+      each_from P (n + 1) xs (λ p y at. let next : n + suc p ≡ n + 1 + p = omega arith in rw next at (h (suc p) y at)),
     )
 
 module _ (s : Tree) (reached : IsReached s) (settled : IsSettled s) (current : IsCurrent s) where
@@ -98,48 +86,40 @@ module _ (s : Tree) (reached : IsReached s) (settled : IsSettled s) (current : I
   not_through p x at not_root =
       let zeroth : 0 + p ≡ p = omega arith in
       let chosen = chosen_at s.settings s.root (best_path s.settings s.ports) 0 s.ports p x at current.ports in
-      from (is_through (best_path s.settings s.ports) p) refl
-      (λ t. chosen.4 (ap (is_through (best_path s.settings s.ports)) zeroth ∙ t))
-    where
-      from : (b : Bool) → is_through (best_path s.settings s.ports) p ≡ b
-          → (is_through (best_path s.settings s.ports) p ≡ true → is_received x.info_is ≡ true) → b ≡ false
-      from false e h = refl
-      from true e h =
-          let has = role_current s reached.kept settled current p x at in
-          no (sym not_root ∙ ap is_root has
-          ∙ ap (λ b. is_root (role_by x.info_is b (is_better s.settings s.root x) (is_own s.settings x))) e
-          ∙ through_root x.info_is (is_better s.settings s.root x) (is_own s.settings x) (h e))
+      elim (cases_Bool (is_through (best_path s.settings s.ports) p)) [
+        | inr off ↦ off
+        | inl t ↦ (let has = role_current s reached.kept settled current p x at in
+            let told = chosen.4 (rw zeroth t) in
+            let other : ⊥ = grind (arith, has, told, not_root, t) in
+            absurd other)
+      ]
 
 -- ---- after the event
 
 lost_at : (xs ys : List PortState) → Each Loses xs ys → (p : ℕ) (y : PortState) → slice_get ys p ≡ Some y
     → (x : PortState) × (slice_get xs p ≡ Some x) × Loses x y
-lost_at [] [] h p y at = let e : ⊥ = cc in absurd e
-lost_at [] (z ∷ ys) h p y at = absurd h
-lost_at (x ∷ xs) [] h p y at = absurd h
-lost_at (x ∷ xs) (z ∷ ys) h zero y at =
-    let same : z ≡ y = cc in
-    let P : PortState → Type 0 = λ v. Loses x v in (x, refl, subst P same h.0)
+lost_at [] [] h p y at = absurd (cc)
+lost_at (x ∷ xs) (z ∷ ys) h zero y at = let same : z ≡ y = cc in (x, refl, subst (Loses x) same h.0)
 lost_at (x ∷ xs) (z ∷ ys) h (suc p) y at = lost_at xs ys h.1 p y at
+lost_at xs ys h p y at = absurd h
 
 pub loses_port : (s t : Tree) → IsReached s → IsReached t → IsSettled s → IsSettled t → IsCurrent s → LosesPort s t
     → (q : ℕ) → IsInTree t q → IsInTree s q
 loses_port s t reached_s reached_t settled rests current loses q = from (slice_get t.ports (q - 1)) refl
   where
     from : (o : Option PortState) → slice_get t.ports (q - 1) ≡ o → IsInTree t q → IsInTree s q
-    from None e tree = no (sym (ap (λ o. option_map_or is_in_tree o false) e) ∙ tree)
+    from None e tree = no (rw e at tree)
     from (Some b) e tree =
         let happens = loses.6 in
         let off = not_through s reached_s settled current (loses.0 - 1) loses.4 loses.5.0 loses.5.1 in
         let calm = calm_down s.settings s.root (best_path s.settings s.ports) s.ports happens.firings loses.0 s t off
         happens.run (calm_now s reached_s settled current) in
         let was = lost_at s.ports t.ports calm.loses (q - 1) b e in
-        let here : is_root b.role || is_designated b.role ≡ true =
-        sym (ap (λ o. option_map_or is_in_tree o false) e) ∙ tree in
+        let here : is_root b.role || is_designated b.role ≡ true = rw e at tree in
         let now = has_selected t reached_t.kept rests (q - 1) b e in
         let before = has_selected s reached_s.kept settled (q - 1) was.0 was.1 in
         let kept : is_in_tree was.0 ≡ true = elim was.2 [
-          | inl same ↦ ap (λ r. is_root r || is_designated r) (before ∙ sym same ∙ sym now) ∙ here
-          | inr gone ↦ no (sym (ap (λ r. is_root r || is_designated r) (now ∙ gone)) ∙ here)
+          | inl same ↦ rw (before, ← same, ← now) here
+          | inr gone ↦ no (rw (now, gone) at here)
         ] in
-        ap (λ o. option_map_or is_in_tree o false) was.1 ∙ kept
+        rw was.1 kept

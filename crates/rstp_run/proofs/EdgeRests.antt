@@ -1,5 +1,5 @@
 -- Edge and NotEdge don't enable each other at a port that Discard has processed.
-use Rattle.std.proofs.Common.{◌≡◌, Bool, true, false, not, ◌&&◌, ◌||◌, ◌==◌, refl}
+use Rattle.std.proofs.Common.{◌≡◌, Bool, true, false, not, ◌&&◌, ◌||◌, ◌==◌, refl, arith}
 use Rattle.std.proofs.lemmas.Bool.{eqb-true, or_parts, not-false}
 use Rattle.rstp_machines.specs.BridgeDetection.{finds_no_bridge}
 use Rattle.rstp_run.specs.Laws.{EdgeRests}
@@ -8,17 +8,10 @@ use Rattle.rstp_run.specs.Laws.{EdgeRests}
 choose : (oper enabled admin finds : Bool) → enabled ≡ false → finds ≡ false
     → ((oper && not enabled && not admin) ≡ true → (not false && ((not enabled && admin) || finds)) ≡ false)
     × ((not oper && ((not enabled && admin) || finds)) ≡ true → (true && not enabled && not admin) ≡ false)
-choose oper true admin finds down none = absurd (let f : ⊥ = cc in f)
-choose oper false admin true down none = absurd (let f : ⊥ = cc in f)
-choose true false true false down none = (λ e. absurd (let f : ⊥ = cc in f), λ e. refl)
-choose false false true false down none = (λ e. absurd (let f : ⊥ = cc in f), λ e. refl)
-choose true false false false down none = (λ e. refl, λ e. absurd (let f : ⊥ = cc in f))
-choose false false false false down none = (λ e. refl, λ e. absurd (let f : ⊥ = cc in f))
+choose oper enabled admin finds down none = grind arith
 
 without_down : (x enabled : Bool) → enabled ≡ false → (x && not enabled) ≡ false → x ≡ false
-without_down false enabled down h = refl
-without_down true true down h = absurd (let f : ⊥ = cc in f)
-without_down true false down h = absurd (let f : ⊥ = cc in f)
+without_down x enabled down h = grind arith
 
 pub edge_rests : EdgeRests
 edge_rests port down off =

@@ -1,8 +1,8 @@
 -- A bound of the firings at an event of a settled bridge: the costs of the first five passes, and then a number that
 -- each firing lowers.
-use Rattle.std.proofs.Common.{◌≡◌, ℕ, zero, suc, ◌+◌, ◌*◌, ◌≤◌, ◌<◌, ◌⊎◌, inl, inr, Bool, true, false, List, []}
-use Rattle.std.proofs.Common.{◌∷◌}
+use Rattle.std.proofs.Common.{◌≡◌, ℕ, zero, suc, ◌+◌, ◌*◌, ◌≤◌, ◌<◌, ◌⊎◌, inl, inr, Bool, true, false, List, [], ◌∷◌}
 use Rattle.std.proofs.Common.{◌||◌, Some, length, map, slice_get, refl, sym, subst, ◌∙◌, arith}
+use Rattle.std.proofs.lemmas.Bool.{cases_Bool}
 use Rattle.std.proofs.lemmas.List.{length-map}
 use Rattle.rstp_state.specs.declared.port.PortState.{PortState}
 use Rattle.rstp_state.specs.Direct.{without_slot}
@@ -15,9 +15,9 @@ use Rattle.rstp_run.specs.Lasting.{is_select}
 use Rattle.rstp_run.specs.Laws.{AreOrderly, IsOrderly}
 use Rattle.rstp_run.specs.Rules.{Tree, guard, timing_in}
 use Rattle.rstp_run.specs.Sweep.{Going, fired, main_order, pass, sending_order, swept, tries, tries_all}
-use Rattle.rstp_run.proofs.Caps.{IsFresh, early-pass, fresh-goes, fresh-spreads, late-pass, left_due}
+use Rattle.rstp_run.proofs.Caps.{IsFresh, early-pass, fresh-goes, fresh-spreads, late-pass, left_due, taken-goes}
+use Rattle.rstp_run.proofs.Caps.{taken-spreads}
 use Rattle.rstp_run.proofs.Shares.{Held, held-as}
-use Rattle.rstp_run.proofs.Caps.{taken-goes, taken-spreads}
 use Rattle.rstp_run.proofs.Costs.{sum}
 use Rattle.rstp_run.proofs.Dues.{late-few}
 use Rattle.rstp_run.proofs.Each.{EachIs}
@@ -26,7 +26,7 @@ use Rattle.rstp_run.proofs.Inputs.{owed, update-costs}
 use Rattle.rstp_run.proofs.Kept.{IsKept, OneRoot, kept_walks, roles_of}
 use Rattle.rstp_run.proofs.Levels.{IsCalm, IsChosen, IsFirst, IsTaken, IsYoung}
 use Rattle.rstp_run.proofs.Ordered.{pass-full, tries-off, tries_all-full}
-use Rattle.rstp_run.proofs.Own.{Nothing, Reroots, Spread, Syncs, Tells, spread_by}
+use Rattle.rstp_run.proofs.Own.{Nothing, Spread, spread_by}
 use Rattle.rstp_run.proofs.Spans.{at_work, fits-nothing, fits-work, nothing, work-turned}
 use Rattle.rstp_run.proofs.Poses.{work}
 use Rattle.rstp_run.proofs.Starts.{starts}
@@ -45,7 +45,7 @@ use Rattle.rstp_run.proofs.Takes.{IsRested, IsTakenUp, visit-takes}
 use Rattle.rstp_run.proofs.Flags.{Bits, after_roles, core1, core2, due, first_visit, second_visit, shut}
 use Rattle.rstp_run.proofs.Fixed.{IsFixed}
 use Rattle.rstp_run.proofs.Heard.{lit}
-use Rattle.rstp_run.proofs.Gates.{Begins, Ends, visit-ends}
+use Rattle.rstp_run.proofs.Gates.{Begun, Ended, visit-ends}
 use Rattle.rstp_run.proofs.Late.{IsLate, late-after}
 use Rattle.rstp_run.proofs.Tells.{late-bound, late-falls, remains}
 use Rattle.rstp_run.proofs.Walk.{direct_holds, rule_holds}
@@ -56,7 +56,7 @@ use Rattle.rstp_state.proofs.Basics.{no, and_right as right}
 
 each_at : (P : PortState → Type 0) (ports : List PortState) (p : ℕ) (x : PortState) → slice_get ports p ≡ Some x
     → EachIs P ports → P x
-each_at P [] p x at h = let e : ⊥ = cc in absurd e
+each_at P [] p x at h = absurd (cc)
 each_at P (y ∷ ys) zero x at h = let same : y ≡ x = cc in subst P same h.0
 each_at P (y ∷ ys) (suc p) x at h = each_at P ys p x at h.1
 
@@ -92,27 +92,15 @@ module _ (n limit : ℕ) where
 
   spends : (rule : Rule) (p : ℕ) (g : Going) → IsAfterDiscard rule g.tree p → guard rule g.tree p ≡ true → Spends g
       → Spends (fired rule p g)
-  spends rule p g rest on h = go (is_select rule) refl
+  spends rule p g rest on h = elim (cases_Bool (is_select rule)) [
+    | inl is ↦ no (sym (select-rests g.tree p (λ q x at. (h.1 q x at).0.0.0.1)) ∙ rw (selects rule is) at on)
+    | inr is ↦ (let less = late-falls n rule g.tree p is h.0.4 h.0.3 h.1 rest on in
+        (well_fires rule p g on h.0, late-after rule g.tree p is on h.1, omega (arith, less, h.2)))
+  ]
     where
       selects : (r : Rule) → is_select r ≡ true → r ≡ rules.Select
       selects rules.Select e = refl
-      selects (rules.Receive r) e = no e
-      selects (rules.Migration r) e = no e
-      selects (rules.Detection r) e = no e
-      selects (rules.Information r) e = no e
-      selects (rules.Role r) e = no e
-      selects (rules.State r) e = no e
-      selects (rules.Topology r) e = no e
-      selects (rules.Transmit r) e = no e
-
-      go : (b : Bool) → is_select rule ≡ b → Spends (fired rule p g)
-      go true is =
-          let G : Rule → Type 0 = λ r. guard r g.tree p ≡ true in
-          no (sym (select-rests g.tree p (λ q x at. (h.1 q x at).0.0.0.1)) ∙ subst G (selects rule is) on)
-      go false is =
-          let less = late-falls n rule g.tree p is h.0.4 h.0.3 h.1 rest on in
-          let few = h.2 in
-          (well_fires rule p g on h.0, late-after rule g.tree p is on h.1, omega (arith, less, few))
+      selects r e = no e
 
   abbrev IsLast : Going → Type 0
   IsLast g = ((limit ≤ length g.firings) × (length g.firings ≤ 63 * n + 55)) ⊎ Spends g
@@ -132,7 +120,7 @@ module _ (n limit : ℕ) where
   Spent (suc (suc zero)) g = Passed n limit 2 g × Counted owed 31 46 g
   Spent (suc (suc (suc zero))) g = Stage 2 n (λ q x. IsSteady x × IsRested x) limit g × Counted after_third 52 51 g
   Spent (suc (suc (suc (suc zero)))) g =
-      Stage 2 n (λ q x. IsFixed x × Ends core1 x) limit g × Counted (left_due (timing_in g.tree)) 54 52 g
+      Stage 2 n (λ q. Ended core1) limit g × Counted (left_due (timing_in g.tree)) 54 52 g
   Spent (suc (suc (suc (suc (suc k))))) g = IsLast g
 
   facts_of : (P : ℕ → PortState → Type 0) (R : PortState → Type 0) → ((q : ℕ) (x : PortState) → P q x → R x)
@@ -141,20 +129,18 @@ module _ (n limit : ℕ) where
   facts_of P R by g (inl full) = inl full
   facts_of P R by g (inr all) = inr (λ q x at. by q x (all q x at))
 
-  held_to : (V : PortState → ℕ) (b c : ℕ) (g : Going) → b ≤ c → Held V n limit b g → Held V n limit c g
-  held_to V b c g e h = held-as V V n limit b c g (λ x. omega arith) e h
-
   -- one root port, after Select
+  selected_well : (g : Going) → IsWell g → IsWell (tries rules.Select 0 limit g)
+  selected_well g h = tries-cases IsWell rules.Select 0 limit g (λ below on. well_fires rules.Select 0 g on h) h
+
   roots : (g : Going) → IsWell g → OneRoot (roles_of (tries rules.Select 0 limit g).tree.ports)
-  roots g h =
-      (tries-cases IsWell rules.Select 0 limit g (λ below on. well_fires rules.Select 0 g on h) h).0.roots
+  roots g h = (selected_well g h).0.roots
 
   -- the first pass: nothing is to be taken over
   count_first : (g : Going) → Spent 0 g → Counted owed 20 41 (pass main_order limit g)
   count_first g h = (
     well_pass g h.1.0,
-    held-as (λ x. owed x + 0) owed n limit (11 * n + 36 + 1 + (n * (0 + 4 + 5) + 4)) (20 * n + 41)
-        (pass main_order limit g) (λ x. omega arith) (omega arith)
+    held-as (λ x. owed x + 0) owed n limit _ (20 * n + 41) (pass main_order limit g) (λ x. omega arith) (omega arith)
         (early-pass IsFresh fresh-spreads fresh-goes 0
         (λ x r on. no (sym r ∙ right _ x.update_info on)) nothing 0 4 fits-nothing (λ x. 0) (λ x. refl) (λ k x. refl)
         (λ rule timing x. refl) n limit 0 (11 * n + 36) g h.1.0.3
@@ -165,16 +151,14 @@ module _ (n limit : ℕ) where
   -- Update at a port at which no message is pending
   updating : (x : PortState) → IsTaken x → info.update_guard x ≡ true
       → owed (info.update_effect x) < owed x + 2
-  updating x r on = let a = update-costs x r.2 on in omega (arith, a)
+  updating x r on = omega (arith, update-costs x r.2 on)
 
   count_second : (g : Going) → Spent 1 g → Counted owed 31 46 (pass main_order limit g)
   count_second g h = (
     well_pass g h.1.0,
-    held-as (λ x. owed x + 0) owed n limit (20 * n + 41 + 1 + (n * (2 + 4 + 5) + 4)) (31 * n + 46)
-        (pass main_order limit g) (λ x. omega arith) (omega arith)
+    held-as (λ x. owed x + 0) owed n limit _ (31 * n + 46) (pass main_order limit g) (λ x. omega arith) (omega arith)
         (early-pass IsTaken taken-spreads taken-goes 2 updating nothing 0 4 fits-nothing (λ x. 0) (λ x. refl)
-        (λ k x. refl)
-        (λ rule timing x. refl) n limit 0 (20 * n + 41) g h.1.0.3
+        (λ k x. refl) (λ rule timing x. refl) n limit 0 (20 * n + 41) g h.1.0.3
         (facts_of (λ q. IsChosen) IsTaken (λ q x k. k.0) (tries rules.Select 0 limit g) (second-select n limit g h.0).2)
         (roots g h.1.0) h.1.1),
   )
@@ -183,14 +167,12 @@ module _ (n limit : ℕ) where
       → 8 + work (spread_by k x).learn (spread_by k x).forward (spread_by k x).learning (spread_by k x).forwarding
       ≡ 8 + work x.learn x.forward x.learning x.forwarding
   calm Nothing x = refl
-  calm Syncs x = refl
-  calm Reroots x = refl
-  calm Tells x = refl
+  calm k x = refl
 
   count_third : (g : Going) → Spent 2 g → Counted after_third 52 51 (pass main_order limit g)
   count_third g h = (
     well_pass g h.1.0,
-    held_to after_third (31 * n + 46 + 1 + (n * (2 + 14 + 5) + 4)) (52 * n + 51) (pass main_order limit g) (omega arith)
+    held-as after_third after_third n limit _ (52 * n + 51) (pass main_order limit g) (λ x. omega arith) (omega arith)
         (early-pass IsTaken taken-spreads taken-goes 2 updating at_work 8 14 fits-work
         (λ x. 8 + work x.learn x.forward x.learning x.forwarding) (λ x. refl) calm work-turned n limit 0
         (31 * n + 46) g h.1.0.3
@@ -204,8 +186,9 @@ module _ (n limit : ℕ) where
       → Counted (left_due (timing_in (pass main_order limit g).tree)) (a + 2) (b + 1) (pass main_order limit g)
   counts P fixed a b g stage h = (
     well_pass g h.0,
-    held_to (left_due (timing_in (pass main_order limit g).tree)) (a * n + b + 1 + 2 * n) ((a + 2) * n + (b + 1))
-        (pass main_order limit g) (omega arith) (go stage.2),
+    (let due = left_due (timing_in (pass main_order limit g).tree) in
+        held-as due due n limit (a * n + b + 1 + 2 * n) ((a + 2) * n + (b + 1)) (pass main_order limit g)
+        (λ x. omega arith) (omega arith) (go stage.2)),
   )
     where
       reselects : (q : ℕ) (x : PortState) → P q x → x.reselect ≡ false
@@ -215,9 +198,8 @@ module _ (n limit : ℕ) where
           → Held (left_due (timing_in (pass main_order limit g).tree)) n limit (a * n + b + 1 + 2 * n)
           (pass main_order limit g)
       go (inl full) =
-          let few = h.1.0 in
           subst (λ (z : Going). Held (left_due (timing_in z.tree)) n limit (a * n + b + 1 + 2 * n) z)
-          (sym (pass-full main_order limit g full)) (omega (arith, few), inl full)
+          (sym (pass-full main_order limit g full)) (omega (arith, h.1.0), inl full)
       go (inr all) =
           let off : tries rules.Select 0 limit g ≡ g =
           tries-off rules.Select 0 limit g (select-rests g.tree 0 (λ q x at. reselects q x (all q x at))) in
@@ -228,8 +210,7 @@ module _ (n limit : ℕ) where
   third : (g : Going) → Spent 2 g → Stage 2 n (λ q x. IsSteady x × IsRested x) limit (pass main_order limit g)
   third g h =
       let x : Going = tries rules.Select 0 limit g in
-      let well : IsWell x = tries-cases IsWell rules.Select 0 limit g
-      (λ below on. well_fires rules.Select 0 g on h.1.0) h.1.0 in
+      let well = selected_well g h.1.0 in
       let first : Stage 2 n (λ q y. IsBase y × IsBase y) limit x =
       stage-as 2 n limit (λ q y. IsCalm y × (sound.IsSound y × IsReady y)) (λ q y. IsBase y × IsBase y) x
       (λ q y within k. ((k.0, k.1.0, k.1.1), (k.0, k.1.0, k.1.1)))
@@ -240,61 +221,57 @@ module _ (n limit : ℕ) where
       (λ q y within k. k.1)
       (whole-pass 2 n limit (λ q y. IsBase y × IsTakenUp y) g
       (pass-by main_rest 1 2 n limit IsYoung (λ y. IsBase y × IsBase y) (λ y. IsBase y × IsTakenUp y)
-      (λ p y k. visit-takes 2 n limit p y k) (omega arith) g first h.0))
+      (visit-takes 2 n limit) (omega arith) g first h.0))
 
   begins : (core : Bits → Bool) (start : Bool → Bool → Bits → Bool)
       (visits : (dark inactive active : Bool) (b : Bits) → b.learn || dark ≡ true → start inactive active b ≡ true
       → after_roles dark (due core inactive active) b ≡ true) (g : Going)
-      → Stage 2 n (λ q x. IsFixed x × Begins start x) limit g
-      → Stage 2 n (λ q x. IsFixed x × Ends core x) limit (pass main_order limit g)
+      → Stage 2 n (λ q. Begun start) limit g → Stage 2 n (λ q. Ended core) limit (pass main_order limit g)
   begins core start visits g h =
-      whole-pass 2 n limit (λ q x. IsFixed x × Ends core x) g
-      (pass-by main_rest 2 2 n limit (λ x. IsFixed x × Begins start x) (λ x. IsFixed x × Begins start x)
-      (λ x. IsFixed x × Ends core x) (λ p y k. visit-ends core start visits 2 n limit p y k) (omega arith) g
-      (stage-rests 2 n limit (λ q x. IsFixed x × Begins start x) 0 g (λ q x z. z.0.0.0.1) h) h)
+      whole-pass 2 n limit (λ q. Ended core) g
+      (pass-by main_rest 2 2 n limit (Begun start) (Begun start) (Ended core)
+      (visit-ends core start visits 2 n limit) (omega arith) g
+      (stage-rests 2 n limit (λ q. Begun start) 0 g (λ q x z. z.0.0.0.1) h) h)
 
   orderly : (g : Going) → IsWell g → AtAll (λ q. IsOrderly) g.tree.ports
   orderly g h q x at = at_place IsOrderly g.tree.ports q x at h.2
 
-  fourth : (g : Going) → Spent 3 g → Stage 2 n (λ q x. IsFixed x × Ends core1 x) limit (pass main_order limit g)
+  fourth : (g : Going) → Spent 3 g → Stage 2 n (λ q. Ended core1) limit (pass main_order limit g)
   fourth g h =
       begins core1 (λ inactive active b. true) (λ dark inactive active b k any. first_visit dark inactive active b k) g
       (stage-as 2 n limit (λ q x. (IsSteady x × IsRested x) × IsOrderly x)
-      (λ q x. IsFixed x × Begins (λ inactive active b. true) x) g
+      (λ q. Begun (λ inactive active b. true)) g
       (λ q x within z. ((z.0.0, z.0.1.0), (z.0.1.1, lit x z.1 z.0.1.2, λ e. refl)))
       (stage-with 2 n limit (λ q x. IsSteady x × IsRested x) (λ q. IsOrderly) g (orderly g h.1.0) h.0))
 
-  fifth : (g : Going) → Spent 4 g → Stage 2 n (λ q x. IsFixed x × Ends core2 x) limit (pass main_order limit g)
+  fifth : (g : Going) → Spent 4 g → Stage 2 n (λ q. Ended core2) limit (pass main_order limit g)
   fifth g h =
-      begins core2 (shut core1) (λ dark inactive active b k h. second_visit dark inactive active b k h) g
-      (stage-as 2 n limit (λ q x. (IsFixed x × Ends core1 x) × IsOrderly x)
-      (λ q x. IsFixed x × Begins (shut core1) x) g
+      begins core2 (shut core1) second_visit g
+      (stage-as 2 n limit (λ q x. Ended core1 x × IsOrderly x) (λ q. Begun (shut core1)) g
       (λ q x within z. (z.0.0, (z.0.1.0, lit x z.1 z.0.1.1, z.0.1.2)))
-      (stage-with 2 n limit (λ q x. IsFixed x × Ends core1 x) (λ q. IsOrderly) g (orderly g h.1.0) h.0))
+      (stage-with 2 n limit (λ q. Ended core1) (λ q. IsOrderly) g (orderly g h.1.0) h.0))
 
   last_of : (g : Going) → Counted (left_due (timing_in g.tree)) 56 53 g
-      → Stage 2 n (λ q x. IsFixed x × Ends core2 x) limit g → IsLast g
+      → Stage 2 n (λ q. Ended core2) limit g → IsLast g
   last_of g h stage = go stage.2 h.1.1
     where
-      go : (limit ≤ length g.firings) ⊎ AtAll (λ q x. IsFixed x × Ends core2 x) g.tree.ports
+      go : (limit ≤ length g.firings) ⊎ AtAll (λ q. Ended core2) g.tree.ports
           → (limit ≤ length g.firings)
           ⊎ ((f : ℕ → ℕ) × AtAll (λ q x. left_due (timing_in g.tree) x ≤ f q) g.tree.ports
           × (length g.firings + sum n f ≤ 56 * n + 53)) → IsLast g
-      go (inl full) held = let few = h.1.0 in inl (full, omega (arith, few))
-      go (inr all) (inl full) = let few = h.1.0 in inl (full, omega (arith, few))
+      go (inl full) held = inl (full, omega (arith, h.1.0))
+      go (inr all) (inl full) = inl (full, omega (arith, h.1.0))
       go (inr all) (inr s) =
           let late : AtAll (λ q. IsLate) g.tree.ports =
           λ q x at. (let k = all q x at in (k.0, k.1.2, k.1.3)) in
-          let bound = late-bound n g.tree s.0 h.0.3 h.0.0.roots s.1 in
-          let few = s.2 in
-          inr (h.0, late, omega (arith, bound, few))
+          inr (h.0, late, omega (arith, late-bound n g.tree s.0 h.0.3 h.0.0.roots s.1, s.2))
 
   -- the third pass ends with the cost of each port in later passes
   begins_late : (g : Going) → Counted after_third 52 51 g → Counted (left_due (timing_in g.tree)) 52 51 g
   begins_late g h = (
     h.0,
     held-as after_third (left_due (timing_in g.tree)) n limit (52 * n + 51) (52 * n + 51) g
-        (λ x. (let a = late-few (timing_in g.tree) x in omega (arith, a))) (omega arith) h.1,
+        (λ x. omega (arith, late-few (timing_in g.tree) x)) (omega arith) h.1,
   )
 
   next : (k : ℕ) (g : Going) → Spent k g → Spent (suc k) (pass main_order limit g)
@@ -304,28 +281,24 @@ module _ (n limit : ℕ) where
   next (suc (suc (suc zero))) g h =
       (fourth g h, counts (λ q x. IsSteady x × IsRested x) (λ q x k. (k.0, k.1.0)) 52 51 g h.0 (begins_late g h.1))
   next (suc (suc (suc (suc zero)))) g h =
-      last_of (pass main_order limit g) (counts (λ q x. IsFixed x × Ends core1 x) (λ q x k. k.0) 54 52 g h.0 h.1)
+      last_of (pass main_order limit g) (counts (λ q. Ended core1) (λ q x k. k.0) 54 52 g h.0 h.1)
       (fifth g h)
   next (suc (suc (suc (suc (suc k))))) g (inl h) = subst IsLast (sym (pass-full main_order limit g h.0)) (inl h)
   next (suc (suc (suc (suc (suc k))))) g (inr h) =
       inr (pass-keeps Spends limit main_order (λ p x k. main-holds Spends spends p limit x k) g h)
 
   full : (k : ℕ) (g : Going) → limit ≤ length g.firings → Spent k g → Spent 5 g
-  full zero g all h = let few = h.1.1.0 in inl (all, omega (arith, few))
-  full (suc zero) g all h = let few = h.1.1.0 in inl (all, omega (arith, few))
-  full (suc (suc zero)) g all h = let few = h.1.1.0 in inl (all, omega (arith, few))
-  full (suc (suc (suc zero))) g all h = let few = h.1.1.0 in inl (all, omega (arith, few))
-  full (suc (suc (suc (suc zero)))) g all h = let few = h.1.1.0 in inl (all, omega (arith, few))
   full (suc (suc (suc (suc (suc k))))) g all h = h
+  full k g all h = inl (all, omega (arith, h.1.1.0))
 
   sends : (p : ℕ) (g : Going) → Spent 5 g → Spent 5 (tries_all sending_order p limit g)
   sends p g (inl h) = subst IsLast (sym (tries_all-full sending_order p limit g h.0)) (inl h)
   sends p g (inr h) = inr (sends-hold Spends spends p limit g h)
 
   count : (g : Going) → Spent 0 g ⊎ Spent 5 g → length g.firings ≤ 63 * n + 55
-  count g (inl h) = let few = h.1.1.0 in omega (arith, few)
-  count g (inr (inl h)) = let few = h.1 in omega (arith, few)
-  count g (inr (inr h)) = let few = h.2 in omega (arith, few)
+  count g (inl h) = omega (arith, h.1.1.0)
+  count g (inr (inl h)) = omega (arith, h.1)
+  count g (inr (inr h)) = omega (arith, h.2)
 
   pub few-firings : (s : Tree) → Spent 0 (record { tree = s; firings = [] })
       → length (swept limit s).firings ≤ 63 * n + 55
@@ -340,13 +313,11 @@ events_are_short event limit s t settled mask can rests some h =
     let all = reached can.0 can.1 s can.2 in
     let ready = comes-ready can.2.0 can.0 can.1 s can.2.1 in
     let kept = direct_holds (λ v. IsKept v.ports) (λ v. Keeps) kept_walks.moves event s all.kept in
-    let P : ℕ → Type 0 = λ k. Passed k limit 0 (record { tree = direct event s; firings = [] }) in
-    let first = subst P same (passed-first event limit s can rests) in
-    let F : Going → Type 0 = λ g. length g.firings ≤ most_firings (length s.ports) in
     let each = direct_holds EachReady (λ s. Readies) ready_walks.moves event s ready in
-    subst F h.order
+    subst (λ (g : Going). length g.firings ≤ most_firings (length s.ports)) h.order
     (few-firings (length s.ports) limit (direct event s) (
-      first,
+      subst (λ (k : ℕ). Passed k limit 0 (record { tree = direct event s; firings = [] })) same
+          (passed-first event limit s can rests),
       (
         (kept, each, orderly-direct event s all.orderly, same, some),
         starts event s (length s.ports) limit all ready rests,

@@ -1,11 +1,8 @@
 -- Ports that have taken their roles while information rests. No rule asks them to sync or to leave the old root.
-use Rattle.std.proofs.Common.{◌≡◌, ℕ, Bool, true, false, not, ◌&&◌, ◌||◌}
-use Rattle.std.proofs.Common.{refl, sym, ◌∙◌, arith}
+use Rattle.std.proofs.Common.{◌≡◌, ℕ, Bool, true, false, not, ◌||◌, refl, arith}
 use Rattle.rstp_state.specs.declared.port.PortState.{PortState}
 use Rattle.rstp_state.specs.declared.port.Role.{Role}
-use Rattle.rstp_state.specs.declared.port.Role.TheVariants as role
-use Rattle.rstp_state.specs.Port.{is_designated, is_disabled}
-use Rattle.rstp_state.specs.Port.{is_out, is_root}
+use Rattle.rstp_state.specs.Port.{is_designated, is_disabled, is_out, is_root}
 use Rattle.rstp_roles.specs.RoleTransitions as roles
 use Rattle.rstp_roles.specs.declared.rule.RoleRule.{RoleRule}
 use Rattle.rstp_roles.specs.declared.rule.RoleRule.TheVariants as role_rule
@@ -13,19 +10,17 @@ use Rattle.rstp_machines.specs.TopologyChange as changes
 use Rattle.rstp_machines.specs.TopologyChange.{with_change_timer}
 use Rattle.rstp_run.specs.declared.rule.Rule.{Rule}
 use Rattle.rstp_run.specs.declared.rule.Rule.TheVariants as rules
-use Rattle.rstp_run.specs.declared.rule.TopologyRule.{TopologyRule}
 use Rattle.rstp_run.specs.declared.rule.TopologyRule.TheVariants as topology_rule
 use Rattle.rstp_run.specs.Lasting.{is_select}
 use Rattle.rstp_run.specs.Rules.{Tree, asks, timing_in}
 use Rattle.rstp_run.proofs.Measure.{has_to_turn}
-use Rattle.rstp_run.proofs.Own.{Nothing, Spread, Tells, own, spread_by}
-use Rattle.rstp_run.proofs.Own.{spread_of}
+use Rattle.rstp_run.proofs.Own.{Nothing, Spread, Tells, own, spread_by, spread_of}
 use Rattle.rstp_run.proofs.Sound.{is_down, or_right}
 use Rattle.rstp_run.proofs.Steady.{IsSteady, steady-acts}
 use Rattle.rstp_run.proofs.RoleKinds.{as-designated, kind, role-kind, same-test}
 use Rattle.rstp_run.proofs.Placed.{IsPlaced, spread-goes, steady-goes}
 use Rattle.rstp_run.proofs.Takes.{designated-acts}
-use Rattle.rstp_state.proofs.Basics.{no, and_left as left}
+use Rattle.rstp_state.proofs.Basics.{and_left as left}
 
 -- ---- a port that has taken its role
 
@@ -44,13 +39,7 @@ in_tree x r e =
 up : (e o d s : Bool) (r : Role) → has_to_turn e o ≡ false → not o || d ≡ true
     → (d ≡ true → s ≡ true → is_disabled r ≡ true)
     → s ≡ true → kind r ≡ 2 → e ≡ true
-up true o d s r h k f t z = refl
-up false false d s r h k f t z = no (sym h)
-up false true d s role.Disabled h k f t z = absurd (omega (arith, z))
-up false true d s role.Root h k f t z = no (f k t)
-up false true d s role.Designated h k f t z = no (f k t)
-up false true d s role.Alternate h k f t z = no (f k t)
-up false true d s role.Backup h k f t z = no (f k t)
+up e o d s r h k f t z = grind arith
 
 -- a designated port is up
 pub enabled : (x : PortState) → IsSteady x → kind x.selected_role ≡ 2 → x.enabled ≡ true
@@ -64,72 +53,22 @@ fits Nothing = true
 fits Tells = true
 fits _ = false
 
-not_both : (a p q : Bool) → a && p && q ≡ true → p && q ≡ false → ⊥
-not_both true p q h k = no (sym k ∙ h)
-not_both false p q h k = no h
-
-opens : (a f r : Bool) → a && not f && not r ≡ true → f || r ≡ true → ⊥
-opens true true r h k = no h
-opens true false true h k = no h
-opens true false false h k = no k
-opens false f r h k = no h
-
-proposes : (a p q : Bool) → a && p && q ≡ true → p ≡ false → ⊥
-proposes true true q h k = no (sym k)
-proposes true false q h k = no h
-proposes false p q h k = no h
-
 role_fits : (rule : RoleRule) (s : Tree) (p : ℕ) (x : PortState) → asks (rules.Role rule) s p x ≡ true → IsFixed x
     → fits (spread_of (rules.Role rule)) ≡ true
 role_fits role_rule.RootProposed s p x g r =
-    absurd (proposes (roles.acts_as_root x) x.proposed _ g (r.1.1 (role-kind role_rule.RootProposed s p x g)).0)
+    let k = r.1.1 (role-kind role_rule.RootProposed s p x g) in absurd (grind (arith, g, k))
 role_fits role_rule.AlternateProposed s p x g r =
-    absurd (not_both (roles.acts_as_blocked x) x.proposed (not x.agree) g
-    (r.1.2 (role-kind role_rule.AlternateProposed s p x g)))
+    let k = r.1.2 (role-kind role_rule.AlternateProposed s p x g) in absurd (grind (arith, g, k))
 role_fits role_rule.Reroot s p x g r =
-    absurd (opens (roles.acts_as_root x) x.forward x.re_root g (r.1.1 (role-kind role_rule.Reroot s p x g)).1)
-role_fits role_rule.Disable s p x g r = refl
-role_fits role_rule.DisabledPort s p x g r = refl
-role_fits role_rule.Root s p x g r = refl
-role_fits role_rule.RootAgreed s p x g r = refl
-role_fits role_rule.Rerooted s p x g r = refl
-role_fits role_rule.RootLearn s p x g r = refl
-role_fits role_rule.RootForward s p x g r = refl
-role_fits role_rule.Designated s p x g r = refl
-role_fits role_rule.Propose s p x g r = refl
-role_fits role_rule.Synced s p x g r = refl
-role_fits role_rule.Retired s p x g r = refl
-role_fits role_rule.DesignatedDiscard s p x g r = refl
-role_fits role_rule.DesignatedLearn s p x g r = refl
-role_fits role_rule.DesignatedForward s p x g r = refl
-role_fits role_rule.Block s p x g r = refl
-role_fits role_rule.Alternate s p x g r = refl
-role_fits role_rule.AlternateAgreed s p x g r = refl
-role_fits role_rule.Backup s p x g r = refl
-
-topology_fits : (rule : TopologyRule) → fits (spread_of (rules.Topology rule)) ≡ true
-topology_fits topology_rule.TcLearning = refl
-topology_fits topology_rule.Detected = refl
-topology_fits topology_rule.TcClear = refl
-topology_fits topology_rule.TcInactive = refl
-topology_fits topology_rule.TcBack = refl
-topology_fits topology_rule.NotifiedTcn = refl
-topology_fits topology_rule.NotifiedTc = refl
-topology_fits topology_rule.Propagating = refl
-topology_fits topology_rule.Acknowledged = refl
-topology_fits topology_rule.Flush = refl
+    let k = r.1.1 (role-kind role_rule.Reroot s p x g) in absurd (grind (arith, g, k))
+role_fits rule s p x g r = refl
 
 pub fixed-fits : (rule : Rule) (s : Tree) (p : ℕ) (x : PortState) → asks rule s p x ≡ true → IsFixed x
     → fits (spread_of rule) ≡ true
-fixed-fits rules.Select s p x g r = refl
-fixed-fits (rules.Receive rule) s p x g r = refl
-fixed-fits (rules.Migration rule) s p x g r = refl
-fixed-fits (rules.Detection rule) s p x g r = refl
-fixed-fits (rules.Information rule) s p x g r = refl
 fixed-fits (rules.Role rule) s p x g r = role_fits rule s p x g r
-fixed-fits (rules.State rule) s p x g r = refl
-fixed-fits (rules.Topology rule) s p x g r = topology_fits rule
-fixed-fits (rules.Transmit rule) s p x g r = refl
+fixed-fits (rules.Topology topology_rule.Detected) s p x g r = refl
+fixed-fits (rules.Topology rule) s p x g r = refl
+fixed-fits rule s p x g r = refl
 
 pub fixed-goes : (rule : Rule) (s : Tree) (p : ℕ) (x : PortState) → is_select rule ≡ false → asks rule s p x ≡ true
     → IsFixed x → IsFixed (own rule (timing_in s) x)

@@ -1,10 +1,9 @@
 -- The flags of a designated port, and the effects of the rules of roles on them. All values of the flags are tried.
-use Rattle.std.proofs.Common.{◌≡◌, ℕ, zero, suc, Bool, true, false, not, ◌&&◌, ◌||◌, ◌==◌}
-use Rattle.std.proofs.Common.{refl, sym, if◌then◌else◌}
+use Rattle.std.proofs.Common.{◌≡◌, ℕ, zero, suc, Bool, true, false, not, ◌&&◌, ◌||◌, ◌==◌, refl, if◌then◌else◌, arith}
 use Rattle.rstp_state.specs.declared.port.PortState.{PortState}
 use Rattle.rstp_state.specs.declared.port.Topology.{Topology}
 use Rattle.rstp_state.specs.Port.{is_active, is_inactive}
-use Rattle.rstp_state.proofs.Basics.{no, and_left as left, and_right as right}
+use Rattle.rstp_state.proofs.Basics.{and_left as left, and_right as right}
 
 -- ---- all values of some flags
 
@@ -21,14 +20,12 @@ abbrev pub Holds : (n : ℕ) → Test n → Type 0
 Holds zero f = f ≡ true
 Holds (suc n) f = (b : Bool) → Holds n (f b)
 
-split : (P : Bool → Type 0) → P true → P false → (b : Bool) → P b
-split P h k true = h
-split P h k false = k
-
 pub holds : (n : ℕ) (f : Test n) → every n f ≡ true → Holds n f
 holds zero f h = h
-holds (suc n) f h =
-    split (λ b. Holds n (f b)) (holds n (f true) (left _ _ h)) (holds n (f false) (right (every n (f true)) _ h))
+holds (suc n) f h = λ b. elim b as (λ c. Holds n (f c)) [
+  | true ↦ holds n (f true) (left _ _ h)
+  | false ↦ holds n (f false) (right (every n (f true)) _ h)
+]
 
 -- ---- the flags of a designated port
 
@@ -58,19 +55,27 @@ bits_of x = record {
   disputed = x.disputed;
 }
 
-abbrev bits : Bool → Bool → Bool → Bool → Bool → Bool → Bool → Bool → Bool → Bool → Bits
-bits a b c d e f g h i j = record {
-  sync = a;
-  synced = b;
-  learn = c;
-  forward = d;
-  agreed = e;
-  edge = f;
-  waited = g;
-  none = h;
-  re_root = i;
-  disputed = j;
-}
+-- a test of these flags and three others, as one of all of them
+abbrev of_flags : (Bool → Bool → Bool → Bits → Bool) → Test 13
+of_flags t a b c d e f g h i j dark inactive active =
+    t dark inactive active (record {
+      sync = a;
+      synced = b;
+      learn = c;
+      forward = d;
+      agreed = e;
+      edge = f;
+      waited = g;
+      none = h;
+      re_root = i;
+      disputed = j;
+    })
+
+by_flags : (t : Bool → Bool → Bool → Bits → Bool) → every 13 (of_flags t) ≡ true → (dark inactive active : Bool)
+    (b : Bits) → t dark inactive active b ≡ true
+by_flags t h dark inactive active b =
+    holds 13 (of_flags t) h b.sync b.synced b.learn b.forward b.agreed b.edge b.waited b.none b.re_root b.disputed dark
+    inactive active
 
 -- ---- the rules of roles on these flags; dark is true of a port that neither learns nor forwards
 
@@ -149,19 +154,18 @@ shut core inactive active b = b.edge || active || ((not b.forward || (not b.lear
 abbrev pub due : (Bits → Bool) → Bool → Bool → Bits → Bool
 due core inactive active b = shut core inactive active b || (b.forward && (b.learn || not inactive))
 
-abbrev first_case : Bool → Bool → Bool → Bool → Bool → Bool → Bool → Bool → Bool → Bool → Bool → Bool → Bool → Bool
-first_case a b c d e f g h i j dark inactive active =
-    not (c || dark) || after_roles dark (due core1 inactive active) (bits a b c d e f g h i j)
+abbrev first_case : Bool → Bool → Bool → Bits → Bool
+first_case dark inactive active b = not (b.learn || dark) || after_roles dark (due core1 inactive active) b
 
-first_all : every 13 first_case ≡ true
+first_all : every 13 (of_flags first_case) ≡ true
 first_all = refl
 
-abbrev second_case : Bool → Bool → Bool → Bool → Bool → Bool → Bool → Bool → Bool → Bool → Bool → Bool → Bool → Bool
-second_case a b c d e f g h i j dark inactive active =
-    not (c || dark) || (not (shut core1 inactive active (bits a b c d e f g h i j))
-    || after_roles dark (due core2 inactive active) (bits a b c d e f g h i j))
+abbrev second_case : Bool → Bool → Bool → Bits → Bool
+second_case dark inactive active b =
+    not (b.learn || dark)
+    || (not (shut core1 inactive active b) || after_roles dark (due core2 inactive active) b)
 
-second_all : every 13 second_case ≡ true
+second_all : every 13 (of_flags second_case) ≡ true
 second_all = refl
 
 abbrev kept_by : Bool → (Bits → Bool) → Bits → Bool
@@ -170,57 +174,33 @@ kept_by dark t b =
     && after_forward t b
 
 -- the last facts stay under each rule
-abbrev stays_case : Bool → Bool → Bool → Bool → Bool → Bool → Bool → Bool → Bool → Bool → Bool → Bool → Bool → Bool
-stays_case a b c d e f g h i j dark inactive active =
-    not (shut core2 inactive active (bits a b c d e f g h i j))
-    || kept_by dark (shut core2 inactive active) (bits a b c d e f g h i j)
+abbrev stays_case : Bool → Bool → Bool → Bits → Bool
+stays_case dark inactive active b =
+    not (shut core2 inactive active b) || kept_by dark (shut core2 inactive active) b
 
-stays_all : every 13 stays_case ≡ true
+stays_all : every 13 (of_flags stays_case) ≡ true
 stays_all = refl
 
 -- ---- one by one
 
 pub imply : (p q : Bool) → not p || q ≡ true → p ≡ true → q ≡ true
-imply true q h k = h
-imply false q h k = no k
-
-module _ (b : Bits) (dark inactive active : Bool) where
-  abbrev of_bits : Test 13 → Bool
-  of_bits f =
-      f b.sync b.synced b.learn b.forward b.agreed b.edge b.waited b.none b.re_root b.disputed dark inactive active
-
-  by_bits : (f : Test 13) → every 13 f ≡ true → of_bits f ≡ true
-  by_bits f h =
-      holds 13 f h b.sync b.synced b.learn b.forward b.agreed b.edge b.waited b.none b.re_root b.disputed dark inactive
-      active
+imply p q h k = grind arith
 
 pub first_visit : (dark inactive active : Bool) (b : Bits) → b.learn || dark ≡ true
     → after_roles dark (due core1 inactive active) b ≡ true
 first_visit dark inactive active b h =
-    imply (b.learn || dark) (after_roles dark (due core1 inactive active) b)
-    (by_bits b dark inactive active first_case first_all) h
+    imply (b.learn || dark) _ (by_flags first_case first_all dark inactive active b) h
 
 pub second_visit : (dark inactive active : Bool) (b : Bits) → b.learn || dark ≡ true
     → shut core1 inactive active b ≡ true → after_roles dark (due core2 inactive active) b ≡ true
 second_visit dark inactive active b h k =
-    imply (shut core1 inactive active b) (after_roles dark (due core2 inactive active) b)
+    imply (shut core1 inactive active b) _
     (imply (b.learn || dark) (not (shut core1 inactive active b) || after_roles dark (due core2 inactive active) b)
-    (by_bits b dark inactive active second_case second_all) h) k
+    (by_flags second_case second_all dark inactive active b) h) k
 
 six : (a b c d e f : Bool) → a && b && c && d && e && f ≡ true
     → (a ≡ true) × (b ≡ true) × (c ≡ true) × (d ≡ true) × (e ≡ true) × (f ≡ true)
-six a b c d e f h =
-    let k4 = left (a && b && c && d && e) f h in
-    let k3 = left (a && b && c && d) e k4 in
-    let k2 = left (a && b && c) d k3 in
-    let k1 = left (a && b) c k2 in (
-      left a b k1,
-      right a b k1,
-      right (a && b) c k2,
-      right (a && b && c) d k3,
-      right (a && b && c && d) e k4,
-      right (a && b && c && d && e) f h,
-    )
+six a b c d e f h = grind arith
 
 -- each rule keeps the last facts
 pub stays_shut : (t : Topology) (dark : Bool) (b : Bits) → shut core2 (is_inactive t) (is_active t) b ≡ true
@@ -234,36 +214,26 @@ stays_shut t dark b h =
     let f = shut core2 (is_inactive t) (is_active t) in
     six (after_edge f b) (after_synced dark f b) (after_retired f b) (after_discard f b) (after_learn f b)
     (after_forward f b) (imply (f b) (kept_by dark f b)
-    (by_bits b dark (is_inactive t) (is_active t) stays_case stays_all) h)
+    (by_flags stays_case stays_all dark (is_inactive t) (is_active t) b) h)
 
 pub if_on : (c x y : Bool) → c ≡ true → (if c then x else y) ≡ true → x ≡ true
-if_on true x y h k = k
-if_on false x y h k = no h
+if_on c x y h k = grind arith
 
 pub if_off : (c x y : Bool) → c ≡ false → (if c then x else y) ≡ true → y ≡ true
-if_off true x y h k = no (sym h)
-if_off false x y h k = k
+if_off c x y h k = grind arith
 
 pub pick : (t : Bits → Bool) (f : Bool → Bits) (w : Bool) → t (f true) && t (f false) ≡ true → t (f w) ≡ true
 pick t f true h = left _ _ h
 pick t f false h = right (t (f true)) _ h
 
 pub off_three : (a b c : Bool) → a && b && c ≡ false → a ≡ true → b && c ≡ false
-off_three true b c h k = h
-off_three false b c h k = no k
+off_three a b c h k = grind arith
 
 pub off_four : (a b c d : Bool) → a && b && c && d ≡ false → a ≡ true → b && c && d ≡ false
-off_four true b c d h k = h
-off_four false b c d h k = no k
+off_four a b c d h k = grind arith
 
 pub on_three : (a b c : Bool) → a && b && c ≡ true → b && c ≡ true
-on_three true b c h = h
-on_three false b c h = no h
+on_three a b c h = grind arith
 
 pub on_four : (a b c d : Bool) → a && b && c && d ≡ true → b && c && d ≡ true
-on_four true b c d h = h
-on_four false b c d h = no h
-
-pub or_false : (a : Bool) → a || false ≡ true → a ≡ true
-or_false true h = refl
-or_false false h = h
+on_four a b c d h = grind arith

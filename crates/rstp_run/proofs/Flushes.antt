@@ -37,20 +37,17 @@ at_bit : (m p : ℕ) → has_port m (p + 1) ≡ (bit_at m p == 1)
 at_bit m p =
     let some : 1 ≤ p + 1 = omega arith in
     let back : p + 1 - 1 ≡ p = omega arith in
-    has_port-bit m (p + 1) some ∙ ap (λ n. bit_at m n == 1) back
+    rw (has_port-bit m (p + 1) some, back)
 
 with_bit : (m q : ℕ) → with_port m (q + 1) ≡ bit_or m (2 ^ q)
 unfolding with_port
-with_bit m q =
-    let back : q + 1 - 1 ≡ q = omega arith in
-    ap (λ n. bit_or m (2 ^ n)) back
+with_bit m q = let back : q + 1 - 1 ≡ q = omega arith in rw back
 
 step : (b : Bool) (m q p : ℕ) (rest : Bool) → has_port m (p + 1) ≡ rest
     → has_port (if b then with_port m (q + 1) else m) (p + 1) ≡ ((b && q == p) || rest)
 step false m q p rest before = before
 step true m q p rest before =
-    at_bit (with_port m (q + 1)) p ∙ ap (λ n. bit_at n p == 1) (with_bit m q)
-    ∙ one_more (q == p) m q p rest refl (sym (at_bit m p) ∙ before)
+    rw (with_bit m q, at_bit (bit_or m (2 ^ q)) p) (one_more (q == p) m q p rest refl (rw at_bit at before))
 
 has_port-flushed : (firings : List Firing) (p : ℕ) → has_port (flushed firings 0) (p + 1) ≡ flushes p firings
 has_port-flushed [] p = has_port-none (p + 1)
@@ -64,18 +61,13 @@ pub happens-from_goes : (event : Event) (limit : ℕ) (s m t : Tree) (b : Count)
     → Happens event limit s t settled b.flush
 happens-from_goes event limit s m t b settled start goes is_so not_so full = record {
   firings = goes.firings;
-  run = (let P : Tree → Type 0 = λ v. Run goes.firings v t in subst P start goes.run);
+  run = rw (← start) goes.run;
   order = ap (swept limit) (sym start) ∙ goes.order [] refl
       ∙ ap (λ list. record { tree = t; firings = list }) (append-nil goes.firings);
-  few = (let f : b.fired ≡ 0 + length goes.firings = goes.fired in
-      let l : b.limit ≡ limit = goes.limit in
-      let w : b.fired ≤ b.limit = goes.within in omega arith);
+  few = omega (arith, goes.fired, goes.limit, goes.within);
   settles = both-ways settled (IsSettled t) is_so not_so;
-  unsettled = (λ off.
-      let f : b.fired ≡ 0 + length goes.firings = goes.fired in
-      let l : b.limit ≡ limit = goes.limit in
-      let e : b.fired ≡ b.limit = full off in omega arith);
-  flush = (λ p. rw goes.flush (has_port-flushed goes.firings p));
+  unsettled = λ off. omega (arith, goes.fired, goes.limit, full off);
+  flush = λ p. rw goes.flush (has_port-flushed goes.firings p);
   bits = goes.flush;
 }
 
@@ -84,8 +76,8 @@ pub any_run : (event : Event) (limit : ℕ) (s t : Tree) (firings : List Firing)
     → (settled : Bool) × Happens event limit s t settled (flushed firings 0)
 any_run event limit s t firings order =
     elim (settled_or_not t) [
-      | inl rests ↦ (true, happens true (λ e. rests) (λ e q. (let f : ⊥ = cc in f)) (λ e. (let f : ⊥ = cc in absurd f)))
-      | inr goes_on ↦ (false, happens false (λ e. (let f : ⊥ = cc in absurd f)) (λ e. goes_on) (λ e. full goes_on ends))
+      | inl rests ↦ (true, happens true (λ e. rests) (λ e q. cc) (λ e. cc))
+      | inr goes_on ↦ (false, happens false (λ e. absurd (cc)) (λ e. goes_on) (λ e. full goes_on ends))
     ]
   where
     runs : Run firings (direct event s) t × (length firings ≤ limit)
@@ -110,7 +102,7 @@ any_run event limit s t firings order =
     }
 
     full : (IsSettled t → ⊥) → (limit ≤ length firings) ⊎ IsSettled t → length firings ≡ limit
-    full goes_on (inl all) = let few = runs.1 in omega (arith, all, few)
+    full goes_on (inl all) = omega (arith, all, runs.1)
     full goes_on (inr rests) = absurd (goes_on rests)
 
 -- two answers to the same question
@@ -127,9 +119,8 @@ one_outcome event limit s t t' settled settled' mask mask' h k =
     let same : record { tree = t; firings = h.firings } ≡ record { tree = t'; firings = k.firings } =
     sym h.order ∙ k.order in
     let bridge : t ≡ t' = ap (λ (g : Going). g.tree) same in
-    let P : Tree → Type 0 = λ v. IsTrue settled' ↔ IsSettled v in
     record {
       bridge = bridge;
-      settles = same_answer settled settled' (IsSettled t) h.settles (subst P (sym bridge) k.settles);
+      settles = same_answer settled settled' (IsSettled t) h.settles (rw bridge k.settles);
       flush = h.bits ∙ ap (λ (g : Going). flushed g.firings 0) same ∙ sym k.bits;
     }

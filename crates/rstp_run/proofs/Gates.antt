@@ -1,12 +1,11 @@
 -- A designated port that has taken its role begins to forward in few passes: after two more passes it forwards and has
 -- been detected, is an edge, or is shut for the rest of the event.
-use Rattle.std.proofs.Common.{◌∷◌, ◌≡◌, ℕ, Bool, true, false, not, ◌&&◌, ◌||◌, ◌==◌, List, []}
-use Rattle.std.proofs.Common.{◌++◌, take, drop, refl, sym, ap, subst, ◌∙◌}
+use Rattle.std.proofs.Common.{◌∷◌, ◌≡◌, ℕ, Bool, true, false, not, ◌&&◌, ◌||◌, ◌==◌, List, [], ◌++◌, take, drop, refl}
+use Rattle.std.proofs.Common.{sym, ap, subst, ◌∙◌, arith}
 use Rattle.rstp_state.specs.declared.port.PortState.{PortState}
 use Rattle.rstp_state.specs.declared.port.Topology.{Topology}
 use Rattle.rstp_state.specs.declared.port.Topology.TheVariants as topology
-use Rattle.rstp_state.specs.Port.{forward_delay, is_active, is_discarding, is_inactive}
-use Rattle.rstp_state.specs.Port.{is_learning}
+use Rattle.rstp_state.specs.Port.{forward_delay, is_active, is_discarding, is_inactive, is_learning}
 use Rattle.rstp_roles.specs.RoleTransitions as roles
 use Rattle.rstp_roles.specs.declared.rule.RoleRule.TheVariants as role_rule
 use Rattle.rstp_roles.specs.declared.rule.StateRule.TheVariants as state_rule
@@ -19,19 +18,17 @@ use Rattle.rstp_run.specs.declared.rule.TopologyRule.TheVariants as topology_rul
 use Rattle.rstp_run.specs.Lasting.{is_select}
 use Rattle.rstp_run.specs.Rules.{Tree, asks, timing_in}
 use Rattle.rstp_run.specs.Sweep.{Going, main_order, tries, tries_all}
-use Rattle.rstp_run.proofs.Own.{Nothing, Now, Reroots, Spread, Syncs, Tells, all_keep, own, spread_by}
-use Rattle.rstp_run.proofs.Own.{step, steps}
+use Rattle.rstp_run.proofs.Own.{Nothing, Now, Spread, Tells, all_keep, own, spread_by, step, steps}
 use Rattle.rstp_run.proofs.Places.{Stage, Zone, main_rest, stage-as}
-use Rattle.rstp_run.proofs.Sound.{neither, or_true}
+use Rattle.rstp_run.proofs.Sound.{or_true}
 use Rattle.rstp_run.proofs.Visits.{all_then, one_then}
 use Rattle.rstp_run.proofs.Placed.{IsEven}
 use Rattle.rstp_run.proofs.Flags.{Bits, after_discard, after_edge, after_forward, after_learn, after_retired}
-use Rattle.rstp_run.proofs.Flags.{after_roles, after_synced, bits_of, discarded, discards, due}
-use Rattle.rstp_run.proofs.Flags.{forwards, if_off, if_on, learns, learnt, off_four, off_three}
-use Rattle.rstp_run.proofs.Flags.{on_four, on_three, passing, pick, shut, syncs}
+use Rattle.rstp_run.proofs.Flags.{after_roles, after_synced, bits_of, discarded, discards, due, forwards, if_off}
+use Rattle.rstp_run.proofs.Flags.{if_on, learns, learnt, off_four, off_three, on_four, on_three, passing, pick, shut}
+use Rattle.rstp_run.proofs.Flags.{syncs}
 use Rattle.rstp_run.proofs.Fixed.{IsFixed, acts, enabled, fits, fixed-fits, fixed-goes, in_tree, spread-fixed}
-use Rattle.rstp_run.proofs.Heard.{apart, Before, Tested, active_shut, edge_shut, hear_off, hear_on}
-use Rattle.rstp_run.proofs.Heard.{heard_off, is_apart, not_active, out_or_edge, timed}
+use Rattle.rstp_run.proofs.Heard.{apart, Before, Tested, active_shut, is_apart, timed}
 use Rattle.rstp_state.proofs.Basics.{no, and_left as left, and_right as right, and_second_off as off_two}
 
 -- ---- the visit of a port
@@ -48,19 +45,24 @@ Ends core x = (x.flush ≡ false) × IsEven x × Tested (shut core) x × IsNoted
 abbrev pub Begins : (Bool → Bool → Bits → Bool) → PortState → Type 0
 Begins t x = (x.flush ≡ false) × (x.learn || is_discarding x ≡ true) × Tested t x
 
-spread_ends : (core : Bits → Bool) (k : Spread) (x : PortState) → fits k ≡ true → IsFixed x × Ends core x
-    → IsFixed (spread_by k x) × Ends core (spread_by k x)
-spread_ends core Nothing x f h = h
-spread_ends core Syncs x f h = no f
-spread_ends core Reroots x f h = no f
-spread_ends core Tells x f h = (spread-fixed Tells x h.0, h.1)
+-- the same of a port that has taken its role
+abbrev pub Ended : (Bits → Bool) → PortState → Type 0
+Ended core x = IsFixed x × Ends core x
 
-spread_begins : (t : Bool → Bool → Bits → Bool) (k : Spread) (x : PortState) → fits k ≡ true
-    → IsFixed x × Begins t x → IsFixed (spread_by k x) × Begins t (spread_by k x)
+abbrev pub Begun : (Bool → Bool → Bits → Bool) → PortState → Type 0
+Begun t x = IsFixed x × Begins t x
+
+spread_ends : (core : Bits → Bool) (k : Spread) (x : PortState) → fits k ≡ true → Ended core x
+    → Ended core (spread_by k x)
+spread_ends core Nothing x f h = h
+spread_ends core Tells x f h = (spread-fixed Tells x h.0, h.1)
+spread_ends core k x f h = no f
+
+spread_begins : (t : Bool → Bool → Bits → Bool) (k : Spread) (x : PortState) → fits k ≡ true → Begun t x
+    → Begun t (spread_by k x)
 spread_begins t Nothing x f h = h
-spread_begins t Syncs x f h = no f
-spread_begins t Reroots x f h = no f
 spread_begins t Tells x f h = (spread-fixed Tells x h.0, h.1)
+spread_begins t k x f h = no f
 
 abbrev Late : (Bits → Bool) → PortState → Type 0
 Late core x = IsEven x × Tested (shut core) x
@@ -81,21 +83,9 @@ Notifies core x = Clears core x × (is_active x.topology ≡ true → x.received
 abbrev Noted : (Bits → Bool) → PortState → Type 0
 Noted core x = Late core x × IsNoted x
 
-clear_off : (l h d : Bool) → l && h && not d ≡ false → l ≡ true → d ≡ false → h ≡ false
-clear_off true true true k m o = no (sym o)
-clear_off true true false k m o = no (sym k)
-clear_off true false d k m o = refl
-clear_off false h d k m o = no m
-
 noted_by : (t : Topology) (a b : Bool) → (is_learning t ≡ true → a || b ≡ false) → (is_active t ≡ true → b ≡ false)
     → is_active t && a ≡ false → is_inactive t || (not a && not b) ≡ true
-noted_by topology.Inactive a b h k off = refl
-noted_by topology.Learning true b h k off = no (sym (h refl))
-noted_by topology.Learning false true h k off = no (sym (h refl))
-noted_by topology.Learning false false h k off = refl
-noted_by topology.Active true b h k off = no (sym off)
-noted_by topology.Active false true h k off = no (sym (k refl))
-noted_by topology.Active false false h k off = refl
+noted_by t a b h k off = grind arith
 
 module _ (core : Bits → Bool) (start : Bool → Bool → Bits → Bool)
     (visits : (dark inactive active : Bool) (b : Bits) → b.learn || dark ≡ true → start inactive active b ≡ true
@@ -110,8 +100,7 @@ module _ (core : Bits → Bool) (start : Bool → Bool → Bits → Bool)
       → (g : Going) → At H g → At K (tries rule p limit g)
   act H K rule other rests fires =
       step IsFixed (Ends core) (Begins start) c n limit p fits (spread_ends core) (spread_begins start)
-      (λ rule s x other on r. fixed-fits rule s p x on r) (λ rule s x other on r. fixed-goes rule s p x other on r) H K
-      rule other rests fires
+      (λ rule s x other. fixed-fits rule s p x) (λ rule s x. fixed-goes rule s p x) H K rule other rests fires
 
   -- a rule, and the rules after it up to the end of the visit
   next : (H K : PortState → Type 0) (rule : Rule) (rest : List Rule) → is_select rule ≡ false
@@ -128,8 +117,7 @@ module _ (core : Bits → Bool) (start : Bool → Bool → Bits → Bool)
       → (list : List Rule) → all_keep keeps list ≡ true → (g : Going) → At H g → At H (tries_all list p limit g)
   keep H keeps fires list ok =
       steps IsFixed (Ends core) (Begins start) c n limit p fits (spread_ends core) (spread_begins start)
-      (λ rule s x other on r. fixed-fits rule s p x on r) (λ rule s x other on r. fixed-goes rule s p x other on r) H
-      keeps fires list ok
+      (λ rule s x other. fixed-fits rule s p x) (λ rule s x. fixed-goes rule s p x) H keeps fires list ok
 
   abbrev last : Bool → Bool → Bits → Bool
   last inactive active = due core inactive active
@@ -185,29 +173,23 @@ module _ (core : Bits → Bool) (start : Bool → Bool → Bits → Bool)
   cleared : (g : Going) → At (Detects core) g → At (Ends core) (tries_all (drop 46 main_order) p limit g)
   cleared =
       next (Detects core) (Clears core) (rules.Topology topology_rule.TcClear) (drop 47 main_order) refl
-      (λ s x r off h. (
-        h.0,
-        λ l. (neither _ _ (neither _ _ (clear_off (is_learning x.topology) (changes.has_changes x)
-            (changes.detected_guard x) off l (h.1 l))).0).0,
-      ))
+      (λ s x r off h. (h.0, λ l. grind (arith, off, l, h.1 l)))
       (λ s x r on h. (h.0, λ l. refl))
       (next (Clears core) (Clears core) (rules.Topology topology_rule.TcInactive) (drop 48 main_order) refl
       (λ s x r off h. h)
       (λ s x r on h. (
         (
           h.0.0,
-          λ e. no (sym (ap not (in_tree x r e))
-              ∙ right _ (not (changes.is_in_tree x)) (left _ _ (left _ _ (left _ _ on)))),
+          λ e. grind (arith, on, in_tree x r e),
         ),
-        λ l. no l,
+        no,
       ))
       (next (Clears core) (Clears core) (rules.Topology topology_rule.TcBack) (drop 49 main_order) refl
       (λ s x r off h. h)
       (λ s x r on h. (
         (
           h.0.0,
-          λ e. edge_shut x.oper_edge false _
-              (out_or_edge (is_active x.topology) (changes.is_in_tree x) x.oper_edge on (in_tree x r e)),
+          λ e. grind (arith, on, in_tree x r e),
         ),
         λ l. refl,
       ))
@@ -216,25 +198,10 @@ module _ (core : Bits → Bool) (start : Bool → Bool → Bits → Bool)
   told : (g : Going) → At (λ x. Due x × IsEven x) g → At (Ends core) (tries_all (drop 44 main_order) p limit g)
   told =
       next (λ x. Due x × IsEven x) Heard (rules.Topology topology_rule.TcLearning) (drop 45 main_order) refl
-      (λ s x r off h. (
-        h.1,
-        λ e. hear_off (shut core (is_inactive x.topology) (is_active x.topology) (bits_of x))
-            x.forward x.learn (is_inactive x.topology) x.flush off h.0.0 (h.0.1 e),
-      ))
-      (λ s x r on h. (
-        h.1,
-        λ e. hear_on x.oper_edge x.forward x.learn (core (bits_of x)) (is_inactive x.topology)
-            (is_active x.topology) (not x.flush) on (not_active x.topology) (h.0.1 e),
-      ))
+      (λ s x r off h. (h.1, λ e. grind (arith, off, h.0.0, h.0.1 e)))
+      (λ s x r on h. (h.1, λ e. grind (arith, on, h.0.1 e)))
       (next Heard (Detects core) (rules.Topology topology_rule.Detected) (drop 46 main_order) refl
-      (λ s x r off h. (
-        (
-          h.0,
-          λ e. heard_off x.topology x.oper_edge x.forward _ (changes.is_in_tree x) (in_tree x r e) off
-              (h.1 e),
-        ),
-        λ l. off,
-      ))
+      (λ s x r off h. ((h.0, λ e. grind (arith, in_tree x r e, off, h.1 e)), λ l. off))
       (λ s x r on h. timed (λ z. Detects core (record z { new_info = true })) (timing_in s)
       (record x { topology = topology.Active }) ((h.0, λ e. active_shut x.oper_edge _), λ l. no l)
       ((h.0, λ e. active_shut x.oper_edge _), λ l. no l) ((h.0, λ e. active_shut x.oper_edge _), λ l. no l))
@@ -254,8 +221,8 @@ module _ (core : Bits → Bool) (start : Bool → Bool → Bits → Bool)
   roles_end : (g : Going) → At Last g → At (Ends core) (tries_all (drop 36 main_order) p limit g)
   roles_end =
       all_then (At Last) (At Last) (At (Ends core)) (take 5 (drop 36 main_order)) (drop 41 main_order) p limit
-      (keep Last is_apart (λ rule s x o n r g h. apart (λ dark. last) rule s p x n r g h)
-      (take 5 (drop 36 main_order)) refl) states_end
+      (keep Last is_apart (λ rule s x other. apart (λ dark. last) rule s p x) (take 5 (drop 36 main_order)) refl)
+      states_end
 
   forward : (g : Going) → At (Before to_learn) g → At (Ends core) (tries_all (drop 34 main_order) p limit g)
   forward =
@@ -318,8 +285,7 @@ module _ (core : Bits → Bool) (start : Bool → Bool → Bits → Bool)
   sync =
       all_then (At (Before to_sync)) (At (Before to_sync)) (At (Ends core)) (take 21 (drop 10 main_order))
       (drop 31 main_order) p limit
-      (keep (Before to_sync) is_apart (λ rule s x o n r g h. apart to_sync rule s p x n r g h)
-      (take 21 (drop 10 main_order)) refl)
+      (keep (Before to_sync) is_apart (λ rule s x other. apart to_sync rule s p x) (take 21 (drop 10 main_order)) refl)
       (next (Before to_sync) (Before to_retire) (rules.Role role_rule.Synced) (drop 32 main_order) refl
       (λ s x r off h. (
         h.0,
@@ -346,40 +312,30 @@ module _ (core : Bits → Bool) (start : Bool → Bool → Bits → Bool)
       (λ s x r off h. h)
       (λ s x r on h. (
         h.0,
-        λ e. no (sym (ap not (enabled x r.0 e)) ∙ right x.oper_edge (not x.enabled)
-            (left _ _ on)),
+        λ e. no (sym (ap not (enabled x r.0 e)) ∙ right x.oper_edge (not x.enabled) (left _ _ on)),
       ))
       sync)
 
-  begun : (g : Going) → At (Begins start) g
-      → At (Ends core) (tries_all (take 7 main_rest ++ drop 7 main_rest) p limit g)
-  begun g h =
-      all_then (At (Before to_edge)) (At (Before to_edge)) (At (Ends core)) (take 7 main_rest) (drop 7 main_rest) p
+  pub visit-ends : (g : Going)
+      → Stage c n (Zone (Ended core) (Begun start) (Begun start) p) limit g
+      → Stage c n (Zone (Ended core) (Ended core) (Begun start) p) limit (tries_all main_rest p limit g)
+  visit-ends g h =
+      let same : take 7 main_rest ++ drop 7 main_rest ≡ main_rest = refl in
+      subst (λ (l : List Rule). At (Ends core) (tries_all l p limit g)) same
+      (all_then (At (Before to_edge)) (At (Before to_edge)) (At (Ends core)) (take 7 main_rest) (drop 7 main_rest) p
       limit
-      (keep (Before to_edge) is_apart (λ rule s x o n r g h. apart to_edge rule s p x n r g h)
-      (take 7 main_rest) refl) edge g
-      (stage-as c n limit (Zone (λ x. IsFixed x × Ends core x) (λ x. IsFixed x × Begins start x)
-      (λ x. IsFixed x × Begins start x) p) (Zone (λ x. IsFixed x × Ends core x) (λ x. IsFixed x × Before to_edge x)
-      (λ x. IsFixed x × Begins start x) p) g
+      (keep (Before to_edge) is_apart (λ rule s x other. apart to_edge rule s p x) (take 7 main_rest) refl) edge g
+      (stage-as c n limit (Zone (Ended core) (Begun start) (Begun start) p)
+      (Zone (Ended core) (λ x. IsFixed x × Before to_edge x) (Begun start) p) g
       (λ q x within z. (
         z.0,
         λ e. (let h = z.1 e in (
           h.0,
           (
             h.1.0,
-            λ k. visits (is_discarding x) (is_inactive x.topology)
-                (is_active x.topology) (bits_of x) h.1.1 (h.1.2 k),
+            λ k. visits (is_discarding x) (is_inactive x.topology) (is_active x.topology) (bits_of x)
+                h.1.1 (h.1.2 k),
           ),
         )),
         z.2,
-      )) h)
-
-  pub visit-ends : (g : Going)
-      → Stage c n (Zone (λ x. IsFixed x × Ends core x) (λ x. IsFixed x × Begins start x)
-      (λ x. IsFixed x × Begins start x) p) limit g
-      → Stage c n (Zone (λ x. IsFixed x × Ends core x) (λ x. IsFixed x × Ends core x)
-      (λ x. IsFixed x × Begins start x) p) limit (tries_all main_rest p limit g)
-  visit-ends g h =
-      let same : take 7 main_rest ++ drop 7 main_rest ≡ main_rest = refl in
-      let Q : List Rule → Type 0 = λ l. At (Ends core) (tries_all l p limit g) in
-      subst Q same (begun g h)
+      )) h))

@@ -1,16 +1,16 @@
 -- What a port may still fire for messages, migration, edges, aging and sending, as a number that each of these rules
 -- lowers. Only a message raises it.
 use Rattle.std.proofs.Common.{◌≡◌, ℕ, ◌+◌, ◌≤◌, ◌<◌, Bool, true, false, not, ◌&&◌, ◌||◌, ◌==◌, is_none, Option}
-use Rattle.std.proofs.Common.{Some, None, refl, sym, ap, subst, arith}
-use Rattle.std.proofs.lemmas.Bool.{and_parts, not-true}
+use Rattle.std.proofs.Common.{Some, inl, inr, refl, sym, ap, arith}
+use Rattle.std.proofs.lemmas.Bool.{and_parts, cases_Bool, not-true}
 use Rattle.bpdu_wire.specs.declared.bpdu.Bpdu.{Bpdu}
-use Rattle.bpdu_wire.specs.declared.bpdu.Bpdu.TheVariants.{Config, Rst, Tcn}
+use Rattle.bpdu_wire.specs.declared.bpdu.Bpdu.TheVariants.{Tcn}
 use Rattle.rstp_state.specs.declared.port.Information.{Information}
 use Rattle.rstp_state.specs.declared.port.Migration.{Migration}
 use Rattle.rstp_state.specs.declared.port.Migration.TheVariants as migration
 use Rattle.rstp_state.specs.declared.port.PortState.{PortState}
 use Rattle.rstp_state.specs.declared.port.Timing.{Timing}
-use Rattle.rstp_state.specs.Port.{is_current, is_inactive, is_out, is_received}
+use Rattle.rstp_state.specs.Port.{is_checking, is_current, is_out, is_received}
 use Rattle.rstp_machines.specs.BridgeDetection as detection
 use Rattle.rstp_machines.specs.Information as info
 use Rattle.rstp_machines.specs.PortReceive as receiving
@@ -21,7 +21,7 @@ use Rattle.rstp_run.specs.declared.rule.InformationRule.TheVariants as informati
 use Rattle.rstp_run.specs.declared.rule.MigrationRule.{MigrationRule}
 use Rattle.rstp_run.specs.declared.rule.MigrationRule.TheVariants as migration_rule
 use Rattle.rstp_run.proofs.LowersPorts as of_port
-use Rattle.rstp_run.proofs.Measure.{has_to_turn, may_turn_edge, migrating}
+use Rattle.rstp_run.proofs.Measure.{has_to_turn, may_turn_edge}
 use Rattle.rstp_run.proofs.Totals.{if_so, if_so-le, if_so-off, if_so-on}
 use Rattle.rstp_run.proofs.Turns.{change_of, held}
 use Rattle.rstp_state.proofs.Basics.{no, and_left as left, and_right as right}
@@ -70,89 +70,44 @@ Falls x does = owed (does x) < owed x
 
 -- ---- migration
 
-twice : (s : Migration) (waits heard : Bool) → moving s waits heard + moving s waits heard ≡ migrating s waits heard
-twice migration.Checking true heard = refl
-twice migration.Checking false heard = refl
-twice migration.Selecting waits heard = refl
-twice migration.Sensing waits true = refl
-twice migration.Sensing waits false = refl
-
 pub moving-few : (s : Migration) (waits heard : Bool) → moving s waits heard ≤ 3
-moving-few migration.Checking true heard = omega arith
-moving-few migration.Checking false heard = omega arith
-moving-few migration.Selecting waits heard = omega arith
-moving-few migration.Sensing waits true = omega arith
-moving-few migration.Sensing waits false = omega arith
+moving-few s waits heard = grind arith
 
 pub moving-unheard : (s : Migration) (waits heard : Bool) → moving s waits false ≤ moving s waits heard
-moving-unheard s waits heard =
-    let a = twice s waits false in
-    let b = twice s waits heard in
-    let c = of_port.migrating-unheard s waits heard in
-    omega (arith, a, b, c)
+moving-unheard s waits heard = grind arith
 
 -- each rule of migration lowers the steps
 pub moves-on : (rule : MigrationRule) (x : PortState) → migration_asks rule x ≡ true
     → moving (migration_does rule x).migration ((migration_does rule x).migration_delay_while == 3)
     (migration_does rule x).received_stp
     < moving x.migration (x.migration_delay_while == 3) x.received_stp
-moves-on migration_rule.Recheck x h =
-    let (first, down) = and_parts _ _ h in
-    let (state, late) = and_parts _ _ first in
-    let a = of_port.checking_waits x.migration (x.migration_delay_while == 3) x.received_stp state (not-true _ late) in
-    let b = twice x.migration (x.migration_delay_while == 3) x.received_stp in
-    omega (arith, a, b)
+moves-on migration_rule.Recheck x h = grind arith
 moves-on migration_rule.Checked x h =
-    let (first, up) = and_parts _ _ h in
-    let (state, over) = and_parts _ _ first in
-    let a = of_port.checking_waits x.migration (x.migration_delay_while == 3) x.received_stp state
-    (of_port.zero_waits x.migration_delay_while over) in
-    let b = twice x.migration (x.migration_delay_while == 3) x.received_stp in
-    omega (arith, a, b)
-moves-on migration_rule.Selected x h =
-    let a = of_port.from_selecting x.migration (x.migration_delay_while == 3) x.received_stp (and_parts _ _ h).0 in
-    let b = twice x.migration (x.migration_delay_while == 3) x.received_stp in
-    omega (arith, a, b)
-moves-on migration_rule.ToRstp x h =
-    let a = of_port.from_sensing x.migration (x.migration_delay_while == 3) x.received_stp (and_parts _ _ h).0 in
-    let b = twice x.migration (x.migration_delay_while == 3) x.received_stp in
-    omega (arith, a, b)
-moves-on migration_rule.ToStp x h =
-    let (first, heard) = and_parts _ _ h in
-    let (state, rapid) = and_parts _ _ first in
-    let a = of_port.from_stp x.migration (x.migration_delay_while == 3) x.received_stp state heard in
-    let b = twice x.migration (x.migration_delay_while == 3) x.received_stp in
-    omega (arith, a, b)
+    let over = right (is_checking x.migration) (x.migration_delay_while == 0) (left _ x.enabled h) in
+    let a = of_port.zero_waits x.migration_delay_while over in
+    grind (arith, a)
+moves-on rule x h = grind arith
 
 pub migration-falls : (rule : MigrationRule) (x : PortState) → migration_asks rule x ≡ true
     → Falls x (migration_does rule)
-migration-falls migration_rule.Recheck x h = let a = moves-on migration_rule.Recheck x h in omega (arith, a)
-migration-falls migration_rule.Checked x h = let a = moves-on migration_rule.Checked x h in omega (arith, a)
-migration-falls migration_rule.Selected x h = let a = moves-on migration_rule.Selected x h in omega (arith, a)
-migration-falls migration_rule.ToRstp x h = let a = moves-on migration_rule.ToRstp x h in omega (arith, a)
-migration-falls migration_rule.ToStp x h = let a = moves-on migration_rule.ToStp x h in omega (arith, a)
+migration-falls migration_rule.Recheck x h = omega (arith, moves-on migration_rule.Recheck x h)
+migration-falls rule x h = omega (arith, moves-on rule x h)
 
 -- ---- receive
 
 pub discard-falls : (x : PortState) → receiving.discard_guard x ≡ true → Falls x receiving.discard_effect
 discard-falls x h =
-    let a = of_port.discards 1 x.received_bpdu (x.edge_delay_while == 3) x.enabled (omega arith) h in
-    let b = moving-unheard x.migration (x.migration_delay_while == 3) x.received_stp in
-    let c = scaled x.received_bpdu in
-    omega (arith, a, b, c)
-  where
-    scaled : (b : Bool) → if_so 1 b ≤ if_so 20 b
-    scaled true = omega arith
-    scaled false = omega arith
+    omega (
+      arith,
+      of_port.discards 20 x.received_bpdu (x.edge_delay_while == 3) x.enabled (omega arith) h,
+      moving-unheard,
+    )
 
 pub receive-falls : (x : PortState) → receiving.receive_guard x ≡ true → Falls x receiving.receive_effect
 receive-falls x h =
     let (first, free) = and_parts _ _ h in
     let a = if_so-on 20 x.received_bpdu (and_parts _ _ first).0 in
-    let b = moving-few x.migration (x.migration_delay_while == 3)
-    (not (receiving.is_rst x.message) || x.received_stp) in
-    let c = if_so-le 2 (may_turn_edge (x.enabled || x.admin_edge) false) in
-    omega (arith, a, b, c)
+    omega (arith, a, moving-few, if_so-le)
 
 -- ---- detection
 
@@ -161,30 +116,21 @@ abbrev pub unrested : PortState → ℕ
 unrested x = if_so 3 (receiving.discard_guard x)
 
 pub edge-falls : (x : PortState) → detection.edge_guard x ≡ true → owed (detection.edge_effect x) < owed x + unrested x
-edge-falls x h = go (receiving.discard_guard x) refl
-  where
-    go : (b : Bool) → receiving.discard_guard x ≡ b → owed (detection.edge_effect x) < owed x + unrested x
-    go true is =
-        let a = if_so-on 3 (receiving.discard_guard x) is in
-        let b = if_so-le 2 (may_turn_edge (x.enabled || x.admin_edge) true) in
-        omega (arith, a, b)
-    go false is =
-        let a = of_port.edge_turns 2 x.oper_edge x.enabled x.admin_edge (detection.finds_no_bridge x) h
-        (of_port.finds_none x is) in
-        let b = if_so-off 3 (receiving.discard_guard x) is in
-        omega (arith, a.0, a.1, b)
+edge-falls x h = elim (cases_Bool (receiving.discard_guard x)) [
+  | inl is ↦ omega (arith, if_so-on 3 (receiving.discard_guard x) is, if_so-le)
+  | inr is ↦ (let a = of_port.edge_turns 2 x.oper_edge x.enabled x.admin_edge (detection.finds_no_bridge x) h
+      (of_port.finds_none x is) in
+      omega (arith, a.0, a.1, if_so-off 3 (receiving.discard_guard x) is))
+]
 
 pub not_edge-falls : (x : PortState) → detection.not_edge_guard x ≡ true → Falls x detection.not_edge_effect
 not_edge-falls x h =
-    let a = of_port.not_edge_turns 2 x.oper_edge x.enabled x.admin_edge h in
-    omega (arith, a.0, a.1)
+    let a = of_port.not_edge_turns 2 x.oper_edge x.enabled x.admin_edge h in omega (arith, a.0, a.1)
 
 -- ---- information
 
 offers-few : (p e : Bool) → offers p e ≤ 2
-offers-few true e = omega arith
-offers-few false true = omega arith
-offers-few false false = omega arith
+offers-few p e = grind arith
 
 -- every rule of information but Update
 abbrev pub is_update : InformationRule → Bool
@@ -192,35 +138,25 @@ is_update information_rule.Update = true
 is_update _ = false
 
 turns_down : (e o : Bool) → not e && not o ≡ true → if_so 4 (has_to_turn e o) ≡ 4
-turns_down true o h = no h
-turns_down false true h = no h
-turns_down false false h = refl
+turns_down e o h = grind arith
 
 turned_down : (e o : Bool) → not e && not o ≡ true → if_so 4 (has_to_turn e true) ≡ 0
-turned_down true o h = no h
-turned_down false o h = refl
+turned_down e o h = grind arith
 
 turns_up : (e o : Bool) → o && e ≡ true → (if_so 4 (has_to_turn e o) ≡ 4) × (if_so 4 (has_to_turn e false) ≡ 0)
-turns_up true true h = (refl, refl)
-turns_up true false h = no h
-turns_up false true h = no h
-turns_up false false h = no h
+turns_up e o h = grind arith
 
 same_turn : (e : Bool) (i : Information) → is_out i ≡ false → has_to_turn e (is_out i) ≡ has_to_turn e false
 same_turn e i h = ap (has_to_turn e) h
 
 aged_one : (r o : Bool) → r ≡ true → o ≡ false → if_so 1 (r && not o) ≡ 1
-aged_one true true h k = no (sym k)
-aged_one true false h k = refl
-aged_one false o h k = no h
+aged_one r o h k = grind arith
 
 -- the message's vector and times aren't part of the number
 same_info : (m : Option Bpdu) (y : PortState)
     → owed (info.handled (info.with_info_time (info.with_info_of m y))) ≡ owed (info.handled y)
-same_info None y = refl
-same_info (Some (Config message)) y = refl
-same_info (Some (Rst message)) y = refl
 same_info (Some Tcn) y = refl
+same_info m y = refl
 
 waits : (x : PortState) → info.may_take x ≡ true → if_so 10 x.received_message ≡ 10
 waits x h = if_so-on 10 x.received_message (right (is_current x.information) x.received_message (left _ _ h))
@@ -229,40 +165,30 @@ pub informs-fall : (rule : InformationRule) (x : PortState) → is_update rule �
     → Falls x (information_does rule)
 informs-fall information_rule.Update x n h = no (sym n)
 informs-fall information_rule.Disabled x n h =
-    let a = turns_down x.enabled (is_out x.information) h in
-    let b = turned_down x.enabled (is_out x.information) h in
-    let c = offers-few false x.enabled in
-    omega (arith, a, b, c)
+    omega (
+      arith,
+      turns_down x.enabled (is_out x.information) h,
+      turned_down x.enabled (is_out x.information) h,
+      offers-few,
+    )
 informs-fall information_rule.Drop x n h =
-    let a = if_so-on 10 x.received_message (right (is_out x.information) x.received_message h) in
-    omega (arith, a)
+    omega (arith, if_so-on 10 x.received_message (right (is_out x.information) x.received_message h))
 informs-fall information_rule.Enabled x n h =
     let a = turns_up x.enabled (is_out x.information) h in
     omega (arith, a.0, a.1)
 informs-fall information_rule.Aged x n h =
     let current = left (is_current x.information) _ (left _ _ (left _ _ (left _ _ h))) in
     let received = right (is_current x.information) (is_received x.info_is) (left _ _ (left _ _ (left _ _ h))) in
-    let a = aged_one (is_received x.info_is) (is_out x.information) received (ages x.information current) in
-    let b = ap (if_so 4) (same_turn x.enabled x.information (ages x.information current)) in
-    omega (arith, a, b)
+    omega (
+      arith,
+      aged_one (is_received x.info_is) (is_out x.information) received (ages x.information current),
+      ap (if_so 4) (same_turn x.enabled x.information (ages x.information current)),
+    )
 informs-fall information_rule.Superior x n h =
     let a = waits x (left _ _ h) in
     let y : PortState = info.with_superior_flags (info.with_change_flags (info.with_proposal x)) in
-    let same = same_info x.message y in
-    let b = offers-few false x.enabled in
-    let c = if_so-le 1 (not (is_out x.information)) in
-    let d = if_so-le 1 (not (is_inactive x.topology)
-    && ((x.received_topology_change || info.message_has 0x01 x.message) || x.received_notification)) in
-    let e = if_so-le 1 (not (is_inactive x.topology)
-    && (x.received_acknowledgement || info.message_has 0x80 x.message)) in
-    omega (arith, same, a, b, c, d, e)
-informs-fall information_rule.Repeated x n h =
-    let a = waits x (left _ _ h) in
-    let d = if_so-le 1 (not (is_inactive x.topology)
-    && ((x.received_topology_change || info.message_has 0x01 x.message) || x.received_notification)) in
-    let e = if_so-le 1 (not (is_inactive x.topology)
-    && (x.received_acknowledgement || info.message_has 0x80 x.message)) in
-    omega (arith, a, d, e)
+    omega (arith, same_info x.message y, a, offers-few, if_so-le)
+informs-fall information_rule.Repeated x n h = omega (arith, waits x (left _ _ h), if_so-le)
 informs-fall information_rule.Inferior x n h =
     let a = waits x (left _ _ h) in
     if-is (λ y. owed y < owed x) (info.rst_has 0x10 x.message)
@@ -270,19 +196,10 @@ informs-fall information_rule.Inferior x n h =
     (omega (arith, a)) (omega (arith, a))
 informs-fall information_rule.NotDesignated x n h =
     let a = waits x (left _ _ h) in
-    let b = offers-few false x.enabled in
-    let d = if_so-le 1 (not (is_inactive x.topology)
-    && ((x.received_topology_change || info.message_has 0x01 x.message) || x.received_notification)) in
-    let e = if_so-le 1 (not (is_inactive x.topology)
-    && (x.received_acknowledgement || info.message_has 0x80 x.message)) in
     if-is (λ y. owed (info.handled (info.with_change_flags y)) < owed x)
     (x.point_to_point && info.message_has 0x40 x.message) (record x { agreed = true; proposing = false })
-    (record x { agreed = false }) (omega (arith, a, b, d, e)) (omega (arith, a, d, e))
-informs-fall information_rule.Other x n h =
-    let a = waits x (left _ _ h) in
-    let d = if_so-le 1 (not (is_inactive x.topology)
-    && (x.received_topology_change || (x.received_notification || info.is_tcn x.message))) in
-    omega (arith, a, d)
+    (record x { agreed = false }) (omega (arith, a, offers-few, if_so-le)) (omega (arith, a, if_so-le))
+informs-fall information_rule.Other x n h = omega (arith, waits x (left _ _ h), if_so-le)
 
 -- Update, at a port that is up
 pub update-costs : (x : PortState) → has_to_turn x.enabled (is_out x.information) ≡ false
@@ -295,9 +212,7 @@ update-costs x h g =
     omega (arith, a, b)
   where
     turned : (e o : Bool) → has_to_turn e o ≡ false → o ≡ false → e ≡ true
-    turned true o h k = refl
-    turned false true h k = no (sym k)
-    turned false false h k = no (sym h)
+    turned e o h k = grind arith
 
 -- ---- transmission
 
@@ -305,13 +220,10 @@ pub periodic-falls : (timing : Timing) (x : PortState) → 1 ≤ timing.hello �
     → Falls x (sends.periodic_effect timing)
 periodic-falls timing x some h =
     let a = if_so-on 1 (x.hello_when == 0) (and_parts _ _ h).1 in
-    let b = if_so-off 1 (timing.hello == 0) (not_zero timing.hello some) in
-    omega (arith, a, b)
+    omega (arith, a, if_so-off 1 (timing.hello == 0) (not_zero timing.hello some))
 
 both_on : (a b : Bool) → a ≡ true → b ≡ true → if_so 1 (a && b) ≡ 1
-both_on true true h k = refl
-both_on true false h k = no k
-both_on false b h k = no h
+both_on a b h k = grind arith
 
 pub sending-falls : (timing : Timing) (message : Bpdu) (x : PortState) → 1 ≤ timing.hello
     → sends.is_ready timing x ≡ true → Falls x (sends.sending timing message)
@@ -319,69 +231,31 @@ sending-falls timing message x some h =
     let (first, known) = and_parts _ _ h in
     let (second, up) = and_parts _ _ first in
     let a = both_on (is_none x.slot) x.enabled (and_parts _ _ second).1 up in
-    let b = if_so-off 1 (timing.hello == 0) (not_zero timing.hello some) in
-    omega (arith, a, b)
+    omega (arith, a, if_so-off 1 (timing.hello == 0) (not_zero timing.hello some))
 
 -- ---- its bound
 
 pub inputs-few : (x : PortState) → turn x ≡ 0 → mail x ≡ 0 → inputs x ≤ 10
-inputs-few x none empty = go x.enabled refl
+inputs-few x none empty = elim (cases_Bool x.enabled) [
+  | inl up ↦ (let a = offers_up x.proposing x.enabled up in
+      let b = edge_up (not (x.edge_delay_while == 3)) x.enabled up in
+      omega (arith, none, empty, a, b, moving-few, if_so-le))
+  | inr down ↦ (let a = sends_down (is_none x.slot) x.enabled down in
+      let b = ages_down x.enabled (is_out x.information) (is_received x.info_is) down none in
+      omega (arith, none, empty, a, b, offers-few, moving-few, if_so-le))
+]
   where
-    hear : (o r : Bool) → if_so 4 (has_to_turn false o) ≡ 0 → if_so 1 (r && not o) ≡ 0
-    hear true true h = refl
-    hear true false h = refl
-    hear false r h = absurd (omega (arith, h))
+    offers_up : (p e : Bool) → e ≡ true → offers p e ≤ 1
+    offers_up p e h = grind arith
 
-    go : (b : Bool) → x.enabled ≡ b → inputs x ≤ 10
-    go true up =
-        let a : offers x.proposing x.enabled ≡ offers x.proposing true = ap (offers x.proposing) up in
-        let a1 = one x.proposing in
-        let b = if_so-le 1 x.disputed in
-        let c : if_so 1 (not (x.edge_delay_while == 3) && not x.enabled) ≡ 0 = off (not (x.edge_delay_while == 3))
-        x.enabled up in
-        let d = if_so-le 2 (may_turn_edge (x.enabled || x.admin_edge) x.oper_edge) in
-        let e = moving-few x.migration (x.migration_delay_while == 3) x.received_stp in
-        let f = if_so-le 1 (is_none x.slot && x.enabled) in
-        let g = if_so-le 1 (x.hello_when == 0) in
-        let h = if_so-le 1 (is_received x.info_is && not (is_out x.information)) in
-        omega (arith, none, empty, a, a1, b, c, d, e, f, g, h)
-      where
-        one : (p : Bool) → offers p true ≤ 1
-        one true = omega arith
-        one false = omega arith
+    edge_up : (d e : Bool) → e ≡ true → if_so 1 (d && not e) ≡ 0
+    edge_up d e h = grind arith
 
-        off : (d e : Bool) → e ≡ true → if_so 1 (d && not e) ≡ 0
-        off true true h = refl
-        off false true h = refl
-        off d false h = no h
-    go false down =
-        let a = offers-few x.proposing x.enabled in
-        let b = if_so-le 1 x.disputed in
-        let c = if_so-le 1 (not (x.edge_delay_while == 3) && not x.enabled) in
-        let d = if_so-le 2 (may_turn_edge (x.enabled || x.admin_edge) x.oper_edge) in
-        let e = moving-few x.migration (x.migration_delay_while == 3) x.received_stp in
-        let f : if_so 1 (is_none x.slot && x.enabled) ≡ 0 = off (is_none x.slot) x.enabled down in
-        let g = if_so-le 1 (x.hello_when == 0) in
-        let S : Bool → Type 0 = λ k. if_so 4 (has_to_turn k (is_out x.information)) ≡ 0 in
-        let h = hear (is_out x.information) (is_received x.info_is) (subst S down none) in
-        omega (arith, none, empty, a, b, c, d, e, f, g, h)
-      where
-        off : (d e : Bool) → e ≡ false → if_so 1 (d && e) ≡ 0
-        off true true h = no (sym h)
-        off true false h = refl
-        off false e h = refl
+    sends_down : (d e : Bool) → e ≡ false → if_so 1 (d && e) ≡ 0
+    sends_down d e h = grind arith
+
+    ages_down : (e o r : Bool) → e ≡ false → if_so 4 (has_to_turn e o) ≡ 0 → if_so 1 (r && not o) ≡ 0
+    ages_down e o r down h = grind arith
 
 pub inputs-most : (x : PortState) → inputs x ≤ 46
-inputs-most x =
-    let a = offers-few x.proposing x.enabled in
-    let b = if_so-le 1 x.disputed in
-    let c = if_so-le 1 (not (x.edge_delay_while == 3) && not x.enabled) in
-    let d = if_so-le 2 (may_turn_edge (x.enabled || x.admin_edge) x.oper_edge) in
-    let e = moving-few x.migration (x.migration_delay_while == 3) x.received_stp in
-    let f = if_so-le 1 (is_none x.slot && x.enabled) in
-    let g = if_so-le 1 (x.hello_when == 0) in
-    let h = if_so-le 1 (is_received x.info_is && not (is_out x.information)) in
-    let i = if_so-le 4 (has_to_turn x.enabled (is_out x.information)) in
-    let j = if_so-le 20 x.received_bpdu in
-    let k = if_so-le 10 x.received_message in
-    omega (arith, a, b, c, d, e, f, g, h, i, j, k)
+inputs-most x = omega (arith, offers-few, moving-few, if_so-le)

@@ -1,13 +1,12 @@
 -- The invariant of every event: each port is sound and has its number, and at most one port has the selected role Root.
-use Rattle.std.proofs.Common.{◌≡◌, ℕ, zero, suc, ◌+◌, ◌*◌, ◌/◌, ◌%◌, ◌^◌, Bool, true, false, not, ◌&&◌, ◌||◌, ◌==◌}
-use Rattle.std.proofs.Common.{List, [], ◌∷◌, Option, Some, None, slice_get, map, refl, sym, ap, subst, ◌∙◌, arith}
+use Rattle.std.proofs.Common.{◌≡◌, ℕ, zero, suc, ◌+◌, Bool, true, false, not, ◌||◌, ◌==◌}
+use Rattle.std.proofs.Common.{List, [], ◌∷◌, Option, Some, slice_get, map, refl, sym, ap, subst, ◌∙◌, arith}
 use Rattle.std.proofs.lemmas.Bool.Decides.{nat_tests}
 use Rattle.std.specs.List.{enumerate_from}
 use Rattle.std.specs.Option.{option_map_or}
 use Rattle.bpdu_wire.specs.Id.{port_number}
 use Rattle.rstp_state.specs.declared.port.PortState.{PortState}
 use Rattle.rstp_state.specs.declared.port.InfoIs.{InfoIs}
-use Rattle.rstp_state.specs.declared.port.InfoIs.TheVariants as info_is
 use Rattle.rstp_state.specs.declared.port.Role.{Role}
 use Rattle.rstp_state.specs.declared.selection.Path.{Path}
 use Rattle.rstp_state.specs.declared.selection.Root.{Root}
@@ -22,7 +21,7 @@ use Rattle.rstp_run.specs.Events.{Happens, start}
 use Rattle.rstp_run.specs.Laws.{AreNumbered, AreNumberedFrom}
 use Rattle.rstp_run.specs.Rules.{Tree}
 use Rattle.rstp_run.specs.RootPort.{Comes}
-use Rattle.rstp_run.proofs.Sound.{IsSound, Keeps, is_down, or_right, information_keeps, keeps_quiet}
+use Rattle.rstp_run.proofs.Sound.{IsSound, Keeps, is_down, information_keeps, keeps_quiet}
 use Rattle.rstp_run.proofs.Each.{Each, EachIs, each_is}
 use Rattle.rstp_run.proofs.Walk.{Walks, comes_holds, happens_holds}
 
@@ -45,36 +44,26 @@ pub record IsKept (ports : List PortState) : Type 0 where
 
 pub each_role : (a b : List PortState) → Each Keeps a b → roles_of a ≡ roles_of b
 each_role [] [] h = refl
-each_role [] (y ∷ ys) h = absurd h
-each_role (x ∷ xs) [] h = absurd h
 each_role (x ∷ xs) (y ∷ ys) h = λ i. sym h.0.1 i ∷ each_role xs ys h.1 i
+each_role a b h = absurd h
 
 each_number : (n : ℕ) (a b : List PortState) → Each Keeps a b → AreNumberedFrom n a → AreNumberedFrom n b
 each_number n [] [] h s = tt
-each_number n [] (y ∷ ys) h s = absurd h
-each_number n (x ∷ xs) [] h s = absurd h
 each_number n (x ∷ xs) (y ∷ ys) h s = (ap port_number h.0.2 ∙ s.0, each_number (n + 1) xs ys h.1 s.1)
+each_number n a b h s = absurd h
 
 kept_by : (a b : List PortState) → Each Keeps a b → IsKept a → IsKept b
-kept_by a b h k =
-    let P : List Role → Type 0 = λ roles. OneRoot roles in
-    record {
-      sound = each_is Keeps IsSound (λ a b h. h.0) a b h k.sound;
-      roots = subst P (each_role a b h) k.roots;
-      numbered = each_number 1 a b h k.numbered;
-    }
+kept_by a b h k = record {
+  sound = each_is Keeps IsSound (λ a b h. h.0) a b h k.sound;
+  roots = subst OneRoot (each_role a b h) k.roots;
+  numbered = each_number 1 a b h k.numbered;
+}
 
 -- ---- selection
 
 update_at : (i : InfoIs) (out r b s : Bool) → not out || is_down i ≡ true
     → not (updates_by i r b s) || (false || not out) ≡ true
-update_at info_is.Disabled out r b s h = refl
-update_at info_is.Aged true r b s h = cc
-update_at info_is.Aged false r b s h = refl
-update_at info_is.Mine true r b s h = cc
-update_at info_is.Mine false r b s h = or_right (not (not s)) true refl
-update_at info_is.Received true r b s h = cc
-update_at info_is.Received false r b s h = or_right (not (not r && b)) true refl
+update_at i out r b s h = grind arith
 
 choice_sound : (s : Settings) (root : Root) (through : Bool) (port : PortState) → IsSound port
     → IsSound (with_choice s root through port)
@@ -94,13 +83,7 @@ choices_sound s root path n (x ∷ xs) h = (
 )
 
 root_by : (i : InfoIs) (r b o : Bool) → is_root (role_by i r b o) ≡ true → r ≡ true
-root_by info_is.Disabled r b o h = cc
-root_by info_is.Aged r b o h = cc
-root_by info_is.Mine r b o h = cc
-root_by info_is.Received true b o h = refl
-root_by info_is.Received false true o h = cc
-root_by info_is.Received false false true h = cc
-root_by info_is.Received false false false h = cc
+root_by i r b o h = grind arith
 
 -- the port whose selected role is Root is the one at the path's place
 chosen_through : (s : Settings) (root : Root) (path : Path) (n : ℕ) (ports : List PortState) (p : ℕ) (a : Role)
@@ -109,20 +92,14 @@ chosen_through : (s : Settings) (root : Root) (path : Path) (n : ℕ) (ports : L
 chosen_through s root path n [] p a at h = cc
 chosen_through s root path n (x ∷ xs) zero a at h =
     let role : role_by x.info_is (is_through path n) (is_better s root x) (is_own s x) ≡ a = cc in
-    let here : n ≡ n + 0 = omega arith in
-    sym (ap (λ k. is_through path k) here) ∙ root_by x.info_is (is_through path n) (is_better s root x) (is_own s x)
-    (ap is_root role ∙ h)
+    let here : n + 0 ≡ n = omega arith in
+    rw here (root_by x.info_is (is_through path n) (is_better s root x) (is_own s x) (ap is_root role ∙ h))
 chosen_through s root path n (x ∷ xs) (suc p) a at h =
-    let later : n + 1 + p ≡ n + suc p = omega arith in
-    sym (ap (λ k. is_through path k) later) ∙ chosen_through s root path (n + 1) xs p a at h
-
-same_number : (a p q : ℕ) → (a == p) ≡ true → (a == q) ≡ true → p ≡ q
-same_number a p q h k = grind (arith, nat_tests)
+    let later : n + suc p ≡ n + 1 + p = omega arith in rw later (chosen_through s root path (n + 1) xs p a at h)
 
 same_place : (o : Option ℕ) (p q : ℕ) → option_map_or (λ at. at == p) o false ≡ true
     → option_map_or (λ at. at == q) o false ≡ true → p ≡ q
-same_place None p q h k = cc
-same_place (Some a) p q h k = same_number a p q h k
+same_place o p q h k = grind (arith, nat_tests)
 
 choices_one : (s : Settings) (root : Root) (path : Path) (ports : List PortState)
     → OneRoot (roles_of (map (λ e. with_choice s root (is_through path e.0) e.1) (enumerate_from 0 ports)))
@@ -156,23 +133,23 @@ selection_kept s ports k = record {
 pub kept_walks : Walks (λ s. IsKept s.ports) (λ s. Keeps)
 kept_walks = record {
   moves = record {
-    by = λ s ports h k. kept_by s.ports ports h k;
+    by = λ s ports. kept_by s.ports ports;
     quiet = λ s. keeps_quiet;
     informed = λ s. information_keeps;
     second = λ s port. (λ h. h, refl, refl);
   };
-  chosen = λ s p k. selection_kept s.settings s.ports k;
+  chosen = λ s p. selection_kept s.settings s.ports;
 }
 
 numbered_walks : Walks AreNumbered (λ s. Keeps)
 numbered_walks = record {
   moves = record {
-    by = λ s ports h k. each_number 1 s.ports ports h k;
+    by = λ s ports. each_number 1 s.ports ports;
     quiet = λ s. keeps_quiet;
     informed = λ s. information_keeps;
     second = λ s port. (λ h. h, refl, refl);
   };
-  chosen = λ s p k. selection_numbered s.settings s.ports k;
+  chosen = λ s p. selection_numbered s.settings s.ports;
 }
 
 start_sound : (n : ℕ) (settings : Settings) (ports : List PortSettings) → AllSound (ports_from n settings ports)
@@ -185,13 +162,10 @@ start_rootless n settings [] p a at h = cc
 start_rootless n settings (x ∷ xs) zero a at h = cc
 start_rootless n settings (x ∷ xs) (suc p) a at h = start_rootless (n + 1) settings xs p a at h
 
-number_of : (priority n : ℕ) → (priority * 4096 + n) % 2 ^ 12 ≡ n % 2 ^ 12
-number_of priority n = omega arith
-
 start_numbered : (n : ℕ) (settings : Settings) (ports : List PortSettings)
     → AreNumberedFrom n (ports_from n settings ports)
 start_numbered n settings [] = tt
-start_numbered n settings (x ∷ xs) = (number_of (x.priority / 16) n, start_numbered (n + 1) settings xs)
+start_numbered n settings (x ∷ xs) = (omega arith, start_numbered (n + 1) settings xs)
 
 pub start_kept : (settings : Settings) (ports : List PortSettings) → IsKept (start settings ports).ports
 start_kept settings ports = record {
@@ -209,5 +183,4 @@ comes_kept history settings ports s comes =
 -- the ports keep their numbers
 pub happens_numbered : (event : Event) (limit : ℕ) (s t : Tree) (settled : Bool) (mask : ℕ)
     → Happens event limit s t settled mask → AreNumbered s → AreNumbered t
-happens_numbered event limit s t settled mask happens all =
-    happens_holds AreNumbered (λ s. Keeps) numbered_walks event limit s t settled mask happens all
+happens_numbered = happens_holds AreNumbered (λ s. Keeps) numbered_walks

@@ -1,9 +1,8 @@
 -- If Select doesn't fire, each port keeps its selected role. In a settled bridge that is the port's role.
-use Rattle.std.proofs.Common.{◌≡◌, ℕ, zero, suc, Bool, false, not, ◌&&◌, ◌||◌, List, [], ◌∷◌, Some}
-use Rattle.std.proofs.Common.{slice_get, refl, sym, ap, subst, ◌∙◌}
+use Rattle.std.proofs.Common.{◌≡◌, ℕ, zero, suc, Bool, false, not, ◌&&◌, ◌||◌, List, [], ◌∷◌, Some, arith}
+use Rattle.std.proofs.Common.{slice_get, refl, sym, ap, ◌∙◌}
 use Rattle.rstp_state.specs.declared.port.PortState.{PortState}
 use Rattle.rstp_state.specs.declared.port.Role.{Role}
-use Rattle.rstp_state.specs.declared.port.Role.TheVariants as role
 use Rattle.rstp_state.specs.Port.{is_blocked, is_designated, is_disabled, is_root, may_act, same_role}
 use Rattle.rstp_roles.specs.declared.rule.RoleRule.TheVariants as role_rule
 use Rattle.rstp_run.specs.declared.event.Event.{Event}
@@ -22,31 +21,7 @@ use Rattle.rstp_run.proofs.Walk.{Moves, direct_holds, lasting_holds}
 role_is : (a s : Role) (x : Bool) → is_disabled s && not (is_disabled a) ≡ false
     → is_root s && (not (is_root a) || x) ≡ false
     → is_designated s && not (is_designated a) ≡ false → is_blocked s && not (same_role a s) ≡ false → a ≡ s
-role_is role.Disabled role.Disabled x d r e b = refl
-role_is role.Disabled role.Root x d r e b = cc
-role_is role.Disabled role.Designated x d r e b = cc
-role_is role.Disabled role.Alternate x d r e b = cc
-role_is role.Disabled role.Backup x d r e b = cc
-role_is role.Root role.Disabled x d r e b = cc
-role_is role.Root role.Root x d r e b = refl
-role_is role.Root role.Designated x d r e b = cc
-role_is role.Root role.Alternate x d r e b = cc
-role_is role.Root role.Backup x d r e b = cc
-role_is role.Designated role.Disabled x d r e b = cc
-role_is role.Designated role.Root x d r e b = cc
-role_is role.Designated role.Designated x d r e b = refl
-role_is role.Designated role.Alternate x d r e b = cc
-role_is role.Designated role.Backup x d r e b = cc
-role_is role.Alternate role.Disabled x d r e b = cc
-role_is role.Alternate role.Root x d r e b = cc
-role_is role.Alternate role.Designated x d r e b = cc
-role_is role.Alternate role.Alternate x d r e b = refl
-role_is role.Alternate role.Backup x d r e b = cc
-role_is role.Backup role.Disabled x d r e b = cc
-role_is role.Backup role.Root x d r e b = cc
-role_is role.Backup role.Designated x d r e b = cc
-role_is role.Backup role.Alternate x d r e b = cc
-role_is role.Backup role.Backup x d r e b = refl
+role_is a s x d r e b = grind arith
 
 pub has_selected : (s : Tree) → IsKept s.ports → IsSettled s → (p : ℕ) (port : PortState)
     → slice_get s.ports p ≡ Some port → port.role ≡ port.selected_role
@@ -77,7 +52,7 @@ same_roles (event ∷ earlier) s t lasts =
     (direct_holds P (λ u. Keeps) (keeping (roles_of s.ports)) event lasts.0 (same_roles earlier s lasts.0 lasts.4))
 
 pub lasting_reached : (events : List Event) (s t : Tree) → IsReached s → Lasts events s t → IsReached t
-lasting_reached [] s t reached lasts = subst IsReached (sym lasts) reached
+lasting_reached [] s t reached lasts = rw lasts reached
 lasting_reached (event ∷ earlier) s t reached lasts =
     let r = lasting_reached earlier s lasts.0 reached lasts.4 in
     (r.0, r.1, (event ∷ r.2.0, (lasts.0, lasts.1, lasts.2, lasts.3, r.2.1, lasts.5)))
@@ -89,7 +64,7 @@ some_same a b h = cc
 
 place_of_role : (ports : List PortState) (p : ℕ) (r : Role) → slice_get (roles_of ports) p ≡ Some r
     → (port : PortState) × (slice_get ports p ≡ Some port) × (port.selected_role ≡ r)
-place_of_role [] p r at = let e : ⊥ = cc in absurd e
+place_of_role [] p r at = cc
 place_of_role (x ∷ xs) zero r at = (x, refl, some_same x.selected_role r at)
 place_of_role (x ∷ xs) (suc p) r at = place_of_role xs p r at
 

@@ -23,9 +23,8 @@ use Rattle.rstp_run.specs.declared.rule.TransmitRule.TheVariants as transmit_rul
 use Rattle.rstp_run.specs.Lasting.{is_select}
 use Rattle.rstp_run.specs.Rules.{Tree, asks, guard, ports_after, timing_in}
 use Rattle.rstp_run.proofs.Levels as levels
-use Rattle.rstp_run.proofs.Own.{Nothing, Reroots, Spread, Syncs, Tells, after-at, own, spread_by, spread_of}
+use Rattle.rstp_run.proofs.Own.{Nothing, Spread, Tells, after-at, own, spread_by, spread_of}
 use Rattle.rstp_run.proofs.Places.{AtAll}
-use Rattle.rstp_run.proofs.RoleParts.{other_role}
 use Rattle.rstp_run.proofs.Sound.{or_true}
 use Rattle.rstp_run.proofs.Totals.{tested_at}
 use Rattle.rstp_run.proofs.Steady.{steady-informs}
@@ -45,9 +44,8 @@ IsLate x = IsFixed x × Tested (shut core2) x × IsNoted x
 
 spread_late : (k : Spread) (x : PortState) → fits k ≡ true → IsLate x → IsLate (spread_by k x)
 spread_late Nothing x f h = h
-spread_late Syncs x f h = no f
-spread_late Reroots x f h = no f
 spread_late Tells x f h = (spread-fixed Tells x h.0, h.1, h.2)
+spread_late _ x f h = no f
 
 -- the facts that a rule keeps besides
 abbrev Keeps : PortState → Type 0
@@ -55,15 +53,10 @@ Keeps x = Tested (shut core2) x × IsNoted x
 
 learn_shut : (e f l c i a z : Bool) → i && l && z ≡ true → (i ≡ true → a ≡ false)
     → e || a || ((not f || (not l && i)) && c) ≡ true → e || false || ((not f || (not l && false)) && c) ≡ true
-learn_shut e f l c false a z h k w = no h
-learn_shut e f false c true a z h k w = no h
-learn_shut e f true c true true z h k w = no (sym (k refl))
-learn_shut e f true c true false z h k w = w
+learn_shut e f l c i a z h k w = grind arith
 
 noted_there : (t : Topology) (q : Bool) → is_learning t ≡ true → is_inactive t || q ≡ true → q ≡ true
-noted_there topology.Inactive q h k = no h
-noted_there topology.Learning q h k = k
-noted_there topology.Active q h k = no h
+noted_there t q h k = grind arith
 
 module _ (s : Tree) (p : ℕ) (x : PortState) (h : IsLate x) where
   abbrev t : Bits → Bool
@@ -71,19 +64,10 @@ module _ (s : Tree) (p : ℕ) (x : PortState) (h : IsLate x) where
 
   role_keeps : (rule : RoleRule) → asks (rules.Role rule) s p x ≡ true → kind x.selected_role ≡ rule_kind rule
       → Keeps (own (rules.Role rule) (timing_in s) x)
-  role_keeps role_rule.Disable g k = (λ e. absurd (omega (arith, e, k)), h.2)
-  role_keeps role_rule.DisabledPort g k = (λ e. absurd (omega (arith, e, k)), h.2)
-  role_keeps role_rule.Root g k = (λ e. absurd (omega (arith, e, k)), h.2)
-  role_keeps role_rule.RootProposed g k = (λ e. absurd (omega (arith, e, k)), h.2)
-  role_keeps role_rule.RootAgreed g k = (λ e. absurd (omega (arith, e, k)), h.2)
-  role_keeps role_rule.Reroot g k = (λ e. absurd (omega (arith, e, k)), h.2)
-  role_keeps role_rule.Rerooted g k = (λ e. absurd (omega (arith, e, k)), h.2)
-  role_keeps role_rule.RootLearn g k = (λ e. absurd (omega (arith, e, k)), h.2)
-  role_keeps role_rule.RootForward g k = (λ e. absurd (omega (arith, e, k)), h.2)
   role_keeps role_rule.Designated g k = (h.1, h.2)
   role_keeps role_rule.Propose g k = (h.1, h.2)
   role_keeps role_rule.Synced g k = (
-    λ e. if_on (syncs (is_discarding x) (bits_of x)) _ _ (right (roles.acts_as_designated x) _ g)
+    λ e. if_on (syncs (is_discarding x) (bits_of x)) _ _ (right _ _ g)
         (stays_shut x.topology (is_discarding x) (bits_of x) (h.1 e)).1,
     h.2,
   )
@@ -112,11 +96,7 @@ module _ (s : Tree) (p : ℕ) (x : PortState) (h : IsLate x) where
         (roles.may_go_on x) g) (stays_shut x.topology (is_discarding x) (bits_of x) (h.1 e)).5),
     h.2,
   )
-  role_keeps role_rule.Block g k = (λ e. absurd (omega (arith, e, k)), h.2)
-  role_keeps role_rule.Alternate g k = (λ e. absurd (omega (arith, e, k)), h.2)
-  role_keeps role_rule.AlternateProposed g k = (λ e. absurd (omega (arith, e, k)), h.2)
-  role_keeps role_rule.AlternateAgreed g k = (λ e. absurd (omega (arith, e, k)), h.2)
-  role_keeps role_rule.Backup g k = (λ e. absurd (omega (arith, e, k)), h.2)
+  role_keeps _ g k = (λ e. absurd (omega arith), h.2)
 
   topology_keeps : (rule : TopologyRule) → asks (rules.Topology rule) s p x ≡ true
       → Keeps (own (rules.Topology rule) (timing_in s) x)
@@ -129,7 +109,6 @@ module _ (s : Tree) (p : ℕ) (x : PortState) (h : IsLate x) where
       let q = noted_there x.topology _ (left _ _ (left _ _ (left _ _ g))) h.2 in
       timed (λ z. Keeps (record z { new_info = true })) (timing_in s) (record x { topology = topology.Active })
       (λ e. active_shut x.oper_edge _, q) (λ e. active_shut x.oper_edge _, q) (λ e. active_shut x.oper_edge _, q)
-  topology_keeps topology_rule.TcClear g = (h.1, or_true (is_inactive x.topology))
   topology_keeps topology_rule.TcInactive g = (
     λ e. no (sym (ap not (in_tree x h.0 e)) ∙ right _ (not (change.is_in_tree x)) (left _ _ (left _ _ (left _ _ g)))),
     refl,
@@ -142,24 +121,21 @@ module _ (s : Tree) (p : ℕ) (x : PortState) (h : IsLate x) where
   topology_keeps topology_rule.NotifiedTcn g =
       timed (λ z. Keeps (change.notified_at z)) (timing_in s) x (h.1, or_true (is_inactive x.topology))
       (h.1, or_true (is_inactive x.topology)) (h.1, or_true (is_inactive x.topology))
-  topology_keeps topology_rule.NotifiedTc g = (h.1, or_true (is_inactive x.topology))
   topology_keeps topology_rule.Propagating g =
       timed (λ z. Keeps (record z { flush = true; propagate_topology_change = false })) (timing_in s) x (h.1, h.2)
       (h.1, h.2) (h.1, h.2)
   topology_keeps topology_rule.Acknowledged g = (h.1, h.2)
   topology_keeps topology_rule.Flush g = (h.1, h.2)
+  topology_keeps _ g = (h.1, or_true (is_inactive x.topology))
 
   keeps : (rule : Rule) → is_select rule ≡ false → asks rule s p x ≡ true → Keeps (own rule (timing_in s) x)
   keeps rules.Select n g = no (sym n)
   keeps (rules.Receive receive_rule.Discard) n g = (h.1, h.2)
   keeps (rules.Receive receive_rule.Receive) n g = absurd (levels.receive-off x h.0.0.0.0.0 g)
   keeps (rules.Migration migration_rule.Recheck) n g = (h.1, h.2)
-  keeps (rules.Migration migration_rule.Checked) n g = (h.1, h.2)
-  keeps (rules.Migration migration_rule.Selected) n g = (h.1, h.2)
-  keeps (rules.Migration migration_rule.ToRstp) n g = (h.1, h.2)
-  keeps (rules.Migration migration_rule.ToStp) n g = (h.1, h.2)
+  keeps (rules.Migration _) n g = (h.1, h.2)
   keeps (rules.Detection detection_rule.Edge) n g =
-      (λ e. right (t (bits_of x)) _ (stays_shut x.topology (is_discarding x) (bits_of x) (h.1 e)).0, h.2)
+      (λ e. right _ _ (stays_shut x.topology (is_discarding x) (bits_of x) (h.1 e)).0, h.2)
   keeps (rules.Detection detection_rule.NotEdge) n g = (
     λ e. no (sym (ap not (enabled x h.0.0 e)) ∙ right x.oper_edge (not x.enabled) (left _ _ g)),
     h.2,
@@ -167,20 +143,17 @@ module _ (s : Tree) (p : ℕ) (x : PortState) (h : IsLate x) where
   keeps (rules.Information rule) n g = absurd (steady-informs rule x h.0.0 g)
   keeps (rules.Role rule) n g = role_keeps rule g (role-kind rule s p x g)
   keeps (rules.State state_rule.ToLearning) n g = (h.1, h.2)
-  keeps (rules.State state_rule.ToForwarding) n g = (h.1, h.2)
-  keeps (rules.State state_rule.ToDiscarding) n g = (h.1, h.2)
+  keeps (rules.State _) n g = (h.1, h.2)
   keeps (rules.Topology rule) n g = topology_keeps rule g
   keeps (rules.Transmit transmit_rule.Periodic) n g = (h.1, h.2)
-  keeps (rules.Transmit transmit_rule.SendConfig) n g = (h.1, h.2)
-  keeps (rules.Transmit transmit_rule.SendTcn) n g = (h.1, h.2)
-  keeps (rules.Transmit transmit_rule.SendRst) n g = (h.1, h.2)
+  keeps (rules.Transmit _) n g = (h.1, h.2)
 
 pub late-after : (rule : Rule) (s : Tree) (p : ℕ) → is_select rule ≡ false → guard rule s p ≡ true
     → AtAll (λ q. IsLate) s.ports → AtAll (λ q. IsLate) (ports_after rule s p)
 late-after rule s p other on all =
     let port = tested_at (asks rule s p) s.ports p on in
     let fit = fixed-fits rule s p port.0 port.2 (all p port.0 port.1).0 in
-    after-at rule s p (λ q. IsLate) (λ q. IsLate) other on (λ q x apart h. spread_late (spread_of rule) x fit h)
+    after-at rule s p (λ q. IsLate) (λ q. IsLate) other on (λ q x apart. spread_late (spread_of rule) x fit)
     (λ x g h. (let k = keeps s p x h rule other g in (fixed-goes rule s p x other g h.0, k.0, k.1))) all
 
 -- ---- only the root port tells
@@ -188,46 +161,23 @@ late-after rule s p other on all =
 shut_off : (t : Topology) (e f l c inside : Bool)
     → e || is_active t || ((not f || (not l && is_inactive t)) && c) ≡ true
     → is_learning t && inside && f && not e ≡ true → ⊥
-shut_off topology.Inactive e f l c inside h k = no k
-shut_off topology.Active e f l c inside h k = no k
-shut_off topology.Learning e f l c false h k = no k
-shut_off topology.Learning e false l c true h k = no k
-shut_off topology.Learning true true l c true h k = no k
-shut_off topology.Learning false true true c true h k = no h
-shut_off topology.Learning false true false c true h k = no h
+shut_off t e f l c inside h k = grind arith
 
-pub notes : (t : Topology) (a b : Bool) → is_inactive t || (not a && not b) ≡ true → is_active t && a ≡ true → ⊥
-notes topology.Inactive a b h k = no k
-notes topology.Learning a b h k = no k
-notes topology.Active true b h k = no h
-notes topology.Active false b h k = no k
+module _ (t : Topology) (a b : Bool) where
+  pub notes : is_inactive t || (not a && not b) ≡ true → is_active t && a ≡ true → ⊥
+  notes h k = grind arith
 
-pub notes_too : (t : Topology) (a b : Bool) → is_inactive t || (not a && not b) ≡ true → is_active t && b ≡ true → ⊥
-notes_too topology.Inactive a b h k = no k
-notes_too topology.Learning a b h k = no k
-notes_too topology.Active a false h k = no k
-notes_too topology.Active true true h k = no h
-notes_too topology.Active false true h k = no h
-
-same_onward : (test : Role → Bool) (r s : Role) → same_role r s ≡ true → test r ≡ true → test s ≡ true
-same_onward test r s same h = go (test s) refl
-  where
-    go : (b : Bool) → test s ≡ b → test s ≡ true
-    go true e = e
-    go false e = no (sym (other_role (λ z. not (test z)) r s (ap not e) (ap not h)) ∙ same)
+  pub notes_too : is_inactive t || (not a && not b) ≡ true → is_active t && b ≡ true → ⊥
+  notes_too h k = grind arith
 
 either_kind : (r s : Role) → same_role r s ≡ true → is_root r || is_designated r ≡ true
     → (is_root s ≡ true) ⊎ (is_designated s ≡ true)
-either_kind r s same h = go (is_root r) refl h
-  where
-    go : (b : Bool) → is_root r ≡ b → b || is_designated r ≡ true → (is_root s ≡ true) ⊎ (is_designated s ≡ true)
-    go true e k = inl (same_onward is_root r s same e)
-    go false e k = inr (same_onward is_designated r s same k)
+either_kind r s same h = grind arith
 
 pub root_tells : (s : Tree) (p : ℕ) (x : PortState) → IsLate x → change.detected_guard x ≡ true
     → is_root x.selected_role ≡ true
 root_tells s p x h g =
-    elim (either_kind x.role x.selected_role h.0.1.0 (right _ (change.is_in_tree x) (left _ _ (left _ _ g)))) [
+    elim (either_kind x.role x.selected_role h.0.1.0 (right _ _ (left _ _ (left _ _ g)))) [
       | inl root ↦ root
       | inr other ↦ absurd (shut_off x.topology x.oper_edge x.forward x.learn (core2 (bits_of x))
           (change.is_in_tree x) (h.1 (of-designated x.selected_role other)) g)

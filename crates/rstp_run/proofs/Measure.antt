@@ -12,7 +12,7 @@ use Rattle.rstp_state.specs.declared.port.Topology.{Topology}
 use Rattle.rstp_state.specs.declared.port.Topology.TheVariants as topology
 use Rattle.rstp_state.specs.Port.{is_received, is_out, is_root, same_role, forward_delay}
 use Rattle.rstp_machines.specs.TopologyChange.{is_in_tree}
-use Rattle.rstp_run.proofs.Totals.{if_so, if_so-le}
+use Rattle.rstp_run.proofs.Totals.{if_so}
 
 -- ---- the first level
 
@@ -134,50 +134,16 @@ acting n timing port =
 -- ---- bounds of the parts
 
 pub changing-le : (w : ℕ) (state : Topology) (outside learn : Bool) → changing w state outside learn ≤ w + w
-changing-le w topology.Active true learn = omega arith
-changing-le w topology.Active false learn = omega arith
-changing-le w topology.Learning outside learn = omega arith
-changing-le w topology.Inactive true false = omega arith
-changing-le w topology.Inactive true true = omega arith
-changing-le w topology.Inactive false learn = omega arith
+changing-le w state outside learn = grind arith
 
 pub stepping-le : (a b c d : Bool) → stepping a b c d ≤ 3
-stepping-le true true true true = omega arith
-stepping-le true true true false = omega arith
-stepping-le true true false true = omega arith
-stepping-le true true false false = omega arith
-stepping-le true false true true = omega arith
-stepping-le true false true false = omega arith
-stepping-le true false false true = omega arith
-stepping-le true false false false = omega arith
-stepping-le false true true true = omega arith
-stepping-le false true true false = omega arith
-stepping-le false true false d = omega arith
-stepping-le false false true d = omega arith
-stepping-le false false false true = omega arith
-stepping-le false false false false = omega arith
+stepping-le a b c d = grind arith
 
 pub going_on-le : (w : ℕ) (r : Role) (held learn forward : Bool) → going_on w r held learn forward ≤ w + w
-going_on-le w role.Root held learn forward =
-    let a = if_so-le w (not learn) in let b = if_so-le w (not forward) in omega (arith, a, b)
-going_on-le w role.Designated true learn forward =
-    let a = if_so-le w learn in let b = if_so-le w forward in omega (arith, a, b)
-going_on-le w role.Designated false learn forward =
-    let a = if_so-le w (not learn) in let b = if_so-le w (not forward) in omega (arith, a, b)
-going_on-le w role.Disabled held learn forward = omega arith
-going_on-le w role.Alternate held learn forward = omega arith
-going_on-le w role.Backup held learn forward = omega arith
+going_on-le w r held learn forward = grind arith
 
 pub migrating-le : (state : Migration) (waits received_stp : Bool) → migrating state waits received_stp ≤ 6
-migrating-le migration.Checking true received_stp = omega arith
-migrating-le migration.Checking false received_stp = omega arith
-migrating-le migration.Selecting waits received_stp = omega arith
-migrating-le migration.Sensing waits true = omega arith
-migrating-le migration.Sensing waits false = omega arith
+migrating-le state waits received_stp = grind arith
 
 pub waiting-le : (r : Role) (at_max_age at_delay : Bool) → waiting r at_max_age at_delay ≤ 1
-waiting-le role.Disabled at_max_age at_delay = if_so-le 1 (not at_max_age)
-waiting-le role.Alternate at_max_age at_delay = if_so-le 1 (not at_delay)
-waiting-le role.Backup at_max_age at_delay = if_so-le 1 (not at_delay)
-waiting-le role.Root at_max_age at_delay = omega arith
-waiting-le role.Designated at_max_age at_delay = omega arith
+waiting-le r at_max_age at_delay = grind arith

@@ -1,7 +1,7 @@
 -- Parts of the sweep: parts that change nothing, and the order of parts.
 use Rattle.std.proofs.Common.{◌≡◌, ℕ, zero, suc, ◌+◌, ◌≤◌, ◌<◌, ◌&&◌, ◌==◌, Bool, true, false, List, [], ◌∷◌, ◌++◌}
-use Rattle.std.proofs.Common.{length, take, get_or, refl, sym, ◌∙◌, ap, subst, arith, if◌then◌else◌}
-use Rattle.std.proofs.lemmas.Bool.{le-ltb, lt-ltb, or_parts, eqb-true}
+use Rattle.std.proofs.Common.{length, take, get_or, add-one, refl, sym, ◌∙◌, ap, arith, if◌then◌else◌}
+use Rattle.std.proofs.lemmas.Bool.{le-ltb, lt-ltb, or_parts, ne_eqb}
 use Rattle.std.proofs.lemmas.List.{length-append, take_more}
 use Rattle.rstp_run.specs.declared.count.Count.{Count}
 use Rattle.rstp_run.specs.declared.rule.Rule.{Rule}
@@ -32,12 +32,12 @@ tries-full rule p limit g full = rw (le-ltb (length g.firings) limit full) refl
 pub tries_all-full : (rules : List Rule) (p limit : ℕ) (g : Going) → IsFull limit g → tries_all rules p limit g ≡ g
 tries_all-full [] p limit g full = refl
 tries_all-full (rule ∷ rules) p limit g full =
-    ap (tries_all rules p limit) (tries-full rule p limit g full) ∙ tries_all-full rules p limit g full
+    rw (tries-full rule p limit g full) (tries_all-full rules p limit g full)
 
 tries_below-full : (rules : List Rule) (n limit : ℕ) (g : Going) → IsFull limit g → tries_below rules n limit g ≡ g
 tries_below-full rules zero limit g full = refl
 tries_below-full rules (suc n) limit g full =
-    ap (tries_all rules n limit) (tries_below-full rules n limit g full) ∙ tries_all-full rules n limit g full
+    rw (tries_below-full rules n limit g full) (tries_all-full rules n limit g full)
 
 pub pass-full : (rules : List Rule) (limit : ℕ) (g : Going) → IsFull limit g → pass rules limit g ≡ g
 pass-full rules limit g full = tries_below-full rules (length g.tree.ports) limit g full
@@ -52,14 +52,14 @@ pub tries_all-off : (rules : List Rule) (p limit : ℕ) (g : Going) → AreOffAt
 tries_all-off [] p limit g off = refl
 tries_all-off (rule ∷ rules) p limit g off =
     let parts = or_parts _ _ off in
-    ap (tries_all rules p limit) (tries-off rule p limit g parts.0) ∙ tries_all-off rules p limit g parts.1
+    rw (tries-off rule p limit g parts.0) (tries_all-off rules p limit g parts.1)
 
 pub tries_below-off : (rules : List Rule) (n limit : ℕ) (g : Going) → AreOffBelow rules n g.tree
     → tries_below rules n limit g ≡ g
 tries_below-off rules zero limit g off = refl
 tries_below-off rules (suc n) limit g off =
-    ap (tries_all rules n limit) (tries_below-off rules n limit g (λ p below. off p (omega (arith, below))))
-    ∙ tries_all-off rules n limit g (off n (omega arith))
+    rw (tries_below-off rules n limit g (λ p below. off p (omega arith)))
+    (tries_all-off rules n limit g (off n (omega arith)))
 
 pub pass-off : (rules : List Rule) (limit : ℕ) (g : Going) → AreOff rules g.tree → pass rules limit g ≡ g
 pass-off rules limit g off = tries_below-off rules (length g.tree.ports) limit g off
@@ -77,40 +77,37 @@ until-last zero f g first still = sym (first refl)
 until-last (suc n) f g first still =
     either _ (f g) (until_idle n f (f g)) (f g) refl (until-still n f (f g) still)
 
--- the first time is the last one
-pub until-once : (n : ℕ) (f : Going → Going) (g : Going) → (length (f g).firings == length g.firings) ≡ true
-    → until_idle (suc n) f g ≡ f g
-until-once n f g is = rw is refl
+module _ (n : ℕ) (f : Going → Going) (g : Going) where
+  -- the first time is the last one
+  pub until-once : (length (f g).firings == length g.firings) ≡ true
+      → until_idle (suc n) f g ≡ f g
+  until-once is = rw is refl
 
--- not the last time
-pub until-more : (n : ℕ) (f : Going → Going) (g : Going) → length g.firings < length (f g).firings
-    → until_idle (suc n) f g ≡ until_idle n f (f g)
-until-more n f g more = go (length (f g).firings == length g.firings) refl
-  where
-    go : (b : Bool) → (length (f g).firings == length g.firings) ≡ b → until_idle (suc n) f g ≡ until_idle n f (f g)
-    go true is = absurd (let same = eqb-true (length (f g).firings) (length g.firings) is in omega (arith, same, more))
-    go false is = rw is refl
+  -- not the last time
+  pub until-more : length g.firings < length (f g).firings
+      → until_idle (suc n) f g ≡ until_idle n f (f g)
+  until-more more = rw (ne_eqb (length (f g).firings) (length g.firings) (λ e. omega arith))
 
-passes-full : (rules : List Rule) (limit : ℕ) (g : Going) → IsFull limit g → passes rules limit g ≡ g
-passes-full rules limit g full = until-still limit (pass rules limit) g (pass-full rules limit g full)
+module _ (rules : List Rule) (limit : ℕ) (g : Going) where
+  passes-full : IsFull limit g → passes rules limit g ≡ g
+  passes-full full = until-still limit (pass rules limit) g (pass-full rules limit g full)
 
-pub passes-off : (rules : List Rule) (limit : ℕ) (g : Going) → AreOff rules g.tree → passes rules limit g ≡ g
-passes-off rules limit g off = until-still limit (pass rules limit) g (pass-off rules limit g off)
+  pub passes-off : AreOff rules g.tree → passes rules limit g ≡ g
+  passes-off off = until-still limit (pass rules limit) g (pass-off rules limit g off)
 
 pub round-full : (limit : ℕ) (g : Going) → IsFull limit g → round limit g ≡ g
 round-full limit g full =
-    ap (passes sending_order limit) (passes-full main_order limit g full) ∙ passes-full sending_order limit g full
+    rw (passes-full main_order limit g full) (passes-full sending_order limit g full)
 
 pub round-off : (limit : ℕ) (g : Going) → AreOff main_order g.tree → AreOff sending_order g.tree → round limit g ≡ g
 round-off limit g main sends =
-    ap (passes sending_order limit) (passes-off main_order limit g main) ∙ passes-off sending_order limit g sends
+    rw (passes-off main_order limit g main) (passes-off sending_order limit g sends)
 
 -- ---- one more rule, and one more port
 
 pub tries_below-more : (rules : List Rule) (n limit : ℕ) (g : Going)
     → tries_below rules (n + 1) limit g ≡ tries_all rules n limit (tries_below rules n limit g)
-tries_below-more rules n limit g =
-    let next : n + 1 ≡ suc n = omega arith in ap (λ k. tries_below rules k limit g) next
+tries_below-more rules n limit g = rw (add-one n)
 
 pub tries_all-append : (first second : List Rule) (p limit : ℕ) (g : Going)
     → tries_all (first ++ second) p limit g ≡ tries_all second p limit (tries_all first p limit g)
@@ -121,8 +118,7 @@ pub tries_all-more : (rules : List Rule) (i : ℕ) (d : Rule) (p limit : ℕ) (g
     → tries_all (take (i + 1) rules) p limit g
     ≡ tries (get_or rules i d) p limit (tries_all (take i rules) p limit g)
 tries_all-more rules i d p limit g within =
-    ap (λ list. tries_all list p limit g) (take_more rules i d within)
-    ∙ tries_all-append (take i rules) (get_or rules i d ∷ []) p limit g
+    rw (take_more rules i d within) (tries_all-append (take i rules) (get_or rules i d ∷ []) p limit g)
 
 -- the rule fires
 pub tries-on : (rule : Rule) (p limit : ℕ) (g : Going) → length g.firings < limit → guard rule g.tree p ≡ true
@@ -132,12 +128,12 @@ tries-on rule p limit g below on = rw (lt-ltb (length g.firings) limit below, on
 -- ---- one part after another
 
 -- the same firings by another part of the sweep
-pub goes-as : (part rest part' rest' : Walk) (s t : Tree) (a b : Count) (goes : Goes part rest s a t b)
+pub goes-as : {part rest part' rest' : Walk} {s t : Tree} {a b : Count} (goes : Goes part rest s a t b)
     → ((before : List Firing) → length before ≡ a.fired
     → part' a.limit (record { tree = s; firings = before })
     ≡ rest' a.limit (record { tree = t; firings = goes.firings ++ before }))
     → Goes part' rest' s a t b
-goes-as part rest part' rest' s t a b goes order = record {
+goes-as goes order = record {
   firings = goes.firings;
   run = goes.run;
   fired = goes.fired;
@@ -163,55 +159,35 @@ goes-none part rest s a within order = record {
 }
 
 -- a part, before another part
-pub goes-first : (part rest : Walk) (s t : Tree) (a b : Count) → Goes part done s a t b
+pub goes-first : {part rest : Walk} {s t : Tree} {a b : Count} → Goes part done s a t b
     → Goes (and_then part rest) rest s a t b
-goes-first part rest s t a b goes =
-    goes-as part done (and_then part rest) rest s t a b goes (λ before is. ap (rest a.limit) (goes.order before is))
+goes-first goes = goes-as goes (λ before is. rw (goes.order before is))
 
 -- the count after a part is the number of its firings and of the earlier ones together
-pub tally : (part rest : Walk) (s t : Tree) (a b : Count) (goes : Goes part rest s a t b) (before : List Firing)
+pub tally : {part rest : Walk} {s t : Tree} {a b : Count} (goes : Goes part rest s a t b) (before : List Firing)
     → length before ≡ a.fired → length (goes.firings ++ before) ≡ b.fired
-tally part rest s t a b goes before is =
-    let f : b.fired ≡ a.fired + length goes.firings = goes.fired in
-    let l = length-append goes.firings before in
-    omega (arith, l, f, is)
+tally goes before is = omega (arith, length-append goes.firings before, goes.fired)
 
 abbrev pub again : ℕ → Walk → Walk
 again n part limit g = until_idle n (part limit) g
 
 module _ (part : Walk) (is_full : (limit : ℕ) (g : Going) → IsFull limit g → part limit g ≡ g) where
   -- the last time: after it the part changes nothing
-  pub goes-last : (n : ℕ) (s t : Tree) (a b : Count) → Goes part done s a t b → a.limit ≤ n + a.fired
+  pub goes-last : (n : ℕ) {s t : Tree} {a b : Count} → Goes part done s a t b → a.limit ≤ n + a.fired
       → ((before : List Firing) → length before ≡ b.fired
       → part b.limit (record { tree = t; firings = before }) ≡ record { tree = t; firings = before })
       → Goes (again n part) done s a t b
-  goes-last n s t a b goes enough still = goes-as part done (again n part) done s t a b goes last
-    where
-      last : (before : List Firing) → length before ≡ a.fired
-          → until_idle n (part a.limit) (record { tree = s; firings = before })
-          ≡ record { tree = t; firings = goes.firings ++ before }
-      last before is =
-          let g : Going = record { tree = s; firings = before } in
-          let g' : Going = record { tree = t; firings = goes.firings ++ before } in
-          let now : part a.limit g ≡ g' = goes.order before is in
-          let end : part b.limit g' ≡ g' = still (goes.firings ++ before) (tally part done s t a b goes before is) in
-          let rests : part a.limit g' ≡ g' = subst (λ n. part n g' ≡ g') goes.limit end in
-          until-last n (part a.limit) g (λ none. is_full a.limit g (omega (arith, none, enough, is)))
-          (ap (part a.limit) now ∙ rests ∙ sym now)
-          ∙ now
+  goes-last n {s = s} {a = a} goes enough still = goes-as goes (λ before is.
+      let g : Going = record { tree = s; firings = before } in
+      let now = goes.order before is in
+      let rests = rw goes.limit at (still (goes.firings ++ before) (tally goes before is)) in
+      until-last n (part a.limit) g (λ none. is_full a.limit g (omega arith)) (rw now rests) ∙ now)
 
   -- not the last time
-  pub goes-more : (n : ℕ) (s t : Tree) (a b : Count) → Goes part done s a t b → a.fired < b.fired
+  pub goes-more : (n : ℕ) {s t : Tree} {a b : Count} → Goes part done s a t b → a.fired < b.fired
       → Goes (again (suc n) part) (again n part) s a t b
-  goes-more n s t a b goes more = goes-as part done (again (suc n) part) (again n part) s t a b goes next
-    where
-      next : (before : List Firing) → length before ≡ a.fired
-          → until_idle (suc n) (part a.limit) (record { tree = s; firings = before })
-          ≡ until_idle n (part a.limit) (record { tree = t; firings = goes.firings ++ before })
-      next before is =
-          let g : Going = record { tree = s; firings = before } in
-          let g' : Going = record { tree = t; firings = goes.firings ++ before } in
-          let now : part a.limit g ≡ g' = goes.order before is in
-          let many : length (part a.limit g).firings ≡ b.fired =
-          ap (λ (x : Going). length x.firings) now ∙ tally part done s t a b goes before is in
-          until-more n (part a.limit) g (omega (arith, many, is, more)) ∙ ap (until_idle n (part a.limit)) now
+  goes-more n {s = s} {a = a} {b = b} goes more = goes-as goes (λ before is.
+      let g : Going = record { tree = s; firings = before } in
+      let now = goes.order before is in
+      let many : length (part a.limit g).firings ≡ b.fired = rw now (tally goes before is) in
+      until-more n (part a.limit) g (omega arith) ∙ ap (until_idle n (part a.limit)) now)

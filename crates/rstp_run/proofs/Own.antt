@@ -1,8 +1,7 @@
 -- The effects of a firing on its own port, and on each other port.
 use Rattle.std.proofs.Common.{◌≡◌, ℕ, ◌⊎◌, inl, inr, Bool, true, false, not, List, [], ◌∷◌, ◌&&◌, Some, map}
-use Rattle.std.proofs.Common.{slice_get, slice_set, refl, sym, ap, subst, ◌∙◌, arith}
-use Rattle.std.proofs.lemmas.Bool.{and_parts, cases_lt, not-true}
-use Rattle.std.specs.Option.{option_map_or}
+use Rattle.std.proofs.Common.{slice_get, slice_set, refl, arith}
+use Rattle.std.proofs.lemmas.Bool.{and_parts, not-true}
 use Rattle.rstp_state.specs.declared.port.PortState.{PortState}
 use Rattle.rstp_state.specs.declared.port.Timing.{Timing}
 use Rattle.rstp_state.specs.Port.{change_at}
@@ -107,102 +106,70 @@ own (rules.Transmit rule) timing port = transmit_does rule timing port
 -- ---- facts of all ports after a firing
 
 same_place : (q p : ℕ) → (q ≡ p) ⊎ (q ≡ p → ⊥)
-same_place q p = elim (cases_lt q p) [
-  | inl less ↦ inr (λ e. absurd (omega (arith, less, e)))
-  | inr from ↦ elim (cases_lt p q) [
-    | inl more ↦ inr (λ e. absurd (omega (arith, more, e)))
-    | inr to ↦ inl (omega (arith, from, to))
-  ]
-]
+same_place q p = grind arith
 
 -- the port came by this change from one with the fact
 abbrev Made : (PortState → PortState) → (ℕ → PortState → Type 0) → ℕ → PortState → Type 0
 Made every P q y = (x : PortState) × (every x ≡ y) × P q x
 
 module _ (P Q : ℕ → PortState → Type 0) (p : ℕ) (ports : List PortState) (all : AtAll P ports) where
-  alone : (does : PortState → PortState) → ((q : ℕ) (x : PortState) → (q ≡ p → ⊥) → P q x → Q q x)
-      → ((x : PortState) → P p x → Q p (does x)) → AtAll Q (change_at p does ports)
-  alone does others here = at_change P Q does ports p others (λ x at h. here x h) all
+  -- the change leads from P to Q at each other port, and at the port at place p
+  abbrev Others : (PortState → PortState) → Type 0
+  Others does = (q : ℕ) (x : PortState) → (q ≡ p → ⊥) → P q x → Q q (does x)
 
-  everywhere : (every does : PortState → PortState)
-      → ((q : ℕ) (x : PortState) → (q ≡ p → ⊥) → P q x → Q q (every x))
-      → ((x : PortState) → P p x → Q p (does (every x))) → AtAll Q (change_at p does (map every ports))
+  abbrev Here : (PortState → PortState) → Type 0
+  Here does = (x : PortState) → P p x → Q p (does x)
+
+  alone : (does : PortState → PortState) → Others (λ x. x) → Here does → AtAll Q (change_at p does ports)
+  alone does others here = at_change P Q does ports p others (λ x at. here x) all
+
+  everywhere : (every does : PortState → PortState) → Others every → Here (λ x. does (every x))
+      → AtAll Q (change_at p does (map every ports))
   everywhere every does others here =
       at_change (Made every P) Q does (map every ports) p
-      (λ q y apart m. subst (Q q) m.1 (others q m.0 apart m.2))
-      (λ y at m. (let R : PortState → Type 0 = λ z. Q p (does z) in subst R m.1 (here m.0 m.2)))
+      (λ q y apart m. rw m.1 at (others q m.0 apart m.2))
+      (λ y at m. rw (← m.1) (here m.0 m.2))
       (at_map P (Made every P) every (λ q x h. (x, refl, h)) ports all)
 
-  rerooting : ((q : ℕ) (x : PortState) → (q ≡ p → ⊥) → P q x → Q q (with_re_root x))
-      → ((x : PortState) → P p x → Q p (with_re_root x)) → AtAll Q (map with_re_root ports)
+  rerooting : Others with_re_root → Here with_re_root → AtAll Q (map with_re_root ports)
   rerooting others here = at_map P Q with_re_root by ports all
     where
       by : (q : ℕ) (x : PortState) → P q x → Q q (with_re_root x)
       by q x h = elim (same_place q p) [
-        | inl e ↦ (let R : ℕ → Type 0 = λ k. Q k (with_re_root x) in
-            let S : ℕ → Type 0 = λ k. P k x in subst R (sym e) (here x (subst S e h)))
+        | inl e ↦ rw e (here x (rw e at h))
         | inr apart ↦ others q x apart h
       ]
 
   telling : (does : PortState → PortState) (port : PortState) → slice_get ports p ≡ Some port
-      → ((q : ℕ) (x : PortState) → (q ≡ p → ⊥) → P q x → Q q (with_propagation x))
-      → ((x : PortState) → P p x → Q p (does x)) → AtAll Q (telling_others p does ports)
+      → Others with_propagation → Here does → AtAll Q (telling_others p does ports)
   telling does port at others here =
       let there = slice_get-map with_propagation ports p port at in
       let same : change_at p (λ y. does port) (map with_propagation ports)
-      ≡ slice_set (map with_propagation ports) p (does port) = rw there refl in
-      let R : List PortState → Type 0 = λ l. AtAll Q l in
-      subst R (sym (told p does ports port at)) (subst R same
-      (at_change (Made with_propagation P) Q (λ y. does port) (map with_propagation ports) p
-      (λ q y apart m. subst (Q q) m.1 (others q m.0 apart m.2)) (λ y from m. here port (all p port at))
-      (at_map P (Made with_propagation P) with_propagation (λ q x h. (x, refl, h)) ports all)))
+      ≡ slice_set (map with_propagation ports) p (does port) = rw there in
+      rw (told p does ports port at, ← same)
+      (everywhere with_propagation (λ y. does port) others (λ x h. here port (all p port at)))
 
-  role_at : (rule : RoleRule) (timing : Timing)
-      → ((q : ℕ) (x : PortState) → (q ≡ p → ⊥) → P q x → Q q (spread_by (role_spread rule) x))
-      → ((x : PortState) → P p x → Q p (own_role rule timing x)) → AtAll Q (role_does rule timing ports p)
-  role_at role_rule.Disable timing others here = alone roles.disable_effect others here
-  role_at role_rule.DisabledPort timing others here = alone (roles.disabled_port_effect timing) others here
-  role_at role_rule.Root timing others here = alone (roles.root_effect timing) others here
+  role_at : (rule : RoleRule) (timing : Timing) → Others (spread_by (role_spread rule)) → Here (own_role rule timing)
+      → AtAll Q (role_does rule timing ports p)
   role_at role_rule.RootProposed timing others here = everywhere with_sync roles.without_proposal others here
-  role_at role_rule.RootAgreed timing others here = alone roles.root_agreed_effect others here
-  role_at role_rule.Reroot timing others here = rerooting others here
-  role_at role_rule.Rerooted timing others here = alone roles.rerooted_effect others here
-  role_at role_rule.RootLearn timing others here = alone (roles.root_learn_effect timing) others here
-  role_at role_rule.RootForward timing others here = alone roles.root_forward_effect others here
-  role_at role_rule.Designated timing others here = alone roles.designated_effect others here
-  role_at role_rule.Propose timing others here = alone (roles.propose_effect timing) others here
-  role_at role_rule.Synced timing others here = alone roles.synced_effect others here
-  role_at role_rule.Retired timing others here = alone roles.retired_effect others here
-  role_at role_rule.DesignatedDiscard timing others here = alone (roles.designated_discard_effect timing) others here
-  role_at role_rule.DesignatedLearn timing others here = alone (roles.designated_learn_effect timing) others here
-  role_at role_rule.DesignatedForward timing others here = alone roles.designated_forward_effect others here
-  role_at role_rule.Block timing others here = alone roles.block_effect others here
-  role_at role_rule.Alternate timing others here = alone (roles.alternate_effect timing) others here
   role_at role_rule.AlternateProposed timing others here = everywhere with_sync roles.without_proposal others here
-  role_at role_rule.AlternateAgreed timing others here = alone roles.alternate_agreed_effect others here
-  role_at role_rule.Backup timing others here = alone (roles.backup_effect timing) others here
+  role_at role_rule.Reroot timing others here = rerooting others here
+  role_at rule timing others here = alone (own_role rule timing) others here
 
   topology_at : (rule : TopologyRule) (timing : Timing) (port : PortState) → slice_get ports p ≡ Some port
-      → ((q : ℕ) (x : PortState) → (q ≡ p → ⊥) → P q x → Q q (spread_by (topology_spread rule) x))
-      → ((x : PortState) → P p x → Q p (own_topology rule timing x)) → AtAll Q (topology_does rule timing ports p)
-  topology_at topology_rule.TcLearning timing port at others here = alone changes.tc_learning_effect others here
+      → Others (spread_by (topology_spread rule)) → Here (own_topology rule timing)
+      → AtAll Q (topology_does rule timing ports p)
   topology_at topology_rule.Detected timing port at others here =
       telling (changes.detected_at timing) port at others here
-  topology_at topology_rule.TcClear timing port at others here = alone changes.tc_clear_effect others here
-  topology_at topology_rule.TcInactive timing port at others here = alone changes.tc_inactive_effect others here
-  topology_at topology_rule.TcBack timing port at others here = alone changes.tc_back_effect others here
   topology_at topology_rule.NotifiedTcn timing port at others here =
       telling (changes.notified_tcn_at timing) port at others here
   topology_at topology_rule.NotifiedTc timing port at others here = telling changes.notified_at port at others here
-  topology_at topology_rule.Propagating timing port at others here =
-      alone (changes.propagating_effect timing) others here
-  topology_at topology_rule.Acknowledged timing port at others here = alone changes.acknowledged_effect others here
-  topology_at topology_rule.Flush timing port at others here = alone changes.flush_effect others here
+  topology_at rule timing port at others here = alone (own_topology rule timing) others here
 
 -- the port at which the rule is enabled passes its test
 asked_at : (rule : Rule) (s : Tree) (p : ℕ) (x : PortState) → guard rule s p ≡ true → slice_get s.ports p ≡ Some x
     → asks rule s p x ≡ true
-asked_at rule s p x on at = sym (ap (λ o. option_map_or (asks rule s p) o false) at) ∙ on
+asked_at rule s p x on at = rw at at on
 
 -- a fact, and that the rule's guard holds at its port
 abbrev Asked : Rule → Tree → ℕ → (ℕ → PortState → Type 0) → ℕ → PortState → Type 0
@@ -217,26 +184,18 @@ after-at rule s p P Q other on others here all =
     (tested_at (asks rule s p) s.ports p on)
   where
     asked : AtAll (Asked rule s p P) s.ports
-    asked q x at =
-        let S : ℕ → Type 0 = λ k. slice_get s.ports k ≡ Some x in
-        (λ e. asked_at rule s p x on (subst S e at), all q x at)
+    asked q x at = (λ e. asked_at rule s p x on (rw e at at), all q x at)
 
     go : (r : Rule) → is_select r ≡ false
         → ((q : ℕ) (x : PortState) → (q ≡ p → ⊥) → Asked rule s p P q x → Q q (spread_by (spread_of r) x))
         → ((x : PortState) → Asked rule s p P p x → Q p (own r (timing_in s) x))
         → (port : PortState) × (slice_get s.ports p ≡ Some port) × (asks rule s p port ≡ true)
         → AtAll Q (ports_after r s p)
-    go rules.Select no_select o h port = let e : ⊥ = cc in absurd e
-    go (rules.Receive r) no_select o h port = alone (Asked rule s p P) Q p s.ports asked (receive_does r) o h
-    go (rules.Migration r) no_select o h port = alone (Asked rule s p P) Q p s.ports asked (migration_does r) o h
-    go (rules.Detection r) no_select o h port = alone (Asked rule s p P) Q p s.ports asked (detection_does r) o h
-    go (rules.Information r) no_select o h port = alone (Asked rule s p P) Q p s.ports asked (information_does r) o h
+    go rules.Select no_select o h port = cc
     go (rules.Role r) no_select o h port = role_at (Asked rule s p P) Q p s.ports asked r (timing_in s) o h
-    go (rules.State r) no_select o h port = alone (Asked rule s p P) Q p s.ports asked (state_does r) o h
     go (rules.Topology r) no_select o h port =
         topology_at (Asked rule s p P) Q p s.ports asked r (timing_in s) port.0 port.1 o h
-    go (rules.Transmit r) no_select o h port =
-        alone (Asked rule s p P) Q p s.ports asked (transmit_does r (timing_in s)) o h
+    go r no_select o h port = alone (Asked rule s p P) Q p s.ports asked (own r (timing_in s)) o h
 
 -- ---- a port whose rules are being tried
 
@@ -246,6 +205,9 @@ all_keep keeps (rule ∷ rest) = not (is_select rule) && keeps rule && all_keep 
 
 -- R is known of every port. V is known of the earlier ports, U of the later ones.
 module _ (R V U : PortState → Type 0) (c n limit p : ℕ) where
+  abbrev Zoned : (PortState → Type 0) → ℕ → PortState → Type 0
+  Zoned H = Zone (λ x. R x × V x) (λ x. R x × H x) (λ x. R x × U x) p
+
   abbrev pub Now : (PortState → Type 0) → Going → Type 0
   Now H g = Stage c n (Zone (λ x. R x × V x) (λ x. R x × H x) (λ x. R x × U x) p) limit g
 
@@ -263,42 +225,32 @@ module _ (R V U : PortState → Type 0) (c n limit p : ℕ) where
         → ((s : Tree) (x : PortState) → R x → asks rule s p x ≡ true → H x → K (own rule (timing_in s) x))
         → (g : Going) → Now H g → Now K (tries rule p limit g)
     step H K rule other rests fires g h =
-        stage-tries c n limit (Zone (λ x. R x × V x) (λ x. R x × H x) (λ x. R x × U x) p)
-        (Zone (λ x. R x × V x) (λ x. R x × K x) (λ x. R x × U x) p) rule p g other off on h
+        stage-tries c n limit (Zoned H) (Zoned K) rule p g other off on h
       where
         here : (x : PortState) → guard rule g.tree p ≡ false → slice_get g.tree.ports p ≡ Some x
             → asks rule g.tree p x ≡ false
-        here x is at = sym (ap (λ o. option_map_or (asks rule g.tree p) o false) at) ∙ is
+        here x is at = rw at at is
 
-        off : guard rule g.tree p ≡ false
-            → AtAll (Zone (λ x. R x × V x) (λ x. R x × H x) (λ x. R x × U x) p) g.tree.ports
-            → AtAll (Zone (λ x. R x × V x) (λ x. R x × K x) (λ x. R x × U x) p) g.tree.ports
+        off : guard rule g.tree p ≡ false → AtAll (Zoned H) g.tree.ports → AtAll (Zoned K) g.tree.ports
         off is all q x at =
             let z = all q x at in
-            let S : ℕ → Type 0 = λ k. slice_get g.tree.ports k ≡ Some x in (
-              z.0,
-              λ e. (let h = z.1 e in (h.0, rests g.tree x h.0 (here x is (subst S e at)) h.1)),
-              z.2,
-            )
+            (z.0, λ e. (let h = z.1 e in (h.0, rests g.tree x h.0 (here x is (rw e at at)) h.1)), z.2)
 
-        on : guard rule g.tree p ≡ true
-            → AtAll (Zone (λ x. R x × V x) (λ x. R x × H x) (λ x. R x × U x) p) g.tree.ports
-            → AtAll (Zone (λ x. R x × V x) (λ x. R x × K x) (λ x. R x × U x) p) (ports_after rule g.tree p)
+        on : guard rule g.tree p ≡ true → AtAll (Zoned H) g.tree.ports → AtAll (Zoned K) (ports_after rule g.tree p)
         on is all =
             let port = tested_at (asks rule g.tree p) g.tree.ports p is in
             let fits = calm rule g.tree port.0 other port.2 ((all p port.0 port.1).1 refl).0 in
-            after-at rule g.tree p (Zone (λ x. R x × V x) (λ x. R x × H x) (λ x. R x × U x) p)
-            (Zone (λ x. R x × V x) (λ x. R x × K x) (λ x. R x × U x) p) other is
+            after-at rule g.tree p (Zoned H) (Zoned K) other is
             (λ q x apart z. (
               λ less. early (spread_of rule) x fits (z.0 less),
               λ e. absurd (apart e),
               λ more. late (spread_of rule) x fits (z.2 more),
             ))
             (λ x asked z. (
-              λ less. absurd (omega (arith, less)),
+              λ less. absurd (omega arith),
               λ e. (let h = z.1 refl in
                   (stays rule g.tree x other asked h.0, fires g.tree x h.0 asked h.1)),
-              λ less. absurd (omega (arith, less)),
+              λ less. absurd (omega arith),
             )) all
 
     -- rules that keep the fact H
@@ -312,4 +264,4 @@ module _ (R V U : PortState → Type 0) (c n limit p : ℕ) where
         let first = and_parts (not (is_select rule)) (keeps rule) kept.0 in
         let other = not-true (is_select rule) first.0 in
         steps H keeps fires rest kept.1 (tries rule p limit g)
-        (step H H rule other (λ s x r off k. k) (λ s x r on k. fires rule s x other first.1 r on k) g h)
+        (step H H rule other (λ s x r off k. k) (λ s x. fires rule s x other first.1) g h)

@@ -1,11 +1,11 @@
 -- The rules of roles and states in a visit of a port, on six of its flags, whatever its timers, its agreement and its
 -- edge are.
-use Rattle.std.proofs.Common.{◌≡◌, ℕ, ◌+◌, ◌≤◌, ◌<◌, Bool, true, false, not, ◌&&◌, ◌||◌, ◌==◌}
-use Rattle.std.proofs.Common.{refl, sym, ap, ◌∙◌, arith, if◌then◌else◌}
+use Rattle.std.proofs.Common.{◌≡◌, ℕ, ◌+◌, ◌≤◌, Bool, true, false, not, ◌&&◌, ◌||◌, ◌==◌}
+use Rattle.std.proofs.Common.{refl, sym, ap, arith, if◌then◌else◌}
 use Rattle.rstp_state.specs.declared.port.PortState.{PortState}
 use Rattle.rstp_state.specs.declared.port.Role.{Role}
 use Rattle.rstp_state.specs.declared.port.Role.TheVariants as role
-use Rattle.rstp_state.specs.Port.{edge_delay, is_designated, is_discarding}
+use Rattle.rstp_state.specs.Port.{edge_delay, is_designated}
 use Rattle.rstp_roles.specs.RoleTransitions as roles
 use Rattle.rstp_roles.specs.declared.rule.RoleRule.{RoleRule}
 use Rattle.rstp_roles.specs.declared.rule.RoleRule.TheVariants as role_rule
@@ -19,7 +19,7 @@ use Rattle.rstp_run.proofs.Own.{own_role}
 use Rattle.rstp_run.proofs.RoleKinds.{as-designated, kind, role-kind, rule_kind}
 use Rattle.rstp_run.proofs.RoleParts.{not_held, on_both, retired_held}
 use Rattle.rstp_run.proofs.Totals.{if_so}
-use Rattle.rstp_state.proofs.Basics.{no, and_left as left, and_right as right}
+use Rattle.rstp_state.proofs.Basics.{and_left as left, and_right as right}
 
 -- ---- the flags
 
@@ -94,32 +94,11 @@ turned_on state_rule.ToDiscarding c = record c { learning = false; forwarding = 
 -- ---- the rules of a port
 
 -- the flags of a port whose selected role isn't Designated
-aside : (r : Role) (k : ℕ) → kind r ≡ k → (k ≡ 2 → ⊥) → is_designated r ≡ false
-aside role.Disabled k h other = refl
-aside role.Root k h other = refl
-aside role.Designated k h other = absurd (other (sym h))
-aside role.Alternate k h other = refl
-aside role.Backup k h other = refl
+aside : (r : Role) (k : ℕ) → kind r ≡ k → (k == 2) ≡ false → is_designated r ≡ false
+aside role.Designated k h other = absurd (let no = rw (← h) at other in cc)
+aside _ k h other = refl
 
 module _ (x : PortState) where
-  -- a port with these flags: after a rule of another role
-  out : (y : PortState) (rule : RoleRule) → y.selected_role ≡ x.selected_role → is_designated x.selected_role ≡ false
-      → gait_with false y ≡ stepped rule (gait_with false x) → gait_of y ≡ stepped rule (gait_of x)
-  out y rule same none h =
-      let first : gait_of y ≡ gait_with false y = ap (λ b. gait_with (b && is_held y) y)
-      (ap is_designated same ∙ none) in
-      let last : gait_of x ≡ gait_with false x = ap (λ b. gait_with (b && is_held x) x) none in
-      first ∙ h ∙ sym (ap (stepped rule) last)
-
-  -- after a rule of the role Designated
-  into : (y : PortState) (rule : RoleRule) → y.selected_role ≡ x.selected_role → is_designated x.selected_role ≡ true
-      → gait_with (is_held y) y ≡ stepped rule (gait_with (is_held x) x) → gait_of y ≡ stepped rule (gait_of x)
-  into y rule same some h =
-      let first : gait_of y ≡ gait_with (is_held y) y = ap (λ b. gait_with (b && is_held y) y)
-      (ap is_designated same ∙ some) in
-      let last : gait_of x ≡ gait_with (is_held x) x = ap (λ b. gait_with (b && is_held x) x) some in
-      first ∙ h ∙ sym (ap (stepped rule) last)
-
   -- what a firing does: the flags after it, and its price
   pub record Steps (rule : RoleRule) (y : PortState) : Type 0 where
     pub on : may rule (gait_of x) ≡ true
@@ -129,144 +108,86 @@ module _ (x : PortState) where
     pub same_role : y.selected_role ≡ x.selected_role
 
   -- a rule of another role than Designated that doesn't change the number of inputs
-  outside : (y : PortState) (rule : RoleRule) (k : ℕ) → kind x.selected_role ≡ k → (k ≡ 2 → ⊥)
+  outside : {y : PortState} {rule : RoleRule} {k : ℕ} → kind x.selected_role ≡ k → (k == 2) ≡ false
       → may rule (gait_of x) ≡ true → price rule (gait_of x) ≡ 1 → y.selected_role ≡ x.selected_role
       → wait y ≡ wait x → inputs y ≡ inputs x → gait_with false y ≡ stepped rule (gait_with false x) → Steps rule y
-  outside y rule k is other on price same waits ins h = record {
+  outside {k = k} is other on price same waits ins h = record {
     on = on;
-    to = out y rule same (aside x.selected_role k is other) h;
-    paid = omega (arith, price, ins);
+    to = rw (same, aside x.selected_role k is other) h;
+    paid = omega arith;
     waits = waits;
     same_role = same;
   }
 
-  inside : (y : PortState) (rule : RoleRule) → kind x.selected_role ≡ 2 → may rule (gait_of x) ≡ true
+  inside : {y : PortState} {rule : RoleRule} → kind x.selected_role ≡ 2 → may rule (gait_of x) ≡ true
       → inputs y + 1 ≤ inputs x + price rule (gait_of x) → y.selected_role ≡ x.selected_role → wait y ≡ wait x
       → gait_with (is_held y) y ≡ stepped rule (gait_with (is_held x) x) → Steps rule y
-  inside y rule is on paid same waits h = record {
+  inside is on paid same waits h = record {
     on = on;
-    to = into y rule same (as-designated x.selected_role is) h;
+    to = rw (same, as-designated x.selected_role is) h;
     paid = paid;
     waits = waits;
     same_role = same;
   }
 
 and_off : (b : Bool) → b && false ≡ false
-and_off true = refl
-and_off false = refl
-
-not_two : (k : ℕ) → k < 2 → k ≡ 2 → ⊥
-not_two k less e = omega (arith, less, e)
-
-above_two : (k : ℕ) → 2 < k → k ≡ 2 → ⊥
-above_two k more e = omega (arith, more, e)
+and_off b = grind arith
 
 pub pays : (p e d : Bool) → not p ≡ true → if_so 1 (d && not e) + 1 ≤ offers p e
-pays true e d h = no h
-pays false true true h = omega arith
-pays false true false h = omega arith
-pays false false true h = omega arith
-pays false false false h = omega arith
+pays p e d h = grind arith
 
 discounts : (d : Bool) → 1 ≤ if_so 1 d + (if d then 0 else 1)
-discounts true = omega arith
-discounts false = omega arith
-
-held_on : (d h q : Bool) → d ≡ true → h || q ≡ true → (d && h) || q ≡ true
-held_on true h q e k = k
-held_on false h q e k = no e
+discounts d = grind arith
 
 held_off : (d h : Bool) → h ≡ false → not (d && h) ≡ true
-held_off true true k = no (sym k)
-held_off true false k = refl
-held_off false h k = refl
+held_off d h k = grind arith
 
 -- each rule at its port
 module _ (s : Tree) (p : ℕ) (x : PortState) where
-  abbrev fired : RoleRule → PortState
-  fired rule = own_role rule (timing_in s) x
-
   goes_on : roles.may_go_on x ≡ true → not (is_designated x.selected_role && is_held x) ≡ true
   goes_on h =
       held_off (is_designated x.selected_role) (is_held x)
-      (not_held x.sync x.synced x.re_root (x.recent_root_while == 0) (left (not x.sync) _ (left _ _ h))
-      (right _ (x.recent_root_while == 0 || not x.re_root) h))
+      (not_held x.sync x.synced x.re_root (x.recent_root_while == 0) (left _ _ (left _ _ h))
+      (right _ _ h))
 
   pub steps : (rule : RoleRule) → asks (rules.Role rule) s p x ≡ true → kind x.selected_role ≡ rule_kind rule
-      → Steps x rule (fired rule)
-  steps role_rule.Disable g k =
-      outside x (fired role_rule.Disable) role_rule.Disable 0 k (not_two 0 (omega arith)) refl refl refl refl refl refl
+      → Steps x rule (own_role rule (timing_in s) x)
   steps role_rule.DisabledPort g k =
-      outside x (fired role_rule.DisabledPort) role_rule.DisabledPort 0 k (not_two 0 (omega arith))
-      (right (roles.acts_as_disabled x) (is_discarding x) (left _ _ g)) refl refl refl refl refl
-  steps role_rule.Root g k =
-      outside x (fired role_rule.Root) role_rule.Root 1 k (not_two 1 (omega arith)) refl refl refl refl refl refl
-  steps role_rule.RootProposed g k =
-      outside x (fired role_rule.RootProposed) role_rule.RootProposed 1 k (not_two 1 (omega arith)) refl refl refl refl
-      refl refl
-  steps role_rule.RootAgreed g k =
-      outside x (fired role_rule.RootAgreed) role_rule.RootAgreed 1 k (not_two 1 (omega arith)) refl refl refl refl
-      refl refl
-  steps role_rule.Reroot g k =
-      outside x (fired role_rule.Reroot) role_rule.Reroot 1 k (not_two 1 (omega arith)) refl refl refl refl refl refl
-  steps role_rule.Rerooted g k =
-      outside x (fired role_rule.Rerooted) role_rule.Rerooted 1 k (not_two 1 (omega arith)) refl refl refl refl refl
-      refl
+      outside x k refl (right _ _ (left _ _ g)) refl refl refl refl refl
   steps role_rule.RootLearn g k =
-      outside x (fired role_rule.RootLearn) role_rule.RootLearn 1 k (not_two 1 (omega arith))
-      (right (roles.acts_as_root x) (not x.learn) (left _ _ g)) refl refl refl refl refl
+      outside x k refl (right _ _ (left _ _ g)) refl refl refl refl refl
   steps role_rule.RootForward g k =
       let first = left _ _ g in
-      outside x (fired role_rule.RootForward) role_rule.RootForward 1 k (not_two 1 (omega arith))
-      (on_both x.learn (not x.forward) (right (roles.acts_as_root x) x.learn (left _ _ first))
-      (right _ (not x.forward) first)) refl refl refl refl refl
-  steps role_rule.Designated g k =
-      inside x (fired role_rule.Designated) role_rule.Designated k refl (omega arith) refl refl refl
+      outside x k refl (on_both x.learn (not x.forward) (right _ x.learn (left _ _ first))
+      (right _ _ first)) refl refl refl refl refl
+  steps role_rule.Designated g k = inside x k refl (omega arith) refl refl refl
   steps role_rule.Propose g k =
-      let first = left _ _ g in
-      let a = pays x.proposing x.enabled (not (edge_delay (timing_in s) x == 3)) (right _ (not x.proposing) first) in
-      inside x (fired role_rule.Propose) role_rule.Propose k refl (omega (arith, a)) refl refl refl
+      let a = pays x.proposing x.enabled (not (edge_delay (timing_in s) x == 3))
+      (right _ _ (left _ _ g)) in
+      inside x k refl (omega arith) refl refl refl
   steps role_rule.Synced g k =
-      let none : is_held (fired role_rule.Synced) ≡ false = and_off x.re_root in
-      inside x (fired role_rule.Synced) role_rule.Synced k refl (omega arith) refl refl
-      (ap (λ h. gait_with h (fired role_rule.Synced)) none)
+      inside x k refl (omega arith) refl refl
+      (ap (λ h. gait_with h (roles.synced_effect x)) (and_off x.re_root))
   steps role_rule.Retired g k =
       let none = right (roles.acts_as_designated x) (x.recent_root_while == 0) (left _ _ g) in
-      inside x (fired role_rule.Retired) role_rule.Retired k refl (omega arith) refl refl
-      (ap (λ h. gait_with h x)
+      inside x k refl (omega arith) refl refl (ap (λ h. gait_with h x)
       (sym (retired_held (x.sync && not x.synced) x.re_root (x.recent_root_while == 0) none)))
   steps role_rule.DesignatedDiscard g k =
-      let first = left _ _ g in
       let held = right _ (roles.must_discard x) g in
       let a = discounts x.disputed in
-      inside x (fired role_rule.DesignatedDiscard) role_rule.DesignatedDiscard k
-      (on_both (x.learn || x.forward) _ (right _ (x.learn || x.forward) first)
-      (held_on (is_designated x.selected_role) (is_held x) x.disputed (as-designated x.selected_role k) held))
-      (omega (arith, a)) refl refl refl
+      inside x k (on_both (x.learn || x.forward) _ (right _ _ (left _ _ g))
+      (rw (as-designated x.selected_role k) held)) (omega arith) refl refl refl
   steps role_rule.DesignatedLearn g k =
-      inside x (fired role_rule.DesignatedLearn) role_rule.DesignatedLearn k
-      (on_both (not x.learn) _ (right (roles.acts_as_designated x) (not x.learn) (left _ _ g))
-      (goes_on (right _ (roles.may_go_on x) g))) (omega arith) refl refl refl
+      inside x k (on_both (not x.learn) _ (right _ _ (left _ _ g))
+      (goes_on (right _ _ g))) (omega arith) refl refl refl
   steps role_rule.DesignatedForward g k =
       let first = left _ _ g in
-      inside x (fired role_rule.DesignatedForward) role_rule.DesignatedForward k
-      (on_both (x.learn && not x.forward) _
-      (on_both x.learn (not x.forward) (right (roles.acts_as_designated x) x.learn (left _ _ first))
-      (right _ (not x.forward) first)) (goes_on (right _ (roles.may_go_on x) g))) (omega arith) refl refl refl
-  steps role_rule.Block g k =
-      outside x (fired role_rule.Block) role_rule.Block 3 k (above_two 3 (omega arith)) refl refl refl refl refl refl
+      inside x k (on_both (x.learn && not x.forward) _
+      (on_both x.learn (not x.forward) (right _ x.learn (left _ _ first))
+      (right _ _ first)) (goes_on (right _ _ g))) (omega arith) refl refl refl
   steps role_rule.Alternate g k =
-      outside x (fired role_rule.Alternate) role_rule.Alternate 3 k (above_two 3 (omega arith))
-      (right (roles.acts_as_blocked x) (is_discarding x) (left _ _ g)) refl refl refl refl refl
-  steps role_rule.AlternateProposed g k =
-      outside x (fired role_rule.AlternateProposed) role_rule.AlternateProposed 3 k (above_two 3 (omega arith)) refl
-      refl refl refl refl
-      refl
-  steps role_rule.AlternateAgreed g k =
-      outside x (fired role_rule.AlternateAgreed) role_rule.AlternateAgreed 3 k (above_two 3 (omega arith)) refl
-      refl refl refl refl refl
-  steps role_rule.Backup g k =
-      outside x (fired role_rule.Backup) role_rule.Backup 3 k (above_two 3 (omega arith)) refl refl refl refl refl refl
+      outside x k refl (right _ _ (left _ _ g)) refl refl refl refl refl
+  steps _ g k = outside x k refl refl refl refl refl refl refl
 
 pub role-waits : (rule : RoleRule) (s : Tree) (p : ℕ) (x : PortState) → asks (rules.Role rule) s p x ≡ true
     → wait (own_role rule (timing_in s) x) ≡ wait x

@@ -1,7 +1,7 @@
 -- The parts of a visit of a port: the machines before those of roles, and topology change.
 use Rattle.std.proofs.Common.{◌≡◌, ℕ, suc, ◌+◌, ◌≤◌, ◌<◌, ◌⊎◌, inl, inr, Bool, true, false}
-use Rattle.std.proofs.Common.{List, [], ◌∷◌, ◌++◌, ◌&&◌, Option, Some, None, take, drop}
-use Rattle.std.proofs.Common.{refl, sym, ap, subst, ◌∙◌, arith}
+use Rattle.std.proofs.Common.{List, [], ◌∷◌, ◌&&◌, Option, Some, None, take, drop}
+use Rattle.std.proofs.Common.{refl, sym, ap, ◌∙◌, arith}
 use Rattle.bpdu_wire.specs.declared.bpdu.Bpdu.{Bpdu}
 use Rattle.bpdu_wire.specs.declared.bpdu.Bpdu.TheVariants.{Config, Rst, Tcn}
 use Rattle.rstp_state.specs.declared.port.PortState.{PortState}
@@ -29,7 +29,6 @@ use Rattle.rstp_run.proofs.Costs.{Paid, many, one, paid-as, unselected}
 use Rattle.rstp_run.proofs.Inputs.{discard-falls, edge-falls, informs-fall, inputs, is_update, migration-falls}
 use Rattle.rstp_run.proofs.Inputs.{not_edge-falls, owed, receive-falls, unrested}
 use Rattle.rstp_run.proofs.Heard.{timed}
-use Rattle.rstp_run.proofs.Ordered.{tries_all-append}
 use Rattle.rstp_run.proofs.Own.{Spread, own, own_topology, spread_by}
 use Rattle.rstp_run.proofs.Own.{spread_of}
 use Rattle.rstp_run.proofs.Places.{main_rest}
@@ -47,21 +46,15 @@ is_turn _ = false
 -- rules of topology change don't change the number of inputs
 inputs_turned : (rule : TopologyRule) (timing : Timing) (x : PortState)
     → inputs (own_topology rule timing x) ≡ inputs x
-inputs_turned topology_rule.TcLearning timing x = refl
 inputs_turned topology_rule.Detected timing x =
     timed (λ y. inputs (record y { new_info = true }) ≡ inputs x) timing (record x { topology = topology.Active }) refl
     refl refl
-inputs_turned topology_rule.TcClear timing x = refl
-inputs_turned topology_rule.TcInactive timing x = refl
-inputs_turned topology_rule.TcBack timing x = refl
 inputs_turned topology_rule.NotifiedTcn timing x =
     timed (λ y. inputs (notified_at y) ≡ inputs x) timing x refl refl refl
-inputs_turned topology_rule.NotifiedTc timing x = refl
 inputs_turned topology_rule.Propagating timing x =
     timed (λ y. inputs (record y { flush = true; propagate_topology_change = false }) ≡ inputs x) timing x refl refl
     refl
-inputs_turned topology_rule.Acknowledged timing x = refl
-inputs_turned topology_rule.Flush timing x = refl
+inputs_turned _ timing x = refl
 
 turned_less : (rule : TopologyRule) (rest : List Rule) (timing : Timing) (x : PortState) → topology_asks rule x ≡ true
     → suc (turns rest (change_of (own_topology rule timing x))) ≤ turns (rules.Topology rule ∷ rest) (change_of x)
@@ -69,15 +62,15 @@ turned_less rule rest timing x on =
     let is : asked rule (change_of x) ≡ true = sym (asked-is rule x) ∙ on in
     let same = ap (turns rest) (turned-is rule timing x) in
     let e : turns (rules.Topology rule ∷ rest) (change_of x) ≡ suc (turns rest (turned rule (change_of x))) =
-    rw is refl in
-    omega (arith, same, e)
+    rw is in
+    omega arith
 
 unturned : (rule : TopologyRule) (rest : List Rule) (x : PortState) → topology_asks rule x ≡ false
     → turns rest (change_of x) ≤ turns (rules.Topology rule ∷ rest) (change_of x)
 unturned rule rest x off =
     let is : asked rule (change_of x) ≡ false = sym (asked-is rule x) ∙ off in
-    let e : turns (rules.Topology rule ∷ rest) (change_of x) ≡ turns rest (change_of x) = rw is refl in
-    omega (arith, e)
+    let e : turns (rules.Topology rule ∷ rest) (change_of x) ≡ turns rest (change_of x) = rw is in
+    omega arith
 
 -- the cost of the rules of information besides: Update costs u
 abbrev for_update : ℕ → List Rule → ℕ
@@ -91,15 +84,7 @@ for_more u (rules.Receive rule) rest = omega arith
 for_more u (rules.Migration rule) rest = omega arith
 for_more u (rules.Detection rule) rest = omega arith
 for_more u (rules.Information information_rule.Update) rest = omega arith
-for_more u (rules.Information information_rule.Disabled) rest = omega arith
-for_more u (rules.Information information_rule.Drop) rest = omega arith
-for_more u (rules.Information information_rule.Enabled) rest = omega arith
-for_more u (rules.Information information_rule.Aged) rest = omega arith
-for_more u (rules.Information information_rule.Superior) rest = omega arith
-for_more u (rules.Information information_rule.Repeated) rest = omega arith
-for_more u (rules.Information information_rule.Inferior) rest = omega arith
-for_more u (rules.Information information_rule.NotDesignated) rest = omega arith
-for_more u (rules.Information information_rule.Other) rest = omega arith
+for_more u (rules.Information _) rest = omega arith
 for_more u (rules.Role rule) rest = omega arith
 for_more u (rules.State rule) rest = omega arith
 for_more u (rules.Topology rule) rest = omega arith
@@ -108,10 +93,7 @@ for_more u (rules.Transmit rule) rest = omega arith
 -- migration doesn't bear on Discard
 still_unrested : (rule : MigrationRule) (x : PortState) → unrested (migration_does rule x) ≡ unrested x
 still_unrested migration_rule.Recheck x = refl
-still_unrested migration_rule.Checked x = refl
-still_unrested migration_rule.Selected x = refl
-still_unrested migration_rule.ToRstp x = refl
-still_unrested migration_rule.ToStp x = refl
+still_unrested _ x = refl
 
 -- the parts of a visit
 abbrev before_edge : List Rule
@@ -140,15 +122,7 @@ is_role _ = false
 
 updates : (rule : InformationRule) → (rule ≡ information_rule.Update) ⊎ (is_update rule ≡ false)
 updates information_rule.Update = inl refl
-updates information_rule.Disabled = inr refl
-updates information_rule.Drop = inr refl
-updates information_rule.Enabled = inr refl
-updates information_rule.Aged = inr refl
-updates information_rule.Superior = inr refl
-updates information_rule.Repeated = inr refl
-updates information_rule.Inferior = inr refl
-updates information_rule.NotDesignated = inr refl
-updates information_rule.Other = inr refl
+updates _ = inr refl
 
 module _ (R : PortState → Type 0) (U V : PortState → ℕ) (timing : Timing) (n limit b : ℕ) (fit : Spread → Bool)
     (spreads : (k : Spread) (x : PortState) → fit k ≡ true → R x
@@ -158,6 +132,13 @@ module _ (R : PortState → Type 0) (U V : PortState → ℕ) (timing : Timing) 
   abbrev At : (PortState → ℕ) → Going → Type 0
   At c g = Paid R U V timing n limit b c p g
 
+  -- each rule of this sort lowers the cost of the rules from it on
+  abbrev Fire : (List Rule → PortState → ℕ) → (Rule → Bool) → Type 0
+  Fire cost sort =
+      (rule : Rule) (rest : List Rule) (s : Tree) (x : PortState) → sort rule ≡ true → timing_in s ≡ timing
+      → asks rule s p x ≡ true → R x → (fit (spread_of rule) ≡ true) × R (own rule (timing_in s) x)
+      × (cost rest (own rule (timing_in s) x) < cost (rule ∷ rest) x)
+
   -- the rules of topology change cost no more than the pending changes, and 2
   module _ (left_over : PortState → ℕ)
       (keeps : (rule : TopologyRule) (timing : Timing) (x : PortState)
@@ -165,37 +146,20 @@ module _ (R : PortState → Type 0) (U V : PortState → ℕ) (timing : Timing) 
     abbrev during : List Rule → PortState → ℕ
     during list x = turns list (change_of x) + (inputs x + left_over x)
 
-    turn_fires : (rule : Rule) (rest : List Rule) (s : Tree) (x : PortState) → is_turn rule ≡ true
-        → timing_in s ≡ timing → asks rule s p x ≡ true → R x
-        → (fit (spread_of rule) ≡ true) × R (own rule (timing_in s) x)
-        × (during rest (own rule (timing_in s) x) < during (rule ∷ rest) x)
+    turn_fires : Fire during is_turn
     turn_fires (rules.Topology rule) rest s x sort same on r =
         let k = goes (rules.Topology rule) s p x refl on r in
         let a = turned_less rule rest (timing_in s) x on in
         let c = inputs_turned rule (timing_in s) x in
         let d = keeps rule (timing_in s) x in
-        (k.0, k.1, omega (arith, a, c, d))
-    turn_fires rules.Select rest s x sort same on r = no sort
-    turn_fires (rules.Receive rule) rest s x sort same on r = no sort
-    turn_fires (rules.Migration rule) rest s x sort same on r = no sort
-    turn_fires (rules.Detection rule) rest s x sort same on r = no sort
-    turn_fires (rules.Information rule) rest s x sort same on r = no sort
-    turn_fires (rules.Role rule) rest s x sort same on r = no sort
-    turn_fires (rules.State rule) rest s x sort same on r = no sort
-    turn_fires (rules.Transmit rule) rest s x sort same on r = no sort
+        (k.0, k.1, omega arith)
+    turn_fires _ rest s x sort same on r = no sort
 
     turn_rests : (rule : Rule) (rest : List Rule) (s : Tree) (x : PortState) → is_turn rule ≡ true
         → asks rule s p x ≡ false → R x → during rest x ≤ during (rule ∷ rest) x
     turn_rests (rules.Topology rule) rest s x sort off r =
-        let a = unturned rule rest x off in omega (arith, a)
-    turn_rests rules.Select rest s x sort off r = no sort
-    turn_rests (rules.Receive rule) rest s x sort off r = no sort
-    turn_rests (rules.Migration rule) rest s x sort off r = no sort
-    turn_rests (rules.Detection rule) rest s x sort off r = no sort
-    turn_rests (rules.Information rule) rest s x sort off r = no sort
-    turn_rests (rules.Role rule) rest s x sort off r = no sort
-    turn_rests (rules.State rule) rest s x sort off r = no sort
-    turn_rests (rules.Transmit rule) rest s x sort off r = no sort
+        omega (arith, unturned rule rest x off)
+    turn_rests _ rest s x sort off r = no sort
 
     pub turn-part : (g : Going) → At (λ x. owed x + left_over x + 2) g
         → At (λ x. owed x + left_over x) (tries_all turn_list p limit g)
@@ -205,7 +169,7 @@ module _ (R : PortState → Type 0) (U V : PortState → ℕ) (timing : Timing) 
         (many R U V timing n limit b fit spreads p within during is_turn (unselected is_turn refl) turn_fires
         turn_rests turn_list
         refl g (paid-as R U V timing n limit b (λ x. owed x + left_over x + 2) (during turn_list) p g
-        (λ x r. (let a = few-turns (change_of x) in omega (arith, a))) h))
+        (λ x r. (omega (arith, few-turns (change_of x)))) h))
 
   -- The machines before those of roles. K is the cost of the port besides, and Update costs u.
   module _ (u : ℕ) (K : PortState → ℕ)
@@ -231,35 +195,25 @@ module _ (R : PortState → Type 0) (U V : PortState → ℕ) (timing : Timing) 
         (λ s x same on r. (let k = goes (rules.Receive receive_rule.Discard) s p x refl on r in
         let a = discard-falls x on in
         let c = discards x in
-        (k.0, k.1, omega (arith, a, c))))
-        (λ s x off r. (let a = if_so-off 3 (receiving.discard_guard x) off in omega (arith, a))) g h
+        (k.0, k.1, omega arith)))
+        (λ s x off r. (omega (arith, if_so-off 3 (receiving.discard_guard x) off))) g h
 
     abbrev cost_before : List Rule → PortState → ℕ
     cost_before list x = restless x
 
-    fires_before : (rule : Rule) (rest : List Rule) (s : Tree) (x : PortState) → comes_before rule ≡ true
-        → timing_in s ≡ timing → asks rule s p x ≡ true → R x
-        → (fit (spread_of rule) ≡ true) × R (own rule (timing_in s) x)
-        × (cost_before rest (own rule (timing_in s) x) < cost_before (rule ∷ rest) x)
+    fires_before : Fire cost_before comes_before
     fires_before (rules.Receive receive_rule.Receive) rest s x sort same on r =
         let k = goes (rules.Receive receive_rule.Receive) s p x refl on r in
         let a = receive-falls x on in
         let c = receives x r on in
-        (k.0, k.1, omega (arith, a, c))
-    fires_before (rules.Receive receive_rule.Discard) rest s x sort same on r = no sort
+        (k.0, k.1, omega arith)
     fires_before (rules.Migration rule) rest s x sort same on r =
         let k = goes (rules.Migration rule) s p x refl on r in
         let a = migration-falls rule x on in
         let c = migrates rule x on in
         let d = still_unrested rule x in
-        (k.0, k.1, omega (arith, a, c, d))
-    fires_before rules.Select rest s x sort same on r = no sort
-    fires_before (rules.Detection rule) rest s x sort same on r = no sort
-    fires_before (rules.Information rule) rest s x sort same on r = no sort
-    fires_before (rules.Role rule) rest s x sort same on r = no sort
-    fires_before (rules.State rule) rest s x sort same on r = no sort
-    fires_before (rules.Topology rule) rest s x sort same on r = no sort
-    fires_before (rules.Transmit rule) rest s x sort same on r = no sort
+        (k.0, k.1, omega arith)
+    fires_before _ rest s x sort same on r = no sort
 
     -- Edge
     edged : (g : Going) → At restless g → At whole (tries (rules.Detection detection_rule.Edge) p limit g)
@@ -268,22 +222,18 @@ module _ (R : PortState → Type 0) (U V : PortState → ℕ) (timing : Timing) 
         (λ s x same on r. (let k = goes (rules.Detection detection_rule.Edge) s p x refl on r in
         let a = edge-falls x on in
         let c = (detects x).0 in
-        (k.0, k.1, omega (arith, a, c))))
+        (k.0, k.1, omega arith)))
         (λ s x off r. omega arith) g h
 
     abbrev cost_after : List Rule → PortState → ℕ
     cost_after list x = owed x + K x + for_update u list
 
-    fires_after : (rule : Rule) (rest : List Rule) (s : Tree) (x : PortState) → comes_after rule ≡ true
-        → timing_in s ≡ timing → asks rule s p x ≡ true → R x
-        → (fit (spread_of rule) ≡ true) × R (own rule (timing_in s) x)
-        × (cost_after rest (own rule (timing_in s) x) < cost_after (rule ∷ rest) x)
+    fires_after : Fire cost_after comes_after
     fires_after (rules.Detection detection_rule.NotEdge) rest s x sort same on r =
         let k = goes (rules.Detection detection_rule.NotEdge) s p x refl on r in
         let a = not_edge-falls x on in
         let c = (detects x).1 in
-        (k.0, k.1, omega (arith, a, c))
-    fires_after (rules.Detection detection_rule.Edge) rest s x sort same on r = no sort
+        (k.0, k.1, omega arith)
     fires_after (rules.Information rule) rest s x sort same on r =
         let k = goes (rules.Information rule) s p x refl on r in
         (k.0, k.1, by_rule (updates rule))
@@ -291,23 +241,15 @@ module _ (R : PortState → Type 0) (U V : PortState → ℕ) (timing : Timing) 
         by_rule : (rule ≡ information_rule.Update) ⊎ (is_update rule ≡ false)
             → cost_after rest (information_does rule x) < cost_after (rules.Information rule ∷ rest) x
         by_rule (inr other) =
-            let a = informs-fall rule x other on in
-            let c = informs rule x r other on in
-            let d = for_more u (rules.Information rule) rest in
-            omega (arith, a, c, d)
+            omega (
+              arith,
+              informs-fall rule x other on,
+              informs rule x r other on,
+              for_more u (rules.Information rule) rest,
+            )
         by_rule (inl e) =
-            let P : InformationRule → Type 0 = λ i. information_asks i x ≡ true in
-            let Q : InformationRule → Type 0 =
-            λ i. cost_after rest (information_does i x) < cost_after (rules.Information i ∷ rest) x in
-            let a = update x r (subst P e on) in
-            subst Q (sym e) (omega (arith, a))
-    fires_after rules.Select rest s x sort same on r = no sort
-    fires_after (rules.Receive rule) rest s x sort same on r = no sort
-    fires_after (rules.Migration rule) rest s x sort same on r = no sort
-    fires_after (rules.Role rule) rest s x sort same on r = no sort
-    fires_after (rules.State rule) rest s x sort same on r = no sort
-    fires_after (rules.Topology rule) rest s x sort same on r = no sort
-    fires_after (rules.Transmit rule) rest s x sort same on r = no sort
+            rw e (omega (arith, update x r (rw e at on)))
+    fires_after _ rest s x sort same on r = no sort
 
     pub inputs-part : (g : Going) → At whole g → At (λ x. owed x + K x) (tries_all (take 19 main_rest) p limit g)
     inputs-part g h =
@@ -321,15 +263,10 @@ module _ (R : PortState → Type 0) (U V : PortState → ℕ) (timing : Timing) 
         let h3 = edged g2 h2 in
         let h4 = many R U V timing n limit b fit spreads p within cost_after comes_after
         (unselected comes_after refl) fires_after
-        (λ rule rest s x sort off r. (let a = for_more u rule rest in omega (arith, a))) after_edge refl g3
+        (λ rule rest s x sort off r. (omega (arith, for_more u rule rest))) after_edge refl g3
         (paid-as R U V timing n limit b whole (cost_after after_edge) p g3 (λ x r. omega arith) h3) in
-        let whole_list : rules.Receive receive_rule.Discard ∷ before_edge ++ rules.Detection detection_rule.Edge
-        ∷ after_edge ≡ take 19 main_rest = refl in
-        let Q : List Rule → Type 0 = λ l. At (λ x. owed x + K x) (tries_all l p limit g) in
-        let joined = tries_all-append before_edge (rules.Detection detection_rule.Edge ∷ after_edge) p limit g1 in
-        subst Q whole_list (subst (λ (z : Going). At (λ x. owed x + K x) z) (sym joined)
-        (paid-as R U V timing n limit b (cost_after []) (λ x. owed x + K x) p (tries_all after_edge p limit g3)
-        (λ x r. omega arith) h4))
+        paid-as R U V timing n limit b (cost_after []) (λ x. owed x + K x) p (tries_all after_edge p limit g3)
+        (λ x r. omega arith) h4
 
 -- a rule of information keeps the selected role
 info_role : (m : Option Bpdu) (y : PortState)
@@ -341,14 +278,8 @@ info_role (Some Tcn) y = refl
 
 pub informed-role : (rule : InformationRule) (x : PortState) → information_asks rule x ≡ true
     → (information_does rule x).selected_role ≡ x.selected_role
-informed-role information_rule.Disabled x g = refl
-informed-role information_rule.Drop x g = refl
-informed-role information_rule.Enabled x g = refl
-informed-role information_rule.Update x g = refl
-informed-role information_rule.Aged x g = refl
 informed-role information_rule.Superior x g =
     info_role x.message (info.with_superior_flags (info.with_change_flags (info.with_proposal x)))
-informed-role information_rule.Repeated x g = refl
 informed-role information_rule.Inferior x g =
     if-is (λ y. y.selected_role ≡ x.selected_role) (info.rst_has 0x10 x.message)
     (record x { disputed = true; agreed = false; received_message = false }) (record x { received_message = false })
@@ -357,4 +288,4 @@ informed-role information_rule.NotDesignated x g =
     if-is (λ y. (info.handled (info.with_change_flags y)).selected_role ≡ x.selected_role)
     (x.point_to_point && info.message_has 0x40 x.message) (record x { agreed = true; proposing = false })
     (record x { agreed = false }) refl refl
-informed-role information_rule.Other x g = refl
+informed-role _ x g = refl

@@ -1,5 +1,5 @@
 -- Facts about a port that passes frames.
-use Rattle.std.proofs.Common.{◌≡◌, ℕ, ◌-◌, ◌&&◌, ◌||◌, not, Bool, true, false, refl, inl, inr}
+use Rattle.std.proofs.Common.{◌≡◌, ℕ, ◌-◌, ◌&&◌, ◌||◌, not, Bool, true, false, inl, inr, arith}
 use Rattle.std.proofs.lemmas.Option.{slice_get_cases}
 use Rattle.rstp_roles.specs.StateTransitions.{to_discarding_guard}
 use Rattle.rstp_roles.specs.declared.rule.StateRule.TheVariants as state_rule
@@ -12,20 +12,11 @@ use Rattle.rstp_run.proofs.Orderly.{at_place}
 use Rattle.rstp_state.proofs.Basics.{and_right}
 
 learning_from : (e f l x : Bool) → e && f ≡ true → (not f || l) && x ≡ true → e && l ≡ true
-learning_from true true true x test order = refl
-learning_from true true false x test order = cc
-learning_from true false l x test order = cc
-learning_from false f l x test order = cc
+learning_from e f l x test order = grind arith
 
 tree_from : (a l learn w t : Bool) → (l && not learn) || (true && not w) ≡ false
     → a && (t || (not learn && not w)) ≡ true → t ≡ true
-tree_from a l learn w true quiet order = refl
-tree_from false l learn w false quiet order = cc
-tree_from true l true true false quiet order = cc
-tree_from true l false true false quiet order = cc
-tree_from true false learn false false quiet order = cc
-tree_from true true true false false quiet order = cc
-tree_from true true false false false quiet order = cc
+tree_from a l learn w t quiet order = grind arith
 
 pub passing-learns : (s : Tree) (p : ℕ) → AreOrderly s → Passes s p → Learns s p
 passing-learns s p all passes =

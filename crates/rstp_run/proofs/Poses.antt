@@ -2,15 +2,15 @@
 -- its flags, whatever its timers, its agreement and its edge are. Each lowers a number of these flags. All values of
 -- the flags are tried.
 use Rattle.std.proofs.Common.{◌≡◌, ℕ, ◌+◌, ◌≤◌, ◌<◌, Bool, true, false, not, ◌&&◌, ◌||◌, ◌==◌}
-use Rattle.std.proofs.Common.{nat_lt, refl}
-use Rattle.std.proofs.lemmas.Bool.{ltb-false, ltb-true, not-true}
+use Rattle.std.proofs.Common.{nat_lt, refl, arith}
+use Rattle.std.proofs.lemmas.Bool.{and_parts, ltb-true}
 use Rattle.rstp_state.specs.declared.port.PortState.{PortState}
-use Rattle.rstp_state.specs.Port.{is_discarding}
 use Rattle.rstp_roles.specs.RoleTransitions as roles
 use Rattle.rstp_roles.specs.declared.rule.RoleRule.{RoleRule}
 use Rattle.rstp_roles.specs.declared.rule.RoleRule.TheVariants as role_rule
 use Rattle.rstp_run.proofs.Flags.{Test, every, holds, imply}
-use Rattle.rstp_run.proofs.Totals.{if_so}
+use Rattle.rstp_run.proofs.RoleParts.{on_both}
+use Rattle.rstp_run.proofs.Totals.{if_so, if_so-le}
 
 -- ---- the flags
 
@@ -126,99 +126,66 @@ falls_by rule all c on =
     c.disputed) on)
 
 -- learning and forwarding
-abbrev work_case : (Bool → Bool → Bool → Bool → Bool) → (Bool → Bool → Bool → Bool → ℕ) → Test 4
-work_case on after l f lg fg = not (on l f lg fg) || nat_lt (after l f lg fg) (work l f lg fg)
 
-work_by : (on : Bool → Bool → Bool → Bool → Bool) (after : Bool → Bool → Bool → Bool → ℕ)
-    → every 4 (work_case on after) ≡ true → (l f lg fg : Bool) → on l f lg fg ≡ true
-    → after l f lg fg < work l f lg fg
-work_by on after all l f lg fg h =
-    ltb-true (after l f lg fg) (work l f lg fg)
-    (imply (on l f lg fg) (nat_lt (after l f lg fg) (work l f lg fg)) (holds 4 (work_case on after) all l f lg fg) h)
+module _ (l f lg fg : Bool) where
+  pub begins-learning : not l ≡ true → work true f lg fg < work l f lg fg
+  begins-learning h = grind arith
 
-pub begins-learning : (l f lg fg : Bool) → not l ≡ true → work true f lg fg < work l f lg fg
-begins-learning = work_by (λ l f lg fg. not l) (λ l f lg fg. work true f lg fg) refl
+  pub begins-forwarding : l && not f ≡ true → work l true lg fg < work l f lg fg
+  begins-forwarding h = grind arith
 
-pub begins-forwarding : (l f lg fg : Bool) → l && not f ≡ true → work l true lg fg < work l f lg fg
-begins-forwarding = work_by (λ l f lg fg. l && not f) (λ l f lg fg. work l true lg fg) refl
+  pub to-learning : l && not lg ≡ true → work l f true fg < work l f lg fg
+  to-learning h = grind arith
 
-pub to-learning : (l f lg fg : Bool) → l && not lg ≡ true → work l f true fg < work l f lg fg
-to-learning = work_by (λ l f lg fg. l && not lg) (λ l f lg fg. work l f true fg) refl
+  pub to-forwarding : lg && f && not fg ≡ true → work l f lg true < work l f lg fg
+  to-forwarding h = grind arith
 
-pub to-forwarding : (l f lg fg : Bool) → lg && f && not fg ≡ true → work l f lg true < work l f lg fg
-to-forwarding = work_by (λ l f lg fg. lg && f && not fg) (λ l f lg fg. work l f lg true) refl
+  pub to-discarding : (lg && not l) || (fg && not f) ≡ true
+      → work l f false false < work l f lg fg
+  to-discarding h = grind arith
 
-pub to-discarding : (l f lg fg : Bool) → (lg && not l) || (fg && not f) ≡ true
-    → work l f false false < work l f lg fg
-to-discarding = work_by (λ l f lg fg. (lg && not l) || (fg && not f)) (λ l f lg fg. work l f false false) refl
-
-pub work-few : (l f lg fg : Bool) → work l f lg fg ≤ 6
-work-few l f lg fg =
-    ltb-false 6 (work l f lg fg) (not-true _ (holds 4 (λ a b c d. not (nat_lt 6 (work a b c d))) refl l f lg fg))
+  pub work-few : work l f lg fg ≤ 6
+  work-few = grind arith
 
 pub place-few : (c : Pose) → place c ≤ 8
-place-few c =
-    ltb-false 8 (place c) (not-true _
-    (holds 9 (λ a b c d e f g h i. not (nat_lt 8 (place (pose a b c d e f g h i)))) refl c.synced c.none c.sync
-    c.re_root
-    c.learn c.forward c.learning c.forwarding c.disputed))
+place-few c = omega (arith, if_so-le)
 
 -- ---- the rules of a port
 
-abbrev synced_case : Test 6
-synced_case acts syn sync dark a e =
-    not (acts && ((not syn && ((dark || a) || e)) || (sync && syn))) || (not syn || sync)
+syncs : (syn sync dark : Bool) → (not syn && dark) || (sync && syn) ≡ true → not syn || sync ≡ true
+syncs syn sync dark h = grind arith
 
-abbrev discard_case : Test 9
-discard_case acts e l f sync syn rr none d =
-    not (((acts && not e) && (l || f)) && (((sync && not syn) || (rr && not none)) || d))
-    || ((l || f) && (((sync && not syn) || (rr && not none)) || d))
+module _ (x : PortState) where
+  abbrev Lowers : RoleRule → Type 0
+  Lowers rule = left (posed rule (pose_of x)) < left (pose_of x)
 
-abbrev learn_case : Test 8
-learn_case acts l sync w a e none rr =
-    not ((acts && not l) && ((not sync && ((w || a) || e)) && (none || not rr)))
-    || (not l && (not sync && (none || not rr)))
+  free_of : roles.may_go_on x ≡ true → free (pose_of x) ≡ true
+  free_of h = on_both (not x.sync) _ (and_parts _ _ (and_parts _ _ h).0).0 (and_parts _ _ h).1
 
-abbrev forward_case : Test 9
-forward_case acts l f sync w a e none rr =
-    not (((acts && l) && not f) && ((not sync && ((w || a) || e)) && (none || not rr)))
-    || ((l && not f) && (not sync && (none || not rr)))
+  pub synced-lowers : roles.synced_guard x ≡ true → Lowers role_rule.Synced
+  synced-lowers g =
+      falls_by role_rule.Synced refl (pose_of x)
+      (syncs x.synced x.sync _ (and_parts (roles.acts_as_designated x) _ g).1)
 
-abbrev retired_case : Test 3
-retired_case acts none rr = not ((acts && none) && rr) || (none && rr)
+  pub retired-lowers : roles.retired_guard x ≡ true → Lowers role_rule.Retired
+  retired-lowers g =
+      falls_by role_rule.Retired refl (pose_of x)
+      (on_both (x.recent_root_while == 0) x.re_root (and_parts _ _ (and_parts _ _ g).0).1 (and_parts _ _ g).1)
 
-abbrev Lowers : RoleRule → PortState → Type 0
-Lowers rule x = left (posed rule (pose_of x)) < left (pose_of x)
+  pub discard-lowers : roles.designated_discard_guard x ≡ true → Lowers role_rule.DesignatedDiscard
+  discard-lowers g =
+      falls_by role_rule.DesignatedDiscard refl (pose_of x)
+      (on_both (x.learn || x.forward) (roles.must_discard x) (and_parts _ _ (and_parts _ _ g).0).1
+      (and_parts _ _ g).1)
 
-pub synced-lowers : (x : PortState) → roles.synced_guard x ≡ true → Lowers role_rule.Synced x
-synced-lowers x g =
-    falls_by role_rule.Synced refl (pose_of x)
-    (imply (roles.synced_guard x) (may role_rule.Synced (pose_of x)) (holds 6 synced_case refl
-    (roles.acts_as_designated x) x.synced x.sync (is_discarding x) x.agreed x.oper_edge) g)
+  pub learn-lowers : roles.designated_learn_guard x ≡ true → Lowers role_rule.DesignatedLearn
+  learn-lowers g =
+      falls_by role_rule.DesignatedLearn refl (pose_of x)
+      (on_both (not x.learn) _ (and_parts _ _ (and_parts _ _ g).0).1 (free_of (and_parts _ _ g).1))
 
-pub retired-lowers : (x : PortState) → roles.retired_guard x ≡ true → Lowers role_rule.Retired x
-retired-lowers x g =
-    falls_by role_rule.Retired refl (pose_of x)
-    (imply (roles.retired_guard x) (may role_rule.Retired (pose_of x)) (holds 3 retired_case refl
-    (roles.acts_as_designated x) (x.recent_root_while == 0) x.re_root) g)
-
-pub discard-lowers : (x : PortState) → roles.designated_discard_guard x ≡ true → Lowers role_rule.DesignatedDiscard x
-discard-lowers x g =
-    falls_by role_rule.DesignatedDiscard refl (pose_of x)
-    (imply (roles.designated_discard_guard x) (may role_rule.DesignatedDiscard (pose_of x)) (holds 9 discard_case refl
-    (roles.acts_as_designated x) x.oper_edge x.learn x.forward x.sync x.synced x.re_root
-    (x.recent_root_while == 0) x.disputed) g)
-
-pub learn-lowers : (x : PortState) → roles.designated_learn_guard x ≡ true → Lowers role_rule.DesignatedLearn x
-learn-lowers x g =
-    falls_by role_rule.DesignatedLearn refl (pose_of x)
-    (imply (roles.designated_learn_guard x) (may role_rule.DesignatedLearn (pose_of x)) (holds 8 learn_case refl
-    (roles.acts_as_designated x) x.learn x.sync (x.forward_delay_while == 0) x.agreed
-    x.oper_edge (x.recent_root_while == 0) x.re_root) g)
-
-pub forward-lowers : (x : PortState) → roles.designated_forward_guard x ≡ true → Lowers role_rule.DesignatedForward x
-forward-lowers x g =
-    falls_by role_rule.DesignatedForward refl (pose_of x)
-    (imply (roles.designated_forward_guard x) (may role_rule.DesignatedForward (pose_of x)) (holds 9 forward_case refl
-    (roles.acts_as_designated x) x.learn x.forward x.sync (x.forward_delay_while == 0)
-    x.agreed x.oper_edge (x.recent_root_while == 0) x.re_root) g)
+  pub forward-lowers : roles.designated_forward_guard x ≡ true → Lowers role_rule.DesignatedForward
+  forward-lowers g =
+      let (first, blocked) = and_parts _ _ (and_parts _ _ g).0 in
+      falls_by role_rule.DesignatedForward refl (pose_of x)
+      (on_both (x.learn && not x.forward) _ (on_both x.learn (not x.forward) (and_parts _ _ first).1 blocked)
+      (free_of (and_parts _ _ g).1))

@@ -100,10 +100,7 @@ receive_quiet receive_rule.Receive port g = refl
 pub migration_still : (rule : MigrationRule) (port : PortState) → migration_asks rule port ≡ true
     → IsStill port (migration_does rule port)
 migration_still migration_rule.Recheck port g = refl
-migration_still migration_rule.Checked port g = refl
-migration_still migration_rule.Selected port g = refl
-migration_still migration_rule.ToRstp port g = refl
-migration_still migration_rule.ToStp port g = refl
+migration_still _ port g = refl
 
 pub detection_still : (rule : DetectionRule) (port : PortState) → detection_asks rule port ≡ true
     → IsStill port (detection_does rule port)
@@ -113,15 +110,12 @@ detection_still detection_rule.NotEdge port g = refl
 pub transmit_still : (rule : TransmitRule) (timing : Timing) (port : PortState) → transmit_asks rule timing port ≡ true
     → IsStill port (transmit_does rule timing port)
 transmit_still transmit_rule.Periodic timing port g = refl
-transmit_still transmit_rule.SendConfig timing port g = refl
-transmit_still transmit_rule.SendTcn timing port g = refl
-transmit_still transmit_rule.SendRst timing port g = refl
+transmit_still _ timing port g = refl
 
 pub state_still : (rule : StateRule) (port : PortState) → state_asks rule port ≡ true
     → IsStill port (state_does rule port)
 state_still state_rule.ToLearning port g = refl
-state_still state_rule.ToForwarding port g = refl
-state_still state_rule.ToDiscarding port g = refl
+state_still _ port g = refl
 
 -- ---- information
 
@@ -151,30 +145,24 @@ timer_still timing port = timer_at (port.topology_change_while == 0) port.send_r
 abbrev EachStill : List PortState → List PortState → Type 0
 EachStill a b = Each IsStill a b
 
-pub changes_at : (does : PortState → PortState) (ports : List PortState) (p : ℕ)
-    → ((port : PortState) → IsStill port (does port)) → EachStill ports (change_at p does ports)
-changes_at does ports p h = each_change IsStill (λ port. refl) does ports p (λ port at. h port)
+module _ (does : PortState → PortState) (ports : List PortState) (p : ℕ) where
+  pub changes_at : ((port : PortState) → IsStill port (does port)) → EachStill ports (change_at p does ports)
+  changes_at h = each_change IsStill (λ port. refl) does ports p (λ port at. h port)
 
-tells_at : (does : PortState → PortState) (ports : List PortState) (p : ℕ)
-    → ((port : PortState) → IsStill port (does port)) → EachStill ports (telling_others p does ports)
-tells_at does ports p h = each_telling IsStill (λ port. refl) (λ port. refl) does ports p h
+  tells_at : ((port : PortState) → IsStill port (does port)) → EachStill ports (telling_others p does ports)
+  tells_at h = each_telling IsStill (λ port. refl) (λ port. refl) does ports p h
 
 pub topology_still : (rule : TopologyRule) (timing : Timing) (ports : List PortState) (p : ℕ)
     → EachStill ports (topology_does rule timing ports p)
-topology_still topology_rule.TcLearning timing ports p = changes_at changes.tc_learning_effect ports p (λ port. refl)
 topology_still topology_rule.Detected timing ports p =
     tells_at (changes.detected_at timing) ports p (λ port. timer_still timing
     (record port { topology = topology.Active }))
-topology_still topology_rule.TcClear timing ports p = changes_at changes.tc_clear_effect ports p (λ port. refl)
-topology_still topology_rule.TcInactive timing ports p = changes_at changes.tc_inactive_effect ports p (λ port. refl)
-topology_still topology_rule.TcBack timing ports p = changes_at changes.tc_back_effect ports p (λ port. refl)
 topology_still topology_rule.NotifiedTcn timing ports p =
-    tells_at (changes.notified_tcn_at timing) ports p (λ port. timer_still timing port)
+    tells_at (changes.notified_tcn_at timing) ports p (timer_still timing)
 topology_still topology_rule.NotifiedTc timing ports p = tells_at changes.notified_at ports p (λ port. refl)
 topology_still topology_rule.Propagating timing ports p =
-    changes_at (changes.propagating_effect timing) ports p (λ port. timer_still timing port)
-topology_still topology_rule.Acknowledged timing ports p = changes_at changes.acknowledged_effect ports p (λ port. refl)
-topology_still topology_rule.Flush timing ports p = changes_at changes.flush_effect ports p (λ port. refl)
+    changes_at (changes.propagating_effect timing) ports p (timer_still timing)
+topology_still _ timing ports p = changes_at _ ports p (λ port. refl)
 
 -- ---- role transitions
 
@@ -187,30 +175,10 @@ proposed_still ports p =
 
 pub role_still : (rule : RoleRule) (timing : Timing) (ports : List PortState) (p : ℕ)
     → EachStill ports (role_does rule timing ports p)
-role_still role_rule.Disable timing ports p = changes_at roles.disable_effect ports p (λ port. refl)
-role_still role_rule.DisabledPort timing ports p = changes_at (roles.disabled_port_effect timing) ports p (λ port. refl)
-role_still role_rule.Root timing ports p = changes_at (roles.root_effect timing) ports p (λ port. refl)
 role_still role_rule.RootProposed timing ports p = proposed_still ports p
-role_still role_rule.RootAgreed timing ports p = changes_at roles.root_agreed_effect ports p (λ port. refl)
-role_still role_rule.Reroot timing ports p = each_map IsStill with_re_root (λ port. refl) ports
-role_still role_rule.Rerooted timing ports p = changes_at roles.rerooted_effect ports p (λ port. refl)
-role_still role_rule.RootLearn timing ports p = changes_at (roles.root_learn_effect timing) ports p (λ port. refl)
-role_still role_rule.RootForward timing ports p = changes_at roles.root_forward_effect ports p (λ port. refl)
-role_still role_rule.Designated timing ports p = changes_at roles.designated_effect ports p (λ port. refl)
-role_still role_rule.Propose timing ports p = changes_at (roles.propose_effect timing) ports p (λ port. refl)
-role_still role_rule.Synced timing ports p = changes_at roles.synced_effect ports p (λ port. refl)
-role_still role_rule.Retired timing ports p = changes_at roles.retired_effect ports p (λ port. refl)
-role_still role_rule.DesignatedDiscard timing ports p =
-    changes_at (roles.designated_discard_effect timing) ports p (λ port. refl)
-role_still role_rule.DesignatedLearn timing ports p = changes_at (roles.designated_learn_effect timing) ports p
-    (λ port. refl)
-role_still role_rule.DesignatedForward timing ports p =
-    changes_at roles.designated_forward_effect ports p (λ port. refl)
-role_still role_rule.Block timing ports p = changes_at roles.block_effect ports p (λ port. refl)
-role_still role_rule.Alternate timing ports p = changes_at (roles.alternate_effect timing) ports p (λ port. refl)
 role_still role_rule.AlternateProposed timing ports p = proposed_still ports p
-role_still role_rule.AlternateAgreed timing ports p = changes_at roles.alternate_agreed_effect ports p (λ port. refl)
-role_still role_rule.Backup timing ports p = changes_at (roles.backup_effect timing) ports p (λ port. refl)
+role_still role_rule.Reroot timing ports p = each_map IsStill with_re_root (λ port. refl) ports
+role_still _ timing ports p = changes_at _ ports p (λ port. refl)
 
 -- ---- events
 

@@ -1,9 +1,9 @@
 -- A port whose information machine is Aged has yet to take over its designated vector. So in a settled bridge the
 -- machine of each port that is up is Current, and no message waits. And the facts of each port right after an event.
-use Rattle.std.proofs.Common.{◌≡◌, ℕ, ◌+◌, zero, suc, Bool, true, false, not, ◌&&◌, ◌||◌, ◌==◌}
-use Rattle.std.proofs.Common.{Option, Some, None, List, [], ◌∷◌, map, slice_get, refl, sym, subst, ◌∙◌}
+use Rattle.std.proofs.Common.{◌≡◌, ℕ, ◌+◌, zero, suc, Bool, true, false, not, ◌&&◌, ◌||◌, ◌==◌, arith}
+use Rattle.std.proofs.Common.{Option, Some, List, [], ◌∷◌, map, slice_get, refl, sym, subst, ◌∙◌}
 use Rattle.bpdu_wire.specs.declared.bpdu.Bpdu.{Bpdu}
-use Rattle.bpdu_wire.specs.declared.bpdu.Bpdu.TheVariants.{Config, Rst, Tcn}
+use Rattle.bpdu_wire.specs.declared.bpdu.Bpdu.TheVariants.{Config, Rst}
 use Rattle.std.specs.List.{enumerate_from}
 use Rattle.ether_wire.specs.Ports.{place_of_port}
 use Rattle.rstp_state.specs.declared.port.Information.{Information}
@@ -84,9 +84,7 @@ quiet_readies : (port next : PortState) → IsQuiet port next → Readies port n
 quiet_readies port next h k = subst IsReadyOf (sym h) k
 
 current_not_old : (i : Information) → is_current i ≡ true → is_old i ≡ true → ⊥
-current_not_old information.Disabled h k = no h
-current_not_old information.Aged h k = no h
-current_not_old information.Current h k = no k
+current_not_old i h k = grind arith
 
 -- a port whose role isn't selected, and whose machine is current
 current_ready : (known : Known) → is_current known.information ≡ true → known.selected ≡ false → IsReadyOf known
@@ -95,20 +93,17 @@ current_ready known h k =
 
 taken_ready : (m : Option Bpdu) (port : PortState) → is_current port.information ≡ true → port.selected ≡ false
     → IsReady (info.handled (info.with_info_time (info.with_info_of m port)))
-taken_ready None port h k = current_ready (known_of (info.handled (info.with_info_time port))) h k
-taken_ready (Some Tcn) port h k = current_ready (known_of (info.handled (info.with_info_time port))) h k
 taken_ready (Some (Config message)) port h k =
     current_ready (known_of (info.handled (info.with_info_time (info.with_info message port)))) h k
 taken_ready (Some (Rst message)) port h k =
     current_ready (known_of (info.handled (info.with_info_time (info.with_info message port)))) h k
+taken_ready _ port h k = current_ready (known_of (info.handled (info.with_info_time port))) h k
 
 informed_readies : (rule : InformationRule) (port : PortState) → information_asks rule port ≡ true
     → Readies port (information_does rule port)
 informed_readies information_rule.Disabled port g = λ h. (λ o. no o, λ s. no s, λ d s. no s)
 informed_readies information_rule.Drop port g = λ h. h
-informed_readies information_rule.Enabled port g = λ h. (λ o. (refl, λ s. no s), λ s. no s, λ d. no d)
 informed_readies information_rule.Update port g = λ h. (λ o. no o, λ s u r. no r, λ d. no d)
-informed_readies information_rule.Aged port g = λ h. (λ o. (refl, λ s. no s), λ s. no s, λ d. no d)
 informed_readies information_rule.Superior port g =
     let current = left (is_current port.information) _ (left _ _ (left _ _ g)) in λ h.
     taken_ready port.message (info.with_superior_flags (info.with_change_flags (info.with_proposal port))) current refl
@@ -119,28 +114,18 @@ informed_readies information_rule.NotDesignated port g =
     quiet_readies port (information_does information_rule.NotDesignated port)
     (answer_quiet (port.point_to_point && info.message_has 64 port.message) port)
 informed_readies information_rule.Other port g = λ h. h
+informed_readies _ port g = λ h. (λ o. (refl, λ s. no s), λ s. no s, λ d. no d)
 
 aged_updates : (i : InfoIs) (r b s : Bool) → is_aged i ≡ true → updates_by i r b s ≡ true
-aged_updates info_is.Disabled r b s h = no h
-aged_updates info_is.Aged r b s h = refl
-aged_updates info_is.Mine r b s h = no h
-aged_updates info_is.Received r b s h = no h
+aged_updates i r b s h = grind arith
 
-told_role : (i : InfoIs) (t b o s : Bool) → updates_by i t b s ≡ false → is_received i ≡ true
-    → (is_designated (role_by i t b o) || is_disabled (role_by i t b o)) ≡ false
-told_role info_is.Disabled t b o s u r = no r
-told_role info_is.Aged t b o s u r = no r
-told_role info_is.Mine t b o s u r = no r
-told_role info_is.Received true b o s u r = refl
-told_role info_is.Received false true o s u r = no (sym u)
-told_role info_is.Received false false true s u r = refl
-told_role info_is.Received false false false s u r = refl
+module _ (i : InfoIs) (t b o : Bool) where
+  told_role : (s : Bool) → updates_by i t b s ≡ false → is_received i ≡ true
+      → (is_designated (role_by i t b o) || is_disabled (role_by i t b o)) ≡ false
+  told_role s u r = grind arith
 
-down_role : (i : InfoIs) (t b o : Bool) → is_down i ≡ true → is_disabled (role_by i t b o) ≡ true
-down_role info_is.Disabled t b o d = refl
-down_role info_is.Aged t b o d = no d
-down_role info_is.Mine t b o d = no d
-down_role info_is.Received t b o d = no d
+  down_role : is_down i ≡ true → is_disabled (role_by i t b o) ≡ true
+  down_role d = grind arith
 
 choices_ready : (s : Settings) (root : Root) (path : Path) (n : ℕ) (ports : List PortState) → EachIs IsReady ports
     → EachIs IsReady (map (λ e. with_choice s root (is_through path e.0) e.1) (enumerate_from n ports))
@@ -190,9 +175,8 @@ comes-ready history settings ports s comes =
 
 each_at : (ports : List PortState) (p : ℕ) (port : PortState) → slice_get ports p ≡ Some port → EachIs IsReady ports
     → IsReady port
-each_at [] p port at h = let e : ⊥ = cc in absurd e
-each_at (x ∷ xs) zero port at h = let same : x ≡ port = cc in let P : PortState → Type 0 = λ y. IsReady y in
-    subst P same h.0
+each_at [] p port at h = cc
+each_at (x ∷ xs) zero port at h = let same : x ≡ port = cc in rw same at h.0
 each_at (x ∷ xs) (suc p) port at h = each_at xs p port at h.1
 
 -- a port of a settled bridge
@@ -203,20 +187,13 @@ IsAtRest x =
     × (x.enabled ≡ true → is_current x.information ≡ true)
 
 in_use : (i : Information) (e : Bool) → (is_old i ≡ true → ⊥) → is_out i && e ≡ false → e ≡ true → is_current i ≡ true
-in_use information.Disabled true old off h = no (sym off)
-in_use information.Disabled false old off h = no h
-in_use information.Aged e old off h = absurd (old refl)
-in_use information.Current e old off h = refl
+in_use i e old off h = grind arith
 
 none_dropped : (o m : Bool) → o && m ≡ false → o ≡ true → m ≡ false
-none_dropped true m off h = off
-none_dropped false m off h = no h
+none_dropped o m off h = grind arith
 
 none_received : (b e m : Bool) → b && e && not m ≡ false → e ≡ true → m ≡ false → b ≡ false
-none_received false e m off h k = refl
-none_received true false m off h k = no h
-none_received true true true off h k = no (sym k)
-none_received true true false off h k = no (sym off)
+none_received b e m off h k = grind arith
 
 module _ (s : Tree) (reached : IsReached s) (ready : AreReady s) (settled : IsSettled s) (p : ℕ) (x : PortState)
     (at : slice_get s.ports p ≡ Some x) where

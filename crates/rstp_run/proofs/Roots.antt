@@ -1,11 +1,11 @@
 -- In a settled bridge each root port is the one that selection chose.
-use Rattle.std.proofs.Common.{◌≡◌, ℕ, zero, suc, Bool, true, false, not, ◌&&◌, ◌||◌, List, [], ◌∷◌, Some, slice_get}
-use Rattle.std.proofs.Common.{refl, sym, ap, subst, ◌∙◌}
+use Rattle.std.proofs.Common.{◌≡◌, ℕ, zero, suc, Bool, true, false, not, ◌&&◌, ◌||◌, List, [], ◌∷◌, Some}
+use Rattle.std.proofs.Common.{slice_get, arith}
+use Rattle.std.proofs.Common.{sym, ap, ◌∙◌}
 use Rattle.std.specs.List.{list_any}
 use Rattle.std.specs.Option.{option_map_or}
 use Rattle.rstp_state.specs.declared.port.PortState.{PortState}
 use Rattle.rstp_state.specs.declared.port.Role.{Role}
-use Rattle.rstp_state.specs.declared.port.Role.TheVariants as role
 use Rattle.rstp_state.specs.Port.{is_disabled, is_root, is_designated, is_blocked, is_out, may_act, same_role, test_at}
 use Rattle.rstp_roles.specs.declared.rule.RoleRule.TheVariants as role_rule
 use Rattle.rstp_run.specs.declared.rule.Rule.{Rule}
@@ -21,8 +21,7 @@ use Rattle.rstp_run.proofs.Kept.{AllSound, IsKept, roles_of}
 sound_at : (ports : List PortState) (p : ℕ) (port : PortState) → slice_get ports p ≡ Some port → AllSound ports
     → IsSound port
 sound_at [] p port at h = cc
-sound_at (x ∷ xs) zero port at h = let same : x ≡ port = cc in let P : PortState → Type 0 = λ y. IsSound y in
-    subst P same h.0
+sound_at (x ∷ xs) zero port at h = let same : x ≡ port = cc in rw same at h.0
 sound_at (x ∷ xs) (suc p) port at h = sound_at xs p port at h.1
 
 pub role_at : (ports : List PortState) (p : ℕ) (port : PortState) → slice_get ports p ≡ Some port
@@ -47,38 +46,23 @@ first_asked (x ∷ xs) p port b at h = h
 -- ---- truth values
 
 selected_then : (s r : Bool) → s || r ≡ true → r ≡ false → s ≡ true
-selected_then true r h k = refl
-selected_then false r h k = sym k ∙ h
+selected_then s r h k = grind arith
 
 no_update : (out s u : Bool) → s ≡ true → not u || (not s || not out) ≡ true → not out && s && u ≡ false → u ≡ false
-no_update out s false e h g = refl
-no_update out false true e h g = cc
-no_update true true true e h g = cc
-no_update false true true e h g = cc
+no_update out s u e h g = grind arith
 
 acts : (s u : Bool) → s ≡ true → u ≡ false → s && not u ≡ true
-acts true true h k = cc
-acts true false h k = refl
-acts false u h k = cc
+acts s u h k = grind arith
 
 -- the remaining condition of a role's rule, if the port may act
 pub left_over : (m a b : Bool) → m ≡ true → m && a && b ≡ false → a && b ≡ false
-left_over true a b h g = g
-left_over false a b h g = cc
+left_over m a b h g = grind arith
 
 -- A port of role Root has the selected role Root, if no rule would change its role.
 root_selected : (r s : Role) → is_disabled s && not (is_disabled r) ≡ false
     → is_designated s && not (is_designated r) ≡ false
     → is_blocked s && not (same_role r s) ≡ false → is_root r ≡ true → is_root s ≡ true
-root_selected r role.Root d e b h = refl
-root_selected role.Root role.Disabled d e b h = cc
-root_selected role.Root role.Designated d e b h = cc
-root_selected role.Root role.Alternate d e b h = cc
-root_selected role.Root role.Backup d e b h = cc
-root_selected role.Disabled s d e b h = cc
-root_selected role.Designated s d e b h = cc
-root_selected role.Alternate s d e b h = cc
-root_selected role.Backup s d e b h = cc
+root_selected r s d e b h = grind arith
 
 -- ---- a settled bridge
 

@@ -1,12 +1,12 @@
 -- Passes up to one that fires nothing, and rounds up to one in which nothing fires.
-use Rattle.std.proofs.Common.{◌≡◌, ℕ, zero, suc, ◌+◌, ◌≤◌, ◌≢◌, ◌⊎◌, inl, inr, List, length, sym, subst, arith}
+use Rattle.std.proofs.Common.{◌≡◌, ℕ, zero, suc, ◌+◌, ◌≤◌, ◌≢◌, ◌⊎◌, inl, inr, List, length, arith}
 use Rattle.std.proofs.lemmas.Bool.{cases_lt}
 use Rattle.rstp_run.specs.declared.count.Count.{Count}
 use Rattle.rstp_run.specs.declared.rule.Rule.{Rule}
 use Rattle.rstp_run.specs.Rules.{Tree}
 use Rattle.rstp_run.specs.Runs.{AreOff, Firing}
 use Rattle.rstp_run.specs.Sweep.{main_order, sending_order, tries_below, pass, passes, round}
-use Rattle.rstp_run.specs.Inner.Runs.{Goes, Sweeps, IsIdle, and_then, done, swept_on}
+use Rattle.rstp_run.specs.Inner.Runs.{Goes, Sweeps, IsIdle, done, swept_on}
 use Rattle.rstp_run.proofs.Ordered.{again, goes-as, goes-first, goes-last, goes-more, pass-full, pass-off, round-full}
 use Rattle.rstp_run.proofs.Ordered.{round-off}
 use Rattle.rstp_run.proofs.Steps.{goes-both}
@@ -18,25 +18,24 @@ IsOver b c = (c.fired ≡ b.fired) ⊎ (c.fired ≡ c.limit)
 module _ (rules : List Rule) (s t u : Tree) (a b c : Count)
     (sweep : Sweeps (tries_below rules (length t.ports)) (AreOff rules) t b u c) where
   one_pass : Goes (pass rules) done t b u c
-  one_pass = goes-as (tries_below rules (length t.ports)) done (pass rules) done t u b c sweep.goes sweep.goes.order
+  one_pass = goes-as sweep.goes sweep.goes.order
 
   still : IsOver b c → (before : List Firing) → length before ≡ c.fired
       → pass rules c.limit (record { tree = u; firings = before }) ≡ record { tree = u; firings = before }
-  still (inr full) before is = pass-full rules c.limit _ (omega (arith, full, is))
+  still (inr full) before is = pass-full rules c.limit _ (omega arith)
   still (inl same) before is =
       elim (cases_lt c.fired c.limit) [
         | inl below ↦ (let idle : IsIdle b c = record { same = same; below = below } in
             let P : Tree → Type 0 = AreOff rules in
             pass-off rules c.limit (record { tree = u; firings = before })
-            (subst P (sym (sweep.idle idle).1) (sweep.idle idle).0))
-        | inr full ↦ pass-full rules c.limit _ (omega (arith, full, is))
+            (rw ((sweep.idle idle).1) (sweep.idle idle).0))
+        | inr full ↦ pass-full rules c.limit _ (omega arith)
       ]
 
   pub passes-end : (n : ℕ) → Goes (passes rules) (again n (pass rules)) s a t b → b.limit ≤ n + b.fired → IsOver b c
       → Goes (passes rules) done s a u c
   passes-end n goes enough over =
-      goes-both (passes rules) (again n (pass rules)) done s t u a b c goes
-      (goes-last (pass rules) (pass-full rules) n t u b c one_pass enough (still over))
+      goes-both goes (goes-last (pass rules) (pass-full rules) n one_pass enough (still over))
 
   pub passes-on : (n : ℕ) → Goes (passes rules) (again n (pass rules)) s a t b → b.limit ≤ n + b.fired
       → c.fired ≢ b.fired → c.fired ≢ c.limit
@@ -50,9 +49,8 @@ module _ (rules : List Rule) (s t u : Tree) (a b c : Count)
       let f : c.fired ≡ b.fired + length sweep.goes.firings = sweep.goes.fired in
       let l : c.limit ≡ b.limit = sweep.goes.limit in (
         m,
-        omega (arith, f, l, enough, some),
-        goes-both (passes rules) (again (suc m) (pass rules)) (again m (pass rules)) s t u a b c goes
-            (goes-more (pass rules) (pass-full rules) m t u b c one_pass (omega (arith, f, some))),
+        omega arith,
+        goes-both goes (goes-more (pass rules) (pass-full rules) m one_pass (omega arith)),
       )
 
 -- the first part of a round from t to m, the second one from m to u
@@ -60,21 +58,19 @@ module _ (s t m u : Tree) (a b d c : Count) (main : Goes (passes main_order) don
     (sends : Goes (passes sending_order) done m d u c) where
   one_round : Goes round done t b u c
   one_round =
-      let both = goes-both (and_then (passes main_order) (passes sending_order)) (passes sending_order) done t m u b d c
-      (goes-first (passes main_order) (passes sending_order) t m b d main) sends in
-      goes-as (and_then (passes main_order) (passes sending_order)) done round done t u b c both both.order
+      let both = goes-both (goes-first main) sends in
+      goes-as both both.order
 
   rests : (c.fired ≡ c.limit) ⊎ (AreOff main_order u × AreOff sending_order u) → (before : List Firing)
       → length before ≡ c.fired
       → round c.limit (record { tree = u; firings = before }) ≡ record { tree = u; firings = before }
-  rests (inl full) before is = round-full c.limit _ (omega (arith, full, is))
+  rests (inl full) before is = round-full c.limit _ (omega arith)
   rests (inr off) before is = round-off c.limit (record { tree = u; firings = before }) off.0 off.1
 
   pub rounds-end : (n : ℕ) → Goes swept_on (again n round) s a t b → b.limit ≤ n + b.fired
       → (c.fired ≡ c.limit) ⊎ (AreOff main_order u × AreOff sending_order u) → Goes swept_on done s a u c
   rounds-end n goes enough over =
-      goes-both swept_on (again n round) done s t u a b c goes
-      (goes-last round round-full n t u b c one_round enough (rests over))
+      goes-both goes (goes-last round round-full n one_round enough (rests over))
 
   pub rounds-on : (n : ℕ) → Goes swept_on (again n round) s a t b → b.limit ≤ n + b.fired
       → c.fired ≢ d.fired → c.fired ≢ c.limit
@@ -89,7 +85,6 @@ module _ (s t m u : Tree) (a b d c : Count) (main : Goes (passes main_order) don
       let g : c.fired ≡ d.fired + length sends.firings = sends.fired in
       let l : c.limit ≡ b.limit = one_round.limit in (
         k,
-        omega (arith, f, g, l, enough, some),
-        goes-both swept_on (again (suc k) round) (again k round) s t u a b c goes
-            (goes-more round round-full k t u b c one_round (omega (arith, f, g, some))),
+        omega arith,
+        goes-both goes (goes-more round round-full k one_round (omega arith)),
       )

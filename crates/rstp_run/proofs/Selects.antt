@@ -1,9 +1,8 @@
 -- At an event of a settled bridge Select fires at most twice: in the second pass and in the third.
-use Rattle.std.proofs.Common.{◌≡◌, ℕ, zero, suc, ◌+◌, ◌≤◌, ◌<◌, ◌==◌, ◌⊎◌, inl, inr, Bool, true, false, List, [], ◌∷◌}
-use Rattle.std.proofs.Common.{length, refl, sym, subst, ◌∙◌, arith}
-use Rattle.std.proofs.lemmas.Bool.{cases_lt, eqb-true, eqb-false}
+use Rattle.std.proofs.Common.{◌≡◌, ℕ, zero, suc, ◌+◌, ◌≤◌, ◌⊎◌, inl, inr, [], ◌∷◌}
+use Rattle.std.proofs.Common.{length, refl, arith}
+use Rattle.std.proofs.lemmas.Bool.{cases_lt, eq-eqb}
 use Rattle.rstp_state.specs.declared.port.PortState.{PortState}
-use Rattle.rstp_run.specs.declared.rule.Rule.{Rule}
 use Rattle.rstp_run.specs.declared.rule.Rule.TheVariants as rules
 use Rattle.rstp_run.specs.declared.event.Event.{Event}
 use Rattle.rstp_run.specs.Events.{direct}
@@ -33,38 +32,36 @@ Passed n limit (suc (suc (suc k))) g = Stage 2 n (λ q. IsCalm) limit g
 -- a fact after a pass of Select and the rules after it
 pub whole-pass : (c n limit : ℕ) (P : ℕ → PortState → Type 0) (g : Going)
     → Stage c n P limit (pass (rules.Select ∷ main_rest) limit g) → Stage c n P limit (pass main_order limit g)
-whole-pass c n limit P g h =
-    let same : rules.Select ∷ main_rest ≡ main_order = refl in
-    let R : List Rule → Type 0 = λ l. Stage c n P limit (pass l limit g) in
-    subst R same h
+whole-pass c n limit P g h = h
 
-pub first-pass : (n limit : ℕ) (g : Going) → Stage 0 n (λ q. IsFirst) limit g
-    → Stage 0 n (λ q. IsTaken) limit (pass main_order limit g)
-first-pass n limit g h =
-    whole-pass 0 n limit (λ q. IsTaken) g
-    (pass-by main_rest 0 0 n limit IsFirst IsFirst IsTaken (λ p x k. visit-first n limit p x k) (omega arith) g
-    (stage-rests 0 n limit (λ q. IsFirst) 0 g (λ q y f. f.1) h) h)
+module _ (n limit : ℕ) (g : Going) where
+  pub first-pass : Stage 0 n (λ q. IsFirst) limit g
+      → Stage 0 n (λ q. IsTaken) limit (pass main_order limit g)
+  first-pass h =
+      whole-pass 0 n limit (λ q. IsTaken) g
+      (pass-by main_rest 0 0 n limit IsFirst IsFirst IsTaken (visit-first n limit) (omega arith) g
+      (stage-rests 0 n limit (λ q. IsFirst) 0 g (λ q y f. f.1) h) h)
 
--- Select is reached in the second pass
-pub second-select : (n limit : ℕ) (g : Going) → Stage 0 n (λ q. IsTaken) limit g
-    → Stage 1 n (λ q. IsChosen) limit (tries rules.Select 0 limit g)
-second-select n limit g h =
-    stage-select 0 n limit (λ q. IsTaken) (λ q. IsChosen) g
-    (λ s root q y through t. ((t.0, t.1, t.2, refl, t.4), refl)) (λ q y none t. (t, none)) h
+  -- Select is reached in the second pass
+  pub second-select : Stage 0 n (λ q. IsTaken) limit g
+      → Stage 1 n (λ q. IsChosen) limit (tries rules.Select 0 limit g)
+  second-select h =
+      stage-select 0 n limit (λ q. IsTaken) (λ q. IsChosen) g
+      (λ s root q y through t. ((t.0, t.1, t.2, refl, t.4), refl)) (λ q y none t. (t, none)) h
 
-pub second-pass : (n limit : ℕ) (g : Going) → Stage 0 n (λ q. IsTaken) limit g
-    → Stage 1 n (λ q. IsYoung) limit (pass main_order limit g)
-second-pass n limit g h =
-    whole-pass 1 n limit (λ q. IsYoung) g
-    (pass-by main_rest 0 1 n limit IsTaken IsChosen IsYoung (λ p x k. visit-second n limit p x k) (omega arith) g
-    (second-select n limit g h) h)
+  pub second-pass : Stage 0 n (λ q. IsTaken) limit g
+      → Stage 1 n (λ q. IsYoung) limit (pass main_order limit g)
+  second-pass h =
+      whole-pass 1 n limit (λ q. IsYoung) g
+      (pass-by main_rest 0 1 n limit IsTaken IsChosen IsYoung (visit-second n limit) (omega arith) g
+      (second-select h) h)
 
--- Select is reached in the third pass
-pub third-select : (n limit : ℕ) (g : Going) → Stage 1 n (λ q. IsYoung) limit g
-    → Stage 2 n (λ q. IsCalm) limit (tries rules.Select 0 limit g)
-third-select n limit g h =
-    stage-select 1 n limit (λ q. IsYoung) (λ q. IsCalm) g
-    (λ s root q y through t. (((t.0.0, t.0.1, t.0.2, refl, t.0.4), t.1), refl)) (λ q y none t. (t, none)) h
+  -- Select is reached in the third pass
+  pub third-select : Stage 1 n (λ q. IsYoung) limit g
+      → Stage 2 n (λ q. IsCalm) limit (tries rules.Select 0 limit g)
+  third-select h =
+      stage-select 1 n limit (λ q. IsYoung) (λ q. IsCalm) g
+      (λ s root q y through t. (((t.0.0, t.0.1, t.0.2, refl, t.0.4), t.1), refl)) (λ q y none t. (t, none)) h
 
 -- a pass after that
 pub calm-pass : (c d n limit : ℕ) (B : PortState → Type 0) (g : Going) → c ≤ d
@@ -72,7 +69,7 @@ pub calm-pass : (c d n limit : ℕ) (B : PortState → Type 0) (g : Going) → c
     → Stage d n (λ q. IsCalm) limit (pass main_order limit g)
 calm-pass c d n limit B g less first h =
     whole-pass d n limit (λ q. IsCalm) g
-    (pass-by main_rest c d n limit B IsCalm IsCalm (λ p x k. visit-later d n limit p x k) less g first h)
+    (pass-by main_rest c d n limit B IsCalm IsCalm (visit-later d n limit) less g first h)
 
 pub later-pass : (c n limit : ℕ) (g : Going) → Stage c n (λ q. IsCalm) limit g
     → Stage c n (λ q. IsCalm) limit (pass main_order limit g)
@@ -82,7 +79,7 @@ later-pass c n limit g h =
 pub sends-calm : (c n limit p : ℕ) (g : Going) → Stage c n (λ q. IsCalm) limit g
     → Stage c n (λ q. IsCalm) limit (tries_all sending_order p limit g)
 sends-calm c n limit p g h =
-    stage-plain c n limit (λ q. IsCalm) (λ q x y e. stays IsCalmOf x y e) sending_order refl p g h
+    stage-plain c n limit (λ q. IsCalm) (λ q. stays IsCalmOf) sending_order refl p g h
 
 next_pass : (n limit k : ℕ) (g : Going) → Passed n limit k g → Passed n limit (suc k) (pass main_order limit g)
 next_pass n limit zero g h = first-pass n limit g h
@@ -93,10 +90,8 @@ next_pass n limit (suc (suc (suc k))) g h = later-pass 2 n limit g h
 
 -- at the limit nothing is claimed of the ports
 at_limit : (n limit k : ℕ) (g : Going) → limit ≤ length g.firings → Passed n limit k g → Passed n limit 3 g
-at_limit n limit zero g full h = let few = h.0 in (omega (arith, few), h.1, inl full)
-at_limit n limit (suc zero) g full h = let few = h.0 in (omega (arith, few), h.1, inl full)
-at_limit n limit (suc (suc zero)) g full h = let few = h.0 in (omega (arith, few), h.1, inl full)
 at_limit n limit (suc (suc (suc k))) g full h = h
+at_limit n limit _ g full h = (omega (arith, h.0), h.1, inl full)
 
 idle_same : (limit : ℕ) (g : Going) → length (pass main_order limit g).firings ≡ length g.firings
     → pass main_order limit g ≡ g
@@ -119,28 +114,22 @@ module _ (limit end : ℕ) (F : ℕ → Going → Type 0)
   -- a pass that fires nothing changes nothing, so the facts after later passes hold too
   idle_on : (j k : ℕ) (g : Going) → pass main_order limit g ≡ g → F k g → F (plus j k) g
   idle_on zero k g same h = h
-  idle_on (suc j) k g same h = subst (F (suc (plus j k))) same (next (plus j k) g (idle_on j k g same h))
+  idle_on (suc j) k g same h = rw same at (next (plus j k) g (idle_on j k g same h))
 
   until_calm : (m k : ℕ) (g : Going) → limit ≤ m + length g.firings → F k g
       → F end (until_idle m (pass main_order limit) g)
-  until_calm zero k g enough h = full k g (omega (arith, enough)) h
+  until_calm zero k g enough h = full k g (omega arith) h
   until_calm (suc m) k g enough h =
-      go (length (pass main_order limit g).firings == length g.firings) refl
-      (λ more. until_calm m (suc k) (pass main_order limit g) more (next k g h))
-    where
-      go : (b : Bool) → (length (pass main_order limit g).firings == length g.firings) ≡ b
-          → (limit ≤ m + length (pass main_order limit g).firings
-          → F end (until_idle m (pass main_order limit) (pass main_order limit g)))
-          → F end (until_idle (suc m) (pass main_order limit) g)
-      go true is later =
-          let same = idle_same limit g (eqb-true (length (pass main_order limit g).firings) (length g.firings) is) in
-          subst (F end) (sym (until-once m (pass main_order limit) g is ∙ same)) (last k g (idle_on end k g same h))
-      go false is later =
-          let other = eqb-false (length (pass main_order limit g).firings) (length g.firings) is in
-          let grown = pass-grows limit (length g.firings) main_order g
-          (let itself : length g.firings ≤ length g.firings = omega arith in itself) in
-          let more : length g.firings < length (pass main_order limit g).firings = omega (arith, grown, other) in
-          subst (F end) (sym (until-more m (pass main_order limit) g more)) (later (omega (arith, enough, more)))
+      let later : Going = pass main_order limit g in
+      elim (cases_lt (length g.firings) (length later.firings)) [
+        | inl more ↦ rw (until-more m (pass main_order limit) g more)
+            (until_calm m (suc k) later (omega arith) (next k g h))
+        | inr less ↦ (let grown = pass-grows limit (length g.firings) main_order g (omega arith) in
+            let idle : length later.firings ≡ length g.firings = omega arith in
+            let same = idle_same limit g idle in
+            rw (until-once m (pass main_order limit) g (eq-eqb (length later.firings) (length g.firings) idle), same)
+            (last k g (idle_on end k g same h)))
+      ]
 
   round_calm : (k : ℕ) (g : Going) → F k g → F end (round limit g)
   round_calm k g h =
@@ -167,7 +156,7 @@ passed-first event limit s can rests =
     (omega arith, refl, inr (direct-first event s (reached can.0 can.1 s can.2) ready rests))
 
 few : (n limit : ℕ) (g : Going) → Passed n limit 0 g ⊎ Passed n limit 3 g → selections g.firings ≤ 2
-few n limit g (inl h) = let k = h.0 in omega (arith, k)
+few n limit g (inl h) = omega (arith, h.0)
 few n limit g (inr h) = h.0
 
 pub selects-twice : SelectsTwice
@@ -175,5 +164,4 @@ selects-twice event limit s t settled mask can rests h =
     let n : ℕ = length (direct event s).ports in
     let reached_end = sweep-reaches limit 3 (Passed n limit) (next_pass n limit) (at_limit n limit) (λ k g z. z)
     (sends-calm 2 n limit) (direct event s) (passed-first event limit s can rests) in
-    let F : Going → Type 0 = λ g. selections g.firings ≤ 2 in
-    subst F h.order (few n limit (swept limit (direct event s)) reached_end)
+    rw h.order at (few n limit (swept limit (direct event s)) reached_end)

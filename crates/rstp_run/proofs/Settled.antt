@@ -2,7 +2,7 @@
 use Rattle.std.proofs.Common.{◌≡◌, ℕ, ◌≤◌, Bool, true, false, Some, List, [], ◌∷◌, length, slice_get, zero, suc, ◌<◌}
 use Rattle.std.proofs.Common.{below_more, arith, refl, ◌⊎◌, inl, inr, ◌↔◌, IsTrue, not}
 use Rattle.std.specs.List.{list_any}
-use Rattle.std.proofs.lemmas.Bool.{cases_lt}
+use Rattle.std.proofs.lemmas.Bool.{cases_Bool, cases_lt}
 use Rattle.std.proofs.lemmas.Option.{slice_get_past}
 use Rattle.std.proofs.lemmas.Map.Keys.{any_passes_from_place}
 use Rattle.rstp_run.specs.declared.rule.Rule.{Rule}
@@ -83,11 +83,10 @@ covered (Transmit transmit_rule.SendRst) = inr (3, refl)
 
 pub off-at : (test : Rule → Bool) (rules : List Rule) (k : ℕ) (rule : Rule) → slice_get rules k ≡ Some rule
     → list_any test rules ≡ false → test rule ≡ false
-off-at test rules k rule place none = off (test rule) refl
-  where
-    off : (b : Bool) → test rule ≡ b → test rule ≡ false
-    off false is = is
-    off true is = let any : list_any test rules ≡ true = any_passes_from_place test rules k rule place is in cc
+off-at test rules k rule place none = elim (cases_Bool (test rule)) [
+  | inl is ↦ (let any = any_passes_from_place test rules k rule place is in cc)
+  | inr is ↦ is
+]
 
 pub guard-past : (rule : Rule) (s : Tree) (p : ℕ) → length s.ports ≤ p → guard rule s p ≡ false
 guard-past rule s p past = rw (slice_get_past s.ports p past) refl
@@ -111,23 +110,24 @@ pub none-off : (rules : List Rule) (s : Tree) (p : ℕ) → IsSettled s → AreO
 none-off [] s p settled = refl
 none-off (rule ∷ rules) s p settled = rw (settled rule p) (none-off rules s p settled)
 
-pub off-settled : (rules : List Rule) (s : Tree) → IsSettled s → AreOff rules s
-off-settled rules s settled p below = none-off rules s p settled
+module _ (rules : List Rule) (s : Tree) where
+  pub off-settled : IsSettled s → AreOff rules s
+  off-settled settled p below = none-off rules s p settled
 
-one_more : (rules : List Rule) (s : Tree) (n : ℕ) (b : Bool) → list_any (λ rule. guard rule s n) rules ≡ b
-    → AreOffBelow rules n s
-    → AreOffBelow rules (suc n) s ⊎ (AreOffBelow rules (suc n) s → ⊥)
-one_more rules s n true is below = inr (λ all. (let within : n < suc n = omega arith in
-    let off : AreOffAt rules n s = all n within in cc))
-one_more rules s n false is below = inl (λ p within. below_more (λ q. AreOffAt rules q s) n below is p (omega arith))
+  one_more : (n : ℕ) (b : Bool) → list_any (λ rule. guard rule s n) rules ≡ b
+      → AreOffBelow rules n s
+      → AreOffBelow rules (suc n) s ⊎ (AreOffBelow rules (suc n) s → ⊥)
+  one_more n true is below = inr (λ all. (let within : n < suc n = omega arith in
+      let off : AreOffAt rules n s = all n within in cc))
+  one_more n false is below = inl (λ p within. below_more (λ q. AreOffAt rules q s) n below is p (omega arith))
 
-off_or_not : (rules : List Rule) (s : Tree) (n : ℕ) → AreOffBelow rules n s ⊎ (AreOffBelow rules n s → ⊥)
-off_or_not rules s zero = inl (λ p below. (let f : ⊥ = omega arith in absurd f))
-off_or_not rules s (suc n) =
-    elim (off_or_not rules s n) [
-      | inl below ↦ one_more rules s n (list_any (λ rule. guard rule s n) rules) refl below
-      | inr on ↦ inr (λ all. on (λ p within. all p (omega arith)))
-    ]
+  off_or_not : (n : ℕ) → AreOffBelow rules n s ⊎ (AreOffBelow rules n s → ⊥)
+  off_or_not zero = inl (λ p below. (let f : ⊥ = omega arith in absurd f))
+  off_or_not (suc n) =
+      elim (off_or_not n) [
+        | inl below ↦ one_more n (list_any (λ rule. guard rule s n) rules) refl below
+        | inr on ↦ inr (λ all. on (λ p within. all p (omega arith)))
+      ]
 
 -- a bridge is settled, or isn't
 pub settled_or_not : (s : Tree) → IsSettled s ⊎ (IsSettled s → ⊥)
@@ -152,5 +152,4 @@ pub found : (r b : Bool) → r ≡ b → r ≡ true → b ≡ false → ⊥
 found r b is is_so not_so = cc
 
 pub not-false : (b : Bool) → not b ≡ false → b ≡ true
-not-false true h = refl
-not-false false h = cc
+not-false b h = grind arith

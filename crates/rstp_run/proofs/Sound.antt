@@ -1,10 +1,9 @@
 -- The condition for a sound port; the rules of information keep it.
-use Rattle.std.proofs.Common.{◌≡◌, Bool, true, false, not, ◌&&◌, ◌||◌, Option, Some, None, refl, sym, ap, subst}
+use Rattle.std.proofs.Common.{◌≡◌, Bool, true, false, not, ◌&&◌, ◌||◌, Option, Some, None, refl, sym, ap, subst, arith}
 use Rattle.bpdu_wire.specs.declared.bpdu.Bpdu.{Bpdu}
 use Rattle.bpdu_wire.specs.declared.bpdu.Bpdu.TheVariants.{Config, Rst, Tcn}
 use Rattle.rstp_state.specs.declared.port.PortState.{PortState}
 use Rattle.rstp_state.specs.declared.port.Information.{Information}
-use Rattle.rstp_state.specs.declared.port.Information.TheVariants as information
 use Rattle.rstp_state.specs.declared.port.InfoIs.{InfoIs}
 use Rattle.rstp_state.specs.declared.port.InfoIs.TheVariants as info_is
 use Rattle.rstp_state.specs.Port.{is_out, is_current}
@@ -43,16 +42,13 @@ keeps_quiet port next h = (λ s. subst IsSoundOf (sym h) s, ap (λ k. k.selected
 -- ---- truth values
 
 pub or_true : (b : Bool) → b || true ≡ true
-or_true true = refl
-or_true false = refl
+or_true b = grind arith
 
 pub or_left : (a b : Bool) → a ≡ true → a || b ≡ true
-or_left true b h = refl
-or_left false b h = cc
+or_left a b h = grind arith
 
 pub or_right : (a b : Bool) → b ≡ true → a || b ≡ true
-or_right true b h = refl
-or_right false b h = h
+or_right a b h = grind arith
 
 pub neither : (a b : Bool) → a || b ≡ false → (a ≡ false) × (b ≡ false)
 neither true b h = cc
@@ -62,9 +58,7 @@ neither false b h = (refl, h)
 
 -- a current port's machine isn't out
 not_out : (i : Information) → is_current i ≡ true → not (is_out i) ≡ true
-not_out information.Disabled h = cc
-not_out information.Aged h = refl
-not_out information.Current h = refl
+not_out i h = grind arith
 
 unselected : (u : Bool) (b : Bool) → not u || (true || b) ≡ true
 unselected u b = or_true (not u)
@@ -78,7 +72,6 @@ info_keeps (Some (Rst message)) port = (λ h. h, refl, refl)
 pub information_keeps : (rule : InformationRule) (port : PortState) → information_asks rule port ≡ true
     → Keeps port (information_does rule port)
 information_keeps information_rule.Disabled port g = (λ h. (refl, refl, unselected port.update_info false), refl, refl)
-information_keeps information_rule.Drop port g = (λ h. h, refl, refl)
 information_keeps information_rule.Enabled port g = (λ h. (refl, refl, unselected port.update_info true), refl, refl)
 information_keeps information_rule.Update port g = (λ h. (h.0, refl, refl), refl, refl)
 information_keeps information_rule.Aged port g = (λ h. (refl, refl, unselected port.update_info true), refl, refl)
@@ -89,10 +82,9 @@ information_keeps information_rule.Superior port g =
       known.1,
       known.2,
     )
-information_keeps information_rule.Repeated port g = (λ h. h, refl, refl)
 information_keeps information_rule.Inferior port g = keeps_quiet port (information_does information_rule.Inferior port)
     (inferior_quiet (rst_has 16 port.message) port)
 information_keeps information_rule.NotDesignated port g =
     keeps_quiet port (information_does information_rule.NotDesignated port)
     (answer_quiet (port.point_to_point && message_has 64 port.message) port)
-information_keeps information_rule.Other port g = (λ h. h, refl, refl)
+information_keeps _ port g = (λ h. h, refl, refl)

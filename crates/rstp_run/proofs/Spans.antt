@@ -1,7 +1,7 @@
 -- The cost of the rules of roles and states in a visit of a port, at most. All values of six flags are tried.
 use Rattle.std.proofs.Common.{◌≡◌, ℕ, zero, suc, ◌+◌, ◌≤◌, ◌<◌, Bool, true, false, not, ◌||◌, List, []}
-use Rattle.std.proofs.Common.{◌∷◌, drop, take, nat_lt, refl, ap, ◌∙◌, arith, if◌then◌else◌}
-use Rattle.std.proofs.lemmas.Bool.{ltb-false, ltb-true, not-true}
+use Rattle.std.proofs.Common.{◌∷◌, drop, take, nat_lt, refl, ap, arith, if◌then◌else◌}
+use Rattle.std.proofs.lemmas.Bool.{ltb-false, not-true}
 use Rattle.rstp_state.specs.declared.port.PortState.{PortState}
 use Rattle.rstp_state.specs.declared.port.Timing.{Timing}
 use Rattle.rstp_state.specs.declared.port.Topology.TheVariants as topology
@@ -16,7 +16,7 @@ use Rattle.rstp_run.specs.declared.rule.TopologyRule.{TopologyRule}
 use Rattle.rstp_run.specs.declared.rule.TopologyRule.TheVariants as topology_rule
 use Rattle.rstp_run.specs.Rules.{Tree, asks, timing_in}
 use Rattle.rstp_run.specs.Sweep.{main_order}
-use Rattle.rstp_run.proofs.Flags.{every, holds, imply}
+use Rattle.rstp_run.proofs.Flags.{Test, every, holds, imply}
 use Rattle.rstp_run.proofs.Inputs.{inputs, owed, wait}
 use Rattle.rstp_run.proofs.Heard.{timed}
 use Rattle.rstp_run.proofs.Own.{own_role, own_topology}
@@ -31,18 +31,10 @@ abbrev pub greater : ℕ → ℕ → ℕ
 greater a b = if nat_lt a b then b else a
 
 pub greater-one : (a b : ℕ) → a ≤ greater a b
-greater-one a b = go (nat_lt a b) refl
-  where
-    go : (t : Bool) → nat_lt a b ≡ t → a ≤ (if t then b else a)
-    go true less = let k = ltb-true a b less in omega (arith, k)
-    go false more = omega arith
+greater-one a b = grind arith
 
 pub greater-two : (a b : ℕ) → b ≤ greater a b
-greater-two a b = go (nat_lt a b) refl
-  where
-    go : (t : Bool) → nat_lt a b ≡ t → b ≤ (if t then b else a)
-    go true less = omega arith
-    go false more = ltb-false a b more
+greater-two a b = grind arith
 
 -- the firings of these rules of states, and a number of the flags after them
 abbrev pub follows : (Gait → ℕ) → List Rule → Gait → ℕ
@@ -82,16 +74,17 @@ abbrev pub at_work : Gait → ℕ
 at_work c = 8 + work c.learn c.forward c.learning c.forwarding
 
 -- for all values of the flags, one number is at most another if the flags pass a test
+abbrev within_case : (Gait → Bool) → (Gait → ℕ) → (Gait → ℕ) → Test 6
+within_case on f g a b c d e h =
+    not (on (gait a b c d e h)) || not (nat_lt (g (gait a b c d e h)) (f (gait a b c d e h)))
+
 abbrev all_within : (Gait → Bool) → (Gait → ℕ) → (Gait → ℕ) → Bool
-all_within on f g =
-    every 6 (λ a b c d e h. not (on (gait a b c d e h)) || not (nat_lt (g (gait a b c d e h)) (f (gait a b c d e h))))
+all_within on f g = every 6 (within_case on f g)
 
 within-by : (on : Gait → Bool) (f g : Gait → ℕ) → all_within on f g ≡ true → (c : Gait) → on c ≡ true → f c ≤ g c
 within-by on f g all c h =
     ltb-false (g c) (f c) (not-true _ (imply (on c) (not (nat_lt (g c) (f c)))
-    (holds 6 (λ a b c d e h. not (on (gait a b c d e h))
-    || not (nat_lt (g (gait a b c d e h)) (f (gait a b c d e h)))) all c.learn c.forward c.learning c.forwarding
-    c.disputed c.held) h))
+    (holds 6 (within_case on f g) all c.learn c.forward c.learning c.forwarding c.disputed c.held) h))
 
 abbrev any : Gait → Bool
 any c = true
@@ -106,65 +99,30 @@ pub record Fits (end : Gait → ℕ) (base b : ℕ) : Type 0 where
   pub rests : (c : Gait) → at_rest end c ≤ b
   pub root : base + 4 ≤ b
 
-states_nothing : all_within any (at_states nothing) (λ c. 0 + work c.learn c.forward c.learning c.forwarding) ≡ true
-states_nothing = refl
-
-discards_nothing : all_within (may role_rule.DesignatedDiscard)
-    (λ c. price role_rule.DesignatedDiscard c + at_learn nothing (stepped role_rule.DesignatedDiscard c)) (λ c. 4)
-    ≡ true
-discards_nothing = refl
-
-learns_nothing : all_within any (at_learn nothing) (λ c. 4) ≡ true
-learns_nothing = refl
-
-blocks_nothing : all_within any (λ c. 1 + at_rest nothing (stepped role_rule.Block c)) (λ c. 4) ≡ true
-blocks_nothing = refl
-
-rests_nothing : all_within any (at_rest nothing) (λ c. 4) ≡ true
-rests_nothing = refl
-
-states_work : all_within any (at_states at_work) (λ c. 8 + work c.learn c.forward c.learning c.forwarding) ≡ true
-states_work = refl
-
-discards_work : all_within (may role_rule.DesignatedDiscard)
-    (λ c. price role_rule.DesignatedDiscard c + at_learn at_work (stepped role_rule.DesignatedDiscard c)) (λ c. 14)
-    ≡ true
-discards_work = refl
-
-learns_work : all_within any (at_learn at_work) (λ c. 14) ≡ true
-learns_work = refl
-
-blocks_work : all_within any (λ c. 1 + at_rest at_work (stepped role_rule.Block c)) (λ c. 14) ≡ true
-blocks_work = refl
-
-rests_work : all_within any (at_rest at_work) (λ c. 14) ≡ true
-rests_work = refl
+fits_by : (end : Gait → ℕ) (base b : ℕ)
+    → all_within any (at_states end) (λ c. base + work c.learn c.forward c.learning c.forwarding) ≡ true
+    → all_within (may role_rule.DesignatedDiscard)
+    (λ c. price role_rule.DesignatedDiscard c + at_learn end (stepped role_rule.DesignatedDiscard c)) (λ c. b) ≡ true
+    → all_within any (at_learn end) (λ c. b) ≡ true
+    → all_within any (λ c. 1 + at_rest end (stepped role_rule.Block c)) (λ c. b) ≡ true
+    → all_within any (at_rest end) (λ c. b) ≡ true → base + 4 ≤ b → Fits end base b
+fits_by end base b states discards learns blocks rests root = record {
+  states = λ c. within-by any (at_states end) (λ d. base + work d.learn d.forward d.learning d.forwarding) states c
+      refl;
+  discards = within-by (may role_rule.DesignatedDiscard)
+      (λ d. price role_rule.DesignatedDiscard d + at_learn end (stepped role_rule.DesignatedDiscard d)) (λ d. b)
+      discards;
+  learns = λ c. within-by any (at_learn end) (λ d. b) learns c refl;
+  blocks = λ c. within-by any (λ d. 1 + at_rest end (stepped role_rule.Block d)) (λ d. b) blocks c refl;
+  rests = λ c. within-by any (at_rest end) (λ d. b) rests c refl;
+  root = root;
+}
 
 pub fits-nothing : Fits nothing 0 4
-fits-nothing = record {
-  states = λ c. within-by any (at_states nothing) (λ d. 0 + work d.learn d.forward d.learning d.forwarding)
-      states_nothing c refl;
-  discards = λ c on. within-by (may role_rule.DesignatedDiscard)
-      (λ d. price role_rule.DesignatedDiscard d + at_learn nothing (stepped role_rule.DesignatedDiscard d)) (λ d. 4)
-      discards_nothing c on;
-  learns = λ c. within-by any (at_learn nothing) (λ d. 4) learns_nothing c refl;
-  blocks = λ c. within-by any (λ d. 1 + at_rest nothing (stepped role_rule.Block d)) (λ d. 4) blocks_nothing c refl;
-  rests = λ c. within-by any (at_rest nothing) (λ d. 4) rests_nothing c refl;
-  root = omega arith;
-}
+fits-nothing = fits_by nothing 0 4 refl refl refl refl refl (omega arith)
 
 pub fits-work : Fits at_work 8 14
-fits-work = record {
-  states = λ c. within-by any (at_states at_work) (λ d. 8 + work d.learn d.forward d.learning d.forwarding)
-      states_work c refl;
-  discards = λ c on. within-by (may role_rule.DesignatedDiscard)
-      (λ d. price role_rule.DesignatedDiscard d + at_learn at_work (stepped role_rule.DesignatedDiscard d)) (λ d. 14)
-      discards_work c on;
-  learns = λ c. within-by any (at_learn at_work) (λ d. 14) learns_work c refl;
-  blocks = λ c. within-by any (λ d. 1 + at_rest at_work (stepped role_rule.Block d)) (λ d. 14) blocks_work c refl;
-  rests = λ c. within-by any (at_rest at_work) (λ d. 14) rests_work c refl;
-  root = omega arith;
-}
+fits-work = fits_by at_work 8 14 refl refl refl refl refl (omega arith)
 
 -- ---- numbers by kind
 
@@ -193,25 +151,24 @@ role-lowers rule f h pay s p x g =
     let y : PortState = own_role rule (timing_in s) x in
     let a = pay (gait_of x) t.on in
     let b : numbered h y ≡ h (rule_kind rule) (stepped rule (gait_of x)) =
-    ap (λ r. h (kind r) (gait_of y)) t.same_role ∙ ap (λ j. h j (gait_of y)) k
-    ∙ ap (λ c. h (rule_kind rule) c) t.to in
-    let e : numbered f x ≡ f (rule_kind rule) (gait_of x) = ap (λ j. f j (gait_of x)) k in
+    rw (t.to, t.same_role, k) in
+    let e : numbered f x ≡ f (rule_kind rule) (gait_of x) = rw k in
     falls (owed x) (inputs x) (wait x) (owed y) (inputs y) (wait y) (numbered f x) (numbered h y)
     (f (rule_kind rule) (gait_of x)) (h (rule_kind rule) (stepped rule (gait_of x))) (price rule (gait_of x)) refl refl
     a b e t.paid t.waits
   where
     falls : (ox ix wx oy iy wy fx hy f' h' c : ℕ) → ox ≡ wx + ix → oy ≡ wy + iy → c + h' ≤ f' → hy ≡ h' → fx ≡ f'
         → iy + 1 ≤ ix + c → wy ≡ wx → oy + hy < ox + fx
-    falls ox ix wx oy iy wy fx hy f' h' c p q a b e d w = omega (arith, p, q, a, b, e, d, w)
+    falls ox ix wx oy iy wy fx hy f' h' c p q a b e d w = omega arith
 
 module _ (end : Gait → ℕ) (rest : List Rule) where
   turned : (rule : StateRule) (c : Gait) → turns_on rule c ≡ true
       → suc (follows end rest (turned_on rule c)) ≡ follows end (rules.State rule ∷ rest) c
-  turned rule c on = rw on refl
+  turned rule c on = rw on
 
   unturned : (rule : StateRule) (c : Gait) → turns_on rule c ≡ false
-      → follows end rest c ≡ follows end (rules.State rule ∷ rest) c
-  unturned rule c off = rw off refl
+      → follows end rest c ≤ follows end (rules.State rule ∷ rest) c
+  unturned rule c off = rw off (omega arith)
 
   pub state-fires : (rule : StateRule) (x : PortState) → state_asks rule x ≡ true
       → owed (state_does rule x) + follows end rest (gait_of (state_does rule x))
@@ -230,48 +187,34 @@ module _ (end : Gait → ℕ) (rest : List Rule) where
 
       goes : (rule : StateRule) → gait_of (state_does rule x) ≡ turned_on rule (gait_of x)
       goes state_rule.ToLearning = refl
-      goes state_rule.ToForwarding = refl
-      goes state_rule.ToDiscarding = refl
+      goes _ = refl
 
       same : (rule : StateRule) → owed (state_does rule x) ≡ owed x
       same state_rule.ToLearning = refl
-      same state_rule.ToForwarding = refl
-      same state_rule.ToDiscarding = refl
+      same _ = refl
 
       falls : (ox oy fy ft fx : ℕ) → suc ft ≡ fx → fy ≡ ft → oy ≡ ox → oy + fy < ox + fx
-      falls ox oy fy ft fx a b c = omega (arith, a, b, c)
+      falls ox oy fy ft fx a b c = omega arith
 
   pub state-rests : (rule : StateRule) (x : PortState) → state_asks rule x ≡ false
       → follows end rest (gait_of x) ≤ follows end (rules.State rule ∷ rest) (gait_of x)
-  state-rests rule x g = by (follows end rest (gait_of x)) (follows end (rules.State rule ∷ rest) (gait_of x))
-      (unturned rule (gait_of x) (off rule g))
+  state-rests rule x g = unturned rule (gait_of x) (off rule g)
     where
       off : (rule : StateRule) → state_asks rule x ≡ false → turns_on rule (gait_of x) ≡ false
       off state_rule.ToLearning g = g
       off state_rule.ToForwarding g = g
       off state_rule.ToDiscarding g = g
 
-      by : (a b : ℕ) → a ≡ b → a ≤ b
-      by a b e = omega (arith, e)
+abbrev works : PortState → ℕ
+works x = 8 + work x.learn x.forward x.learning x.forwarding
 
 -- rules of topology change don't bear on learning and forwarding
 pub work-turned : (rule : TopologyRule) (timing : Timing) (x : PortState)
     → 8 + work (own_topology rule timing x).learn (own_topology rule timing x).forward
     (own_topology rule timing x).learning (own_topology rule timing x).forwarding
     ≡ 8 + work x.learn x.forward x.learning x.forwarding
-work-turned topology_rule.TcLearning timing x = refl
 work-turned topology_rule.Detected timing x =
-    timed (λ y. 8 + work y.learn y.forward y.learning y.forwarding ≡ 8 + work x.learn x.forward x.learning x.forwarding)
-    timing (record x { topology = topology.Active }) refl refl refl
-work-turned topology_rule.TcClear timing x = refl
-work-turned topology_rule.TcInactive timing x = refl
-work-turned topology_rule.TcBack timing x = refl
-work-turned topology_rule.NotifiedTcn timing x =
-    timed (λ y. 8 + work y.learn y.forward y.learning y.forwarding ≡ 8 + work x.learn x.forward x.learning x.forwarding)
-    timing x refl refl refl
-work-turned topology_rule.NotifiedTc timing x = refl
-work-turned topology_rule.Propagating timing x =
-    timed (λ y. 8 + work y.learn y.forward y.learning y.forwarding ≡ 8 + work x.learn x.forward x.learning x.forwarding)
-    timing x refl refl refl
-work-turned topology_rule.Acknowledged timing x = refl
-work-turned topology_rule.Flush timing x = refl
+    timed (λ y. works y ≡ works x) timing (record x { topology = topology.Active }) refl refl refl
+work-turned topology_rule.NotifiedTcn timing x = timed (λ y. works y ≡ works x) timing x refl refl refl
+work-turned topology_rule.Propagating timing x = timed (λ y. works y ≡ works x) timing x refl refl refl
+work-turned _ timing x = refl

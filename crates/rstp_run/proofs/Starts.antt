@@ -1,13 +1,12 @@
 -- The share of each port right after an event of a settled bridge.
 use Rattle.std.proofs.Common.{◌≡◌, ℕ, zero, suc, ◌+◌, ◌*◌, ◌≤◌, inl, inr, Bool, true, false, not, ◌&&◌}
-use Rattle.std.proofs.Common.{◌||◌, ◌==◌, List, [], map, Some, slice_get, refl, sym, arith}
-use Rattle.std.proofs.lemmas.Bool.{cases_lt, eqb-false, eqb-true}
+use Rattle.std.proofs.Common.{◌||◌, ◌==◌, List, [], map, Some, slice_get, refl, arith}
+use Rattle.std.proofs.lemmas.Bool.{cases_Bool, cases_lt, eqb-false, eqb-true}
 use Rattle.ether_wire.specs.Ports.{place_of_port}
 use Rattle.rstp_state.specs.declared.port.PortState.{PortState}
 use Rattle.rstp_state.specs.declared.port.Topology.{Topology}
-use Rattle.rstp_state.specs.declared.port.Topology.TheVariants as topology
 use Rattle.rstp_state.specs.Direct.{with_enabled, with_message, with_migration_check, with_second, without_slot}
-use Rattle.rstp_state.specs.Port.{is_active, is_inactive, is_learning, is_out}
+use Rattle.rstp_state.specs.Port.{change_at, is_active, is_inactive, is_learning, is_out}
 use Rattle.rstp_machines.specs.TopologyChange as change
 use Rattle.rstp_run.specs.declared.event.Event.{Event}
 use Rattle.rstp_run.specs.declared.event.Event.TheVariants as events
@@ -27,20 +26,13 @@ use Rattle.rstp_run.proofs.Places.{AtAll, at_change, at_map}
 use Rattle.rstp_run.proofs.Reached.{IsReached}
 use Rattle.rstp_run.proofs.Ready.{AreReady, at-rest}
 use Rattle.rstp_run.proofs.Roots.{is_off}
-use Rattle.rstp_run.proofs.Sound.{neither}
-use Rattle.rstp_run.proofs.Totals.{if_so, if_so-le, if_so-off}
-use Rattle.rstp_state.proofs.Basics.{no}
+use Rattle.rstp_run.proofs.Totals.{if_so, if_so-off}
 use Rattle.rstp_run.proofs.Basics.{if-is}
 
 -- ---- a port of a settled bridge
 
 abbrev Rests : PortState → Type 0
 Rests x = (wait x ≤ 1) × (turn x ≡ 0) × (mail x ≡ 0)
-
-cleared : (has d : Bool) → d ≡ false → has && not d ≡ false → has ≡ false
-cleared true true h k = no (sym h)
-cleared true false h k = k
-cleared false d h k = refl
 
 -- no change is pending, but that the port may have to be detected
 few_pending : (t : Topology) (inside f e tc tcn ack tell flush : Bool) → flush ≡ false
@@ -49,31 +41,10 @@ few_pending : (t : Topology) (inside f e tc tcn ack tell flush : Bool) → flush
     → is_active t && tcn ≡ false → is_active t && tc ≡ false → is_active t && ack ≡ false
     → if_so 1 (is_learning t) + if_so 1 flush + if_so 1 (not (is_inactive t) && (tc || tcn))
     + if_so 1 (not (is_inactive t) && ack) ≤ 1
-few_pending topology.Inactive inside f e tc tcn ack tell flush none d c n1 n2 n3 =
-    let a = if_so-le 1 flush in omega (arith, a)
-few_pending topology.Learning inside f e tc tcn ack tell flush none d c n1 n2 n3 =
-    let has = cleared (((tc || tcn) || ack) || tell) (inside && f && not e) d c in
-    let first = neither ((tc || tcn) || ack) tell has in
-    let second = neither (tc || tcn) ack first.0 in
-    let a = if_so-off 1 flush none in
-    let b = if_so-off 1 (tc || tcn) second.0 in
-    let g = if_so-off 1 ack second.1 in
-    omega (arith, a, b, g)
-few_pending topology.Active inside f e tc tcn ack tell flush none d c n1 n2 n3 =
-    let a = if_so-off 1 flush none in
-    let b = if_so-off 1 (tc || tcn) (either tc tcn n2 n1) in
-    let g = if_so-off 1 ack n3 in
-    omega (arith, a, b, g)
-  where
-    either : (a b : Bool) → a ≡ false → b ≡ false → a || b ≡ false
-    either true b h k = no (sym h)
-    either false b h k = k
+few_pending t inside f e tc tcn ack tell flush none d c n1 n2 n3 = grind arith
 
 in_turn : (e o : Bool) → not e && not o ≡ false → o && e ≡ false → if_so 4 (has_to_turn e o) ≡ 0
-in_turn true true h k = no (sym k)
-in_turn true false h k = refl
-in_turn false true h k = refl
-in_turn false false h k = no (sym h)
+in_turn e o h k = grind arith
 
 module _ (s : Tree) (reached : IsReached s) (ready : AreReady s) (settled : IsSettled s) (p : ℕ) (x : PortState)
     (at : slice_get s.ports p ≡ Some x) where
@@ -92,7 +63,7 @@ module _ (s : Tree) (reached : IsReached s) (ready : AreReady s) (settled : IsSe
         in_turn x.enabled (is_out x.information)
             (is_off s reached.kept settled p x at (rules.Information information_rule.Disabled))
             (is_off s reached.kept settled p x at (rules.Information information_rule.Enabled)),
-        omega (arith, a, b),
+        omega arith,
       )
 
 -- ---- right after an event
@@ -111,56 +82,45 @@ Left p q x = (wait x ≤ 1) × ((q ≡ p → ⊥) → (turn x ≡ 0) × (mail x 
 still : (p q : ℕ) (x : PortState) → Rests x → Left p q x
 still p q x h = (h.0, λ apart. (h.1, h.2))
 
+-- a change at one port, which may have work after it
+at_port : (does : PortState → PortState) (ports : List PortState) (p : ℕ)
+    → ((x : PortState) → Rests x → wait (does x) ≤ 1) → AtAll (λ q. Rests) ports
+    → AtAll (Left p) (change_at p does ports)
+at_port does ports p few =
+    at_change (λ q. Rests) (Left p) does ports p (λ q x apart. still p q x)
+    (λ x at h. (few x h, λ apart. absurd (apart refl)))
+
 happened : (event : Event) (ports : List PortState) → AtAll (λ q. Rests) ports
     → AtAll (Left (place event)) (ports_at event ports)
-happened (events.Bpdu p message) ports all =
-    at_change (λ q. Rests) (Left (place_of_port p)) (with_message message) ports (place_of_port p)
-    (λ q x apart h. still (place_of_port p) q x h)
-    (λ x at h. (
-      if-is (λ y. wait y ≤ 1) (x.received_bpdu || x.received_message) x
-          (record x { message = Some message; received_bpdu = true }) h.0 h.0,
-      λ apart. absurd (apart refl),
-    )) all
-happened events.Second ports all =
-    at_map (λ q. Rests) (Left 0) with_second (λ q x h. (h.0, λ apart. (h.1, h.2))) ports all
-happened (events.PortUp p) ports all =
-    at_change (λ q. Rests) (Left (place_of_port p)) (with_enabled true) ports (place_of_port p)
-    (λ q x apart h. still (place_of_port p) q x h) (λ x at h. (h.0, λ apart. absurd (apart refl))) all
-happened (events.PortDown p) ports all =
-    at_change (λ q. Rests) (Left (place_of_port p)) (with_enabled false) ports (place_of_port p)
-    (λ q x apart h. still (place_of_port p) q x h) (λ x at h. (h.0, λ apart. absurd (apart refl))) all
-happened (events.Mcheck p) ports all =
-    at_change (λ q. Rests) (Left (place_of_port p)) with_migration_check ports (place_of_port p)
-    (λ q x apart h. still (place_of_port p) q x h) (λ x at h. (h.0, λ apart. absurd (apart refl))) all
+happened (events.Bpdu p message) ports =
+    at_port (with_message message) ports (place_of_port p)
+    (λ x h. if-is (λ y. wait y ≤ 1) (x.received_bpdu || x.received_message) x
+    (record x { message = Some message; received_bpdu = true }) h.0 h.0)
+happened events.Second ports =
+    at_map (λ q. Rests) (Left 0) with_second (λ q x h. (h.0, λ apart. (h.1, h.2))) ports
+happened (events.PortUp p) ports = at_port (with_enabled true) ports (place_of_port p) (λ x h. h.0)
+happened (events.PortDown p) ports = at_port (with_enabled false) ports (place_of_port p) (λ x h. h.0)
+happened (events.Mcheck p) ports = at_port with_migration_check ports (place_of_port p) (λ x h. h.0)
 
 -- ---- the shares of the ports
 
 sum_same : (c n : ℕ) → sum n (λ q. c) ≡ n * c
 sum_same c zero = omega arith
-sum_same c (suc n) = let rest = sum_same c n in omega (arith, rest)
+sum_same c (suc n) = omega (arith, sum_same c n)
 
 sum_shares : (p n : ℕ) → sum n (put p 47 (λ q. 11)) ≤ 11 * n + 36
 sum_shares p n = elim (cases_lt p n) [
-  | inl less ↦ (let a = sum-put p 47 (λ q. 11) n less in let b = sum_same 11 n in omega (arith, a, b))
-  | inr from ↦ (let a = sum-below p 47 (λ q. 11) n from in let b = sum_same 11 n in omega (arith, a, b))
+  | inl less ↦ (let a = sum-put p 47 (λ q. 11) n less in omega (arith, sum_same 11 n))
+  | inr from ↦ (let a = sum-below p 47 (λ q. 11) n from in omega (arith, sum_same 11 n))
 ]
 
 share : (p q : ℕ) (x : PortState) → Left p q x → owed x ≤ put p 47 (λ k. 11) q
-share p q x h = go (q == p) refl
-  where
-    go : (b : Bool) → (q == p) ≡ b → owed x ≤ put p 47 (λ k. 11) q
-    go true is =
-        let a = put-there p 47 (λ k. 11) q (eqb-true q p is) in
-        let b = inputs-most x in
-        let c = h.0 in
-        omega (arith, a, b, c)
-    go false is =
-        let apart = eqb-false q p is in
-        let a = put-apart p 47 (λ k. 11) q apart in
-        let none = h.1 apart in
-        let b = inputs-few x none.0 none.1 in
-        let c = h.0 in
-        omega (arith, a, b, c)
+share p q x h = elim (cases_Bool (q == p)) [
+  | inl is ↦ omega (arith, put-there p 47 (λ k. 11) q (eqb-true q p is), inputs-most x, h.0)
+  | inr is ↦ (let apart = eqb-false q p is in
+      let none = h.1 apart in
+      omega (arith, put-apart p 47 (λ k. 11) q apart, inputs-few x none.0 none.1, h.0))
+]
 
 -- before any firing
 pub starts : (event : Event) (s : Tree) (n limit : ℕ) → IsReached s → AreReady s → IsSettled s
@@ -174,6 +134,6 @@ starts event s n limit reached ready settled =
       inr (
         put (place event) 47 (λ k. 11),
         λ q x at. share (place event) q x (all q x at),
-        omega (arith, few),
+        omega arith,
       ),
     )

@@ -1,6 +1,5 @@
 -- A bridge stays settled from its start on, if each event may have enough firings.
-use Rattle.std.proofs.Common.{◌≡◌, ℕ, ◌+◌, ◌*◌, ◌≤◌, Bool, true, false, List, [], ◌∷◌, length, map, refl, sym, ap}
-use Rattle.std.proofs.Common.{subst}
+use Rattle.std.proofs.Common.{◌≡◌, ℕ, ◌+◌, ◌*◌, ◌≤◌, Bool, true, false, List, [], ◌∷◌, length, map, refl, ap}
 use Rattle.std.proofs.Common.{◌∙◌, arith}
 use Rattle.std.proofs.lemmas.List.{length-map}
 use Rattle.rstp_state.specs.declared.start.PortSettings.{PortSettings}
@@ -33,40 +32,39 @@ comes_at_all least (event ∷ earlier) s t (mid, limit, settled, mask, before, e
 length_start : (n : ℕ) (settings : Settings) (ports : List PortSettings)
     → length (ports_from n settings ports) ≡ length ports
 length_start n settings [] = refl
-length_start n settings (x ∷ xs) = let rest = length_start (n + 1) settings xs in omega (arith, rest)
+length_start n settings (x ∷ xs) = omega (arith, length_start (n + 1) settings xs)
 
--- an event that has fewer firings than its limit ends settled
-told : (event : Event) (limit : ℕ) (s t : Tree) (settled : Bool) (mask : ℕ) (most : ℕ)
-    (h : Happens event limit s t settled mask) → length h.firings ≤ most → most + 1 ≤ limit → settled ≡ true
-told event limit s t settled mask most h few enough = go settled h.unsettled
-  where
-    go : (b : Bool) → (b ≡ false → length h.firings ≡ limit) → b ≡ true
-    go true full = refl
-    go false full = let all = full refl in absurd (omega (arith, all, few, enough))
+module _ (event : Event) (limit : ℕ) (s t : Tree) (settled : Bool) (mask most : ℕ)
+    (h : Happens event limit s t settled mask) where
+  -- an event that has fewer firings than its limit ends settled
+  told : length h.firings ≤ most → most + 1 ≤ limit → settled ≡ true
+  told few enough = go settled h.unsettled
+    where
+      go : (b : Bool) → (b ≡ false → length h.firings ≡ limit) → b ≡ true
+      go true full = refl
+      go false full = let all = full refl in absurd (omega arith)
 
-ends : (event : Event) (limit : ℕ) (s t : Tree) (settled : Bool) (mask : ℕ) (most : ℕ)
-    (h : Happens event limit s t settled mask) → length h.firings ≤ most → most + 1 ≤ limit → IsSettled t
-ends event limit s t settled mask most h few enough =
-    h.settles.0 (told event limit s t settled mask most h few enough)
+  ends : length h.firings ≤ most → most + 1 ≤ limit → IsSettled t
+  ends few enough =
+      h.settles.0 (told few enough)
 
 -- the state that is reached is settled, and has its settings and its number of ports
 kept : (settings : Settings) (ports : List PortSettings) (events : List Event) (s : Tree) → 1 ≤ settings.hello
     → ComesWithin (most_firings (length ports) + 1) events (start settings ports) s
     → IsSettled s × (s.settings ≡ settings) × (length s.ports ≡ length ports)
 kept settings ports [] s some comes =
-    let P : Tree → Type 0 = λ v. IsSettled v × (v.settings ≡ settings) × (length v.ports ≡ length ports) in
-    subst P (sym comes) (settled-start settings ports some, refl, length_start 1 settings ports)
+    rw comes (settled-start settings ports some, refl, length_start 1 settings ports)
 kept settings ports (event ∷ earlier) s some (mid, limit, settled, mask, before, enough, happens) =
     let was = kept settings ports earlier mid some before in
     let comes = comes_at_all (most_firings (length ports) + 1) earlier (start settings ports) mid before in
     let can : IsReached mid = (settings, ports, (earlier, comes)) in
     let hello : 1 ≤ mid.settings.hello =
-    subst (λ (v : Settings). 1 ≤ v.hello) (sym was.1) some in
+    rw was.1 some in
     let few = events_are_short event limit mid s settled mask can was.0 hello happens in
     let same : length (direct event mid).ports ≡ length mid.ports =
     length-direct event (map without_slot mid.ports) ∙ length-map mid.ports without_slot in
     let end = ends event limit mid s settled mask (most_firings (length ports)) happens
-    (subst (λ k. length happens.firings ≤ most_firings k) was.2 few) enough in
+    (rw was.2 at few) enough in
     let kept_settings = run_settings happens.firings (direct event mid) s happens.run ∙ was.1 in
     (end, kept_settings, run_length happens.firings (direct event mid) s happens.run ∙ same ∙ was.2)
 
@@ -83,7 +81,7 @@ pub event_ends_settled : EventEndsSettled
 event_ends_settled event limit s t settled mask can rests some enough h =
     let few = events_are_short event limit s t settled mask can rests some h in
     let less = below (length s.ports) in
-    told event limit s t settled mask (most_firings (length s.ports)) h few (omega (arith, less, enough))
+    told event limit s t settled mask (most_firings (length s.ports)) h few (omega arith)
 
 -- events with that limit have enough firings
 within : (settings : Settings) (ports : List PortSettings) (events : List Event) (s : Tree) → 1 ≤ settings.hello
@@ -94,7 +92,7 @@ within settings ports (event ∷ earlier) s some (mid, settled, mask, before, ha
     let was = within settings ports earlier mid some before in
     let many = (kept settings ports earlier mid some was).2 in
     let less = below (length ports) in
-    (mid, firings_at mid, settled, mask, was, omega (arith, many, less), happens)
+    (mid, firings_at mid, settled, mask, was, omega arith, happens)
 
 pub every_event_settles : EveryEventSettles
 every_event_settles settings ports events s t event settled mask some comes h =
@@ -102,5 +100,5 @@ every_event_settles settings ports events s t event settled mask some comes h =
     let was = kept settings ports events s some enough in
     let history = comes_at_all (most_firings (length ports) + 1) events (start settings ports) s enough in
     let can : IsReached s = (settings, ports, (events, history)) in
-    let hello : 1 ≤ s.settings.hello = subst (λ (v : Settings). 1 ≤ v.hello) (sym was.1) some in
+    let hello : 1 ≤ s.settings.hello = rw was.1 some in
     event_ends_settled event (firings_at s) s t settled mask can was.0 hello (omega arith) h

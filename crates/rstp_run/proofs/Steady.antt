@@ -1,6 +1,6 @@
 -- From the third pass of an event on information rests: no message waits, no role is to be selected, and nothing is to
 -- be taken over.
-use Rattle.std.proofs.Common.{◌≡◌, Bool, true, false, not, ◌&&◌, ◌||◌}
+use Rattle.std.proofs.Common.{◌≡◌, Bool, true, false, not, ◌&&◌, ◌||◌, arith}
 use Rattle.std.proofs.Common.{refl, sym, ◌∙◌}
 use Rattle.rstp_state.specs.declared.port.PortState.{PortState}
 use Rattle.rstp_state.specs.Port.{is_out, may_act}
@@ -33,11 +33,7 @@ IsBase x = IsBaseOf (still_of x)
 
 free_of : (o s u r : Bool) → not o && s && u ≡ false → s || r ≡ true → r ≡ false
     → not u || (not s || not o) ≡ true → u ≡ false
-free_of o s false r g h n k = refl
-free_of o s true true g h n k = no (sym n)
-free_of o false true false g h n k = no h
-free_of true true true false g h n k = no k
-free_of false true true false g h n k = no (sym g)
+free_of o s u r g h n k = grind arith
 
 -- after Update nothing is to be taken over
 pub rests-steady : (x : PortState) → info.update_guard x ≡ false → IsBase x → IsSteady x
@@ -63,30 +59,15 @@ pub informs-taken : (P : InformationRule → Type 0) (rule : InformationRule) (x
     → information_asks rule x ≡ true → P rule
 informs-taken P information_rule.Update x h update aged g = update g
 informs-taken P information_rule.Aged x h update aged g = aged g
-informs-taken P information_rule.Disabled x h update aged g =
-    absurd (levels.idle-off information_rule.Disabled x refl h g)
-informs-taken P information_rule.Drop x h update aged g = absurd (levels.idle-off information_rule.Drop x refl h g)
-informs-taken P information_rule.Enabled x h update aged g =
-    absurd (levels.idle-off information_rule.Enabled x refl h g)
-informs-taken P information_rule.Superior x h update aged g =
-    absurd (levels.idle-off information_rule.Superior x refl h g)
-informs-taken P information_rule.Repeated x h update aged g =
-    absurd (levels.idle-off information_rule.Repeated x refl h g)
-informs-taken P information_rule.Inferior x h update aged g =
-    absurd (levels.idle-off information_rule.Inferior x refl h g)
-informs-taken P information_rule.NotDesignated x h update aged g =
-    absurd (levels.idle-off information_rule.NotDesignated x refl h g)
-informs-taken P information_rule.Other x h update aged g = absurd (levels.idle-off information_rule.Other x refl h g)
+informs-taken _ rule x h update aged g =
+    absurd (levels.idle-off rule x refl h g)
 
 pub steady-informs : (rule : InformationRule) (x : PortState) → IsSteady x → information_asks rule x ≡ true → ⊥
 steady-informs rule x h =
     informs-taken (λ r. ⊥) rule x h.0.0.0 (λ g. no (sym h.3 ∙ right _ x.update_info g)) (levels.aged-off x h.0.0)
 
 may : (s r u : Bool) → s || r ≡ true → r ≡ false → u ≡ false → s && not u ≡ true
-may true r true h k l = no (sym l)
-may true r false h k l = refl
-may false true u h k l = no (sym k)
-may false false u h k l = no h
+may s r u h k l = grind arith
 
 pub steady-acts : (x : PortState) → IsSteady x → may_act x ≡ true
 steady-acts x h = may x.selected x.reselect x.update_info h.0.0.0.3 h.0.1 h.3

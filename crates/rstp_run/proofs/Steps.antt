@@ -1,6 +1,6 @@
 -- Lemmas on single firings and on runs.
 use Rattle.std.proofs.Common.{◌≡◌, ℕ, ◌+◌, ◌≤◌, ◌<◌, true, Some, None, List, [], ◌∷◌, ◌++◌, length, map, take, get_or}
-use Rattle.std.proofs.Common.{slice_get, slice_set, refl, subst, sym, ◌∙◌, ap, arith}
+use Rattle.std.proofs.Common.{slice_get, slice_set, refl, sym, ◌∙◌, ap, arith}
 use Rattle.std.proofs.lemmas.List.{append_assoc, length-set, length-map, length-append}
 use Rattle.std.specs.Option.{option_map_or}
 use Rattle.std.proofs.lemmas.List.Folds.{list_any_more}
@@ -10,8 +10,8 @@ use Rattle.rstp_state.specs.Inner.Selection.{length-selected_ports}
 use Rattle.rstp_roles.specs.AllPorts.{with_sync, with_re_root}
 use Rattle.rstp_roles.specs.RoleTransitions.{without_proposal}
 use Rattle.rstp_run.specs.declared.rule.Rule.{Rule}
-use Rattle.rstp_run.specs.declared.rule.Rule.TheVariants.{Select, Receive, Migration, Detection, Information, Role}
-use Rattle.rstp_run.specs.declared.rule.Rule.TheVariants.{State as InState, Topology, Transmit}
+use Rattle.rstp_run.specs.declared.rule.Rule.TheVariants.{Select, Role}
+use Rattle.rstp_run.specs.declared.rule.Rule.TheVariants.{Topology}
 use Rattle.rstp_roles.specs.declared.rule.RoleRule.TheVariants as role_rule
 use Rattle.rstp_run.specs.declared.rule.TopologyRule.TheVariants as topology_rule
 use Rattle.rstp_run.specs.declared.count.Count.{Count}
@@ -22,23 +22,22 @@ use Rattle.rstp_run.specs.Sweep.{Going, Walk, tries}
 use Rattle.rstp_run.specs.Inner.Runs.{Goes, Sweeps, IsIdle, IsOff, and_then, counted, done}
 use Rattle.rstp_run.proofs.Ordered.{goes-as, goes-first, goes-none, tally, tries-on}
 
-pub length-change_at : (p : ℕ) (change : PortState → PortState) (ports : List PortState)
-    → length (change_at p change ports) ≡ length ports
-length-change_at p change ports =
-    elim (slice_get ports p) as (λ o. length (option_map_or (λ port. slice_set ports p (change port)) o ports)
-    ≡ length ports)
-    [ None ↦ refl | Some port ↦ length-set ports p (change port) ]
+module _ (p : ℕ) (change : PortState → PortState) (ports : List PortState) where
+  pub length-change_at : length (change_at p change ports) ≡ length ports
+  length-change_at =
+      elim (slice_get ports p) as (λ o. length (option_map_or (λ port. slice_set ports p (change port)) o ports)
+      ≡ length ports)
+      [ None ↦ refl | Some port ↦ length-set ports p (change port) ]
 
-pub length-telling_others : (p : ℕ) (change : PortState → PortState) (ports : List PortState)
-    → length (telling_others p change ports) ≡ length ports
-length-telling_others p change ports =
-    elim (slice_get ports p) as
-    (λ o. length (option_map_or (λ port. slice_set (map with_propagation ports) p (change port)) o ports)
-    ≡ length ports) [
-      | None ↦ refl
-      | Some port ↦ length-set (map with_propagation ports) p (change port)
-          ∙ length-map ports with_propagation
-    ]
+  pub length-telling_others : length (telling_others p change ports) ≡ length ports
+  length-telling_others =
+      elim (slice_get ports p) as
+      (λ o. length (option_map_or (λ port. slice_set (map with_propagation ports) p (change port)) o ports)
+      ≡ length ports) [
+        | None ↦ refl
+        | Some port ↦ length-set (map with_propagation ports) p (change port)
+            ∙ length-map ports with_propagation
+      ]
 
 pub length-proposed : (p : ℕ) (ports : List PortState) → length (change_at p without_proposal (map with_sync ports))
     ≡ length ports
@@ -46,43 +45,13 @@ length-proposed p ports = length-change_at p without_proposal (map with_sync por
 
 pub length-ports_after : (rule : Rule) (s : Tree) (p : ℕ) → length (ports_after rule s p) ≡ length s.ports
 length-ports_after Select s p = length-selected_ports s.settings s.ports
-length-ports_after (Receive rule) s p = length-change_at p _ s.ports
-length-ports_after (Migration rule) s p = length-change_at p _ s.ports
-length-ports_after (Detection rule) s p = length-change_at p _ s.ports
-length-ports_after (Information rule) s p = length-change_at p _ s.ports
-length-ports_after (Role role_rule.Disable) s p = length-change_at p _ s.ports
-length-ports_after (Role role_rule.DisabledPort) s p = length-change_at p _ s.ports
-length-ports_after (Role role_rule.Root) s p = length-change_at p _ s.ports
 length-ports_after (Role role_rule.RootProposed) s p = length-proposed p s.ports
-length-ports_after (Role role_rule.RootAgreed) s p = length-change_at p _ s.ports
 length-ports_after (Role role_rule.Reroot) s p = length-map s.ports with_re_root
-length-ports_after (Role role_rule.Rerooted) s p = length-change_at p _ s.ports
-length-ports_after (Role role_rule.RootLearn) s p = length-change_at p _ s.ports
-length-ports_after (Role role_rule.RootForward) s p = length-change_at p _ s.ports
-length-ports_after (Role role_rule.Designated) s p = length-change_at p _ s.ports
-length-ports_after (Role role_rule.Propose) s p = length-change_at p _ s.ports
-length-ports_after (Role role_rule.Synced) s p = length-change_at p _ s.ports
-length-ports_after (Role role_rule.Retired) s p = length-change_at p _ s.ports
-length-ports_after (Role role_rule.DesignatedDiscard) s p = length-change_at p _ s.ports
-length-ports_after (Role role_rule.DesignatedLearn) s p = length-change_at p _ s.ports
-length-ports_after (Role role_rule.DesignatedForward) s p = length-change_at p _ s.ports
-length-ports_after (Role role_rule.Block) s p = length-change_at p _ s.ports
-length-ports_after (Role role_rule.Alternate) s p = length-change_at p _ s.ports
 length-ports_after (Role role_rule.AlternateProposed) s p = length-proposed p s.ports
-length-ports_after (Role role_rule.AlternateAgreed) s p = length-change_at p _ s.ports
-length-ports_after (Role role_rule.Backup) s p = length-change_at p _ s.ports
-length-ports_after (InState rule) s p = length-change_at p _ s.ports
-length-ports_after (Topology topology_rule.TcLearning) s p = length-change_at p _ s.ports
 length-ports_after (Topology topology_rule.Detected) s p = length-telling_others p _ s.ports
-length-ports_after (Topology topology_rule.TcClear) s p = length-change_at p _ s.ports
-length-ports_after (Topology topology_rule.TcInactive) s p = length-change_at p _ s.ports
-length-ports_after (Topology topology_rule.TcBack) s p = length-change_at p _ s.ports
 length-ports_after (Topology topology_rule.NotifiedTcn) s p = length-telling_others p _ s.ports
 length-ports_after (Topology topology_rule.NotifiedTc) s p = length-telling_others p _ s.ports
-length-ports_after (Topology topology_rule.Propagating) s p = length-change_at p _ s.ports
-length-ports_after (Topology topology_rule.Acknowledged) s p = length-change_at p _ s.ports
-length-ports_after (Topology topology_rule.Flush) s p = length-change_at p _ s.ports
-length-ports_after (Transmit rule) s p = length-change_at p _ s.ports
+length-ports_after _ s p = length-change_at p _ s.ports
 
 -- one firing from a state
 pub goes-one : (s t : Tree) (a : Count) (rule : Rule) (p : ℕ) → guard rule s p ≡ true → t ≡ after rule s p
@@ -95,13 +64,12 @@ goes-one s t a rule p holds is below = record {
   limit = refl;
   within = omega arith;
   order = λ before many.
-      tries-on rule p a.limit (record { tree = s; firings = before }) (omega (arith, many, below)) holds
+      tries-on rule p a.limit (record { tree = s; firings = before }) (omega arith) holds
       ∙ ap (λ v. record { tree = v; firings = record { rule = rule; place = p } ∷ before }) (sym is);
 }
 
 pub run-append : (fs gs : List Firing) (s t u : Tree) → Run fs s t → Run gs t u → Run (gs ++ fs) s u
-run-append fs [] s t u first second =
-    let P : Tree → Type 0 = λ v. Run fs s v in subst P (sym second) first
+run-append fs [] s t u first second = rw second first
 run-append fs (g ∷ gs) s t u first (mid, second, fires) = (mid, run-append fs gs s t mid first second, fires)
 
 pub flushed-append : (fs gs : List Firing) (before : ℕ) → flushed (gs ++ fs) before ≡ flushed gs (flushed fs before)
@@ -109,9 +77,9 @@ flushed-append fs [] before = refl
 flushed-append fs (g ∷ gs) before = ap (flush_after g.rule g.place) (flushed-append fs gs before)
 
 -- two consecutive parts make one
-pub goes-both : (part rest end : Walk) (s t u : Tree) (a b c : Count) → Goes part rest s a t b → Goes rest end t b u c
+pub goes-both : {part rest end : Walk} {s t u : Tree} {a b c : Count} → Goes part rest s a t b → Goes rest end t b u c
     → Goes part end s a u c
-goes-both part rest end s t u a b c first second = record {
+goes-both {end = end} {s = s} {t = t} {u = u} {a = a} first second = record {
   firings = second.firings ++ first.firings;
   run = run-append first.firings second.firings s t u first.run second.run;
   fired = omega (arith, length-append {A = Firing});
@@ -119,20 +87,12 @@ goes-both part rest end s t u a b c first second = record {
       ∙ sym (flushed-append first.firings second.firings a.flush);
   limit = second.limit ∙ first.limit;
   within = second.within;
-  order = order;
+  order = λ before many.
+      let next = second.order (first.firings ++ before) (tally first before many) in
+      first.order before many ∙ (rw first.limit at next)
+      ∙ ap (λ list. end a.limit (record { tree = u; firings = list }))
+      (sym (append_assoc second.firings first.firings before));
 }
-  where
-    order : (before : List Firing) → length before ≡ a.fired
-        → part a.limit (record { tree = s; firings = before })
-        ≡ end a.limit (record { tree = u; firings = (second.firings ++ first.firings) ++ before })
-    order before many =
-        let mid : List Firing = first.firings ++ before in
-        let next = second.order mid (tally part rest s t a b first before many) in
-        let P : ℕ → Type 0 = λ n. rest n (record { tree = t; firings = mid })
-        ≡ end n (record { tree = u; firings = second.firings ++ mid }) in
-        first.order before many ∙ subst P first.limit next
-        ∙ ap (λ list. end a.limit (record { tree = u; firings = list }))
-        (sym (append_assoc second.firings first.firings before))
 
 pub fires-one : (s t : Tree) (a : Count) (rule : Rule) (p : ℕ) → guard rule s p ≡ true → t ≡ after rule s p
     → a.fired < a.limit → Sweeps (tries rule p) (IsOff rule p) s a t (counted a rule p)
@@ -159,8 +119,7 @@ pub sweeps-both : (first_part second_part : Walk) (P Q R : Tree → Type 0) (s t
     → (P s → Q s → R s) → Sweeps (and_then first_part second_part) R s a u c
 sweeps-both first_part second_part P Q R s t u a b c first second joins =
     let goes : Goes (and_then first_part second_part) done s a u c =
-    goes-both (and_then first_part second_part) second_part done s t u a b c
-    (goes-first first_part second_part s t a b first.goes) second.goes in
+    goes-both (goes-first first.goes) second.goes in
     record {
       goes = goes;
       idle = λ none.
@@ -173,7 +132,7 @@ sweeps-both first_part second_part P Q R s t u a b c first second joins =
           let idle₁ : IsIdle a b = record { same = omega arith; below = omega arith } in
           let idle₂ : IsIdle b c = record { same = omega arith; below = omega arith } in
           let same₁ : t ≡ s = (first.idle idle₁).1 in
-          let q : Q s = subst Q same₁ (second.idle idle₂).0 in
+          let q : Q s = rw same₁ at (second.idle idle₂).0 in
           (joins (first.idle idle₁).0 q, (second.idle idle₂).1 ∙ same₁);
       ports = second.ports ∙ first.ports;
     }
@@ -182,7 +141,7 @@ sweeps-both first_part second_part P Q R s t u a b c first second joins =
 pub sweeps-as : (part part' : Walk) (P : Tree → Type 0) (s t : Tree) (a b : Count)
     → ((limit : ℕ) (g : Going) → part' limit g ≡ part limit g) → Sweeps part P s a t b → Sweeps part' P s a t b
 sweeps-as part part' P s t a b same sweep = record {
-  goes = goes-as part done part' done s t a b sweep.goes (λ before is. same a.limit _ ∙ sweep.goes.order before is);
+  goes = goes-as sweep.goes (λ before is. same a.limit _ ∙ sweep.goes.order before is);
   idle = sweep.idle;
   ports = sweep.ports;
 }

@@ -1,20 +1,18 @@
 -- The rest of an event, after five passes: each firing lowers a number of the ports.
 use Rattle.std.proofs.Common.{◌≡◌, ℕ, ◌+◌, ◌*◌, ◌≤◌, ◌<◌, Bool, true, false, not, ◌&&◌, ◌||◌}
-use Rattle.std.proofs.Common.{List, [], ◌∷◌, Some, length, map, slice_get, refl, sym, ap, subst, ◌∙◌, arith}
+use Rattle.std.proofs.Common.{List, [], ◌∷◌, Some, length, map, slice_get, refl, sym, ap, ◌∙◌, arith}
 use Rattle.bpdu_wire.specs.declared.bpdu.Bpdu.TheVariants as bpdus
 use Rattle.rstp_state.specs.declared.port.PortState.{PortState}
 use Rattle.rstp_state.specs.declared.port.Role.{Role}
 use Rattle.rstp_state.specs.declared.port.Timing.{Timing}
-use Rattle.rstp_state.specs.Port.{change_at, has_role, is_active, is_designated, is_disabled, is_root, may_act}
-use Rattle.rstp_state.specs.Port.{same_role, test_at}
-use Rattle.rstp_roles.specs.RoleTransitions as roles
-use Rattle.rstp_roles.specs.StateTransitions as states
-use Rattle.rstp_roles.specs.Rules.{role_does}
+use Rattle.rstp_state.specs.Port.{change_at, has_role, is_designated, is_disabled, is_root, may_act}
+use Rattle.rstp_state.specs.Port.{same_role}
+use Rattle.rstp_roles.specs.Rules.{role_does, state_does}
 use Rattle.rstp_roles.specs.declared.rule.RoleRule.{RoleRule}
 use Rattle.rstp_roles.specs.declared.rule.RoleRule.TheVariants as role_rule
+use Rattle.rstp_roles.specs.declared.rule.StateRule.{StateRule}
 use Rattle.rstp_roles.specs.declared.rule.StateRule.TheVariants as state_rule
 use Rattle.rstp_machines.specs.BridgeDetection as detection
-use Rattle.rstp_machines.specs.Migration as moves
 use Rattle.rstp_machines.specs.PortReceive as receiving
 use Rattle.rstp_machines.specs.TopologyChange as change
 use Rattle.rstp_machines.specs.TopologyChange.{telling_others, with_propagation}
@@ -29,7 +27,7 @@ use Rattle.rstp_run.specs.declared.rule.TopologyRule.{TopologyRule}
 use Rattle.rstp_run.specs.declared.rule.TopologyRule.TheVariants as topology_rule
 use Rattle.rstp_run.specs.declared.rule.TransmitRule.TheVariants as transmit_rule
 use Rattle.rstp_run.specs.Lasting.{is_select}
-use Rattle.rstp_run.specs.Machines.{migration_asks, migration_does, topology_does}
+use Rattle.rstp_run.specs.Machines.{migration_does, topology_does}
 use Rattle.rstp_run.specs.Rules.{Tree, after, asks, guard, ports_after, timing_in}
 use Rattle.rstp_run.proofs.Falls.{IsAfterDiscard}
 use Rattle.rstp_run.proofs.Caps.{left_due}
@@ -43,8 +41,7 @@ use Rattle.rstp_run.proofs.Loads as loads
 use Rattle.rstp_run.proofs.Loads.{load}
 use Rattle.rstp_run.proofs.Own.{own_role, spread_of}
 use Rattle.rstp_run.proofs.Places.{AtAll}
-use Rattle.rstp_run.proofs.RoleParts.{other_role}
-use Rattle.rstp_run.proofs.Sound.{neither, or_left, or_right}
+use Rattle.rstp_run.proofs.Sound.{or_left, or_right}
 use Rattle.rstp_run.proofs.Totals.{if_so, slice_get-map, tested_at, told, total, total-change}
 use Rattle.rstp_run.proofs.Totals.{total-map, total-set}
 use Rattle.rstp_run.proofs.Steady.{steady-informs}
@@ -58,25 +55,11 @@ use Rattle.std.proofs.lemmas.Bool.{not-true}
 
 tree_of : (r s : Role) → same_role r s ≡ true → is_root r || is_designated r ≡ false
     → (is_root s ≡ false) × (is_designated s ≡ false)
-tree_of r s same none =
-    let off = neither (is_root r) (is_designated r) none in
-    (go is_root off.0, go is_designated off.1)
-  where
-    go : (test : Role → Bool) → test r ≡ false → test s ≡ false
-    go test off = by (test s) refl
-      where
-        by : (b : Bool) → test s ≡ b → test s ≡ false
-        by false e = e
-        by true e = no (sym (other_role test r s e off) ∙ same)
+tree_of r s same none = grind arith
 
 outside : (r s : Role) (e : Bool) → same_role r s ≡ true → not (is_root r || is_designated r) || e ≡ true
     → (not (is_root s) && not (is_designated s)) || e ≡ true
-outside r s e same h = go (is_root r || is_designated r) refl h
-  where
-    go : (b : Bool) → is_root r || is_designated r ≡ b → not b || e ≡ true
-        → (not (is_root s) && not (is_designated s)) || e ≡ true
-    go true is k = or_right _ e k
-    go false is k = let off = tree_of r s same is in rw (off.0, off.1) refl
+outside r s e same h = grind arith
 
 module _ (n : ℕ) (s : Tree) (p : ℕ) (x : PortState) (at : slice_get s.ports p ≡ Some x) where
   abbrev Falls : List PortState → Type 0
@@ -84,30 +67,23 @@ module _ (n : ℕ) (s : Tree) (p : ℕ) (x : PortState) (at : slice_get s.ports 
 
   fall : (does : PortState → PortState) → load n (timing_in s) (does x) < load n (timing_in s) x
       → Falls (change_at p does s.ports)
-  fall does less =
-      let a = total-change (load n (timing_in s)) s.ports p x does at in
-      omega (arith, a, less)
+  fall does less = omega (arith, total-change (load n (timing_in s)) s.ports p x does at)
 
   tell : (does : PortState → PortState) → length s.ports ≡ n
       → load n (timing_in s) (does x) + (2 * n + 1) ≤ load n (timing_in s) x → Falls (telling_others p does s.ports)
   tell does many less =
       let there = slice_get-map with_propagation s.ports p x at in
-      let b = total-map (load n (timing_in s)) with_propagation 2 (λ q. loads.tells-raises n (timing_in s) q) s.ports in
+      let b = total-map (load n (timing_in s)) with_propagation 2 (loads.tells-raises n (timing_in s)) s.ports in
       let e = total-set (load n (timing_in s)) (map with_propagation s.ports) p (with_propagation x) (does x) there in
       let f = loads.tells-keeps n (timing_in s) x in
-      let Q : List PortState → Type 0 = λ l. Falls l in
-      subst Q (sym (told p does s.ports x at)) (omega (arith, b, e, f, many, less))
+      rw (told p does s.ports x at) (omega arith)
 
   module _ (late : IsLate x) (many : length s.ports ≡ n) (some : 1 ≤ s.settings.hello) where
     -- a rule of roles that doesn't bear on topology change
-    by : (rule : RoleRule) (does : PortState → PortState) → asks (rules.Role rule) s p x ≡ true
-        → own_role rule (timing_in s) x ≡ does x → loads.of_changes n (does x) ≡ loads.of_changes n x
-        → Falls (change_at p does s.ports)
-    by rule does g is same =
-        let P : PortState → Type 0 =
-        λ y. inputs.inputs y + dues.late (timing_in s) y < inputs.inputs x + dues.late (timing_in s) x in
-        let a = subst P is (dues.role-falls s p x rule late.0 g) in
-        fall does (omega (arith, a, same))
+    by : (rule : RoleRule) → asks (rules.Role rule) s p x ≡ true
+        → loads.of_changes n (own_role rule (timing_in s) x) ≡ loads.of_changes n x
+        → Falls (change_at p (own_role rule (timing_in s)) s.ports)
+    by rule g same = fall (own_role rule (timing_in s)) (omega (arith, dues.role-falls s p x rule late.0 g))
 
     -- `learn` doesn't bear on topology change at the root port, and at a designated port
     in_order : (r : Role) → kind r ≡ 1 → is_root r || is_designated r ≡ true
@@ -121,48 +97,30 @@ module _ (n : ℕ) (s : Tree) (p : ℕ) (x : PortState) (at : slice_get s.ports 
     role_falls role_rule.Disable g k f =
         absurd (dues.taken-yet is_disabled x.role x.selected_role late.0.1.0
         (dues.taking (may_act x) (is_disabled x.selected_role) (not (is_disabled x.role)) g))
-    role_falls role_rule.DisabledPort g k f =
-        by role_rule.DisabledPort (roles.disabled_port_effect (timing_in s)) g refl refl
-    role_falls role_rule.Root g k f = by role_rule.Root (roles.root_effect (timing_in s)) g refl refl
-    role_falls role_rule.RootProposed g k f = no f
-    role_falls role_rule.RootAgreed g k f = by role_rule.RootAgreed roles.root_agreed_effect g refl refl
-    role_falls role_rule.Reroot g k f = no f
-    role_falls role_rule.Rerooted g k f = by role_rule.Rerooted roles.rerooted_effect g refl refl
     role_falls role_rule.RootLearn g k f =
         let c = loads.turns-same x true (in_order x.selected_role k) in
-        by role_rule.RootLearn (roles.root_learn_effect (timing_in s)) g refl (omega (arith, c))
-    role_falls role_rule.RootForward g k f = by role_rule.RootForward roles.root_forward_effect g refl refl
-    role_falls role_rule.Designated g k f = by role_rule.Designated roles.designated_effect g refl refl
-    role_falls role_rule.Propose g k f = by role_rule.Propose (roles.propose_effect (timing_in s)) g refl refl
-    role_falls role_rule.Synced g k f = by role_rule.Synced roles.synced_effect g refl refl
-    role_falls role_rule.Retired g k f = by role_rule.Retired roles.retired_effect g refl refl
+        by role_rule.RootLearn g (omega arith)
     role_falls role_rule.DesignatedDiscard g k f =
         let c = loads.turns-same x false (in_order_too x.selected_role k) in
-        by role_rule.DesignatedDiscard (roles.designated_discard_effect (timing_in s)) g refl (omega (arith, c))
+        by role_rule.DesignatedDiscard g (omega arith)
     role_falls role_rule.DesignatedLearn g k f =
         let c = loads.turns-same x true (in_order_too x.selected_role k) in
-        by role_rule.DesignatedLearn (roles.designated_learn_effect (timing_in s)) g refl (omega (arith, c))
-    role_falls role_rule.DesignatedForward g k f =
-        by role_rule.DesignatedForward roles.designated_forward_effect g refl refl
-    role_falls role_rule.Block g k f =
-        no (sym (not-true (has_role x) (right _ (not (has_role x)) g)) ∙ late.0.1.0)
-    role_falls role_rule.Alternate g k f =
-        by role_rule.Alternate (roles.alternate_effect (timing_in s)) g refl refl
+        by role_rule.DesignatedLearn g (omega arith)
+    role_falls role_rule.Block g k f = no (sym (not-true (has_role x) (right _ _ g)) ∙ late.0.1.0)
+    role_falls role_rule.RootProposed g k f = no f
+    role_falls role_rule.Reroot g k f = no f
     role_falls role_rule.AlternateProposed g k f = no f
-    role_falls role_rule.AlternateAgreed g k f =
-        by role_rule.AlternateAgreed roles.alternate_agreed_effect g refl refl
-    role_falls role_rule.Backup g k f = by role_rule.Backup (roles.backup_effect (timing_in s)) g refl refl
+    role_falls rule g k f = by rule g refl
 
-    -- a rule of migration
-    moving : (rule : MigrationRule) (does : PortState → PortState) → migration_asks rule x ≡ true
-        → migration_does rule x ≡ does x → inputs.wait (does x) ≡ inputs.wait x
-        → loads.of_changes n (does x) ≡ loads.of_changes n x → Falls (change_at p does s.ports)
-    moving rule does g is wait same =
-        let P : PortState → Type 0 = λ y. inputs.owed y < inputs.owed x in
-        let Q : PortState → Type 0 = λ y. dues.late (timing_in s) y ≤ dues.late (timing_in s) x in
-        let a = subst P is (inputs.migration-falls rule x g) in
-        let c = subst Q is (dues.migration-keeps (timing_in s) x rule g) in
-        fall does (omega (arith, a, c, wait, same))
+    migration_keeps : (rule : MigrationRule) → (inputs.wait (migration_does rule x) ≡ inputs.wait x)
+        × (loads.of_changes n (migration_does rule x) ≡ loads.of_changes n x)
+    migration_keeps migration_rule.Recheck = (refl, refl)
+    migration_keeps _ = (refl, refl)
+
+    state_keeps : (rule : StateRule) → (inputs.inputs (state_does rule x) ≡ inputs.inputs x)
+        × (loads.of_changes n (state_does rule x) ≡ loads.of_changes n x)
+    state_keeps state_rule.ToLearning = (refl, refl)
+    state_keeps _ = (refl, refl)
 
     topology_falls : (rule : TopologyRule) → asks (rules.Topology rule) s p x ≡ true
         → Falls (topology_does rule (timing_in s) s.ports p)
@@ -176,11 +134,11 @@ module _ (n : ℕ) (s : Tree) (p : ℕ) (x : PortState) (at : slice_get s.ports 
     topology_falls topology_rule.TcInactive g =
         fall change.tc_inactive_effect (loads.tc_inactive-falls n (timing_in s) x
         (tree_of x.role x.selected_role late.0.1.0
-        (not-true (change.is_in_tree x) (right _ (not (change.is_in_tree x))
+        (not-true (change.is_in_tree x) (right _ _
         (left _ _ (left _ _ (left _ _ g)))))) g)
     topology_falls topology_rule.TcBack g =
         fall change.tc_back_effect (loads.tc_back-falls n (timing_in s) x
-        (outside x.role x.selected_role x.oper_edge late.0.1.0 (right (is_active x.topology) _ g)) g)
+        (outside x.role x.selected_role x.oper_edge late.0.1.0 (right _ _ g)) g)
     topology_falls topology_rule.NotifiedTcn g =
         absurd (notes_too x.topology x.received_topology_change x.received_notification late.2 g)
     topology_falls topology_rule.NotifiedTc g =
@@ -195,50 +153,35 @@ module _ (n : ℕ) (s : Tree) (p : ℕ) (x : PortState) (at : slice_get s.ports 
         → total (load n (timing_in (after rule s p))) (ports_after rule s p) < total (load n (timing_in s)) s.ports
     falls rules.Select other rest g = no (sym other)
     falls (rules.Receive receive_rule.Discard) other rest g =
-        (let a = inputs.discard-falls x g in
-        let c = dues.discard-keeps (timing_in s) x in
-        fall receiving.discard_effect (omega (arith, a, c)))
+        fall receiving.discard_effect (omega (arith, inputs.discard-falls x g, dues.discard-keeps (timing_in s) x))
     falls (rules.Receive receive_rule.Receive) other rest g = absurd (levels.receive-off x late.0.0.0.0.0 g)
-    falls (rules.Migration migration_rule.Recheck) other rest g =
-        moving migration_rule.Recheck moves.enter_checking g refl refl refl
-    falls (rules.Migration migration_rule.Checked) other rest g =
-        moving migration_rule.Checked moves.enter_sensing g refl refl refl
-    falls (rules.Migration migration_rule.Selected) other rest g =
-        moving migration_rule.Selected moves.enter_sensing g refl refl refl
-    falls (rules.Migration migration_rule.ToRstp) other rest g =
-        moving migration_rule.ToRstp moves.enter_checking g refl refl refl
-    falls (rules.Migration migration_rule.ToStp) other rest g =
-        moving migration_rule.ToStp moves.enter_selecting g refl refl refl
+    falls (rules.Migration rule) other rest g =
+        let keeps = migration_keeps rule in
+        let a = inputs.migration-falls rule x g in
+        let c = dues.migration-keeps (timing_in s) x rule g in
+        fall (migration_does rule) (omega (arith, keeps.0, keeps.1))
     falls (rules.Detection detection_rule.Edge) other rest g =
-        let e : test_at p receiving.discard_guard s.ports ≡ receiving.discard_guard x = rw at refl in
-        fall detection.edge_effect (loads.edge-falls n (timing_in s) x (sym e ∙ rest) g)
+        fall detection.edge_effect (loads.edge-falls n (timing_in s) x (rw at at rest) g)
     falls (rules.Detection detection_rule.NotEdge) other rest g =
         fall detection.not_edge_effect (loads.not_edge-falls n (timing_in s) x g)
     falls (rules.Information rule) other rest g = absurd (steady-informs rule x late.0.0 g)
     falls (rules.Role rule) other rest g =
         role_falls rule g (role-kind rule s p x g) (fixed-fits (rules.Role rule) s p x g late.0)
-    falls (rules.State state_rule.ToLearning) other rest g =
-        (let a = dues.state-falls (timing_in s) state_rule.ToLearning x g in fall states.to_learning_effect
-        (omega (arith, a)))
-    falls (rules.State state_rule.ToForwarding) other rest g =
-        (let a = dues.state-falls (timing_in s) state_rule.ToForwarding x g in fall states.to_forwarding_effect
-        (omega (arith, a)))
-    falls (rules.State state_rule.ToDiscarding) other rest g =
-        (let a = dues.state-falls (timing_in s) state_rule.ToDiscarding x g in fall states.to_discarding_effect
-        (omega (arith, a)))
+    falls (rules.State rule) other rest g =
+        let keeps = state_keeps rule in
+        fall (state_does rule) (omega (arith, dues.state-falls (timing_in s) rule x g, keeps.0, keeps.1))
     falls (rules.Topology rule) other rest g = topology_falls rule g
     falls (rules.Transmit transmit_rule.Periodic) other rest g =
-        (let a = inputs.periodic-falls (timing_in s) x some g in
-        fall (sends.periodic_effect (timing_in s)) (omega (arith, a)))
+        fall (sends.periodic_effect (timing_in s)) (omega (arith, inputs.periodic-falls (timing_in s) x some g))
     falls (rules.Transmit transmit_rule.SendConfig) other rest g =
-        (let a = inputs.sending-falls (timing_in s) bpdus.Tcn x some (left _ _ (left _ _ g)) in
-        fall (sends.send_config_effect (timing_in s)) (omega (arith, a)))
+        fall (sends.send_config_effect (timing_in s))
+        (omega (arith, inputs.sending-falls (timing_in s) bpdus.Tcn x some (left _ _ (left _ _ g))))
     falls (rules.Transmit transmit_rule.SendTcn) other rest g =
-        (let a = inputs.sending-falls (timing_in s) bpdus.Tcn x some (left _ _ (left _ _ g)) in
-        fall (sends.send_tcn_effect (timing_in s)) (omega (arith, a)))
+        fall (sends.send_tcn_effect (timing_in s))
+        (omega (arith, inputs.sending-falls (timing_in s) bpdus.Tcn x some (left _ _ (left _ _ g))))
     falls (rules.Transmit transmit_rule.SendRst) other rest g =
-        (let a = inputs.sending-falls (timing_in s) bpdus.Tcn x some (left _ _ g) in
-        fall (sends.send_rst_effect (timing_in s)) (omega (arith, a)))
+        fall (sends.send_rst_effect (timing_in s))
+        (omega (arith, inputs.sending-falls (timing_in s) bpdus.Tcn x some (left _ _ g)))
 
 -- ---- the whole bridge
 
@@ -257,9 +200,7 @@ total_bound : (n : ℕ) (timing : Timing) (ports : List PortState)
     ≤ total (left_due timing) ports + total (λ x. 5 + if_so (2 * n + 2) (is_root x.selected_role)) ports
 total_bound n timing [] = omega arith
 total_bound n timing (x ∷ xs) =
-    let first = loads.changes-few n x in
-    let rest = total_bound n timing xs in
-    omega (arith, first, rest)
+    omega (arith, loads.changes-few n x, total_bound n timing xs)
 
 -- the firings that are left after passes in which each port has its role
 pub late-bound : (n : ℕ) (s : Tree) (f : ℕ → ℕ) → length s.ports ≡ n → OneRoot (roles_of s.ports)
@@ -269,4 +210,4 @@ late-bound n s f many one all =
     let b = total-shares (left_due (timing_in s)) n f s.ports many all in
     let c = total-spare 5 (2 * n + 2) s.ports one in
     let d : length s.ports * 5 ≡ n * 5 = ap (λ k. k * 5) many in
-    omega (arith, a, b, c, d)
+    omega arith

@@ -1,12 +1,12 @@
 -- Sums over the ports of a bridge, and what changes of ports do to them.
 use Rattle.std.proofs.Common.{◌≡◌, ℕ, zero, suc, ◌+◌, ◌*◌, ◌≤◌, Bool}
 use Rattle.std.proofs.Common.{true, false, ◌||◌, List, [], ◌∷◌, Option, Some, None}
-use Rattle.std.proofs.Common.{length, slice_get, slice_set, map, refl, sym, ap, subst, ◌∙◌, arith}
+use Rattle.std.proofs.Common.{length, slice_get, slice_set, map, refl, ap, ◌∙◌, arith}
 use Rattle.std.specs.List.{enumerate_from, list_any}
 use Rattle.rstp_state.specs.declared.port.PortState.{PortState}
 use Rattle.rstp_state.specs.Port.{change_at, test_at}
 use Rattle.rstp_machines.specs.TopologyChange.{telling_others, with_propagation}
-use Rattle.std.proofs.lemmas.Option.{same_Some as some_is}
+use Rattle.std.proofs.lemmas.Option.{same_Some as some_is, slice_get-map as map_at}
 
 -- the sum of a number of each port
 abbrev pub total : (PortState → ℕ) → List PortState → ℕ
@@ -18,30 +18,28 @@ abbrev pub if_so : ℕ → Bool → ℕ
 if_so n true = n
 if_so n false = 0
 
-pub if_so-on : (n : ℕ) (b : Bool) → b ≡ true → if_so n b ≡ n
-if_so-on n true h = refl
-if_so-on n false h = cc
+module _ (n : ℕ) (b : Bool) where
+  pub if_so-on : b ≡ true → if_so n b ≡ n
+  if_so-on h = grind arith
 
-pub if_so-off : (n : ℕ) (b : Bool) → b ≡ false → if_so n b ≡ 0
-if_so-off n true h = cc
-if_so-off n false h = refl
+  pub if_so-off : b ≡ false → if_so n b ≡ 0
+  if_so-off h = grind arith
 
-pub if_so-le : (n : ℕ) (b : Bool) → if_so n b ≤ n
-if_so-le n true = omega arith
-if_so-le n false = omega arith
+  pub if_so-le : if_so n b ≤ n
+  if_so-le = grind arith
 
 pub total-set : (f : PortState → ℕ) (ports : List PortState) (p : ℕ) (port new : PortState)
     → slice_get ports p ≡ Some port → total f (slice_set ports p new) + f port ≡ total f ports + f new
-total-set f [] p port new at = let no : ⊥ = cc in absurd no
+total-set f [] p port new at = cc
 total-set f (x ∷ xs) zero port new at =
-    let same : f x ≡ f port = ap f (some_is x port at) in omega (arith, same)
+    let same : f x ≡ f port = ap f (some_is x port at) in omega arith
 total-set f (x ∷ xs) (suc p) port new at =
     let rest : total f (slice_set xs p new) + f port ≡ total f xs + f new = total-set f xs p port new at in
-    omega (arith, rest)
+    omega arith
 
 changed : (ports : List PortState) (p : ℕ) (port : PortState) (does : PortState → PortState)
     → slice_get ports p ≡ Some port → change_at p does ports ≡ slice_set ports p (does port)
-changed ports p port does at = rw at refl
+changed ports p port does at = rw at
 
 pub total-change : (f : PortState → ℕ) (ports : List PortState) (p : ℕ) (port : PortState)
     (does : PortState → PortState) → slice_get ports p ≡ Some port
@@ -49,32 +47,26 @@ pub total-change : (f : PortState → ℕ) (ports : List PortState) (p : ℕ) (p
 total-change f ports p port does at =
     ap (λ l. total f l + f port) (changed ports p port does at) ∙ total-set f ports p port (does port) at
 
--- each port's number grows by at most c
-pub total-map : (f : PortState → ℕ) (does : PortState → PortState) (c : ℕ)
-    → ((port : PortState) → f (does port) ≤ f port + c)
-    → (ports : List PortState) → total f (map does ports) ≤ total f ports + length ports * c
-total-map f does c grows [] = omega arith
-total-map f does c grows (x ∷ xs) =
-    let first = grows x in
-    let rest = total-map f does c grows xs in
-    omega (arith, first, rest)
+module _ (f : PortState → ℕ) (does : PortState → PortState) (c : ℕ) where
+  -- each port's number grows by at most c
+  pub total-map : ((port : PortState) → f (does port) ≤ f port + c)
+      → (ports : List PortState) → total f (map does ports) ≤ total f ports + length ports * c
+  total-map grows [] = omega arith
+  total-map grows (x ∷ xs) =
+      omega (arith, grows x, total-map grows xs)
 
--- and falls at one port by w less what it may grow
-pub total-map-at : (f : PortState → ℕ) (does : PortState → PortState) (c w : ℕ)
-    → ((port : PortState) → f (does port) ≤ f port + c)
-    → (ports : List PortState) (p : ℕ) (port : PortState) → slice_get ports p ≡ Some port
-    → f (does port) + w ≤ f port + c
-    → total f (map does ports) + w ≤ total f ports + length ports * c
-total-map-at f does c w grows [] p port at falls = let no : ⊥ = cc in absurd no
-total-map-at f does c w grows (x ∷ xs) zero port at falls =
-    let here : f (does x) + w ≤ f x + c = subst (λ (v : PortState). f (does v) + w ≤ f v + c)
-    (sym (some_is x port at)) falls in
-    let rest = total-map f does c grows xs in
-    omega (arith, here, rest)
-total-map-at f does c w grows (x ∷ xs) (suc p) port at falls =
-    let first = grows x in
-    let rest = total-map-at f does c w grows xs p port at falls in
-    omega (arith, first, rest)
+  -- and falls at one port by w less what it may grow
+  pub total-map-at : (w : ℕ)
+      → ((port : PortState) → f (does port) ≤ f port + c)
+      → (ports : List PortState) (p : ℕ) (port : PortState) → slice_get ports p ≡ Some port
+      → f (does port) + w ≤ f port + c
+      → total f (map does ports) + w ≤ total f ports + length ports * c
+  total-map-at w grows [] p port at falls = cc
+  total-map-at w grows (x ∷ xs) zero port at falls =
+      let here : f (does x) + w ≤ f x + c = rw (some_is x port at) falls in
+      omega (arith, total-map grows xs)
+  total-map-at w grows (x ∷ xs) (suc p) port at falls =
+      omega (arith, grows x, total-map-at w grows xs p port at falls)
 
 -- each port changes by its place, and its number falls by 1 if the port has the mark
 pub total-marks : (f : PortState → ℕ) (mark : PortState → Bool) (does : ℕ × PortState → PortState)
@@ -83,9 +75,7 @@ pub total-marks : (f : PortState → ℕ) (mark : PortState → Bool) (does : �
 total-marks f mark does falls n [] = omega arith
 total-marks f mark does falls n (x ∷ xs) =
     let first : f (does (n, x)) + if_so 1 (mark x) ≤ f x = falls (n, x) in
-    let rest = total-marks f mark does falls (n + 1) xs in
-    let most = either (mark x) (list_any mark xs) in
-    omega (arith, first, rest, most)
+    omega (arith, first, total-marks f mark does falls (n + 1) xs, either (mark x) (list_any mark xs))
   where
     either : (a b : Bool) → if_so 1 (a || b) ≤ if_so 1 a + if_so 1 b
     either true b = omega arith
@@ -98,17 +88,15 @@ tested_at test ports p h = go (slice_get ports p) refl
   where
     go : (o : Option PortState) → slice_get ports p ≡ o
         → (port : PortState) × (slice_get ports p ≡ Some port) × (test port ≡ true)
-    go None at = let no : ⊥ = let e : false ≡ true = sym (rw at refl) ∙ h in cc in absurd no
-    go (Some port) at = (port, at, let e : test_at p test ports ≡ test port = rw at refl in sym e ∙ h)
+    go None at = (let e = rw at at h in cc)
+    go (Some port) at = (port, at, rw at at h)
 
 pub slice_get-map : (does : PortState → PortState) (ports : List PortState) (p : ℕ) (port : PortState)
     → slice_get ports p ≡ Some port → slice_get (map does ports) p ≡ Some (does port)
-slice_get-map does [] p port at = let no : ⊥ = cc in absurd no
-slice_get-map does (x ∷ xs) zero port at = ap (λ v. Some (does v)) (some_is x port at)
-slice_get-map does (x ∷ xs) (suc p) port at = slice_get-map does xs p port at
+slice_get-map does ports p port at = rw (map_at does ports p, at)
 
 -- one port changes and tells all others
 pub told : (p : ℕ) (does : PortState → PortState) (ports : List PortState) (port : PortState)
     → slice_get ports p ≡ Some port
     → telling_others p does ports ≡ slice_set (map with_propagation ports) p (does port)
-told p does ports port at = rw at refl
+told p does ports port at = rw at

@@ -101,15 +101,7 @@ turned topology_rule.Flush c = record c { flush = false }
 
 pub asked-is : (rule : TopologyRule) (x : PortState) → topology_asks rule x ≡ asked rule (change_of x)
 asked-is topology_rule.TcLearning x = refl
-asked-is topology_rule.Detected x = refl
-asked-is topology_rule.TcClear x = refl
-asked-is topology_rule.TcInactive x = refl
-asked-is topology_rule.TcBack x = refl
-asked-is topology_rule.NotifiedTcn x = refl
-asked-is topology_rule.NotifiedTc x = refl
-asked-is topology_rule.Propagating x = refl
-asked-is topology_rule.Acknowledged x = refl
-asked-is topology_rule.Flush x = refl
+asked-is _ x = refl
 
 timer_keeps : (timing : Timing) (x : PortState) → change_of (with_change_timer timing x) ≡ change_of x
 timer_keeps timing x =
@@ -118,18 +110,12 @@ timer_keeps timing x =
 
 pub turned-is : (rule : TopologyRule) (timing : Timing) (x : PortState)
     → change_of (own_topology rule timing x) ≡ turned rule (change_of x)
-turned-is topology_rule.TcLearning timing x = refl
 turned-is topology_rule.Detected timing x = timer_keeps timing (record x { topology = topology.Active })
-turned-is topology_rule.TcClear timing x = refl
-turned-is topology_rule.TcInactive timing x = refl
-turned-is topology_rule.TcBack timing x = refl
 turned-is topology_rule.NotifiedTcn timing x =
     ap (λ (c : Change). record c { changed = false; noticed = false }) (timer_keeps timing x)
-turned-is topology_rule.NotifiedTc timing x = refl
 turned-is topology_rule.Propagating timing x =
     ap (λ (c : Change). record c { flush = true; tell = false }) (timer_keeps timing x)
-turned-is topology_rule.Acknowledged timing x = refl
-turned-is topology_rule.Flush timing x = refl
+turned-is _ timing x = refl
 
 -- ---- the firings
 

@@ -1,5 +1,5 @@
 -- What the rules of one port do in a pass to the facts of that port.
-use Rattle.std.proofs.Common.{◌≡◌, ℕ, true, false, List, [], ◌∷◌, ◌++◌, drop, refl, sym, subst}
+use Rattle.std.proofs.Common.{◌≡◌, ℕ, true, false, List, [], ◌∷◌, ◌++◌, drop, refl}
 use Rattle.rstp_state.specs.declared.port.PortState.{PortState}
 use Rattle.rstp_run.specs.declared.rule.Rule.{Rule}
 use Rattle.rstp_run.specs.declared.rule.Rule.TheVariants as rules
@@ -34,7 +34,7 @@ pub all_then : (P Q R : Going → Type 0) (first rest : List Rule) (p limit : �
     → ((g : Going) → P g → Q (tries_all first p limit g)) → ((g : Going) → Q g → R (tries_all rest p limit g))
     → (g : Going) → P g → R (tries_all (first ++ rest) p limit g)
 all_then P Q R first rest p limit step later g h =
-    subst R (sym (tries_all-append first rest p limit g)) (later (tries_all first p limit g) (step g h))
+    rw (tries_all-append first rest p limit g) (later (tries_all first p limit g) (step g h))
 
 -- the rules of migration and of bridge detection
 abbrev moves : List Rule
@@ -87,216 +87,158 @@ from_receive = rules.Receive receive_rule.Receive ∷ (moves ++ from_disabled)
 abbrev from_discard : List Rule
 from_discard = rules.Receive receive_rule.Discard ∷ from_receive
 
-discard_first : from_discard ≡ main_rest
-discard_first = refl
-
 -- ---- a port's facts while its rules are tried; V is known of earlier ports, U of later ones
 
 module _ (V U : Still → Type 0) (c n limit p : ℕ) where
   abbrev Now : (PortState → Type 0) → Going → Type 0
   Now H g = Stage c n (Zone (λ x. V (still_of x)) H (λ x. U (still_of x)) p) limit g
 
-  informs : (H K : PortState → Type 0) (rule : InformationRule)
+  abbrev At : (Still → Type 0) → PortState → Type 0
+  At H x = H (still_of x)
+
+  -- the visit goes on with these rules, from the fact H to the fact E
+  abbrev Goes : (PortState → Type 0) → List Rule → (PortState → Type 0) → Type 0
+  Goes H list E = (g : Going) → Now H g → Now E (tries_all list p limit g)
+
+  -- a rule of information, and the rules after it
+  informs : (H K E : PortState → Type 0) (rule : InformationRule) (rest : List Rule)
       → ((x : PortState) → information_asks rule x ≡ false → H x → K x)
       → ((x : PortState) → information_asks rule x ≡ true → H x → K (information_does rule x))
-      → (g : Going) → Now H g → Now K (tries (rules.Information rule) p limit g)
-  informs H K rule rests fires g h =
-      zone-local (λ x. V (still_of x)) H K (λ x. U (still_of x)) c n limit (rules.Information rule)
-      (information_asks rule) (information_does rule) p g refl (λ s x. refl) (λ s. refl) rests fires h
+      → Goes K rest E → Goes H (inform rule rest) E
+  informs H K E rule rest rests fires later g h =
+      later (tries (rules.Information rule) p limit g)
+      (zone-local (λ x. V (still_of x)) H K (λ x. U (still_of x)) c n limit (rules.Information rule)
+      (information_asks rule) (information_does rule) p g refl (λ s x. refl) (λ s. refl) rests fires h)
 
-  receives : (H K : PortState → Type 0) (rule : ReceiveRule)
+  receives : (H K E : PortState → Type 0) (rule : ReceiveRule) (rest : List Rule)
       → ((x : PortState) → receive_asks rule x ≡ false → H x → K x)
       → ((x : PortState) → receive_asks rule x ≡ true → H x → K (receive_does rule x))
-      → (g : Going) → Now H g → Now K (tries (rules.Receive rule) p limit g)
-  receives H K rule rests fires g h =
-      zone-local (λ x. V (still_of x)) H K (λ x. U (still_of x)) c n limit (rules.Receive rule)
-      (receive_asks rule) (receive_does rule) p g refl (λ s x. refl) (λ s. refl) rests fires h
+      → Goes K rest E → Goes H (rules.Receive rule ∷ rest) E
+  receives H K E rule rest rests fires later g h =
+      later (tries (rules.Receive rule) p limit g)
+      (zone-local (λ x. V (still_of x)) H K (λ x. U (still_of x)) c n limit (rules.Receive rule)
+      (receive_asks rule) (receive_does rule) p g refl (λ s x. refl) (λ s. refl) rests fires h)
 
-  plainly : (H : Still → Type 0) (list : List Rule) → all_plain list ≡ true → (g : Going)
-      → Now (λ x. H (still_of x)) g → Now (λ x. H (still_of x)) (tries_all list p limit g)
+  plainly : (H : Still → Type 0) (list : List Rule) → all_plain list ≡ true
+      → Goes (At H) list (At H)
   plainly H list plain g h =
-      stage-plain c n limit (Zone (λ x. V (still_of x)) (λ x. H (still_of x)) (λ x. U (still_of x)) p)
+      stage-plain c n limit (Zone (λ x. V (still_of x)) (At H) (λ x. U (still_of x)) p)
       (λ q x y e z. (
         λ less. stays V x y e (z.0 less),
         λ at. stays H x y e (z.1 at),
         λ more. stays U x y e (z.2 more),
       )) list plain p g h
 
-  -- rules of information of which only Update and Aged may fire
-  module _ (H : PortState → Type 0) (taken : (x : PortState) → H x → IsTaken x) where
-    idles : (rule : InformationRule) → is_idle rule ≡ true → (g : Going) → Now H g
-        → Now H (tries (rules.Information rule) p limit g)
-    idles rule idle g h =
-        informs H H rule (λ x off k. k) (λ x on k. absurd (levels.idle-off rule x idle (taken x k) on)) g h
+  -- ---- the first pass
 
--- ---- the first pass
-
-module _ (n limit p : ℕ) where
-  abbrev First : (PortState → Type 0) → Going → Type 0
-  First H g = Now IsTakenOf IsFirstOf 0 n limit p H g
-
-  first_informs : (H K : PortState → Type 0) (rule : InformationRule)
-      → ((x : PortState) → information_asks rule x ≡ false → H x → K x)
-      → ((x : PortState) → information_asks rule x ≡ true → H x → K (information_does rule x))
-      → (g : Going) → First H g → First K (tries (rules.Information rule) p limit g)
-  first_informs H K rule rests fires g h = informs IsTakenOf IsFirstOf 0 n limit p H K rule rests fires g h
-
-  end_first : (g : Going) → First (IsTried Off4) g → First IsTaken (tries_all from_other p limit g)
+  end_first : Goes (IsTried Off4) from_other IsTaken
   end_first =
-      one_then (First (IsTried Off4)) (First IsTaken) (First IsTaken) (rules.Information information_rule.Other) others
-      p limit
-      (first_informs (IsTried Off4) IsTaken information_rule.Other
-      (λ x off h. levels.all-tried x off h)
-      (λ x on h. levels.free-taken (info.other_effect x) (levels.other-fires x h.0)))
-      (plainly IsTakenOf IsFirstOf 0 n limit p IsTakenOf others refl)
+      informs (IsTried Off4) IsTaken IsTaken information_rule.Other others levels.all-tried
+      (λ x on h. levels.free-taken (info.other_effect x) (levels.other-fires x h.0)) (plainly IsTakenOf others refl)
 
-  take_first : (g : Going) → First IsOpen g → First IsTaken (tries_all from_superior p limit g)
+  take_first : Goes IsOpen from_superior IsTaken
   take_first =
-      one_then (First IsOpen) (First (IsTried Off1)) (First IsTaken) (rules.Information information_rule.Superior)
-      from_repeated p limit
-      (first_informs IsOpen (IsTried Off1) information_rule.Superior (λ x off h. (h, λ m. off))
-      (λ x on h. levels.tried-free Off1 (info.superior_effect x) (levels.superior-fires x on h)))
-      (one_then (First (IsTried Off1)) (First (IsTried Off2)) (First IsTaken)
-      (rules.Information information_rule.Repeated) from_inferior p limit
-      (first_informs (IsTried Off1) (IsTried Off2) information_rule.Repeated (λ x off h. (h.0, λ m. (h.1 m, off)))
-      (λ x on h. levels.tried-free Off2 (info.repeated_effect x) (levels.repeated-fires x h.0)))
-      (one_then (First (IsTried Off2)) (First (IsTried Off3)) (First IsTaken)
-      (rules.Information information_rule.Inferior) from_not_designated
-      p limit
-      (first_informs (IsTried Off2) (IsTried Off3) information_rule.Inferior (λ x off h. (h.0, λ m. (h.1 m, off)))
-      (λ x on h. levels.tried-free Off3 (info.inferior_effect x) (levels.inferior-fires x h.0)))
-      (one_then (First (IsTried Off3)) (First (IsTried Off4)) (First IsTaken)
-      (rules.Information information_rule.NotDesignated) from_other p limit
-      (first_informs (IsTried Off3) (IsTried Off4) information_rule.NotDesignated
+      informs IsOpen (IsTried Off1) IsTaken information_rule.Superior from_repeated (λ x off h. (h, λ m. off))
+      (λ x on h. levels.tried-free Off1 (info.superior_effect x) (levels.superior-fires x on h))
+      (informs (IsTried Off1) (IsTried Off2) IsTaken information_rule.Repeated from_inferior
       (λ x off h. (h.0, λ m. (h.1 m, off)))
-      (λ x on h. levels.tried-free Off4 (info.not_designated_effect x) (levels.not_designated-fires x h.0)))
+      (λ x on h. levels.tried-free Off2 (info.repeated_effect x) (levels.repeated-fires x h.0))
+      (informs (IsTried Off2) (IsTried Off3) IsTaken information_rule.Inferior from_not_designated
+      (λ x off h. (h.0, λ m. (h.1 m, off)))
+      (λ x on h. levels.tried-free Off3 (info.inferior_effect x) (levels.inferior-fires x h.0))
+      (informs (IsTried Off3) (IsTried Off4) IsTaken information_rule.NotDesignated from_other
+      (λ x off h. (h.0, λ m. (h.1 m, off)))
+      (λ x on h. levels.tried-free Off4 (info.not_designated_effect x) (levels.not_designated-fires x h.0))
       end_first)))
 
-  turn_first : (g : Going) → First IsFaced g → First IsTaken (tries_all from_disabled p limit g)
+  turn_first : Goes IsFaced from_disabled IsTaken
   turn_first =
-      one_then (First IsFaced) (First IsDown) (First IsTaken) (rules.Information information_rule.Disabled) from_drop p
-      limit
-      (first_informs IsFaced IsDown information_rule.Disabled (λ x off h. levels.disabled-stays x off h)
-      (λ x on h. levels.disabled-fires x h))
-      (one_then (First IsDown) (First IsDown) (First IsTaken) (rules.Information information_rule.Drop) from_enabled p
-      limit
-      (first_informs IsDown IsDown information_rule.Drop (λ x off h. h) (λ x on h. levels.drop-fires x h))
-      (one_then (First IsDown) (First IsOpen) (First IsTaken) (rules.Information information_rule.Enabled) from_update p
-      limit
-      (first_informs IsDown IsOpen information_rule.Enabled (λ x off h. levels.enabled-stays x off h)
-      (λ x on h. levels.enabled-fires x on h))
-      (one_then (First IsOpen) (First IsOpen) (First IsTaken) (rules.Information information_rule.Update) from_aged p
-      limit
-      (first_informs IsOpen IsOpen information_rule.Update (λ x off h. h) (λ x on h. levels.update-open x on h))
-      (one_then (First IsOpen) (First IsOpen) (First IsTaken) (rules.Information information_rule.Aged) from_superior p
-      limit
-      (first_informs IsOpen IsOpen information_rule.Aged (λ x off h. h) (λ x on h. levels.aged-open x on h))
+      informs IsFaced IsDown IsTaken information_rule.Disabled from_drop levels.disabled-stays
+      (λ x on. levels.disabled-fires x)
+      (informs IsDown IsDown IsTaken information_rule.Drop from_enabled (λ x off h. h) (λ x on. levels.drop-fires x)
+      (informs IsDown IsOpen IsTaken information_rule.Enabled from_update levels.enabled-stays levels.enabled-fires
+      (informs IsOpen IsOpen IsTaken information_rule.Update from_aged (λ x off h. h) levels.update-open
+      (informs IsOpen IsOpen IsTaken information_rule.Aged from_superior (λ x off h. h) levels.aged-open
       take_first))))
 
-  begin_first : (g : Going) → First IsFirst g → First IsTaken (tries_all from_discard p limit g)
+  begin_first : Goes IsFirst from_discard IsTaken
   begin_first =
-      one_then (First IsFirst) (First IsHeard) (First IsTaken) (rules.Receive receive_rule.Discard) from_receive p limit
-      (receives IsTakenOf IsFirstOf 0 n limit p IsFirst IsHeard receive_rule.Discard
-      (λ x off h. levels.discard-stays x off h) (λ x on h. levels.discard-fires x h))
-      (one_then (First IsHeard) (First IsFaced) (First IsTaken) (rules.Receive receive_rule.Receive)
-      (moves ++ from_disabled) p limit
-      (receives IsTakenOf IsFirstOf 0 n limit p IsHeard IsFaced receive_rule.Receive
-      (λ x off h. levels.receive-stays x off h) (λ x on h. levels.receive-fires x on h))
-      (all_then (First IsFaced) (First IsFaced) (First IsTaken) moves from_disabled p limit
-      (plainly IsTakenOf IsFirstOf 0 n limit p IsFacedOf moves refl) turn_first))
+      receives IsFirst IsHeard IsTaken receive_rule.Discard from_receive levels.discard-stays
+      (λ x on. levels.discard-fires x)
+      (receives IsHeard IsFaced IsTaken receive_rule.Receive (moves ++ from_disabled) levels.receive-stays
+      levels.receive-fires
+      (λ g h. turn_first (tries_all moves p limit g) (plainly IsFacedOf moves refl g h)))
 
-  pub visit-first : (g : Going) → Stage 0 n (Zone IsTaken IsFirst IsFirst p) limit g
-      → Stage 0 n (Zone IsTaken IsTaken IsFirst p) limit (tries_all main_rest p limit g)
-  visit-first g h =
-      let R : List Rule → Type 0 = λ l. Stage 0 n (Zone IsTaken IsTaken IsFirst p) limit (tries_all l p limit g) in
-      subst R discard_first (begin_first g h)
+  -- ---- later passes
 
--- ---- later passes
+  -- A is known before Update, B between Update and Aged, and C after Aged
+  module _ (A B C : Still → Type 0)
+      (taken_a : (x : PortState) → A (still_of x) → IsTaken x)
+      (taken_c : (x : PortState) → C (still_of x) → IsTaken x)
+      (discards : (x : PortState) → A (still_of x) → A (still_of (discard_effect x)))
+      (update_rests : (x : PortState) → info.update_guard x ≡ false → A (still_of x) → B (still_of x))
+      (update_fires : (x : PortState) → info.update_guard x ≡ true → A (still_of x)
+      → B (still_of (info.update_effect x)))
+      (aged_rests : (x : PortState) → info.aged_guard x ≡ false → B (still_of x) → C (still_of x))
+      (aged_fires : (x : PortState) → info.aged_guard x ≡ true → B (still_of x) → C (still_of (info.aged_effect x)))
+    where
+      abbrev Later : (Still → Type 0) → List Rule → Type 0
+      Later H list = Goes (At H) list (At C)
 
--- A is known before Update, B between Update and Aged, and C after Aged
-module _ (V U A B C : Still → Type 0) (c n limit p : ℕ)
-    (taken_a : (x : PortState) → A (still_of x) → IsTaken x)
-    (taken_c : (x : PortState) → C (still_of x) → IsTaken x)
-    (discards : (x : PortState) → A (still_of x) → A (still_of (discard_effect x)))
-    (update_rests : (x : PortState) → info.update_guard x ≡ false → A (still_of x) → B (still_of x))
-    (update_fires : (x : PortState) → info.update_guard x ≡ true → A (still_of x)
-    → B (still_of (info.update_effect x)))
-    (aged_rests : (x : PortState) → info.aged_guard x ≡ false → B (still_of x) → C (still_of x))
-    (aged_fires : (x : PortState) → info.aged_guard x ≡ true → B (still_of x) → C (still_of (info.aged_effect x)))
-  where
-    abbrev Later : (Still → Type 0) → Going → Type 0
-    Later H g = Now V U c n limit p (λ x. H (still_of x)) g
+      -- a rule of information that isn't enabled
+      idles : (H : Still → Type 0) (taken : (x : PortState) → H (still_of x) → IsTaken x) (rule : InformationRule)
+          (rest : List Rule) → is_idle rule ≡ true → Later H rest → Later H (inform rule rest)
+      idles H taken rule rest idle =
+          informs (At H) (At H) (At C) rule rest (λ x off k. k)
+          (λ x on k. absurd (levels.idle-off rule x idle (taken x k) on))
 
-    idles_a : (rule : InformationRule) → is_idle rule ≡ true → (g : Going) → Later A g
-        → Later A (tries (rules.Information rule) p limit g)
-    idles_a rule idle g h = idles V U c n limit p (λ x. A (still_of x)) taken_a rule idle g h
+      take_later : Later C from_superior
+      take_later =
+          idles C taken_c information_rule.Superior from_repeated refl
+          (idles C taken_c information_rule.Repeated from_inferior refl
+          (idles C taken_c information_rule.Inferior from_not_designated refl
+          (idles C taken_c information_rule.NotDesignated from_other refl
+          (idles C taken_c information_rule.Other others refl (plainly C others refl)))))
 
-    idles_c : (rule : InformationRule) → is_idle rule ≡ true → (g : Going) → Later C g
-        → Later C (tries (rules.Information rule) p limit g)
-    idles_c rule idle g h = idles V U c n limit p (λ x. C (still_of x)) taken_c rule idle g h
+      age_later : Later A from_update
+      age_later =
+          informs (At A) (At B) (At C) information_rule.Update from_aged
+          update_rests update_fires
+          (informs (At B) (At C) (At C) information_rule.Aged
+          from_superior aged_rests aged_fires take_later)
 
-    take_later : (g : Going) → Later C g → Later C (tries_all from_superior p limit g)
-    take_later =
-        one_then (Later C) (Later C) (Later C) (rules.Information information_rule.Superior) from_repeated p limit
-        (idles_c information_rule.Superior refl)
-        (one_then (Later C) (Later C) (Later C) (rules.Information information_rule.Repeated) from_inferior p limit
-        (idles_c information_rule.Repeated refl)
-        (one_then (Later C) (Later C) (Later C) (rules.Information information_rule.Inferior) from_not_designated
-        p limit
-        (idles_c information_rule.Inferior refl)
-        (one_then (Later C) (Later C) (Later C) (rules.Information information_rule.NotDesignated) from_other p limit
-        (idles_c information_rule.NotDesignated refl)
-        (one_then (Later C) (Later C) (Later C) (rules.Information information_rule.Other) others p limit
-        (idles_c information_rule.Other refl) (plainly V U c n limit p C others refl)))))
+      turn_later : Later A from_disabled
+      turn_later =
+          idles A taken_a information_rule.Disabled from_drop refl
+          (idles A taken_a information_rule.Drop from_enabled refl
+          (idles A taken_a information_rule.Enabled from_update refl age_later))
 
-    age_later : (g : Going) → Later A g → Later C (tries_all from_update p limit g)
-    age_later =
-        one_then (Later A) (Later B) (Later C) (rules.Information information_rule.Update) from_aged p limit
-        (informs V U c n limit p (λ x. A (still_of x)) (λ x. B (still_of x)) information_rule.Update update_rests
-        update_fires)
-        (one_then (Later B) (Later C) (Later C) (rules.Information information_rule.Aged) from_superior p limit
-        (informs V U c n limit p (λ x. B (still_of x)) (λ x. C (still_of x)) information_rule.Aged aged_rests
-        aged_fires) take_later)
+      visit_later : Later A from_discard
+      visit_later =
+          receives (At A) (At A) (At C) receive_rule.Discard from_receive
+          (λ x off h. h) (λ x on. discards x)
+          (receives (At A) (At A) (At C) receive_rule.Receive
+          (moves ++ from_disabled) (λ x off h. h) (λ x on h. absurd (levels.receive-off x (taken_a x h) on))
+          (λ g h. turn_later (tries_all moves p limit g) (plainly A moves refl g h)))
 
-    turn_later : (g : Going) → Later A g → Later C (tries_all from_disabled p limit g)
-    turn_later =
-        one_then (Later A) (Later A) (Later C) (rules.Information information_rule.Disabled) from_drop p limit
-        (idles_a information_rule.Disabled refl)
-        (one_then (Later A) (Later A) (Later C) (rules.Information information_rule.Drop) from_enabled p limit
-        (idles_a information_rule.Drop refl)
-        (one_then (Later A) (Later A) (Later C) (rules.Information information_rule.Enabled) from_update p limit
-        (idles_a information_rule.Enabled refl) age_later))
-
-    begin_later : (g : Going) → Later A g → Later C (tries_all from_discard p limit g)
-    begin_later =
-        one_then (Later A) (Later A) (Later C) (rules.Receive receive_rule.Discard) from_receive p limit
-        (receives V U c n limit p (λ x. A (still_of x)) (λ x. A (still_of x)) receive_rule.Discard (λ x off h. h)
-        (λ x on h. discards x h))
-        (one_then (Later A) (Later A) (Later C) (rules.Receive receive_rule.Receive) (moves ++ from_disabled) p limit
-        (receives V U c n limit p (λ x. A (still_of x)) (λ x. A (still_of x)) receive_rule.Receive (λ x off h. h)
-        (λ x on h. absurd (levels.receive-off x (taken_a x h) on)))
-        (all_then (Later A) (Later A) (Later C) moves from_disabled p limit (plainly V U c n limit p A moves refl)
-        turn_later))
-
-    pub visit_later : (g : Going) → Later A g → Later C (tries_all main_rest p limit g)
-    visit_later g h =
-        let R : List Rule → Type 0 = λ l. Later C (tries_all l p limit g) in
-        subst R discard_first (begin_later g h)
+pub visit-first : (n limit p : ℕ) (g : Going) → Stage 0 n (Zone IsTaken IsFirst IsFirst p) limit g
+    → Stage 0 n (Zone IsTaken IsTaken IsFirst p) limit (tries_all main_rest p limit g)
+visit-first n limit p = begin_first IsTakenOf IsFirstOf 0 n limit p
 
 -- the second pass
 pub visit-second : (n limit p : ℕ) (g : Going) → Stage 1 n (Zone IsYoung IsChosen IsChosen p) limit g
     → Stage 1 n (Zone IsYoung IsYoung IsChosen p) limit (tries_all main_rest p limit g)
-visit-second n limit p g h =
-    visit_later IsYoungOf IsChosenOf IsChosenOf IsHeldOf IsYoungOf 1 n limit p (λ x a. a.0) (λ x y. y.0)
-    (λ x a. (levels.discard-taken x a.0, a.1)) (λ x off a. levels.update-held x off a)
-    (λ x on a. (levels.update-taken x on a.0, λ r. no r)) (λ x off b. levels.aged-young x off b)
-    (λ x on b. (levels.aged-taken x on b.0, λ r. no r)) g h
+visit-second n limit p =
+    visit_later IsYoungOf IsChosenOf 1 n limit p IsChosenOf IsHeldOf IsYoungOf (λ x a. a.0) (λ x y. y.0)
+    (λ x a. (levels.discard-taken x a.0, a.1)) levels.update-held
+    (λ x on a. (levels.update-taken x on a.0, λ r. no r)) levels.aged-young
+    (λ x on b. (levels.aged-taken x on b.0, λ r. no r))
 
 -- all later passes
 pub visit-later : (c n limit p : ℕ) (g : Going) → Stage c n (Zone IsCalm IsCalm IsCalm p) limit g
     → Stage c n (Zone IsCalm IsCalm IsCalm p) limit (tries_all main_rest p limit g)
-visit-later c n limit p g h =
-    visit_later IsCalmOf IsCalmOf IsCalmOf IsCalmOf IsCalmOf c n limit p (λ x a. a.0.0) (λ x a. a.0.0)
+visit-later c n limit p =
+    visit_later IsCalmOf IsCalmOf c n limit p IsCalmOf IsCalmOf IsCalmOf (λ x a. a.0.0) (λ x a. a.0.0)
     (λ x a. ((levels.discard-taken x a.0.0, a.0.1), a.1)) (λ x off a. a)
     (λ x on a. ((levels.update-taken x on a.0.0, λ r. no r), a.1)) (λ x off a. a)
-    (λ x on a. absurd (levels.aged-off x a.0 on)) g h
+    (λ x on a. absurd (levels.aged-off x a.0 on))

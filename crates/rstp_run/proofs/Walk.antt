@@ -1,8 +1,8 @@
 -- One induction over all rules and events: a fact about a bridge stays if each port changes by a relation.
-use Rattle.std.proofs.Common.{◌≡◌, ℕ, ◌-◌, Bool, true, false, ◌||◌, List, [], ◌∷◌, map, refl, sym, subst}
+use Rattle.std.proofs.Common.{◌≡◌, ℕ, ◌-◌, Bool, true, false, ◌||◌, List, [], ◌∷◌, map, refl}
 use Rattle.rstp_state.specs.declared.port.PortState.{PortState}
 use Rattle.rstp_state.specs.Direct.{with_enabled, with_message, with_migration_check, with_second, without_slot}
-use Rattle.rstp_state.specs.Port.{change_at, test_at}
+use Rattle.rstp_state.specs.Port.{change_at}
 use Rattle.rstp_roles.specs.Rules.{state_asks, state_does}
 use Rattle.rstp_run.specs.declared.event.Event.{Event}
 use Rattle.rstp_run.specs.declared.event.Event.TheVariants as events
@@ -35,18 +35,6 @@ pub record Walks (P : Tree → Type 0) (R : Tree → PortState → PortState →
   pub moves : Moves P R
   pub chosen : (s : Tree) (p : ℕ) → P s → P (after rules.Select s p)
 
--- a rule of one port that keeps the port's tree information and pending messages
-still_at : (asks : PortState → Bool) (does : PortState → PortState) (ports : List PortState) (p : ℕ)
-    → ((port : PortState) → asks port ≡ true → IsStill port (does port)) → test_at p asks ports ≡ true
-    → Each IsStill ports (change_at p does ports)
-still_at asks does ports p h g = each_at IsStill (λ port. refl) asks does ports p h g
-
--- a rule of one port that keeps the port's tree information
-quiet_at : (asks : PortState → Bool) (does : PortState → PortState) (ports : List PortState) (p : ℕ)
-    → ((port : PortState) → asks port ≡ true → IsQuiet port (does port)) → test_at p asks ports ≡ true
-    → Each IsQuiet ports (change_at p does ports)
-quiet_at asks does ports p h g = each_at IsQuiet (λ port. refl) asks does ports p h g
-
 -- neither Select nor a rule of receive or information
 abbrev pub is_plain : Rule → Bool
 is_plain rules.Select = false
@@ -56,19 +44,18 @@ is_plain _ = true
 
 pub still_after : (rule : Rule) (s : Tree) (p : ℕ) → is_plain rule ≡ true → guard rule s p ≡ true
     → Each IsStill s.ports (ports_after rule s p)
-still_after rules.Select s p n g = let e : ⊥ = cc in absurd e
-still_after (rules.Receive rule) s p n g = let e : ⊥ = cc in absurd e
-still_after (rules.Migration rule) s p n g = still_at (migration_asks rule) (migration_does rule) s.ports p
-    (migration_still rule) g
-still_after (rules.Detection rule) s p n g = still_at (detection_asks rule) (detection_does rule) s.ports p
-    (detection_still rule) g
-still_after (rules.Information rule) s p n g = let e : ⊥ = cc in absurd e
+still_after (rules.Migration rule) s p n g =
+    each_at IsStill (λ port. refl) (migration_asks rule) (migration_does rule) s.ports p (migration_still rule) g
+still_after (rules.Detection rule) s p n g =
+    each_at IsStill (λ port. refl) (detection_asks rule) (detection_does rule) s.ports p (detection_still rule) g
 still_after (rules.Role rule) s p n g = role_still rule (timing_in s) s.ports p
-still_after (rules.State rule) s p n g = still_at (state_asks rule) (state_does rule) s.ports p (state_still rule) g
+still_after (rules.State rule) s p n g =
+    each_at IsStill (λ port. refl) (state_asks rule) (state_does rule) s.ports p (state_still rule) g
 still_after (rules.Topology rule) s p n g = topology_still rule (timing_in s) s.ports p
 still_after (rules.Transmit rule) s p n g =
-    still_at (transmit_asks rule (timing_in s)) (transmit_does rule (timing_in s)) s.ports p
+    each_at IsStill (λ port. refl) (transmit_asks rule (timing_in s)) (transmit_does rule (timing_in s)) s.ports p
     (transmit_still rule (timing_in s)) g
+still_after _ s p n g = cc
 
 module _ (P : Tree → Type 0) (R : Tree → PortState → PortState → Type 0) (moves : Moves P R) where
   quietly : (s : Tree) (ports : List PortState) → Each IsQuiet s.ports ports → P s → P (record s { ports = ports })
@@ -81,24 +68,19 @@ module _ (P : Tree → Type 0) (R : Tree → PortState → PortState → Type 0)
 
   other_holds : (rule : Rule) (s : Tree) (p : ℕ) → is_select rule ≡ false → guard rule s p ≡ true → P s
       → P (after rule s p)
-  other_holds rules.Select s p n g k = let e : ⊥ = cc in absurd e
+  other_holds rules.Select s p n g k = cc
   other_holds (rules.Receive rule) s p n g k = quietly s _
-      (quiet_at (receive_asks rule) (receive_does rule) s.ports p (receive_quiet rule) g) k
-  other_holds (rules.Migration rule) s p n g k = stilly (rules.Migration rule) s p refl g k
-  other_holds (rules.Detection rule) s p n g k = stilly (rules.Detection rule) s p refl g k
+      (each_at IsQuiet (λ port. refl) (receive_asks rule) (receive_does rule) s.ports p (receive_quiet rule) g) k
   other_holds (rules.Information rule) s p n g k =
       moves.by s _ (each_at (R s) (λ port. moves.quiet s port port refl) (information_asks rule) (information_does rule)
       s.ports p (moves.informed s rule) g) k
-  other_holds (rules.Role rule) s p n g k = stilly (rules.Role rule) s p refl g k
-  other_holds (rules.State rule) s p n g k = stilly (rules.State rule) s p refl g k
-  other_holds (rules.Topology rule) s p n g k = stilly (rules.Topology rule) s p refl g k
-  other_holds (rules.Transmit rule) s p n g k = stilly (rules.Transmit rule) s p refl g k
+  other_holds rule s p n g k = stilly rule s p refl g k
 
   pub lasting_holds : (firings : List Firing) (s t : Tree) → Run firings s t → selects firings ≡ false → P s → P t
-  lasting_holds [] s t run n k = subst P (sym run) k
+  lasting_holds [] s t run n k = rw run k
   lasting_holds (f ∷ earlier) s t run n k =
       let none = neither (is_select f.rule) (selects earlier) n in
-      subst P (sym run.2.1)
+      rw run.2.1
       (other_holds f.rule run.0 f.place none.0 run.2.0 (lasting_holds earlier s run.0 run.1 none.1 k))
 
   changed : (does : PortState → PortState) (s : Tree) (p : ℕ) → ((port : PortState) → IsQuiet port (does port)) → P s
@@ -121,18 +103,11 @@ module _ (P : Tree → Type 0) (R : Tree → PortState → PortState → Type 0)
 module _ (P : Tree → Type 0) (R : Tree → PortState → PortState → Type 0) (walks : Walks P R) where
   pub rule_holds : (rule : Rule) (s : Tree) (p : ℕ) → guard rule s p ≡ true → P s → P (after rule s p)
   rule_holds rules.Select s p g k = walks.chosen s p k
-  rule_holds (rules.Receive rule) s p g k = other_holds P R walks.moves (rules.Receive rule) s p refl g k
-  rule_holds (rules.Migration rule) s p g k = other_holds P R walks.moves (rules.Migration rule) s p refl g k
-  rule_holds (rules.Detection rule) s p g k = other_holds P R walks.moves (rules.Detection rule) s p refl g k
-  rule_holds (rules.Information rule) s p g k = other_holds P R walks.moves (rules.Information rule) s p refl g k
-  rule_holds (rules.Role rule) s p g k = other_holds P R walks.moves (rules.Role rule) s p refl g k
-  rule_holds (rules.State rule) s p g k = other_holds P R walks.moves (rules.State rule) s p refl g k
-  rule_holds (rules.Topology rule) s p g k = other_holds P R walks.moves (rules.Topology rule) s p refl g k
-  rule_holds (rules.Transmit rule) s p g k = other_holds P R walks.moves (rules.Transmit rule) s p refl g k
+  rule_holds rule s p g k = other_holds P R walks.moves rule s p refl g k
 
   run_holds : (firings : List Firing) (s t : Tree) → Run firings s t → P s → P t
-  run_holds [] s t run k = subst P (sym run) k
-  run_holds (f ∷ earlier) s t run k = subst P (sym run.2.1)
+  run_holds [] s t run k = rw run k
+  run_holds (f ∷ earlier) s t run k = rw run.2.1
       (rule_holds f.rule run.0 f.place run.2.0 (run_holds earlier s run.0 run.1 k))
 
   pub happens_holds : (event : Event) (limit : ℕ) (s t : Tree) (settled : Bool) (mask : ℕ)
@@ -142,6 +117,6 @@ module _ (P : Tree → Type 0) (R : Tree → PortState → PortState → Type 0)
 
   -- if it holds of a bridge, it holds of every bridge that is reachable from there by events
   pub comes_holds : (history : List Event) (s t : Tree) → Comes history s t → P s → P t
-  comes_holds [] s t comes k = subst P (sym comes) k
+  comes_holds [] s t comes k = rw comes k
   comes_holds (event ∷ earlier) s t comes k =
       happens_holds event comes.1 comes.0 t comes.2 comes.3 comes.5 (comes_holds earlier s comes.0 comes.4 k)

@@ -1,11 +1,11 @@
 -- The result of an event refers only to existing ports.
-use Rattle.std.proofs.Common.{◌≡◌, ℕ, zero, suc, ◌+◌, ◌-◌, ◌%◌, ◌^◌, ◌<◌, ◌≤◌, ◌&&◌, ◌||◌, ◌==◌, ◌⊎◌, inl, inr, Bool}
-use Rattle.std.proofs.Common.{true, false, List, [], ◌∷◌, Option, Some, None, All, length, slice_get, refl, sym, ap}
+use Rattle.std.proofs.Common.{◌≡◌, ℕ, zero, suc, ◌+◌, ◌-◌, ◌%◌, ◌^◌, ◌<◌, ◌≤◌, ◌&&◌, ◌||◌, ◌==◌, ◌⊎◌, inl, inr}
+use Rattle.std.proofs.Common.{Bool, add-one}
+use Rattle.std.proofs.Common.{true, false, List, [], ◌∷◌, Option, Some, None, All, length, slice_get, refl, sym}
 use Rattle.std.proofs.Common.{◌∙◌, arith}
 use Rattle.std.proofs.lemmas.Bool.{eqb-true}
 use Rattle.std.proofs.lemmas.List.Elements.{All-nil, All-cons, All-head, All-tail}
 use Rattle.std.proofs.lemmas.Option.{slice_get_cases}
-use Rattle.std.specs.Option.{option_map_or}
 use Rattle.bpdu_wire.specs.declared.bpdu.Bpdu.{Bpdu}
 use Rattle.bpdu_wire.specs.Id.{port_number}
 use Rattle.ether_wire.specs.Ports.{has_port}
@@ -16,7 +16,7 @@ use Rattle.rstp_run.specs.declared.event.Event.{Event}
 use Rattle.rstp_run.specs.declared.rule.Rule.{Rule}
 use Rattle.rstp_run.specs.Events.{IsPort, flushes, start, sent_from, with_sent, Happens}
 use Rattle.rstp_run.specs.Laws.{AreNumberedFrom}
-use Rattle.rstp_run.specs.Rules.{Tree, guard, asks}
+use Rattle.rstp_run.specs.Rules.{Tree, guard}
 use Rattle.rstp_run.specs.Runs.{Firing, Run, is_flush}
 use Rattle.rstp_run.proofs.Steps.{length-ports_after}
 use Rattle.rstp_state.proofs.Basics.{and_right as right}
@@ -30,22 +30,21 @@ place_within : (rule : Rule) (s : Tree) (p : ℕ) → guard rule s p ≡ true �
 place_within rule s p holds =
     elim (slice_get_cases s.ports p).1 [
       | inl (x, within, found, same) ↦ within
-      | inr (past, none) ↦ (let e : false ≡ true = sym (ap (λ o. option_map_or (asks rule s p) o false) none) ∙ holds in
-          let f : ⊥ = cc in absurd f)
+      | inr (past, none) ↦ (let e = rw none at holds in cc)
     ]
 
 pub run_length : (firings : List Firing) (s t : Tree) → Run firings s t → length t.ports ≡ length s.ports
-run_length [] s t same = ap (λ (v : Tree). length v.ports) same
+run_length [] s t same = rw same
 run_length (f ∷ earlier) s t (mid, run, fires) =
-    ap (λ (v : Tree). length v.ports) fires.1 ∙ length-ports_after f.rule mid f.place ∙ run_length earlier s mid run
+    rw (fires.1, length-ports_after f.rule mid f.place) (run_length earlier s mid run)
 
 flushes_within : (firings : List Firing) (s t : Tree) (p : ℕ) → Run firings s t → flushes p firings ≡ true
     → p < length s.ports
-flushes_within [] s t p run h = let e : ⊥ = cc in absurd e
+flushes_within [] s t p run h = cc
 flushes_within (f ∷ earlier) s t p (mid, run, fires) h =
     elim (either (is_flush f.rule && f.place == p) (flushes p earlier) h) [
       | inl now ↦
-          let here : f.place ≡ p = eqb-true f.place p (right (is_flush f.rule) (f.place == p) now) in
+          let here : f.place ≡ p = eqb-true f.place p (right _ _ now) in
           let within : f.place < length mid.ports = place_within f.rule mid f.place fires.0 in
           let same : length mid.ports ≡ length s.ports = run_length earlier s mid run in
           omega arith
@@ -57,35 +56,35 @@ pub flush-within : (event : Event) (limit : ℕ) (s t : Tree) (settled : Bool) (
     → Happens event limit s t settled mask
     → (p : ℕ) → has_port mask p ≡ true → IsPort p (length t.ports)
 unfolding has_port
-flush-within event limit s t settled mask happens zero there = let e : ⊥ = cc in absurd e
+flush-within event limit s t settled mask happens zero there = cc
 flush-within event limit s t settled mask happens (suc p) there =
-    let next : suc p ≡ p + 1 = omega arith in
-    let flushed : flushes p happens.firings ≡ true = sym (happens.flush p) ∙ ap (has_port mask) (sym next) ∙ there in
+    let flushed : flushes p happens.firings ≡ true = sym (happens.flush p) ∙ rw (add-one p) there in
     let within = flushes_within happens.firings _ t p happens.run flushed in
     let same = run_length happens.firings _ t happens.run in
-    (omega arith, omega arith)
+    omega arith
 
 -- a message at one of `many` ports; the first has the number n
 abbrev IsFrom : ℕ → ℕ → ℕ × Bpdu → Type 0
 IsFrom n many sent = (n ≤ sent.0) × (sent.0 < n + many)
 
-later : (n many : ℕ) (sent : List (ℕ × Bpdu)) → All (IsFrom (n + 1) many) sent → All (IsFrom n (suc many)) sent
-later n many sent all = all_map (λ e h. (let a = h.0 in let b = h.1 in (omega arith, omega arith))) sent all
-  where
-    all_map : ((e : ℕ × Bpdu) → IsFrom (n + 1) many e → IsFrom n (suc many) e) → (es : List (ℕ × Bpdu))
-        → All (IsFrom (n + 1) many) es → All (IsFrom n (suc many)) es
-    all_map f [] h = All-nil (IsFrom n (suc many))
-    all_map f (e ∷ es) h =
-        All-cons (IsFrom n (suc many)) e es (f e (All-head (IsFrom (n + 1) many) e es h))
-        (all_map f es (All-tail (IsFrom (n + 1) many) e es h))
+module _ (n many : ℕ) where
+  later : (sent : List (ℕ × Bpdu)) → All (IsFrom (n + 1) many) sent → All (IsFrom n (suc many)) sent
+  later sent all = all_map (λ e h. (omega (arith, h.0), omega (arith, h.1))) sent all
+    where
+      all_map : ((e : ℕ × Bpdu) → IsFrom (n + 1) many e → IsFrom n (suc many) e) → (es : List (ℕ × Bpdu))
+          → All (IsFrom (n + 1) many) es → All (IsFrom n (suc many)) es
+      all_map f [] h = All-nil (IsFrom n (suc many))
+      all_map f (e ∷ es) h =
+          All-cons (IsFrom n (suc many)) e es (f e (All-head (IsFrom (n + 1) many) e es h))
+          (all_map f es (All-tail (IsFrom (n + 1) many) e es h))
 
-first : (n many : ℕ) → (n ≤ n) × (n < n + suc many)
-first n many = (omega arith, omega arith)
+  first : (n ≤ n) × (n < n + suc many)
+  first = omega arith
 
-with_first : (n many : ℕ) (slot : Option Bpdu) (rest : List (ℕ × Bpdu)) → All (IsFrom n (suc many)) rest
-    → All (IsFrom n (suc many)) (with_sent n slot rest)
-with_first n many None rest all = all
-with_first n many (Some message) rest all = All-cons (IsFrom n (suc many)) (n, message) rest (first n many) all
+  with_first : (slot : Option Bpdu) (rest : List (ℕ × Bpdu)) → All (IsFrom n (suc many)) rest
+      → All (IsFrom n (suc many)) (with_sent n slot rest)
+  with_first None rest all = all
+  with_first (Some message) rest all = All-cons (IsFrom n (suc many)) (n, message) rest (first) all
 
 sent_within : (n : ℕ) (ports : List PortState) → All (IsFrom n (length ports)) (sent_from n ports)
 sent_within n [] = All-nil (IsFrom n 0)
@@ -97,12 +96,8 @@ at_ports : (ports : List PortState) (sent : List (ℕ × Bpdu)) → All (IsFrom 
 at_ports ports [] h = All-nil (λ e. IsPort e.0 (length ports))
 at_ports ports (e ∷ es) h =
     let here = All-head (IsFrom 1 (length ports)) e es h in
-    let low = here.0 in
-    let high = here.1 in
-    All-cons (λ e. IsPort e.0 (length ports)) e es (
-      low,
-      omega arith,
-    ) (at_ports ports es (All-tail (IsFrom 1 (length ports)) e es h))
+    All-cons (λ e. IsPort e.0 (length ports)) e es (here.0, omega (arith, here.1))
+    (at_ports ports es (All-tail (IsFrom 1 (length ports)) e es h))
 
 -- messages are sent only at existing ports
 pub sent-at_ports : (ports : List PortState) → All (λ e. IsPort e.0 (length ports)) (sent_from 1 ports)
@@ -112,14 +107,14 @@ sent-at_ports ports = at_ports ports (sent_from 1 ports) (sent_within 1 ports)
 number_at : (n : ℕ) (ports : List PortState) (p : ℕ) (port : PortState) → slice_get ports p ≡ Some port
     → AreNumberedFrom n ports
     → port_number port.identifier ≡ (n + p) % 2 ^ 12
-number_at n [] p port at h = let e : ⊥ = cc in absurd e
+number_at n [] p port at h = cc
 number_at n (x ∷ xs) zero port at h =
-    let same : x ≡ port = cc in
-    let here : n ≡ n + 0 = omega arith in
-    ap (λ (y : PortState). port_number y.identifier) (sym same) ∙ h.0 ∙ ap (λ m. m % 2 ^ 12) here
+    let same : port ≡ x = cc in
+    let here : n + 0 ≡ n = omega arith in
+    rw (same, here) h.0
 number_at n (x ∷ xs) (suc p) port at h =
-    let step : n + 1 + p ≡ n + suc p = omega arith in
-    number_at (n + 1) xs p port at h.1 ∙ ap (λ m. m % 2 ^ 12) step
+    let step : n + suc p ≡ n + 1 + p = omega arith in
+    rw step (number_at (n + 1) xs p port at h.1)
 
 small : (p : ℕ) → 1 ≤ p → p < 2 ^ 8 → (1 + (p - 1)) % 2 ^ 12 ≡ p
 small p low high = omega arith
@@ -131,13 +126,12 @@ port-number ports p port low high at h = number_at 1 ports (p - 1) port at h ∙
 
 pub length-start : (settings : Settings) (ports : List PortSettings) → 1 ≤ length ports
     → 1 ≤ length (start settings ports).ports
-length-start settings [] some = let e : ⊥ = omega arith in absurd e
+length-start settings [] some = absurd (omega arith)
 length-start settings (x ∷ xs) some = omega arith
-
-swapped : (p : ℕ) → 1 + p ≡ p + 1
-swapped p = omega arith
 
 pub number-at : (ports : List PortState) (p : ℕ) (port : PortState) → slice_get ports p ≡ Some port
     → AreNumberedFrom 1 ports
     → port_number port.identifier ≡ (p + 1) % 2 ^ 12
-number-at ports p port at h = number_at 1 ports p port at h ∙ ap (λ m. m % 2 ^ 12) (swapped p)
+number-at ports p port at h =
+    let swapped : p + 1 ≡ 1 + p = omega arith in
+    rw swapped (number_at 1 ports p port at h)

@@ -27,9 +27,11 @@ returns-then-not-is_newer_there-clause-takes c =
     ∙ c.in-Ok-Occupied.ensures.value ∙ ap (place_at c.args.tree.now.entries) c.new.ensures in
     let newer = compared c.requires refl c.register.ensures at c.is_newer_there.result c.args.update.now.value
     c.deref.ensures.value c.is_newer_there.ensures in
-    let now = known_takes _ c.args.update.now (found_now c.requires refl c.register.ensures at) newer c.args.held.now
-    c.if-not-is_newer_there.true in
-    search rules
+    search (
+      rules,
+      known_takes _ c.args.update.now (found_now c.requires refl c.register.ensures at) newer
+          c.args.held.now c.if-not-is_newer_there.true,
+    )
 
 module _ (c : goal.After-replace) where
   at : Some c.get-place.result.now ≡ place_at c.args.tree.now.entries c.register.result
@@ -37,21 +39,24 @@ module _ (c : goal.After-replace) where
       ∙ ap (place_at c.args.tree.now.entries) c.new.ensures
 
 pub returns-else-not-is_newer_there-clause-kept : goal.returns-else-not-is_newer_there-clause-kept
-returns-else-not-is_newer_there-clause-kept c =
-    let now = replaced_group c.args.tree.now.entries c.args.nodes.now.items c.replace.new.nodes.items
-    c.args.update.now c.requires c.replace.ensures.settled (has_place c.requires refl c.register.ensures (at c))
-    c.replace.ensures.owns in
-    search rules
+returns-else-not-is_newer_there-clause-kept c = search (
+  rules,
+  replaced_group c.args.tree.now.entries
+      c.args.nodes.now.items c.replace.new.nodes.items c.args.update.now c.requires c.replace.ensures.settled (has_place
+      c.requires refl c.register.ensures (at c)) c.replace.ensures.owns,
+)
 
 pub returns-else-not-is_newer_there-clause-takes : goal.returns-else-not-is_newer_there-clause-takes
 returns-else-not-is_newer_there-clause-takes c =
     let newer = compared c.requires refl c.register.ensures (at c) c.is_newer_there.result c.args.update.now.value
     c.deref.ensures.value c.is_newer_there.ensures in
-    let now = newer_takes _ c.args.update.now (found_now c.requires refl c.register.ensures (at c)) newer
-    c.args.held.now _ (replaced_put c.args.tree.now.entries c.args.nodes.now.items c.replace.new.nodes.items
-    c.args.update.now c.requires c.replace.ensures.settled
-    (has_place c.requires refl c.register.ensures (at c)) c.replace.ensures.owns) c.if-not-is_newer_there.false in
-    search rules
+    search (
+      rules,
+      newer_takes _ c.args.update.now (found_now c.requires refl c.register.ensures (at c)) newer
+          c.args.held.now _ (replaced_put c.args.tree.now.entries c.args.nodes.now.items c.replace.new.nodes.items
+          c.args.update.now c.requires c.replace.ensures.settled (has_place c.requires refl c.register.ensures (at c))
+          c.replace.ensures.owns) c.if-not-is_newer_there.false,
+    )
 
 pub returns-in_default-clause-takes : goal.returns-in_default-clause-takes
 returns-in_default-clause-takes c =
@@ -81,27 +86,28 @@ module _ (c : After-push) where
   updated : (q : Register) → place_at (map_with_value c.in-Ok-Vacant.field-0 c.in-Ok.place).entries q
       ≡ cond (is_at (register_cmp c.args.update.now.register) q) (Some (length (owns c.args.nodes.now.items)))
       (place_at c.args.tree.now.entries q)
-  updated q = (c.in-Ok-Vacant.ensures.update.0 c.in-Ok.place).0 q
-      ∙ (λ i. cond (is_at (register_cmp ((c.new.ensures ∙ c.register.ensures) i)) q) (Some (next i))
-      (place_at c.args.tree.now.entries q))
+  updated q = rw ((c.in-Ok-Vacant.ensures.update.0 c.in-Ok.place).0 q, c.new.ensures, c.register.ensures, next)
 
   own : owns c.push.new.nodes.items ≡ owns c.args.nodes.now.items ++ c.args.update.now ∷ []
-  own = c.push.ensures.owns ∙ ap (λ x. owns x ++ c.args.update.now ∷ []) c.reserve.ensures.items
+  own = rw (c.push.ensures.owns, c.reserve.ensures.items)
 
 pub returns-in-Ok-clause-kept : goal.returns-in-Ok-clause-kept
-returns-in-Ok-clause-kept c =
-    let now = entered_group c.args.tree.now.entries c.args.nodes.now.items c.push.new.nodes.items c.args.update.now
-    c.requires c.push.ensures.settled (map_with_value c.in-Ok-Vacant.field-0 c.in-Ok.place).entries
-    (c.in-Ok-Vacant.ensures.update.2 c.in-Ok.place) (updated c)
-    (ap (place_at c.args.tree.now.entries) (sym c.register.ensures) ∙ sym (none c)) (own c) in
-    search rules
+returns-in-Ok-clause-kept c = search (
+  rules,
+  entered_group c.args.tree.now.entries c.args.nodes.now.items
+      c.push.new.nodes.items c.args.update.now c.requires c.push.ensures.settled (map_with_value c.in-Ok-Vacant.field-0
+      c.in-Ok.place).entries (c.in-Ok-Vacant.ensures.update.2 c.in-Ok.place) (updated c) (rw (← c.register.ensures) (sym
+      (none c))) (own c),
+)
 
 pub returns-in-Ok-clause-takes : goal.returns-in-Ok-clause-takes
 returns-in-Ok-clause-takes c =
     let put = entered_put c.args.tree.now.entries c.args.nodes.now.items c.push.new.nodes.items c.args.update.now
     c.requires c.push.ensures.settled (map_with_value c.in-Ok-Vacant.field-0 c.in-Ok.place).entries
     (c.in-Ok-Vacant.ensures.update.2 c.in-Ok.place) (updated c)
-    (ap (place_at c.args.tree.now.entries) (sym c.register.ensures) ∙ sym (none c)) (own c) in
-    let now = new_takes {u = c.args.update.now} (found_now c.requires refl c.register.ensures (none c))
-    {held = c.args.held.now} put c.in-Some.ensures.1 (omega (arith, c.in-Some.ensures.0)) in
-    search rules
+    (rw (← c.register.ensures) (sym (none c))) (own c) in
+    search (
+      rules,
+      new_takes {u = c.args.update.now} (found_now c.requires refl c.register.ensures (none c)) {held =
+          c.args.held.now} put c.in-Some.ensures.1 (omega (arith, c.in-Some.ensures.0)),
+    )

@@ -1,24 +1,29 @@
-use Rattle.std.proofs.Common.{◌≡◌, ℕ, ◌+◌, ◌-◌, List, length, min, true, ap, subst, ◌∙◌}
-use Rattle.byteorder.specs.Endian.{big_number}
-use Rattle.route_wire.specs.Stream.{whole_up_to, follow_of}
-use Rattle.route_wire.specs.Feed.{is_rest}
-use Rattle.route_wire.proofs.Feeding.{body_unfinished, body_ended}
+use Rattle.std.proofs.Common.{◌≡◌, ◌+◌, ◌-◌, take, length, min, sym, ◌∙◌, arith}
+use Rattle.std.proofs.lemmas.Bool.{ltb-true, lt-ltb}
+use Rattle.std.proofs.lemmas.List.{length-take}
+use Rattle.route_wire.specs.Stream.{follow_of}
+use Rattle.route_wire.proofs.Prefixes.{goes_on}
 use Rattle.route_wire.proofs.feed.take_body.Goals as goal
 
 -- how many octets are moved
 least : (c : goal.In-Ok) → c.min-count.result ≡ min (length c.args.piece.now)
     (6 + follow_of c.args.held.now.items - length c.args.held.now.items)
-least c =
-    c.min-count.ensures ∙ ap (λ (n : ℕ). min (length c.args.piece.now) (6 + n - c.len.result)) (c.read_u16.ensures
-    ∙ ap (big_number 2) c.split_at.ensures.back ∙ ap follow_of c.as_slice.ensures.value)
-    ∙ ap (λ (n : ℕ). min (length c.args.piece.now) (6 + follow_of c.args.held.now.items - n)) c.len.ensures.value
+least c = rw (
+  c.min-count.ensures,
+  c.read_u16.ensures,
+  c.split_at.ensures.back,
+  c.as_slice.ensures.value,
+  c.len.ensures.value,
+)
 
 pub returns-clause-unfinished : goal.returns-clause-unfinished
-returns-clause-unfinished c = body_unfinished c.args.newest c.args.held.now.items c.args.piece.now c.min-count.result
-    c.requires.six c.requires.rest (least c)
+returns-clause-unfinished c = λ k less.
+    goes_on c.args.newest c.args.held.now.items (take k c.args.piece.now) c.requires.six c.requires.rest
+    ∙ lt-ltb _ _ (omega (arith, length-take k c.args.piece.now, least c))
 
 pub returns-clause-ended : goal.returns-clause-ended
-returns-clause-ended c =
-    λ h. body_ended c.args.newest c.args.held.now.items c.args.piece.now c.min-count.result c.requires.six
-    c.requires.rest (least c)
-    (subst (λ (s : List ℕ). is_rest (whole_up_to c.args.newest s) ≡ true) c.in-Ok.ensures.ok h)
+returns-clause-ended c = λ h.
+    let known = goes_on c.args.newest c.args.held.now.items (take c.min-count.result c.args.piece.now) c.requires.six
+    c.requires.rest in
+    let less = ltb-true _ _ (sym known ∙ rw c.in-Ok.ensures.ok at h) in
+    omega (arith, length-take c.min-count.result c.args.piece.now, least c)

@@ -12,6 +12,6 @@ invariant_of-self c =
     (after_flush f.routes c.go_on-flush.result) c.flush.new.self c.self.invariant
     c.go_on-flush.ensures.ports c.passing_ports-self-inside.ensures
     (omega arith) c.self.invariant.keeps.early c.flush.ensures (flush_holds f.routes c.go_on-flush.result f.clock
-    (holds_of e f.passing c.self.invariant)) (removals_ports f.routes
+    (holds_of c.self.invariant)) (removals_ports f.routes
     (flushed_in f.routes.learned c.go_on-flush.result))
     (removals_list f.routes (flushed_in f.routes.learned c.go_on-flush.result))

@@ -1,4 +1,4 @@
-use Rattle.std.proofs.Common.{rules, ◌≡◌, ℕ, Option, sym, ap, subst, ◌∙◌}
+use Rattle.std.proofs.Common.{rules, ◌≡◌, sym, ap, subst, ◌∙◌}
 use Rattle.ev_tunnel.specs.Decision.{local_up, remote_up}
 use Rattle.ev_edge.specs.Edge.{Edge, edge_of}
 use Rattle.ev_edge.specs.Sending.{IsDecision, port_of}

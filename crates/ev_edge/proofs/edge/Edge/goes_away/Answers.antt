@@ -1,6 +1,6 @@
-use Rattle.std.proofs.Common.{◌≡◌, List, ℕ, sym, ap, subst, ◌∙◌}
+use Rattle.std.proofs.Common.{◌≡◌, sym, ap, ◌∙◌}
 use Rattle.ev_edge.specs.Away.{with_away}
-use Rattle.ev_edge.specs.Edge.{Edge, edge_of, table_of, AreListed}
+use Rattle.ev_edge.specs.Edge.{Edge, edge_of, table_of}
 use Rattle.ev_edge.proofs.Keeping.{other_away}
 use Rattle.ev_edge.proofs.Marking.{away_listed}
 use Rattle.ev_edge.proofs.edge.Edge.goes_away.Goals as goal
@@ -12,6 +12,5 @@ invariant_of-self c =
     let is : c.with_away-self-inside.result.items ≡ with_away (table_of e).originators e.away c.args.edge =
     c.with_away-self-inside.ensures
     ∙ ap (λ (x : Edge). with_away (table_of x).originators x.away c.args.edge) (sym c.self.view_is) in
-    other_away e f.passing c.with_away-self-inside.result.items c.self.invariant
-    (subst (λ (l : List ℕ). AreListed l (table_of e)) (sym is)
-    (away_listed (table_of e).originators e.away c.args.edge))
+    other_away c.with_away-self-inside.result.items c.self.invariant
+    (rw is (away_listed (table_of e).originators e.away c.args.edge))

@@ -1,9 +1,5 @@
-use Rattle.std.proofs.Common.{refl, sym, subst}
-use Rattle.std.specs.Prelude.{IsSome}
-use Rattle.mac_arena.specs.Learning.{entry_at}
-use Rattle.ev_claims.specs.LocalRoutes.{after_refresh}
+use Rattle.std.proofs.Common.{refl}
 use Rattle.ev_edge.specs.declared.learning.Case.TheVariants.{Refresh, Freeze, Learn, Move}
-use Rattle.ev_edge.specs.Edge.{Edge, edge_of}
 use Rattle.ev_edge.proofs.Cases.{case_holds}
 use Rattle.ev_edge.proofs.Keeping.{kept, holds_of, refresh_holds}
 use Rattle.ev_edge.proofs.edge.Edge.learn.Goals as goal
@@ -11,15 +7,14 @@ use Rattle.ev_edge.proofs.edge.Edge.learn.Goals as goal
 pub invariant_of-self : goal.invariant_of-self
 invariant_of-self c =
     let f = c.self.inside in
-    let e = edge_of f.routes f.clock f.ageing f.bridge f.moves f.away.items f.quotas.items f.storms.items in
-    kept e f.passing (after_refresh f.routes c.args.station.now c.args.port f.clock) c.refresh.new.self c.self.invariant
+    kept c.self.invariant
     c.refresh.ensures
     (refresh_holds f.routes c.args.station.now c.args.port f.clock c.requires.individual
-    (holds_of e f.passing c.self.invariant)) refl refl
+    (holds_of c.self.invariant)) refl refl
 
 pub refresh-requires-clause-there : goal.refresh-requires-clause-there
 refresh-requires-clause-there c =
-    subst (λ (x : Edge). IsSome (entry_at x.routes.learned c.args.station.now)) (sym c.self.view_is)
+    rw (← c.self.view_is) at
     (case_holds c.args.self.now c.args.station.now c.args.port Refresh c.in-Refresh.ensures).known
 
 pub freeze-requires : goal.freeze-requires

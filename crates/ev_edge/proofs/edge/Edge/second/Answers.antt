@@ -24,7 +24,7 @@ invariant_of-self c =
     later early (c.age.ensures ∙ ap (λ (x : LocalRoutes). aged x f.ageing now) c.flush.ensures)
     (aged_holds (after_flush f.routes set) f.ageing now
     (later_holds (after_flush f.routes set) f.clock now later
-    (flush_holds f.routes set f.clock (holds_of e f.passing c.self.invariant))))
+    (flush_holds f.routes set f.clock (holds_of c.self.invariant))))
     (aged_ports (after_flush f.routes set) f.ageing now ∙ removals_ports f.routes (flushed_in f.routes.learned set))
     (aged_list (after_flush f.routes set) f.ageing now ∙ removals_list f.routes (flushed_in f.routes.learned set))
 

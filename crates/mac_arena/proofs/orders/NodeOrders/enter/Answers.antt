@@ -1,8 +1,18 @@
-use Rattle.mac_arena.proofs.OrderSteps.{entered_orders}
+use Rattle.idx_links.specs.Links.{list_at}
+use Rattle.idx_links.specs.Families.{lists_of}
+use Rattle.idx_links.proofs.Paths.{without-absent}
+use Rattle.mac_arena.proofs.OrderSteps.{shape}
 use Rattle.mac_arena.proofs.orders.NodeOrders.enter.Goals as goal
 
 pub returns : goal.returns
-returns c = entered_orders c.self.inside.links c.unlink.new.self c.push_back.new.self c.push_back-2.new.self
-    c.args.self.now c.args.node c.args.bucket c.args.port c.self.invariant c.self.view_is c.requires.ageless
-    c.unlink.ensures.nodes c.unlink.ensures.families c.push_back.ensures.nodes c.push_back.ensures.families
-    c.push_back-2.ensures.nodes c.push_back-2.ensures.families
+returns c = rw (
+  ← c.self.view_is,
+  c.push_back-2.ensures.nodes,
+  c.push_back.ensures.nodes,
+  c.unlink.ensures.nodes,
+  c.push_back-2.ensures.families,
+  c.push_back.ensures.families,
+  c.unlink.ensures.families,
+  shape c.self.inside.links c.self.invariant,
+  without-absent (list_at (lists_of c.self.inside.links 2) 0) c.args.node (rw (← c.self.view_is) at c.requires.ageless),
+)

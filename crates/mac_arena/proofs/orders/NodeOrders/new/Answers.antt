@@ -1,7 +1,7 @@
 use Rattle.std.proofs.Common.{rules, arith, ◌<◌, ◌∙◌, ap, length, []}
 use Rattle.std.specs.List.{range_with_len}
 use Rattle.idx_links.specs.Families.{lists_of}
-use Rattle.std.proofs.Common.{get_or, replicate, sym, subst, List, ℕ}
+use Rattle.std.proofs.Common.{replicate}
 use Rattle.mac_arena.proofs.OrderSteps.{four, new_free, freed, more_free}
 use Rattle.mac_arena.proofs.orders.NodeOrders.new.Goals as goal
 
@@ -10,8 +10,7 @@ push_back-requires c =
     let is = c.loop-node.invariant.families in
     let free = new_free c.loop-node.links (replicate c.args.buckets []) (replicate c.args.ports []) c.loop-node.node
     is in
-    let list : 1 < length (lists_of c.loop-node.links 2) = let P : List (List (List ℕ))
-    → Type 0 = λ fs. 1 < length (get_or fs 2 []) in subst P (sym is) (omega arith) in
+    let list : 1 < length (lists_of c.loop-node.links 2) = rw is (omega arith) in
     let node : c.loop-node.node < c.loop-node.links.nodes = search rules in
     search (rules, list, free, node)
 

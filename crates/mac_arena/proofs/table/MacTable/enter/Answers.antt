@@ -1,89 +1,46 @@
-use Rattle.std.proofs.Common.{rules, arith, ap, ◌∙◌, ◌-◌, ◌<◌, length}
-use Rattle.mac_arena.specs.Learning.{entered}
-use Rattle.mac_arena.proofs.Tables.{Found, ports_in, first_is, takes, takes_free, takes_ageless, takes_unchained}
-use Rattle.mac_arena.proofs.Tables.{takes_unported, takes_node, new_in, bucket_is, entered_table, entered_seen, at_new}
+use Rattle.std.proofs.Common.{rules, ◌∙◌}
+use Rattle.mac_arena.proofs.Tables.{found_by, takes_low, takes_free, takes_ageless, takes_unchained, takes_unported}
+use Rattle.mac_arena.proofs.Tables.{takes_node, bucket_is, is_entered, at_new}
 use Rattle.mac_arena.proofs.table.MacTable.enter.Goals as goal
 
 pub enter-requires-clause-node : goal.enter-requires-clause-node
-enter-requires-clause-node c =
-    let found : Found c.self.inside.orders c.self.inside.slots.items c.self.inside.count c.self.inside.buckets
-    c.self.inside.salt c.args.self.now = record { table = c.self.invariant; seen = c.self.view_is } in
-    takes_node found c.args.node c.requires.free
+enter-requires-clause-node c = takes_node (found_by c.self.invariant c.self.view_is) c.args.node c.requires.free
 
 pub enter-requires-clause-free : goal.enter-requires-clause-free
-enter-requires-clause-free c =
-    let found : Found c.self.inside.orders c.self.inside.slots.items c.self.inside.count c.self.inside.buckets
-    c.self.inside.salt c.args.self.now = record { table = c.self.invariant; seen = c.self.view_is } in
-    takes_free found c.args.node c.requires.free
+enter-requires-clause-free c = takes_free (found_by c.self.invariant c.self.view_is) c.args.node c.requires.free
 
 pub enter-requires-clause-ageless : goal.enter-requires-clause-ageless
-enter-requires-clause-ageless c =
-    let found : Found c.self.inside.orders c.self.inside.slots.items c.self.inside.count c.self.inside.buckets
-    c.self.inside.salt c.args.self.now = record { table = c.self.invariant; seen = c.self.view_is } in
-    takes_ageless found c.args.node c.requires.free
+enter-requires-clause-ageless c = takes_ageless (found_by c.self.invariant c.self.view_is) c.args.node c.requires.free
 
 pub enter-requires-clause-unchained : goal.enter-requires-clause-unchained
-enter-requires-clause-unchained c =
-    let found : Found c.self.inside.orders c.self.inside.slots.items c.self.inside.count c.self.inside.buckets
-    c.self.inside.salt c.args.self.now = record { table = c.self.invariant; seen = c.self.view_is } in
-    takes_unchained found c.args.node c.requires.free
+enter-requires-clause-unchained c = takes_unchained (found_by c.self.invariant c.self.view_is) c.args.node
+    c.requires.free
 
 pub enter-requires-clause-unported : goal.enter-requires-clause-unported
-enter-requires-clause-unported c =
-    let found : Found c.self.inside.orders c.self.inside.slots.items c.self.inside.count c.self.inside.buckets
-    c.self.inside.salt c.args.self.now = record { table = c.self.invariant; seen = c.self.view_is } in
-    takes_unported found c.args.node c.requires.free
+enter-requires-clause-unported c = takes_unported (found_by c.self.invariant c.self.view_is) c.args.node c.requires.free
 
 pub index_mut-requires : goal.index_mut-requires
-index_mut-requires c =
-    let found : Found c.self.inside.orders c.self.inside.slots.items c.self.inside.count c.self.inside.buckets
-    c.self.inside.salt c.args.self.now = record { table = c.self.invariant; seen = c.self.view_is } in
-    let low = (takes found c.args.node c.requires.free).0 in search rules
+index_mut-requires c = let low = takes_low (found_by c.self.invariant c.self.view_is) c.args.node c.requires.free in
+    search rules
 
 pub invariant_of-self : goal.invariant_of-self
 invariant_of-self c =
-    let found : Found c.self.inside.orders c.self.inside.slots.items c.self.inside.count c.self.inside.buckets
-    c.self.inside.salt c.args.self.now = record { table = c.self.invariant; seen = c.self.view_is } in
-    let there : c.args.port - 1 < length c.self.inside.orders.ports =
-    (let same = ports_in found in let low = c.requires.port in let some = c.requires.some in
-    omega (arith, same, low, some)) in
-    let bucket = c.requires.bucket ∙ bucket_is found c.args.key.now in
-    rw (
-      c.enter.ensures,
-      c.place_of_port.ensures,
-      bucket,
-      c.pinned.ensures,
-    ) (entered_table c.self.invariant c.args.node c.args.key.now c.args.port
-    (first_is found c.args.node c.requires.free) (new_in found c.args.key.now c.requires.new) c.requires.some there)
+    let found = found_by c.self.invariant c.self.view_is in
+    rw (c.enter.ensures, c.place_of_port.ensures, c.requires.bucket ∙ bucket_is found c.args.key.now, c.pinned.ensures)
+    (is_entered found c.args.node c.requires.free c.args.key.now c.args.port c.requires.new c.requires.some
+    c.requires.port).table
 
 pub returns-clause-after : goal.returns-clause-after
 returns-clause-after c =
-    let found : Found c.self.inside.orders c.self.inside.slots.items c.self.inside.count c.self.inside.buckets
-    c.self.inside.salt c.args.self.now = record { table = c.self.invariant; seen = c.self.view_is } in
-    let bucket = c.requires.bucket ∙ bucket_is found c.args.key.now in
-    rw (
-      c.enter.ensures,
-      c.place_of_port.ensures,
-      bucket,
-      c.pinned.ensures,
-    ) (entered_seen c.self.invariant c.args.node c.args.key.now c.args.port
-    (first_is found c.args.node c.requires.free) (new_in found c.args.key.now c.requires.new)
-    ∙ ap (λ w. entered w c.args.key.now c.args.port) c.self.view_is)
+    let found = found_by c.self.invariant c.self.view_is in
+    rw (c.enter.ensures, c.place_of_port.ensures, c.requires.bucket ∙ bucket_is found c.args.key.now, c.pinned.ensures)
+    (is_entered found c.args.node c.requires.free c.args.key.now c.args.port c.requires.new c.requires.some
+    c.requires.port).seen
 
 pub returns-clause-at : goal.returns-clause-at
 returns-clause-at c =
-    let found : Found c.self.inside.orders c.self.inside.slots.items c.self.inside.count c.self.inside.buckets
-    c.self.inside.salt c.args.self.now = record { table = c.self.invariant; seen = c.self.view_is } in
-    let there : c.args.port - 1 < length c.self.inside.orders.ports =
-    (let same = ports_in found in let low = c.requires.port in let some = c.requires.some in
-    omega (arith, same, low, some)) in
-    let bucket = c.requires.bucket ∙ bucket_is found c.args.key.now in
-    rw (
-      c.enter.ensures,
-      c.place_of_port.ensures,
-      bucket,
-      c.pinned.ensures,
-    ) (at_new c.self.inside.slots.items c.args.node _ (takes found c.args.node c.requires.free).0
-    (entered_table c.self.invariant c.args.node c.args.key.now c.args.port
-    (first_is found c.args.node c.requires.free) (new_in found c.args.key.now c.requires.new) c.requires.some
-    there))
+    let found = found_by c.self.invariant c.self.view_is in
+    rw (c.enter.ensures, c.place_of_port.ensures, c.requires.bucket ∙ bucket_is found c.args.key.now, c.pinned.ensures)
+    (at_new c.self.inside.slots.items c.args.node (takes_low found c.args.node c.requires.free)
+    (is_entered found c.args.node c.requires.free c.args.key.now c.args.port c.requires.new c.requires.some
+    c.requires.port))

@@ -20,10 +20,8 @@ hear-requires-clause-pinned c = ap (λ (y : Learned). y.entry.pinned)
     (standing_is c.hold.new.self c.args.node _ c.hold.ensures.at)
 
 pub hear-requires-clause-latest : goal.hear-requires-clause-latest
-hear-requires-clause-latest c =
-    let x = standing c.args.self.now c.args.node in
-    latest_with c.args.self.now c.hold.new.self x.station (pinned_at x.entry.port) c.args.second c.requires.latest
-    (omega arith) (ap (λ w. w.entries) c.hold.ensures.after)
+hear-requires-clause-latest c = rw c.hold.ensures.after (latest_with c.args.self.now _ (pinned_at _) c.args.second
+    c.requires.latest (omega arith))
 
 pub returns-then-learned-port-clause-after : goal.returns-then-learned-port-clause-after
 returns-then-learned-port-clause-after c =
@@ -41,13 +39,10 @@ pub hear-requires-2-clause-latest : goal.hear-requires-2-clause-latest
 hear-requires-2-clause-latest c =
     let t = c.args.self.now in
     let y = standing t c.args.node in
-    let z = standing c.shift.new.self c.args.node in
     let known = known_at t c.args.node y (stands t c.args.node c.args.learned.now c.requires.at) in
-    let low = c.requires.latest y.station y.entry known in
-    let first = latest_with t c.shift.new.self y.station _ c.args.second c.requires.latest low
-    (ap (λ w. w.entries) c.shift.ensures.after) in
-    latest_with c.shift.new.self c.hold-2.new.self z.station (pinned_at z.entry.port) c.args.second first (omega arith)
-    (ap (λ w. w.entries) c.hold-2.ensures.after)
+    rw c.hold-2.ensures.after (latest_with c.shift.new.self _ (pinned_at _) c.args.second
+    (rw c.shift.ensures.after (latest_with t _ _ c.args.second c.requires.latest
+    (c.requires.latest y.station y.entry known))) (omega arith))
 
 pub returns-clause-after : goal.returns-clause-after
 returns-clause-after c =

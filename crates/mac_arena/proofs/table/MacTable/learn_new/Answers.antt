@@ -13,8 +13,8 @@ hear-requires-clause-pinned c = ap (λ (y : Learned). y.entry.pinned)
     (standing_is c.enter.new.self _ _ c.enter.ensures.at)
 
 pub hear-requires-clause-latest : goal.hear-requires-clause-latest
-hear-requires-clause-latest c = latest_with c.args.self.now c.enter.new.self c.args.key.now (pinned_at c.args.port)
-    c.args.second c.requires.latest (omega arith) (ap (λ w. w.entries) c.enter.ensures.after)
+hear-requires-clause-latest c = rw c.enter.ensures.after (latest_with c.args.self.now c.args.key.now
+    (pinned_at c.args.port) c.args.second c.requires.latest (omega arith))
 
 pub returns-clause-after : goal.returns-clause-after
 returns-clause-after c =

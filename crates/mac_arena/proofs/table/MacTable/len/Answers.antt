@@ -1,9 +1,6 @@
-use Rattle.mac_arena.proofs.Tables.{Found}
+use Rattle.mac_arena.proofs.Tables.{found_by}
 use Rattle.mac_arena.proofs.Naming.{lists_named}
 use Rattle.mac_arena.proofs.table.MacTable.len.Goals as goal
 
 pub returns-clause-lists : goal.returns-clause-lists
-returns-clause-lists c =
-    let found : Found c.self.inside.orders c.self.inside.slots.items c.self.inside.count c.self.inside.buckets
-    c.self.inside.salt c.args.self.now = record { table = c.self.invariant; seen = c.self.view_is } in
-    lists_named found
+returns-clause-lists c = lists_named (found_by c.self.invariant c.self.view_is)

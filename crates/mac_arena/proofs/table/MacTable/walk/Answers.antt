@@ -1,15 +1,9 @@
-use Rattle.std.proofs.Common.{arith, ◌<◌, ◌∙◌, sym, length}
-use Rattle.std.specs.declared.option.Option.TheVariants.{None}
-use Rattle.std.proofs.lemmas.List.{get_or_default}
-use Rattle.mac_arena.proofs.Tables.{Found, slot_is, many}
+use Rattle.std.proofs.Common.{◌∙◌, sym}
+use Rattle.mac_arena.proofs.Tables.{found_by, slot_is, places_in, read_slot}
 use Rattle.mac_arena.proofs.table.MacTable.walk.Goals as goal
 
 pub returns : goal.returns
 returns c =
-    let found : Found c.self.inside.orders c.self.inside.slots.items c.self.inside.count c.self.inside.buckets
-    c.self.inside.salt c.args.self.now = record { table = c.self.invariant; seen = c.self.view_is } in
-    let same = (many found).1 in
-    let within = c.requires in
-    let low : c.args.node < length c.self.inside.slots.items = omega (arith, same, within) in
-    c.learned.ensures ∙ c.index.ensures ∙ get_or_default c.self.inside.slots.items c.args.node c.index.result.now None
-    low ∙ sym (slot_is found c.args.node)
+    let found = found_by c.self.invariant c.self.view_is in
+    c.learned.ensures ∙ read_slot c.self.inside.slots.items c.args.node _ (rw (places_in found) at c.requires)
+    c.index.ensures ∙ sym (slot_is found c.args.node)

@@ -1,15 +1,14 @@
-use Rattle.std.proofs.Common.{ap, sym, ◌∙◌}
-use Rattle.route_join.specs.Inner.Group.{update_among}
-use Rattle.route_join.specs.Inner.WinnerTree.{owns, said_at}
+use Rattle.std.proofs.Common.{sym}
+use Rattle.route_join.specs.Inner.WinnerTree.{owns}
 use Rattle.route_join.proofs.Trees.{among}
 use Rattle.route_join.proofs.large_group.LargeGroup.register.Goals as goal
 
 pub returns-in-None : goal.returns-in-None
-returns-in-None c = c.in-None.ensures ∙ ap (λ xs. said_at (owns xs) c.place_at.result) c.deref.ensures.value
-    ∙ among (owns c.self.inside.nodes.items) c.self.inside.tree.entries c.self.invariant.placed c.args.register.now
-    c.place_at.result (sym c.place_at.ensures) ∙ ap (λ us. update_among us c.args.register.now) c.self.view_is
+returns-in-None c = rw (c.in-None.ensures, c.deref.ensures.value, ← c.self.view_is)
+    (among (owns c.self.inside.nodes.items) c.self.inside.tree.entries c.self.invariant.placed c.args.register.now
+    c.place_at.result (sym c.place_at.ensures))
 
 pub returns-in-Some : goal.returns-in-Some
-returns-in-Some c = c.in-Some.ensures ∙ ap (λ xs. said_at (owns xs) c.place_at.result) c.deref.ensures.value
-    ∙ among (owns c.self.inside.nodes.items) c.self.inside.tree.entries c.self.invariant.placed c.args.register.now
-    c.place_at.result (sym c.place_at.ensures) ∙ ap (λ us. update_among us c.args.register.now) c.self.view_is
+returns-in-Some c = rw (c.in-Some.ensures, c.deref.ensures.value, ← c.self.view_is)
+    (among (owns c.self.inside.nodes.items) c.self.inside.tree.entries c.self.invariant.placed c.args.register.now
+    c.place_at.result (sym c.place_at.ensures))

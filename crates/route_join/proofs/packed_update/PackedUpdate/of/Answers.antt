@@ -1,10 +1,10 @@
-use Rattle.std.proofs.Common.{ap, sym, subst, ◌∙◌, arith}
-use Rattle.route_join.specs.Inner.PackedUpdate.{ip_by, IsEntry}
+use Rattle.std.proofs.Common.{ap, ◌∙◌, arith}
+use Rattle.route_join.specs.Inner.PackedUpdate.{ip_by}
 use Rattle.route_join.proofs.Entries.{is_entry}
 use Rattle.route_join.proofs.packed_update.PackedUpdate.of.Goals as goal
 
 pub invariant_of-result : goal.invariant_of-result
-invariant_of-result c = subst (IsEntry _ _ _ _ _ _) (sym c.of.ensures)
+invariant_of-result c = rw c.of.ensures
     (is_entry _ _ _ c.ip_numbers-version.ensures.small c.content_numbers-kind.ensures.kind
     c.content_numbers-kind.ensures.label c.args.update.now c.register-originator.result c.value-value.result _ _
     c.register-originator.ensures c.value-value.ensures

@@ -1,8 +1,5 @@
-use Rattle.std.proofs.Common.{◌<◌, Some, length, ap, refl, sym, ◌∙◌, arith}
+use Rattle.std.proofs.Common.{◌<◌, length, ap, refl, ◌∙◌, arith}
 use Rattle.route_wire.specs.Fields.{Fields}
-use Rattle.route_wire.specs.declared.update.Register.{Register}
-use Rattle.route_join.specs.Subject.{subject_of}
-use Rattle.route_join.specs.Inner.Group.{update_among}
 use Rattle.route_join.proofs.Edits.{found_at, gap_at}
 use Rattle.route_join.proofs.Leaders.{among_there, among_none}
 use Rattle.route_join.proofs.small_group.SmallGroup.register.Goals as goal
@@ -16,18 +13,12 @@ index-requires c =
 pub about-requires : goal.about-requires
 about-requires c =
     let p = found_at c.deref.ensures.value refl c.in-Ok.ensures in
-    ap (λ (r : Register). subject_of r.key) (ap (λ (x : Fields). x.register) c.index.ensures
-    ∙ p.register c.index.result.now) ∙ sym c.subject_of.ensures
+    rw (c.subject_of.ensures, ap (λ (x : Fields). x.register) c.index.ensures ∙ p.register c.index.result.now)
 
 pub returns-in-Ok : goal.returns-in-Ok
-returns-in-Ok c =
-    let p = found_at c.deref.ensures.value refl c.in-Ok.ensures in
-    ap Some c.about.ensures
-    ∙ among_there c.self.inside.updates.items c.args.register.now c.in-Ok.at c.index.result.now p c.index.ensures
-    ∙ ap (λ us. update_among us c.args.register.now) c.self.view_is
+returns-in-Ok c = rw (c.about.ensures, ← c.self.view_is) (among_there c.self.inside.updates.items c.args.register.now
+    c.in-Ok.at c.index.result.now (found_at c.deref.ensures.value refl c.in-Ok.ensures) c.index.ensures)
 
 pub returns-in-Err : goal.returns-in-Err
-returns-in-Err c =
-    let p = gap_at c.self.invariant.ordered c.deref.ensures.value refl c.in-Err.ensures in
-    among_none c.self.inside.updates.items c.args.register.now c.in-Err.field-0 p
-    ∙ ap (λ us. update_among us c.args.register.now) c.self.view_is
+returns-in-Err c = rw (← c.self.view_is) (among_none c.self.inside.updates.items c.args.register.now
+    c.in-Err.field-0 (gap_at c.self.invariant.ordered c.deref.ensures.value refl c.in-Err.ensures))

@@ -1,11 +1,9 @@
-use Rattle.std.proofs.Common.{◌≡◌, ◌<◌, ℕ, Ok, List, [], length, refl, sym, subst, ◌∙◌, arith, set}
-use Rattle.std.specs.FinMap.Entries.{put}
+use Rattle.std.proofs.Common.{◌≡◌, ◌<◌, ℕ, Ok, List, [], length, refl, sym, ◌∙◌, arith, set}
 use Rattle.route_wire.specs.Fields.{Fields}
-use Rattle.route_wire.specs.Order.{register_cmp}
-use Rattle.route_join.specs.Table.{entries_of, IsOrdered}
+use Rattle.route_join.specs.Table.{IsOrdered}
 use Rattle.route_join.specs.Owner.{advert_in}
 use Rattle.route_join.specs.Inner.Place.{place_of}
-use Rattle.route_join.specs.Inner.Group.{told, said_at, better_place, stays_best, HasWinner}
+use Rattle.route_join.specs.Inner.Group.{said_at, stays_best}
 use Rattle.route_join.proofs.Places.{IsPlace, placed}
 use Rattle.route_join.proofs.Edits.{ordered_put}
 use Rattle.route_join.proofs.Leaders.{winner_set, winner_stays}
@@ -15,7 +13,7 @@ use Rattle.route_join.proofs.small_group.SmallGroup.replace.Goals as goal
 module _ {us now : List Fields} {u e : Fields} {at : ℕ} (is : e ≡ u) (view : us ≡ now)
     (h : place_of now u.register ≡ Ok at) where
   there : IsPlace us e.register at
-  there = placed us e.register at ((λ i. place_of (view i) ((is i).register)) ∙ h)
+  there = placed us e.register at (rw (is, view) h)
 
   in_order : IsOrdered us → IsOrdered (set us at e)
   in_order k = ordered_put [] us (set us at e) e k (there.write e refl)
@@ -28,35 +26,27 @@ index_mut-requires c =
 
 pub winner_after-self-inside-requires-clause-ordered : goal.winner_after-self-inside-requires-clause-ordered
 winner_after-self-inside-requires-clause-ordered c =
-    subst IsOrdered (sym c.deref-2.ensures.value)
-    (in_order c.of.ensures c.self.view_is c.requires c.self.invariant.ordered)
+    rw c.deref-2.ensures.value (in_order c.of.ensures c.self.view_is c.requires c.self.invariant.ordered)
 
 pub winner_after-self-inside-requires-clause-other : goal.winner_after-self-inside-requires-clause-other
 winner_after-self-inside-requires-clause-other c = λ ne.
-    subst (λ x. HasWinner x (told x) (better_place x c.args.at c.self.inside.winner)) (sym c.deref-2.ensures.value)
-    (winner_set c.self.inside.updates.items c.args.at c.of.result c.self.inside.winner c.self.invariant.ordered
-    (there c.of.ensures c.self.view_is c.requires) c.self.invariant.winner ne)
+    rw c.deref-2.ensures.value (winner_set c.self.inside.updates.items c.args.at c.of.result c.self.inside.winner
+    c.self.invariant.ordered (there c.of.ensures c.self.view_is c.requires) c.self.invariant.winner ne)
 
 pub winner_after-self-inside-requires-clause-same : goal.winner_after-self-inside-requires-clause-same
 winner_after-self-inside-requires-clause-same c = λ is stays.
-    let us = c.self.inside.updates.items in
-    let e = c.of.result in
     let seen = sym c.deref.ensures.value in
     let test = (λ i. stays_best (said_at (seen i) c.args.at) (advert_in ((c.of.ensures i).value.content)))
     ∙ c.stays_winner-stays.ensures stays in
-    subst (λ x. HasWinner x (told x) c.self.inside.winner) (sym c.deref-2.ensures.value)
-    (subst (HasWinner (set us c.args.at e) (told (set us c.args.at e))) (sym is)
-    (winner_stays us c.args.at e (there c.of.ensures c.self.view_is c.requires)
-    (subst (HasWinner us (told us)) is c.self.invariant.winner) test))
+    rw (c.deref-2.ensures.value, is) (winner_stays c.self.inside.updates.items c.args.at c.of.result
+    (there c.of.ensures c.self.view_is c.requires) (rw is at c.self.invariant.winner) test)
 
 pub invariant_of-self : goal.invariant_of-self
 invariant_of-self c = record {
   ordered = in_order c.of.ensures c.self.view_is c.requires c.self.invariant.ordered;
-  winner = subst (λ x. HasWinner x (told x) c.winner_after-self-inside.result) c.deref-2.ensures.value
-      c.winner_after-self-inside.ensures;
+  winner = rw c.deref-2.ensures.value at c.winner_after-self-inside.ensures;
 }
 
 pub returns : goal.returns
-returns c =
-    (there c.of.ensures c.self.view_is c.requires).write c.of.result refl
-    ∙ (λ i. put register_cmp ((c.of.ensures i).register) ((c.of.ensures i).value) (entries_of (c.self.view_is i)))
+returns c = rw (← c.of.ensures, ← c.self.view_is)
+    ((there c.of.ensures c.self.view_is c.requires).write c.of.result refl)

@@ -1,6 +1,4 @@
-use Rattle.std.proofs.Common.{subst}
-use Rattle.route_join.specs.Table.{AreWellFormed}
 use Rattle.route_join.proofs.table.Table.always_well_formed.Goals as goal
 
 pub returns : goal.returns
-returns c = subst AreWellFormed c.self.view_is c.self.invariant.grouped.kept.formed
+returns c = rw (← c.self.view_is) c.self.invariant.grouped.kept.formed

@@ -11,4 +11,5 @@ invariant-loop-update l = record {
   whole : done ++ l.update-iterator ≡ all_updates l.other;
   merged : l.self ≡ with_updates l.initial.self done;
   counted : l.joined ≡ length done;
+  listeners : l.self.originators ≡ l.initial.self.originators;
 }

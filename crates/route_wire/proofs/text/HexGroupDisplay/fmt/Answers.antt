@@ -1,6 +1,7 @@
 use Rattle.std.proofs.Common.{rules}
-use Rattle.route_wire.proofs.Digits.{hex_group-lower}
+use Rattle.std.proofs.lemmas.Fmt.{hex_byte}
+use Rattle.std.proofs.lemmas.Nat.{mod_below}
 use Rattle.route_wire.proofs.text.HexGroupDisplay.fmt.Goals as goal
 
 pub returns-clause-writes : goal.returns-clause-writes
-returns-clause-writes g c = rw hex_group-lower (search rules)
+returns-clause-writes g c = search (rules, hex_byte, mod_below)

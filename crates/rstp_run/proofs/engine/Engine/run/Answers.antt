@@ -1,7 +1,5 @@
-use Rattle.std.proofs.Common.{sym, ◌∙◌, ◌<◌, subst, arith, inl, inr, refl}
-use Rattle.rstp_run.specs.Rules.{Tree}
-use Rattle.rstp_run.specs.Runs.{AreOff}
-use Rattle.rstp_run.specs.Sweep.{main_order, round}
+use Rattle.std.proofs.Common.{◌∙◌, ◌<◌, arith, inl, inr, refl}
+use Rattle.rstp_run.specs.Sweep.{round}
 use Rattle.rstp_run.specs.Inner.Runs.{swept_on}
 use Rattle.rstp_run.proofs.Ordered.{again, goes-none}
 use Rattle.rstp_run.proofs.Rounds.{rounds-end, rounds-on}
@@ -23,9 +21,8 @@ returns-then-count-before-clause-goes c =
     let (n, enough, goes, ports) = c.rounds.invariant in
     let same = c.settle-in-rounds.ensures.idle c.if-count-before.true in
     let room : c.settle-in-rounds.new.count.fired < c.settle-in-rounds.new.count.limit = omega arith in
-    let P : Tree → Type 0 = AreOff main_order in
     rounds-end _ _ _ _ _ _ _ _ c.settle.ensures.goes c.settle-in-rounds.ensures.goes n goes enough (inr (
-      subst P (sym same) (c.settle.ensures.off (omega (arith, c.settle-in-rounds.ensures.goes.limit))),
+      rw same (c.settle.ensures.off (omega (arith, c.settle-in-rounds.ensures.goes.limit))),
       c.settle-in-rounds.ensures.off room,
     ))
 
@@ -33,8 +30,7 @@ pub returns-then-count-before-clause-yes : goal.returns-then-count-before-clause
 returns-then-count-before-clause-yes c = λ yes.
     let same = c.settle-in-rounds.ensures.idle c.if-count-before.true in
     let room : c.settle-in-rounds.new.count.fired < c.settle-in-rounds.new.count.limit = omega arith in
-    let P : Tree → Type 0 = AreOff main_order in
-    settled-off _ (subst P (sym same) (c.settle.ensures.off (omega (arith, c.settle-in-rounds.ensures.goes.limit))))
+    settled-off _ (rw same (c.settle.ensures.off (omega (arith, c.settle-in-rounds.ensures.goes.limit))))
     (c.settle-in-rounds.ensures.off room)
 
 pub rounds-preserved : goal.rounds-preserved

@@ -1,8 +1,5 @@
-use Rattle.std.proofs.Common.{sym, subst, ◌∙◌}
-use Rattle.rstp_run.specs.declared.rule.Part.{Part}
-use Rattle.rstp_run.specs.Inner.Runs.{Sweeps, rules_of}
-use Rattle.rstp_run.specs.Runs.{AreOffAt}
-use Rattle.rstp_run.specs.Sweep.{tries_all}
+use Rattle.std.proofs.Common.{sym, ◌∙◌}
+use Rattle.rstp_run.specs.Inner.Runs.{rules_of}
 use Rattle.rstp_run.proofs.Idle.{busy-off}
 use Rattle.rstp_run.proofs.Ordered.{tries_all-off}
 use Rattle.rstp_run.proofs.Steps.{sweeps-none}
@@ -16,6 +13,4 @@ returns-then-not-is_busy c =
     (record { tree = c.args.self.now; firings = before }) off)
 
 pub returns-in-Main : goal.returns-in-Main
-returns-in-Main c =
-    subst (λ (part : Part). Sweeps (tries_all (rules_of part) c.args.p) (AreOffAt (rules_of part) c.args.p)
-    c.args.self.now c.args.count.now c.try_port.new.self c.try_port.new.count) (sym c.in-Main.is) c.try_port.ensures
+returns-in-Main c = rw c.in-Main.is c.try_port.ensures
