@@ -29,7 +29,7 @@ build() {
   (cd bench/run_memory/driver && find . -name '*.txt') | while read -r file; do
     install -D -m 644 "bench/run_memory/driver/$file" "$copy/crates/run_bench/${file%.txt}"
   done
-  echo 'run_bench: ev_history logbook ev_channel ev_peers ev_mailboxes ev_links ev_edge route_join ether_wire rstp_state bpdu_wire crossbeam_channel arrayvec' >> "$copy/crates.txt"
+  echo 'run_bench: ev_book logbook ev_peers ev_mailboxes ev_links ev_edge route_join ether_wire rstp_state bpdu_wire crossbeam_channel arrayvec' >> "$copy/crates.txt"
   git init -q "$copy"
   (cd "$copy/crates/run_bench" && rt run --jobs 1) > "$work/build" 2>&1 || { tail -20 "$work/build"; exit 1; }
   ours=$copy/crates/run_bench/out/run_bench

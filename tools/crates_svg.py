@@ -16,12 +16,12 @@ from typing import Dict, List, Set
 TOP = os.path.normpath(os.path.join(os.path.dirname(os.path.abspath(__file__)), ".."))
 DRAWING = os.path.join(TOP, "docs", "crates.svg")
 LAYERS = {
-    "programs": ("#fdf1dc", "evpnd evpnd_report ev_words ev_run ev_console ev_script ev_config ev_report ev_exchange"),
-    "running edges": ("#fbe3e1", "ev_peers ev_mailboxes ev_notices ev_links ev_book ev_view"),
+    "programs": ("#fdf1dc", "evpnd evpnd_report ev_run ev_console ev_script ev_config ev_report ev_exchange"),
+    "running edges": ("#fbe3e1", "ev_peers ev_mailboxes ev_links ev_book ev_view"),
     "fabrics and their laws": ("#efe6f7", "ev_fabric ev_sites"),
     "one edge": ("#e2effb", "ev_edge ev_claims ev_mobility ev_tunnel"),
     "routes and stations": ("#e3f4e4", "route_join route_wire mac_arena idx_links"),
-    "spanning tree": ("#dff3f2", "rstp_net rstp_run rstp_roles rstp_machines rstp_state"),
+    "spanning tree": ("#dff3f2", "rstp_run rstp_roles rstp_state"),
     "formats": ("#eeeeee", "ether_wire vxlan_wire bpdu_wire"),
 }
 OTHER = "#ffffff"

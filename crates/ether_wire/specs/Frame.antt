@@ -37,11 +37,15 @@ abbrev pub payload_of : List ℕ → List ℕ
 payload_of octets = if has_length octets then take (type_or_length octets) (drop PAYLOAD_PLACE octets) else drop
     PAYLOAD_PLACE octets
 
+-- there are more octets than the longest frame has
+abbrev pub is_too_long : List ℕ → Bool
+is_too_long octets = nat_lt MOST_OCTETS (length octets)
+
 -- a frame has 14 to 9,018 octets, and a length that isn't beyond them
 abbrev pub refusal_tests : List ℕ → List (Bool × FrameRefusal)
 refusal_tests octets =
     (nat_lt (length octets) PAYLOAD_PLACE, Short) ∷
-    (nat_lt MOST_OCTETS (length octets), Long) ∷
+    (is_too_long octets, Long) ∷
     (has_length octets && nat_lt (length octets - PAYLOAD_PLACE) (type_or_length octets), BadLength) ∷ []
 
 abbrev pub read_as : {X E : Type 0} → X → Option E → Result X E

@@ -1,4 +1,6 @@
 //! Ends over std's readers and writers, which count their errors.
+#![tactic(auto, using(crate::proofs::Failing::allows_new, crate::proofs::Failing::open_new, crate::proofs::Failing::allows_inner, crate::proofs::Failing::gets_beside, crate::proofs::Failing::gets_own, crate::proofs::Failing::open_inner, crate::proofs::Failing::puts_beside, crate::proofs::Failing::one_more))]
+
 ghost use Rattle.std.specs.Prelude.{◌≡◌, None, OnOk};
 ghost use Rattle.std.specs.Io.KnownBytes.{ReadConsumes, Appends};
 ghost use Rattle.ether_wire.specs.Ends.{IsOpen, Allows, Puts, Gets, end_of, source_of};

@@ -1,4 +1,6 @@
 //! A writer that passes its octets to another writer in large pieces.
+#![tactic(auto, using(crate::proofs::Appending::with_text_twice, crate::proofs::Appending::with_text_none, crate::proofs::Appending::part_behind))]
+
 ghost use Rattle.std.specs.Prelude.{◌≡◌, []};
 ghost use Rattle.ether_wire.specs.Ends.{End, IsOpen, Puts};
 

@@ -1,4 +1,6 @@
 //! An end with one call that fails, to test how callers handle a failure of a device.
+#![tactic(auto, using(crate::proofs::Appending::with_text_twice, crate::proofs::Appending::with_text_none, crate::proofs::Appending::part_behind))]
+
 ghost use Rattle.std.specs.Prelude.{◌≡◌, ◌≢◌, ℕ, ◌+◌, true, false, is_err, []};
 ghost use Rattle.ether_wire.specs.Ends.{IsOpen, Allows, Puts, Gets};
 

@@ -1,4 +1,6 @@
 //! Writers that may hold octets back, and a call that passes them on.
+#![tactic(auto, using(crate::proofs::Appending::with_text_twice, crate::proofs::Appending::with_text_none, crate::proofs::Appending::part_behind))]
+
 ghost use Rattle.std.specs.Prelude.{◌≡◌, ℕ, List, [], OnOk};
 ghost use Rattle.ether_wire.specs.Ends.{End, IsOpen, Puts};
 

@@ -6,9 +6,8 @@
 //! | 6 | source |
 //! | 2 | type or length: at most 1500 is a length, any other value a type |
 //! | the rest | the payload; after a payload with a length, padding |
-ghost use Rattle.std.specs.Prelude.{◌≡◌, ◌≤◌, nat_lt, length, take};
-ghost use Rattle.ether_wire.specs.declared.frame.TheConstants.{MOST_OCTETS};
-ghost use Rattle.ether_wire.specs.Frame.{frame_of, IsFrame, destination_of, source_of, type_or_length, kind_of, payload_of, refusal_number};
+ghost use Rattle.std.specs.Prelude.{◌≡◌, ◌≤◌, length, take};
+ghost use Rattle.ether_wire.specs.Frame.{frame_of, IsFrame, destination_of, source_of, type_or_length, has_length, is_too_long, kind_of, payload_of, refusal_number};
 
 use crate::addr::Mac;
 use byteorder::{BigEndian, ByteOrder};
@@ -92,9 +91,17 @@ fn type_or_length(octets: &[u8]) -> u16
     BigEndian::read_u16(rest)
 }
 
+/// Returns `true` if the two octets after the addresses are a length (IEEE 802.3, section 3.2.6).
+fn has_length(octets: &[u8]) -> bool
+    requires { 14 ≤ length octets.now }
+    ensures { result ≡ has_length octets.now }
+{
+    type_or_length(octets) <= MOST_LENGTH
+}
+
 /// Returns `true` if there are more octets than the maximum of a frame.
 fn is_too_long(octets: &[u8]) -> bool
-    ensures { result ≡ nat_lt MOST_OCTETS (length octets.now) }
+    ensures { result ≡ is_too_long octets.now }
 {
     octets.len() > MOST_OCTETS
 }
@@ -122,7 +129,7 @@ impl<'a> Frame<'a> {
             return Err(FrameRefusal::Long);
         }
         let number = type_or_length(octets);
-        if number <= MOST_LENGTH && usize::from(number) > octets.len() - PAYLOAD_PLACE {
+        if has_length(octets) && usize::from(number) > octets.len() - PAYLOAD_PLACE {
             return Err(FrameRefusal::BadLength);
         }
         Ok(Frame { octets })
@@ -156,7 +163,7 @@ impl<'a> Frame<'a> {
         ensures { result ≡ kind_of self.now }
     {
         let number = type_or_length(self.octets);
-        if number <= MOST_LENGTH {
+        if has_length(self.octets) {
             Kind::Length(number)
         } else {
             Kind::EtherType(number)
@@ -169,7 +176,7 @@ impl<'a> Frame<'a> {
     {
         let number = type_or_length(self.octets);
         let (_, rest) = self.octets.split_at(PAYLOAD_PLACE);
-        if number <= MOST_LENGTH {
+        if has_length(self.octets) {
             counted(rest, number)
         } else {
             rest

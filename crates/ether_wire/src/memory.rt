@@ -1,4 +1,6 @@
 //! Ends over memory, with known octets.
+#![tactic(auto, using(crate::proofs::Appending::with_text_twice, crate::proofs::Appending::with_text_none, crate::proofs::Appending::part_behind))]
+
 ghost use Rattle.std.specs.Prelude.{◌≡◌, ◌+◌, ◌≤◌, ◌↔◌, [], length, Some, IsOk, OnErr};
 ghost use Rattle.ether_wire.specs.Ends.{IsOpen, Puts, end_of, source_of};
 

@@ -1,4 +1,6 @@
 //! Numbers and addresses read from text. Each has exactly one text, the one that is printed.
+#![tactic(auto, unfolding(crate::specs::Parse::parted, crate::specs::Parse::is_decimal, crate::specs::Parse::decimal_of_text, crate::specs::Parse::pair_of_text, crate::specs::Parse::mac_of_text, crate::specs::Parse::addr_of_text))]
+
 ghost use Rattle.std.specs.Prelude.{◌≡◌, ◌<◌, ◌≤◌, ◌^◌, ℕ, length, option_map, IfSome, SomeIff, Some, position, ◌==◌, true};
 ghost use Rattle.std.specs.Fmt.{decimal};
 ghost use Rattle.std.specs.Char.{is_ascii_digit};
@@ -19,7 +21,6 @@ fn place_of(octet: u8, text: &[u8]) -> Option<usize>
 
 /// Returns the octets before the first occurrence of the octet and those after it, or `None` if it
 /// doesn't occur.
-#[tactic(auto, unfolding(crate::specs::Parse::parted))]
 pub fn parted(octet: u8, text: &[u8]) -> Option<(&[u8], &[u8])>
     ensures { option_map (λ p. (p.0.now, p.1.now)) result ≡ parted octet text.now }
 {
@@ -37,7 +38,6 @@ fn are_digits(text: &[u8]) -> bool
 }
 
 /// Returns `true` if the text is decimal digits, at least one, without leading zeros.
-#[tactic(auto, unfolding(crate::specs::Parse::is_decimal))]
 fn is_decimal(text: &[u8]) -> bool
     ensures { result ≡ is_decimal text.now }
 {
@@ -54,7 +54,6 @@ fn parsed(text: &[u8]) -> Option<u64>
 
 /// Returns the number that the text spells in decimal, or `None` if it spells no number of at most
 /// `max`.
-#[tactic(auto, unfolding(crate::specs::Parse::decimal_of_text))]
 fn decimal_of_text(text: &[u8], max: u64) -> Option<u64>
     ensures { result ≡ decimal_of_text max text.now }
 {
@@ -96,7 +95,6 @@ pub fn hex_value(octet: u8) -> Option<u8>
 }
 
 /// Returns the octet that two lower case hexadecimal digits spell.
-#[tactic(auto, unfolding(crate::specs::Parse::pair_of_text))]
 fn read_pair(text: &[u8]) -> Option<u8>
     ensures { result ≡ pair_of_text text.now }
 {
@@ -123,7 +121,6 @@ impl Vni {
 }
 
 /// Returns the address that six pairs of digits with colons spell.
-#[tactic(auto, unfolding(crate::specs::Parse::mac_of_text))]
 fn mac_of_text(text: &[u8]) -> Option<Mac>
     ensures { result ≡ mac_of_text text.now }
 {
@@ -154,7 +151,6 @@ impl Mac {
 }
 
 /// Returns the address that four decimal numbers with dots spell.
-#[tactic(auto, unfolding(crate::specs::Parse::addr_of_text))]
 fn addr_of_text(text: &[u8]) -> Option<Addr>
     ensures { result ≡ addr_of_text text.now }
 {

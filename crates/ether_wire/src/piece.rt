@@ -1,4 +1,6 @@
 //! Octets at the front of an array, to which more are put in place.
+#![tactic(auto, using(crate::proofs::Appending::with_text_twice, crate::proofs::Appending::with_text_none, crate::proofs::Appending::part_behind))]
+
 ghost use Rattle.std.specs.Prelude.{◌≡◌, ◌++◌, ◌+◌, ◌==◌, ◌≤◌, nat_le, [], length, take, true, false};
 
 use crate::text::word_at;

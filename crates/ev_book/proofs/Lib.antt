@@ -7,3 +7,9 @@ pub mod Replaying
 pub mod Stepping
 pub mod Totalling
 pub mod Refitting
+pub mod Prefixes
+pub mod Histories
+pub mod Extending
+pub mod Standing
+pub mod Beginning
+pub mod Booking

@@ -8,3 +8,8 @@ pub mod Refusal
 pub mod Laws
 pub mod Fitting
 pub mod Inner
+pub mod Booking
+pub mod Log
+pub mod HistoryOpening
+pub mod Rule
+pub mod Standing

@@ -3,6 +3,7 @@ use Rattle.std.proofs.Common.{◌≡◌, ℕ, ◌+◌, Bool, true, false, not, �
 use Rattle.std.proofs.Common.{is_some, codes}
 use Rattle.std.specs.Prelude.{option_and_then, if◌then◌else◌}
 use Rattle.std.specs.List.{list_all}
+use Rattle.std.proofs.lemmas.Bool.{and_from}
 use Rattle.toml.specs.Data.{Data, Items, no_items, item, Members, get_member, as_table}
 use Rattle.ev_config.specs.declared.schema.KeyKind.TheVariants as kind
 use Rattle.ev_config.specs.declared.whole.Use.{Use}
@@ -24,11 +25,6 @@ both_right false b p q = cc
 one_right : (a : Bool) → not a ≡ false → (if a then true else false) ≡ true
 one_right true p = refl
 one_right false p = cc
-
-all_more : (a b : Bool) → a ≡ true → b ≡ true → (a && b) ≡ true
-all_more true true p q = refl
-all_more true false p q = cc
-all_more false b p q = cc
 
 -- the conditions on a port's table
 abbrev at_port : Context → Bool → Bool → Context
@@ -72,7 +68,7 @@ ports_cabled c n m (item d ds) h =
         → list_all (has_cable c.for_run) (map link_of (tables_of ds)) ≡ true
         → list_all (has_cable c.for_run) (map link_of (with_table o (tables_of ds))) ≡ true
     go None f more = more
-    go (Some t) f more = all_more (has_cable c.for_run (link_of t))
+    go (Some t) f more = and_from (has_cable c.for_run (link_of t))
         (list_all (has_cable c.for_run) (map link_of (tables_of ds))) (port_cabled c n m t f) more
 
 edges_cabled : (run : Bool) (names : SeenNames) (n : ℕ) (ds : Items) → edges_faults run names n ds ≡ []
@@ -91,7 +87,7 @@ edges_cabled run names n (item d ds) h =
         → have_cables run (map links_of (with_table o (tables_of ds))) ≡ true
     go None f more = more
     go (Some t) f more =
-        all_more (list_all (has_cable run) (map link_of (tables_of (tables_at (codes "port") t))))
+        and_from (list_all (has_cable run) (map link_of (tables_of (tables_at (codes "port") t))))
         (have_cables run (map links_of (tables_of ds)))
         (ports_cabled (edge_context run names t) n 1 (tables_at (codes "port") t) (ports_right run names n t f)) more
 

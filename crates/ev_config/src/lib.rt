@@ -1,5 +1,5 @@
 //! The configuration: the edges that a TOML text describes, or where it is wrong.
-#![tactic(auto, using(ether_wire::proofs::Appending::with_text_twice, ether_wire::proofs::Appending::with_text_none, crate::proofs::Walking::items_more, crate::proofs::Walking::count_of_view, crate::proofs::Lines::faults_told, crate::proofs::Lines::text_told, crate::proofs::Counting::served_more, crate::proofs::Counting::again, crate::proofs::Counting::vnis_more))]
+#![tactic(auto)]
 
 mod advice;
 mod allowed;

@@ -1,5 +1,7 @@
 //! The messages for a text that is no configuration: the place and the key of each fault, the range
 //! that is allowed, and advice.
+#![tactic(auto, using(ether_wire::proofs::Appending::with_text_twice, ether_wire::proofs::Appending::with_text_none, crate::proofs::Lines::faults_told, crate::proofs::Lines::text_told))]
+
 ghost use Rattle.std.specs.Prelude.{◌≡◌, ◌++◌, codes, option_map};
 ghost use Rattle.std.specs.List.{list_any};
 ghost use Rattle.toml.specs.View.{table_view};

@@ -1,4 +1,6 @@
 //! The summary of a valid configuration.
+#![tactic(auto, using(ether_wire::proofs::Appending::with_text_twice, ether_wire::proofs::Appending::with_text_none, crate::proofs::Counting::served_more, crate::proofs::Counting::again, crate::proofs::Counting::vnis_more))]
+
 ghost use Rattle.std.specs.Prelude.{◌≡◌, ◌+◌, ◌≤◌, ◌++◌, ◌==◌, if◌then◌else◌, [], length, codes, eqb};
 ghost use Rattle.std.specs.List.{list_any};
 ghost use Rattle.ether_wire.specs.Ends.{IsOpen, Puts};

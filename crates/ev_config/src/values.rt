@@ -1,4 +1,6 @@
 //! The values at the keys of a table.
+#![tactic(auto, using(crate::proofs::Walking::items_more, crate::proofs::Walking::count_of_view))]
+
 ghost use Rattle.std.specs.Prelude.{◌≡◌, ◌+◌, ◌<◌, ◌≤◌, ◌∷◌, ◌&&◌, ℕ, IsTrue, nat_le, length, option_map, IfSome, true, false, eqb, [], codes};
 ghost use Rattle.std.specs.List.{list_any, IsDistinct};
 ghost use Rattle.std.specs.Option.{option_map_or, unwrap_or};

@@ -1,4 +1,6 @@
 //! The faults of a document: one walk over its tables.
+#![tactic(auto, using(crate::proofs::Walking::items_more, crate::proofs::Walking::count_of_view))]
+
 ghost use Rattle.std.specs.Prelude.{◌≡◌, ◌+◌, ◌≤◌, map, length, codes, Some, IfOk, IfSome, OnOk};
 ghost use Rattle.toml.specs.View.{table_view, array_view};
 ghost use Rattle.ev_config.specs.Keys.{times_fit, count_of};

@@ -1,4 +1,6 @@
 //! The answer to one line: its requests are made once, and answered in the words of a simulation.
+#![tactic(auto, using(ether_wire::proofs::Appending::with_text_twice, crate::proofs::Doing::says_put))]
+
 ghost use Rattle.std.specs.Prelude.{◌≡◌, [], true, OnOk};
 ghost use Rattle.ether_wire.specs.Ends.{IsOpen};
 ghost use Rattle.ev_report.specs.Ends.{Tells};

@@ -11,7 +11,7 @@ use crate::reached::LocalEdges;
 use crate::system_drops::SystemDrops;
 use arrayvec::ArrayVec;
 use ether_wire::{Device, Flushing, In};
-use ev_history::Naming;
+use ev_book::Naming;
 use ev_report::MOST_READS;
 use std::alloc::Global;
 use std::sync::Wait;

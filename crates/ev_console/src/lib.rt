@@ -1,6 +1,6 @@
 //! The operator's console over edges that run: lines of the script language, answered in its
 //! words.
-#![tactic(auto, using(ether_wire::proofs::Appending::with_text_twice, crate::proofs::Doing::says_put))]
+#![tactic(auto)]
 
 mod answering;
 mod conversation;

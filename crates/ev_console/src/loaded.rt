@@ -3,7 +3,7 @@ ghost use Rattle.std.specs.Prelude.{◌≡◌, ◌+◌, ◌-◌, ◌^◌, min, m
 ghost use Rattle.ev_console.specs.Inner.LinksShown.{drops_at, drops_of};
 
 use ev_links::Flow;
-use ev_notices::{DropReason, LinkCounts};
+use ev_mailboxes::{DropReason, LinkCounts};
 use ev_view::LinkRow;
 use std::alloc::{AllocError, Global};
 

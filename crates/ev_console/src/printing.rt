@@ -1,4 +1,6 @@
 //! The texts of a console's answers, in the words of a simulation.
+#![tactic(auto, using(ether_wire::proofs::Appending::with_text_twice))]
+
 ghost use Rattle.std.specs.Prelude.{◌≡◌, ◌++◌, codes};
 ghost use Rattle.ether_wire.specs.Ends.{IsOpen, Puts};
 ghost use Rattle.ev_console.specs.Answers.{unreached_text, book_refusal_text, entered_text, port_seen_text, no_memory_text, view_seen_text, served_seen_text, bad_text, help_text, simulated_text};

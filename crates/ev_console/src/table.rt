@@ -1,5 +1,7 @@
 //! The report of an edge's table, page by page: the edge is locked for one page only, and the
 //! console keeps one page only.
+#![tactic(auto, using(ether_wire::proofs::Appending::with_text_twice, crate::proofs::Doing::says_put))]
+
 ghost use Rattle.std.specs.Prelude.{◌≡◌, ◌++◌, true, Ok, is_ok};
 ghost use Rattle.ether_wire.specs.Ends.{IsOpen, Puts};
 ghost use Rattle.route_join.specs.After.{IsPage};

@@ -6,10 +6,9 @@ use crate::edges::Edges;
 use crate::operated::{Operated, Unreached};
 use crate::reached::LocalEdges;
 use crate::system_drops::NoDrops;
-use ev_book::BookRefusal;
+use ev_book::{BookRefusal, Naming};
 use ev_edge::Reply;
 use ev_exchange::{Sessions, Turn};
-use ev_history::Naming;
 use ev_mailboxes::{OperatorCommand as Step, Running};
 use std::sync::Wait;
 

@@ -1,6 +1,6 @@
 //! An edge: a bridge with access ports that learns stations, advertises them, takes the updates of
 //! other edges, and decides where each frame goes. One event at a time.
-#![tactic(auto, using(crate::proofs::Places::some_port))]
+#![tactic(auto)]
 
 mod arrival;
 mod away;

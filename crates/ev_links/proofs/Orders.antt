@@ -2,7 +2,7 @@
 use Rattle.std.proofs.Common.{◌≡◌, ℕ, ◌+◌, ◌-◌, ◌^◌, ◌≤◌, ◌==◌, min, Bool, true, false, ◌&&◌, not, nat_lt}
 use Rattle.std.proofs.Common.{if◌then◌else◌}
 use Rattle.std.proofs.Common.{List, [], ◌∷◌, ◌++◌, length, refl, sym, ap, ◌∙◌, append_assoc, arith}
-use Rattle.std.proofs.lemmas.Bool.{eqb-true}
+use Rattle.std.proofs.lemmas.Bool.{and_parts, eqb-true}
 use Rattle.std.proofs.lemmas.List.{append-nil}
 use Rattle.ev_links.specs.Line.{Sourced, Waiting, waiting_of, has_room, after_frame, after_bpdu, frames_in_front}
 use Rattle.ev_links.specs.Line.{frames_left}
@@ -14,14 +14,10 @@ none_left : (frames : List Sourced) → (length frames == 0) ≡ true → frames
 none_left [] is = refl
 none_left (f ∷ frames) is = let e = eqb-true (length (f ∷ frames)) 0 is in absurd (omega (arith, e))
 
-and_right : (a b : Bool) → (a && b) ≡ true → b ≡ true
-and_right true b is = is
-and_right false b is = cc
-
 no_frames : (sending : Bool) (bpdus : List (List ℕ)) (frames : List Sourced)
     → (not sending && (length bpdus == 0 && length frames == 0)) ≡ true → frames ≡ []
 no_frames true bpdus frames is = cc
-no_frames false bpdus frames is = none_left frames (and_right (length bpdus == 0) (length frames == 0) is)
+no_frames false bpdus frames is = none_left frames (and_parts (length bpdus == 0) (length frames == 0) is).1
 
 -- nothing waits for a free link
 none_waits : (d : Direct) → is_free d ≡ true → d.line.frames ≡ []

@@ -3,9 +3,9 @@ use Rattle.std.proofs.Common.{◌≡◌, ◌≢◌, ℕ, zero, suc, ◌+◌, ◌
 use Rattle.std.proofs.Common.{eqb}
 use Rattle.std.proofs.Common.{◌&&◌, ◌||◌, nat_lt, nat_le, List, [], ◌∷◌, ◌++◌, length, drop, refl, sym, ap, subst}
 use Rattle.std.proofs.Common.{◌∙◌, arith}
-use Rattle.std.proofs.lemmas.Bool.{false≢true, eq-eqb}
+use Rattle.std.proofs.lemmas.Bool.{false≢true, and_parts, eq-eqb}
 use Rattle.std.proofs.lemmas.Bool.Decides.{nat_tests}
-use Rattle.std.proofs.Math.Nat.{mul-div-le}
+use Rattle.std.proofs.Math.Nat.{mul-div-le, suc-mul}
 use Rattle.ev_links.specs.Line.{Sourced, Waiting, waiting_of, nothing_waits, octets_of, from_source, fits_half}
 use Rattle.ev_links.specs.Line.{fits_part}
 use Rattle.ev_links.specs.Line.{fits_line, has_room, after_frame, after_bpdu, frames_left}
@@ -34,9 +34,6 @@ abbrev sum_to : ℕ → (ℕ → ℕ) → ℕ
 sum_to zero f = 0
 sum_to (suc n) f = sum_to n f + f n
 
-times_more : (m n : ℕ) → suc m * n ≡ m * n + n
-times_more m n = omega arith
-
 sum_same : (n : ℕ) (f g : ℕ → ℕ) → ((t : ℕ) → t < n → g t ≡ f t) → sum_to n g ≡ sum_to n f
 sum_same zero f g same = refl
 sum_same (suc n) f g same =
@@ -53,7 +50,7 @@ sum_fewer (suc n) f g less =
 sum_bound : (n p : ℕ) (f : ℕ → ℕ) → ((t : ℕ) → f t ≤ p) → sum_to n f ≤ n * p
 sum_bound zero p f few = omega arith
 sum_bound (suc n) p f few =
-    let rest = sum_bound n p f few in let last = few n in let more = times_more n p in omega (arith, rest, last, more)
+    let rest = sum_bound n p f few in let last = few n in let more = suc-mul n p in omega (arith, rest, last, more)
 
 -- one of them has more
 sum_more : (n s k : ℕ) (f g : ℕ → ℕ) → s < n → ((t : ℕ) → t ≢ s → g t ≡ f t) → g s ≡ f s + k
@@ -94,11 +91,11 @@ sum_below (suc n) s k p f less few one = go (eqb n s) refl (λ less. sum_below n
     go true is before =
         let here : n ≡ s = grind (arith, nat_tests) in
         let last : f n + k ≤ p = subst (λ t. f t + k ≤ p) (sym here) one in
-        let rest = sum_bound n p f few in let more = times_more n p in omega (arith, rest, last, more)
+        let rest = sum_bound n p f few in let more = suc-mul n p in omega (arith, rest, last, more)
     go false is before =
         let ne : n ≢ s = (λ bad. grind (arith, nat_tests)) in
         let rest = before (omega (arith, less, ne)) in let last = few n in
-        let more = times_more n p in omega (arith, rest, last, more)
+        let more = suc-mul n p in omega (arith, rest, last, more)
 
 -- ---- the waiting frames, by a measure
 
@@ -209,14 +206,6 @@ pub record IsFairLine (n : ℕ) (w : Waiting) : Type 0 where
   pub frames : IsFair one 1024 (1024 / n) n w.frames
   pub octets : IsFair size 262144 (262144 / n) n w.frames
 
-and_left : (a b : Bool) → (a && b) ≡ true → a ≡ true
-and_left true b is = refl
-and_left false b is = is
-
-and_right : (a b : Bool) → (a && b) ≡ true → b ≡ true
-and_right true b is = is
-and_right false b is = cc
-
 with_frames : (n : ℕ) (w : Waiting) (frames : List Sourced) → w.parts ≡ n
     → IsFair one 1024 (1024 / n) n frames → IsFair size 262144 (262144 / n) n frames
     → (dropped : ℕ) → IsFairLine n (waiting_of w.parts w.bpdus frames dropped w.has_ended)
@@ -227,7 +216,7 @@ fair_room : (n : ℕ) (frames : List Sourced) (f : Sourced) → has_room n frame
     → IsFair one 1024 (1024 / n) n frames → IsFair size 262144 (262144 / n) n frames
     → IsFair one 1024 (1024 / n) n (frames ++ f ∷ []) × IsFair size 262144 (262144 / n) n (frames ++ f ∷ [])
 fair_room n frames f room counts octets = either (fits_half frames (size f)) refl
-    (and_right (fits_line frames (size f)) _ (and_right (nat_le (size f) 9026) _ room))
+    (and_parts (fits_line frames (size f)) _ (and_parts (nat_le (size f) 9026) _ room).1).1
   where
     count : length frames ≡ amount one frames
     count = count_is frames
@@ -242,11 +231,11 @@ fair_room n frames f room counts octets = either (fits_half frames (size f)) ref
         && nat_le (octets_of own + size f) (262144 / n))) ≡ true
         → IsFair one 1024 (1024 / n) n (frames ++ f ∷ []) × IsFair size 262144 (262144 / n) n (frames ++ f ∷ [])
     in_part is =
-        let there : nat_lt f.source n ≡ true = and_left (nat_lt f.source n) _ is in
-        let fits = and_right (nat_lt f.source n) _ is in
-        let few : nat_lt (length own) (1024 / n) ≡ true = and_left (nat_lt (length own) (1024 / n)) _ fits in
+        let there : nat_lt f.source n ≡ true = (and_parts (nat_lt f.source n) _ is).0 in
+        let fits = (and_parts (nat_lt f.source n) _ is).1 in
+        let few : nat_lt (length own) (1024 / n) ≡ true = (and_parts (nat_lt (length own) (1024 / n)) _ fits).0 in
         let short : nat_le (octets_of own + size f) (262144 / n) ≡ true =
-        and_right (nat_lt (length own) (1024 / n)) _ fits in
+        (and_parts (nat_lt (length own) (1024 / n)) _ fits).1 in
         let less : f.source < n = lt_of f.source n there in
         let few' : length own < 1024 / n = lt_of (length own) (1024 / n) few in
         let short' : octets_of own + size f ≤ 262144 / n =
@@ -260,9 +249,9 @@ fair_room n frames f room counts octets = either (fits_half frames (size f)) ref
         → (b || (nat_lt f.source n && fits_part n own (size f))) ≡ true
         → IsFair one 1024 (1024 / n) n (frames ++ f ∷ []) × IsFair size 262144 (262144 / n) n (frames ++ f ∷ [])
     either true half is =
-        let few : nat_lt (length frames) 1024 ≡ true = and_left (nat_lt (length frames) 1024) _ half in
+        let few : nat_lt (length frames) 1024 ≡ true = (and_parts (nat_lt (length frames) 1024) _ half).0 in
         let short : nat_le (octets_of frames + size f) 262144 ≡ true =
-        and_right (nat_lt (length frames) 1024) _ half in
+        (and_parts (nat_lt (length frames) 1024) _ half).1 in
         let few' : length frames < 1024 = lt_of (length frames) 1024 few in
         let short' : octets_of frames + size f ≤ 262144 = le_of (octets_of frames + size f) 262144 short in
         let c = count in let o = all in (
@@ -327,10 +316,10 @@ part_has_room n w f fair less short fits =
     own = from_source f.source w.frames
 
     count : length own < 1024 / n
-    count = lt_of (length own) (1024 / n) (and_left (nat_lt (length own) (1024 / n)) _ fits)
+    count = lt_of (length own) (1024 / n) (and_parts (nat_lt (length own) (1024 / n)) _ fits).0
 
     octets : octets_of own + size f ≤ 262144 / n
-    octets = le_of (octets_of own + size f) (262144 / n) (and_right (nat_lt (length own) (1024 / n)) _ fits)
+    octets = le_of (octets_of own + size f) (262144 / n) (and_parts (nat_lt (length own) (1024 / n)) _ fits).1
 
     is_short : nat_le (size f) 9026 ≡ true
     is_short = le_is (size f) 9026 short

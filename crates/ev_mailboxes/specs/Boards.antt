@@ -1,7 +1,7 @@
 -- The numbers of the links of running edges, as their boards have them.
 use Rattle.std.specs.Prelude.{◌≡◌, ℕ, List, take, Option, None, Some}
 use Rattle.std.specs.List.{slice_get}
-use Rattle.ev_notices.specs.declared.link_counts.LinkCounts.{LinkCounts}
+use Rattle.ev_mailboxes.specs.declared.link_counts.LinkCounts.{LinkCounts}
 use Rattle.ev_mailboxes.specs.declared.boards.EdgeNotices.{EdgeNotices}
 
 -- These are the first links of the edge at this place. An atomic holds the number of links in use,

@@ -1,3 +1,4 @@
 pub mod RequestSlot
 pub mod Request
 pub mod Posts
+pub mod Calls

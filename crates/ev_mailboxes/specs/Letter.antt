@@ -1,7 +1,7 @@
 -- The letters of an edge's mailbox, as its worker of updates takes them.
 use Rattle.std.specs.Prelude.{List, map, Option, Some, None}
-use Rattle.ev_channel.specs.declared.ends.Inbox.{Inbox}
-use Rattle.ev_channel.specs.Ends.{received_by}
+use Rattle.ev_mailboxes.specs.declared.ends.Inbox.{Inbox}
+use Rattle.ev_mailboxes.specs.Ends.{received_by}
 use Rattle.ev_mailboxes.specs.declared.edge_message.EdgeMessage.{EdgeMessage}
 use Rattle.ev_mailboxes.specs.declared.edge_message.Letter.{Letter}
 use Rattle.ev_mailboxes.specs.declared.edge_message.Letter.TheVariants.{Of, Stop}

@@ -4,3 +4,16 @@ pub mod Mail
 pub mod Posts
 pub mod Outbox
 pub mod Inner
+pub mod Alarm
+pub mod Board
+pub mod DropReason
+pub mod IdleWatch
+pub mod SendWatch
+pub mod Sendings
+pub mod Receptions
+pub mod Records
+pub mod Notices
+pub mod InTurn
+pub mod Delivery
+pub mod Ends
+pub mod Laws

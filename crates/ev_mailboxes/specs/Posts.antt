@@ -1,6 +1,6 @@
 -- The letters that a worker sends to the other edges.
 use Rattle.std.specs.Prelude.{ℕ, ◌==◌, if◌then◌else◌, List, [], ◌∷◌, ◌++◌, map}
-use Rattle.ev_channel.specs.Ends.{sent_by}
+use Rattle.ev_mailboxes.specs.Ends.{sent_by}
 use Rattle.ev_mailboxes.specs.declared.edge_message.EdgeMessage.TheVariants.{Record}
 use Rattle.ev_mailboxes.specs.declared.edge_message.Letter.{Letter}
 use Rattle.ev_mailboxes.specs.declared.edge_message.Letter.TheVariants.{Of}

@@ -3,7 +3,7 @@
 ghost use Rattle.std.specs.Prelude.{◌≡◌, ◌-◌, IfOk, slice_get, option_copied, option_map, vec_len};
 ghost use Rattle.ev_mailboxes.specs.Boards.{GivesLinks};
 
-use ev_notices::{
+use crate::{
     Alarm, Board, LINKS, LinkCounts, News, Reception, Receptions, Refusals, Refused, Sendings,
 };
 use std::alloc::{AllocError, Global};

@@ -6,8 +6,7 @@ ghost use Rattle.ev_mailboxes.specs.declared.edge_message.EdgeMessage.{EdgeMessa
 use crate::boards::Boards;
 use crate::edge_message::{EdgeMessage, Letter, coming};
 use crate::peers::Peers;
-use ev_channel::Inbox;
-use ev_notices::{News, NoticesIn};
+use crate::{Inbox, News, NoticesIn};
 use std::sync::Wait;
 use std::thread;
 

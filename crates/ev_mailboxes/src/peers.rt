@@ -11,9 +11,8 @@ use crate::posts::Posts;
 use crate::request::Response;
 use crate::shared_mailbox::SharedMailbox;
 use crate::waiting::ROOM;
-use ev_channel::{Inbox, mailbox};
-use ev_history::{Naming, Told};
-use ev_notices::{Alarm, LinkCounts, Reception};
+use crate::{Alarm, Inbox, LinkCounts, Reception, mailbox};
+use ev_book::{Naming, Told};
 use std::alloc::{AllocError, Global};
 use std::sync::{Mutex, Wait};
 

@@ -5,8 +5,8 @@ ghost use Rattle.ev_mailboxes.specs.Inner.Posts.{none_sent};
 
 use crate::edge_message::{EdgeMessage, Letter};
 use crate::shared_mailbox::SharedMailbox;
-use ev_channel::{Inbox, Post};
-use ev_history::{Naming, Told};
+use crate::{Inbox, Post};
+use ev_book::{Naming, Told};
 use std::alloc::{AllocError, Global};
 use std::sync::Wait;
 

@@ -8,7 +8,7 @@ use crate::edge_message::{EdgeMessage, Letter};
 use crate::request::{Request, Response};
 use crate::request_slot::RequestSlot;
 use crate::waiting::Waiting;
-use ev_channel::{Inbox, Post};
+use crate::{Inbox, Post};
 use std::alloc::AllocError;
 use std::sync::atomic::{AtomicBool, Ordering};
 use std::sync::{Condvar, Mutex, Wait};

@@ -9,16 +9,16 @@ use Rattle.ev_edge.specs.declared.config.EdgeConfig.{EdgeConfig}
 use Rattle.ev_edge.specs.Edge.{Edge}
 use Rattle.ev_book.specs.Book.{BookState}
 use Rattle.ev_book.specs.Opening.{IsOpened}
-use Rattle.ev_history.specs.Booking.{Opens}
-use Rattle.ev_history.specs.declared.log_entry.LogEntry.{LogEntry}
-use Rattle.ev_history.specs.declared.log_entry.LogEntry.TheVariants.{Begins}
-use Rattle.ev_history.specs.Log.{IsHistory, world, count}
-use Rattle.ev_history.specs.Opening.{IsNew}
-use Rattle.ev_history.specs.Rule.{SeatState}
-use Rattle.ev_history.specs.Standing.{Stands}
-use Rattle.ev_history.proofs.Histories.{Same, same, other, decide}
-use Rattle.ev_history.proofs.Prefixes.{prefix_trans}
-use Rattle.ev_history.proofs.Standing.{stands_later, first_config, first_closed}
+use Rattle.ev_book.specs.Booking.{Opens}
+use Rattle.ev_book.specs.declared.log_entry.LogEntry.{LogEntry}
+use Rattle.ev_book.specs.declared.log_entry.LogEntry.TheVariants.{Begins}
+use Rattle.ev_book.specs.Log.{IsHistory, world, count}
+use Rattle.ev_book.specs.HistoryOpening.{IsNew}
+use Rattle.ev_book.specs.Rule.{SeatState}
+use Rattle.ev_book.specs.Standing.{Stands}
+use Rattle.ev_book.proofs.Histories.{Same, same, other, decide}
+use Rattle.ev_book.proofs.Prefixes.{prefix_trans}
+use Rattle.ev_book.proofs.Standing.{stands_later, first_config, first_closed}
 use Rattle.ev_peers.specs.declared.edge_outcome.EdgeOutcome.{EdgeOutcome}
 use Rattle.ev_peers.specs.EdgeThreads.{EdgeSetup}
 use Rattle.ev_peers.specs.History.{IsSeatOf, StandsAt, configs_of}

@@ -6,9 +6,9 @@ use Rattle.std.proofs.lemmas.List.{append-nil, map-append, reverse-append}
 use Rattle.std.proofs.lemmas.List.Elements.{Contains-append_left, Contains-append_right, Contains-append_cases}
 use Rattle.route_wire.specs.Fields.{Fields}
 use Rattle.ev_book.specs.Book.{PassState}
-use Rattle.ev_channel.specs.declared.view.View.{View}
-use Rattle.ev_channel.specs.Delivery.{of, messages}
-use Rattle.ev_channel.proofs.Delivering.{are_sent, was_sent, messages_append}
+use Rattle.ev_mailboxes.specs.declared.view.View.{View}
+use Rattle.ev_mailboxes.specs.Delivery.{of, messages}
+use Rattle.ev_mailboxes.proofs.Delivering.{are_sent, was_sent, messages_append}
 use Rattle.ev_mailboxes.specs.Mail.{EdgeMessage, Letter}
 use Rattle.ev_mailboxes.specs.declared.edge_message.EdgeMessage.TheVariants.{Record}
 use Rattle.ev_mailboxes.specs.declared.edge_message.Letter.TheVariants.{Of, Stop}

@@ -6,8 +6,8 @@ use Rattle.std.specs.declared.alloc.AllocError.{AllocError}
 use Rattle.std.specs.declared.thread.PromisedHandle.{PromisedHandle}
 use Rattle.ev_peers.specs.declared.edge_outcome.EdgeOutcome.{EdgeOutcome}
 use Rattle.ev_peers.specs.declared.run.OfEdge.{OfEdge}
-use Rattle.ev_history.specs.Rule.{SeatState}
-use Rattle.ev_history.specs.Standing.{Stands}
+use Rattle.ev_book.specs.Rule.{SeatState}
+use Rattle.ev_book.specs.Standing.{Stands}
 use Rattle.ev_peers.specs.EdgeThreads.{EdgeSetup, IsRanOf, AreRanFrom}
 use Rattle.ev_peers.specs.History.{StandsAt, outcome_in}
 use Rattle.ev_peers.specs.Inner.History.{seat_in, SeatedAs, IsSeated, AreSeated}

@@ -3,11 +3,11 @@ use Rattle.std.specs.Prelude.{◌≡◌, ℕ, ◌+◌, Bool, List, [], ◌∷◌
 use Rattle.std.specs.declared.alloc.AllocError.{AllocError}
 use Rattle.ev_edge.specs.declared.config.EdgeConfig.{EdgeConfig}
 use Rattle.ev_edge.specs.Edge.{Edge}
-use Rattle.ev_history.specs.declared.log_entry.LogEntry.{LogEntry}
-use Rattle.ev_history.specs.declared.log_entry.LogEntry.TheVariants.{Begins}
-use Rattle.ev_history.specs.Log.{IsHistory, world}
-use Rattle.ev_history.specs.Rule.{SeatState}
-use Rattle.ev_history.specs.Standing.{Stands}
+use Rattle.ev_book.specs.declared.log_entry.LogEntry.{LogEntry}
+use Rattle.ev_book.specs.declared.log_entry.LogEntry.TheVariants.{Begins}
+use Rattle.ev_book.specs.Log.{IsHistory, world}
+use Rattle.ev_book.specs.Rule.{SeatState}
+use Rattle.ev_book.specs.Standing.{Stands}
 use Rattle.ev_peers.specs.declared.edge_outcome.EdgeOutcome.{EdgeOutcome}
 use Rattle.ev_peers.specs.EdgeThreads.{EdgeSetup}
 

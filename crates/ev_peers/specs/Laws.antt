@@ -4,9 +4,9 @@ use mathlib.Core.Option.{some}
 use lib.ListN.{get_elem?}
 use Rattle.route_wire.specs.Fields.{Fields}
 use Rattle.ev_book.specs.Book.{PassState}
-use Rattle.ev_channel.specs.declared.view.View.{View}
-use Rattle.ev_channel.specs.declared.view.View.TheVariants.{Sender, Receiver}
-use Rattle.ev_channel.specs.Delivery.{messages, Delivers}
+use Rattle.ev_mailboxes.specs.declared.view.View.{View}
+use Rattle.ev_mailboxes.specs.declared.view.View.TheVariants.{Sender, Receiver}
+use Rattle.ev_mailboxes.specs.Delivery.{messages, Delivers}
 use Rattle.ev_mailboxes.specs.Mail.{EdgeMessage, Letter}
 use Rattle.ev_mailboxes.specs.declared.edge_message.EdgeMessage.TheVariants.{Record}
 use Rattle.ev_mailboxes.specs.declared.edge_message.Letter.TheVariants.{Of}

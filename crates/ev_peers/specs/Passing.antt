@@ -8,15 +8,15 @@ use Rattle.ev_edge.specs.declared.reply.Reply.{Reply}
 use Rattle.ev_book.specs.declared.refusal.BookRefusal.{BookRefusal}
 use Rattle.ev_book.specs.Book.{BookState, PassState}
 use Rattle.ev_book.specs.Entering.{CallsBook}
-use Rattle.ev_history.specs.Booking.{announced_by}
-use Rattle.ev_notices.specs.declared.alarm.Alarm.{Alarm}
+use Rattle.ev_book.specs.Booking.{announced_by}
+use Rattle.ev_mailboxes.specs.declared.alarm.Alarm.{Alarm}
 use Rattle.ev_mailboxes.specs.declared.edge_message.Letter.{Letter}
 use Rattle.ev_mailboxes.specs.declared.request.Response.{Response}
 use Rattle.ev_mailboxes.specs.Posts.{with_record}
-use Rattle.ev_notices.specs.declared.receptions.Reception.{Reception}
-use Rattle.ev_notices.specs.declared.drop_reason.DropReason.{DropReason}
-use Rattle.ev_notices.specs.Alarm.{alarm_of, is_second}
-use Rattle.ev_notices.specs.DropReason.{cause_of}
+use Rattle.ev_mailboxes.specs.declared.receptions.Reception.{Reception}
+use Rattle.ev_mailboxes.specs.declared.drop_reason.DropReason.{DropReason}
+use Rattle.ev_mailboxes.specs.Alarm.{alarm_of, is_second}
+use Rattle.ev_mailboxes.specs.DropReason.{cause_of}
 use Rattle.ev_peers.specs.Forwarding.{Parcel, parcels_of}
 use Rattle.ev_links.specs.Coming.{behind}
 

@@ -11,9 +11,9 @@ use Rattle.ev_peers.specs.declared.shared_edge.Ended.{Ended}
 use Rattle.ev_peers.specs.declared.shared_edge.Ended.TheVariants.{End, Device as Failed, NoMemory}
 use Rattle.ev_mailboxes.specs.Mail.{EdgeMessage}
 use Rattle.ev_mailboxes.specs.declared.edge_message.EdgeMessage.TheVariants.{Record, Room, Ask}
-use Rattle.ev_notices.specs.declared.receptions.Input.{Input}
-use Rattle.ev_notices.specs.declared.receptions.Input.TheVariants as inputs
-use Rattle.ev_notices.specs.declared.receptions.Reception.{Reception}
+use Rattle.ev_mailboxes.specs.declared.receptions.Input.{Input}
+use Rattle.ev_mailboxes.specs.declared.receptions.Input.TheVariants as inputs
+use Rattle.ev_mailboxes.specs.declared.receptions.Reception.{Reception}
 use Rattle.ev_peers.specs.declared.workers.Inlet.{Inlet}
 use Rattle.ev_peers.specs.declared.workers.Inlet.TheVariants.{Port, Tunnel, Clock}
 use Rattle.ev_peers.specs.Forwarding.{Parcel}

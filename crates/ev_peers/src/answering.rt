@@ -1,7 +1,7 @@
 //! Answers the operator's requests in an edge's worker: it enters a step like any event, or reads
 //! from the edge's book.
 ghost use Rattle.std.specs.Prelude.{◌≡◌, ◌++◌, true, IfOk};
-ghost use Rattle.ev_history.specs.Booking.{is_own};
+ghost use Rattle.ev_book.specs.Booking.{is_own};
 ghost use Rattle.ev_book.specs.Entering.{answered};
 ghost use Rattle.ev_peers.specs.Control.{event_of, Obeys, ShowsPage, ShowsPort, ShowsServed, ShowsView, Shows, Looked, Fulfils, Answers};
 
@@ -11,9 +11,8 @@ use crate::outlet::Outlet;
 use crate::shared_edge::SharedEdge;
 use crate::worker::Worker;
 use ether_wire::Vni;
-use ev_book::BookRefusal;
+use ev_book::{BookRefusal, LoggedBook, Naming, Placed, Told};
 use ev_edge::{Edge, Event, Reply};
-use ev_history::{LoggedBook, Naming, Placed, Told};
 use ev_mailboxes::{EdgeNetworks, OperatorCommand, PortView, Reading, Request, Response};
 use ev_view::EdgeQuestion;
 use route_join::UpdatePage;

@@ -1,13 +1,13 @@
 //! The history of the edges of a run, at its beginning and at its end.
 ghost use Rattle.std.specs.Prelude.{◌≡◌, ◌∷◌, [], IfSome, length};
 ghost use mathlib.Core.List.{IsPrefix};
-ghost use Rattle.ev_history.specs.declared.log_entry.LogEntry.TheVariants.{Begins};
-ghost use Rattle.ev_history.specs.Log.{IsHistory, count};
+ghost use Rattle.ev_book.specs.declared.log_entry.LogEntry.TheVariants.{Begins};
+ghost use Rattle.ev_book.specs.Log.{IsHistory, count};
 ghost use Rattle.ev_peers.specs.History.{configs_of};
 ghost use Rattle.ev_peers.specs.Inner.History.{AreSeen, AreSettled};
 
 use crate::run::Setup;
-use ev_history::{Front, LogEntry, Naming, NewHistory, Seat};
+use ev_book::{Front, LogEntry, Naming, NewHistory, Seat};
 use logbook::Opening;
 use std::sync::Wait;
 
@@ -23,7 +23,7 @@ struct Begin;
 
 impl<'a, I: Drop, O: Drop> Opening<Beginning<'a, I, O>, LogEntry> for Begin {
     ghost use Rattle.std.specs.Prelude.{◌∷◌, []};
-    ghost use Rattle.ev_history.specs.declared.log_entry.LogEntry.TheVariants.{Begins};
+    ghost use Rattle.ev_book.specs.declared.log_entry.LogEntry.TheVariants.{Begins};
     ghost use Rattle.ev_peers.specs.History.{configs_of};
 
     ghost log = { λ count b. Begins b.outside (configs_of b.setups.now) ∷ [] };
@@ -40,7 +40,7 @@ pub fn new_history<I: Drop, O: Drop>(setups: &[Setup<I, O>], outside: bool) -> N
 }
 
 /// Returns a history with what this seat has seen, if there is a seat.
-#[tactic(auto, using(ev_history::proofs::Prefixes::prefix_self))]
+#[tactic(auto, using(ev_book::proofs::Prefixes::prefix_self))]
 fn with_seen<J: Naming>(all: Front<J>, seat: &Option<Seat<J>>) -> Front<J>
     ensures front { IsPrefix all result }
     ensures seat { IfSome seat.now (λ s. IsPrefix s.log result) }

@@ -8,7 +8,7 @@ use crate::edge_threads::{EdgeContext, edge_worker};
 use crate::gate::Gate;
 use crate::outlet::report_refused;
 use crate::run::{SeatedRan, Setup};
-use ev_history::{Naming, Seat};
+use ev_book::{Naming, Seat};
 use ev_links::{LinkIn, LinkOut, PromptOut};
 use std::marker::{Brand, Model};
 use std::sync::Wait;

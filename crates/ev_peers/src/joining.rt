@@ -6,7 +6,7 @@ ghost use Rattle.ev_peers.specs.Inner.History.{SeatedAs, AreSeated, seat_in};
 ghost use Rattle.ev_peers.specs.Inner.Handles.{IsHandle, AreHandles};
 
 use crate::run::{Handle, Ran, SeatedRan};
-use ev_history::{Naming, Seat};
+use ev_book::{Naming, Seat};
 use std::alloc::AllocError;
 use std::thread::Threads;
 

@@ -1,7 +1,7 @@
 //! Workers of an edge: each enters the events of its link or channel into the edge's book, and
 //! passes on the book's answers: frames to links, records to the other edges and alerts to the
 //! operator.
-#![tactic(auto, using(crate::proofs::PassingOn::says_none, crate::proofs::PassingOn::says_twice, ev_links::proofs::Behind::behind_none))]
+#![tactic(auto)]
 
 mod answering;
 mod edge_links;

@@ -1,5 +1,7 @@
 //! The outlet of an edge's workers: frames go to its links or their lines, records to the other
 //! edges, alerts and failures of links to the operator.
+#![tactic(auto, using(crate::proofs::PassingOn::says_none, crate::proofs::PassingOn::says_twice, ev_links::proofs::Behind::behind_none))]
+
 ghost use Rattle.std.specs.Prelude.{◌≡◌, ◌∷◌, [], Option, List, slice_get, option_copied, IfSome};
 ghost use Rattle.ev_peers.specs.Forwarding.{Parcel, parcel, first_parcel};
 ghost use Rattle.ev_peers.specs.Inner.Forwarding.{place_of};
@@ -9,11 +11,10 @@ ghost use Rattle.ev_peers.specs.Passing.{SaidOf, said_of, says, sends, has_room,
 
 use crate::shared_line::SharedLine;
 use ether_wire::Addr;
-use ev_history::{Naming, Told};
+use ev_book::{Naming, Told};
 use ev_links::PromptOut;
-use ev_mailboxes::{Peers, Posts, Response};
+use ev_mailboxes::{Alarm, DropReason, Peers, Posts, Reception, Response};
 use ev_mobility::Alert;
-use ev_notices::{Alarm, DropReason, Reception};
 use std::alloc::AllocError;
 use std::sync::Wait;
 

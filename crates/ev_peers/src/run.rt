@@ -1,7 +1,7 @@
 //! Edges that run beside each other, each on a thread, with a mailbox for each.
 ghost use Rattle.std.specs.Prelude.{◌≡◌, ◌+◌, ◌≤◌, ◌∷◌, [], length, map, reverse, vec_len, vec_capacity, IfOk};
 ghost use Rattle.ev_edge.specs.Config.{IsConfig};
-ghost use Rattle.ev_history.specs.declared.log_entry.LogEntry.TheVariants.{Begins};
+ghost use Rattle.ev_book.specs.declared.log_entry.LogEntry.TheVariants.{Begins};
 ghost use Rattle.ev_peers.specs.EdgeThreads.{setup_of, IsRanOf, AreRanFrom};
 ghost use Rattle.ev_peers.specs.History.{IsSeatOf, outcome_in, configs_of, IsHistoryOf};
 ghost use Rattle.ev_peers.specs.Inner.History.{AreSeatsOf, SeatedAs};
@@ -16,8 +16,8 @@ use crate::job::{Job, run_one};
 use crate::joining::join_edges;
 use crate::outlet::report_refused;
 use ether_wire::Addr;
+use ev_book::{Front, Naming, NewHistory, Outside, Seat, Told};
 use ev_edge::EdgeConfig;
-use ev_history::{Front, Naming, NewHistory, Outside, Seat, Told};
 use ev_links::{LinkIn, LinkOut, PromptOut};
 use ev_mailboxes::{Boards, Mailboxes, Running};
 use std::alloc::{AllocError, Global};
@@ -240,7 +240,7 @@ struct Ready<J: Naming, I: Drop, O: Drop> {
 
 impl<J: Naming, I: Drop, O: Drop> Model for Ready<J, I, O> {
     ghost use Rattle.std.specs.Prelude.{◌≡◌, ◌∷◌, [], List, vec_len, vec_capacity};
-    ghost use Rattle.ev_history.specs.declared.log_entry.LogEntry.TheVariants.{Begins};
+    ghost use Rattle.ev_book.specs.declared.log_entry.LogEntry.TheVariants.{Begins};
     ghost use Rattle.ev_peers.specs.EdgeThreads.{EdgeSetup};
     ghost use Rattle.ev_peers.specs.History.{configs_of};
     ghost use Rattle.ev_peers.specs.Inner.History.{AreSeatsOf};

@@ -1,20 +1,21 @@
 //! An edge as its workers share it: its book under a lock, and the gate that is called at each call
 //! of the book.
+#![tactic(auto, using(crate::proofs::PassingOn::says_none, crate::proofs::PassingOn::says_twice, ev_links::proofs::Behind::behind_none))]
+
 ghost use Rattle.std.specs.Prelude.{◌≡◌};
 ghost use Rattle.ev_book.specs.Entering.{answered, CallsBook};
-ghost use Rattle.ev_notices.specs.Alarm.{alert_of};
+ghost use Rattle.ev_mailboxes.specs.Alarm.{alert_of};
 ghost use Rattle.ev_edge.specs.declared.event.Event.TheVariants.{Announce};
-ghost use Rattle.ev_history.specs.Booking.{IsCovered};
+ghost use Rattle.ev_book.specs.Booking.{IsCovered};
 ghost use Rattle.ev_peers.specs.Passing.{Leaves, Asked, has_pending};
 ghost use Rattle.ev_peers.specs.Inner.Passing.{is_no_memory};
 
 use crate::gate::{Gate, Point};
 use ether_wire::Mac;
-use ev_book::{BookRefusal, Pass};
+use ev_book::{BookRefusal, LoggedBook, Naming, Pass, Placed, Told};
 use ev_edge::{Event, Reply};
-use ev_history::{LoggedBook, Naming, Placed, Told};
+use ev_mailboxes::alert_of;
 use ev_mobility::Alert;
-use ev_notices::alert_of;
 use std::sync::atomic::{AtomicBool, Ordering};
 use std::sync::{Mutex, Wait};
 

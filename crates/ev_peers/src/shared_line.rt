@@ -9,7 +9,7 @@ ghost use Rattle.ev_links.specs.Links.{packet};
 
 use ether_wire::Addr;
 use ev_links::{DirectLine, Flow, PromptOut};
-use ev_notices::LinkCounts;
+use ev_mailboxes::LinkCounts;
 use std::alloc::{AllocError, Global};
 use std::sync::{Condvar, Mutex, Wait};
 use std::time::{Clock, Instant};

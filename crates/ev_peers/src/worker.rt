@@ -1,9 +1,11 @@
 //! A worker of an edge, and how it handles one event.
+#![tactic(auto, using(crate::proofs::PassingOn::says_none, crate::proofs::PassingOn::says_twice, ev_links::proofs::Behind::behind_none))]
+
 ghost use Rattle.std.specs.Prelude.{◌≡◌, ◌≤◌, length};
 ghost use Rattle.ev_book.specs.Entering.{answered};
-ghost use Rattle.ev_history.specs.Booking.{IsCovered};
+ghost use Rattle.ev_book.specs.Booking.{IsCovered};
 ghost use Rattle.ev_links.specs.Coming.{behind};
-ghost use Rattle.ev_notices.specs.DropReason.{cause_of};
+ghost use Rattle.ev_mailboxes.specs.DropReason.{cause_of};
 ghost use Rattle.ev_peers.specs.Passing.{Leaves, Announces, AnnouncesIf, PassesOn, says, given_by, link_of, drops_of, alarms_of, signs_of};
 
 use crate::forwarding::{CarriedFrame, give_out};
@@ -11,10 +13,9 @@ use crate::gate::Gate;
 use crate::outlet::Outlet;
 use crate::shared_edge::SharedEdge;
 use ether_wire::{Mac, Vni};
-use ev_book::{BookRefusal, Pass};
+use ev_book::{BookRefusal, Naming, Pass, Placed, Told};
 use ev_edge::{Event, Reply};
-use ev_history::{Naming, Placed, Told};
-use ev_notices::{alarm_of, cause_of, is_second};
+use ev_mailboxes::{alarm_of, cause_of, is_second};
 use std::sync::Wait;
 
 /// The buffers of a worker for one event. Each event overwrites those of the event before.

@@ -1,6 +1,8 @@
 //! The workers of an edge: each handles the input of one link or channel, one thing at a time.
+#![tactic(auto, using(crate::proofs::PassingOn::says_none, crate::proofs::PassingOn::says_twice, ev_links::proofs::Behind::behind_none))]
+
 ghost use Rattle.std.specs.Prelude.{◌≡◌, ◌+◌, ◌^◌, ◌<◌, ◌≤◌, true, length, take, IfSome};
-ghost use Rattle.ev_history.specs.Booking.{is_own};
+ghost use Rattle.ev_book.specs.Booking.{is_own};
 ghost use Rattle.ev_links.specs.Links.{arrival, packet};
 ghost use Rattle.ev_peers.specs.declared.workers.Inlet.TheVariants.{Port, Tunnel, Clock};
 ghost use Rattle.ev_peers.specs.Working.{ended_of, IsEventOf, fitting, unwrapped, carried, standing, hearing, input_of, Handles, Turns, Changes, Becomes, Hears, Takes, Ends, PortEnds, PeerEnds};
@@ -16,11 +18,10 @@ use crate::packets::PacketsIn;
 use crate::shared_edge::Ended;
 use crate::worker::Worker;
 use ether_wire::{Addr, Vni};
+use ev_book::{Naming, Placed, Told};
 use ev_edge::Event;
-use ev_history::{Naming, Placed, Told};
 use ev_links::{LONGEST, LinkIn, LinkOut};
-use ev_mailboxes::{EdgeMessage, UpdatesIn};
-use ev_notices::{Input, Reception};
+use ev_mailboxes::{EdgeMessage, Input, Reception, UpdatesIn};
 use ev_tunnel::unwrap_datagram;
 use std::sync::Wait;
 

@@ -1,4 +1,6 @@
 //! The devices of a program: a reader and two writers.
+#![tactic(auto, using(ether_wire::proofs::Appending::with_text_twice, ether_wire::proofs::Appending::with_text_none))]
+
 ghost use Rattle.std.specs.Prelude.{◌≡◌, ◌+◌, ◌<◌, ◌^◌, ◌&&◌, if◌then◌else◌};
 ghost use Rattle.ether_wire.specs.Buffered.{buffered_end};
 ghost use Rattle.ev_report.specs.Ends.{devices, Finishes, Passes};

@@ -1,4 +1,6 @@
 //! Failed reads and writes, and the messages about them.
+#![tactic(auto, using(ether_wire::proofs::Appending::with_text_twice, ether_wire::proofs::Appending::with_text_none))]
+
 ghost use Rattle.std.specs.Prelude.{◌≡◌, ◌+◌, ◌<◌, ◌^◌};
 ghost use Rattle.ether_wire.specs.Ends.{IsOpen, Puts};
 ghost use Rattle.ev_report.specs.Failures.{failures_of, is_unread, is_unwritten, is_untold, text_if, failed_text, TellsFailed};

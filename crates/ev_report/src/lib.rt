@@ -1,6 +1,6 @@
 //! The report of a stream of update records, and the migration of old ones; with the ends, the
 //! whole input and the statuses that other programs share with them.
-#![tactic(auto, using(ether_wire::proofs::Appending::with_text_twice, ether_wire::proofs::Appending::with_text_none))]
+#![tactic(auto)]
 
 mod devices;
 mod ending;

@@ -1,5 +1,7 @@
 //! The migration of records of versions 1 and 2, in which the IP address is part of the content, to
 //! version 3, in which it is part of the key.
+#![tactic(auto, using(ether_wire::proofs::Appending::with_text_twice, ether_wire::proofs::Appending::with_text_none))]
+
 ghost use Rattle.std.specs.Prelude.{◌≡◌, ◌+◌, ◌<◌, ◌^◌, ◌||◌, true, false, drop, if◌then◌else◌, []};
 ghost use Rattle.ether_wire.specs.Ends.{IsOpen, Allows, Puts};
 ghost use Rattle.route_wire.specs.Order.{ip_version, ip_number, ip_cmp, ip_of, rank_of, sequence_of, label2_of};

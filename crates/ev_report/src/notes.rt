@@ -1,4 +1,6 @@
 //! The lines that tell what wasn't taken, and how a stream ended.
+#![tactic(auto, using(ether_wire::proofs::Appending::with_text_twice, ether_wire::proofs::Appending::with_text_none))]
+
 ghost use Rattle.ether_wire.specs.Ends.{IsOpen, Puts};
 ghost use Rattle.ev_report.specs.Notes.{line, refused_line, fault_line, truncated_line};
 

@@ -1,4 +1,6 @@
 //! The originators that a command line lists.
+#![tactic(auto, using(ether_wire::proofs::Appending::with_text_twice, ether_wire::proofs::Appending::with_text_none))]
+
 ghost use Rattle.std.specs.Prelude.{◌≡◌, ◌≤◌, ◌<◌, length, IfOk, eqb, [], Result};
 ghost use Rattle.std.specs.List.{IsDistinct};
 ghost use Rattle.ether_wire.specs.Ends.{IsOpen, Puts};

@@ -1,4 +1,6 @@
 //! The report of a stream of update records.
+#![tactic(auto, using(ether_wire::proofs::Appending::with_text_twice, ether_wire::proofs::Appending::with_text_none))]
+
 ghost use Rattle.std.specs.Prelude.{◌≡◌, ◌^◌, ◌||◌, not};
 ghost use Rattle.ether_wire.specs.Ends.{IsOpen, Allows};
 ghost use Rattle.route_join.specs.Table.{AreOriginators};

@@ -1,4 +1,6 @@
 //! The records of a stream, taken as its octets come.
+#![tactic(auto, using(ether_wire::proofs::Appending::with_text_twice, ether_wire::proofs::Appending::with_text_none))]
+
 ghost use Rattle.std.specs.Prelude.{◌≡◌, ◌+◌, ◌*◌, ◌<◌, ◌≤◌, ◌^◌, [], ◌∷◌, true, false, length, Ok, IfOk, ℕ};
 ghost use Rattle.ether_wire.specs.Ends.{IsOpen, Allows};
 ghost use Rattle.route_wire.specs.declared.stream.Whole.TheVariants.{Rest};

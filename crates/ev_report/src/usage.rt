@@ -1,4 +1,6 @@
 //! The messages about a program's arguments: a usage, a wrong list; and the use of a list.
+#![tactic(auto, using(ether_wire::proofs::Appending::with_text_twice, ether_wire::proofs::Appending::with_text_none))]
+
 ghost use Rattle.std.specs.Prelude.{◌≡◌, is_ok, if◌then◌else◌};
 ghost use Rattle.ether_wire.specs.Ends.{IsOpen};
 ghost use Rattle.ev_report.specs.Ends.{AreOpen};

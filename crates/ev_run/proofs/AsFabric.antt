@@ -4,11 +4,11 @@ use Rattle.std.proofs.Common.{Result, Ok, Err, arith}
 use Rattle.std.specs.Bool.{OnFalse}
 use Rattle.ev_edge.specs.declared.config.EdgeConfig.{EdgeConfig}
 use Rattle.ev_edge.specs.Edge.{Edge}
-use Rattle.ev_history.specs.declared.log_entry.LogEntry.{LogEntry}
-use Rattle.ev_history.specs.declared.log_entry.LogEntry.TheVariants.{Begins}
-use Rattle.ev_history.specs.Standing.{Stands, AllStand}
+use Rattle.ev_book.specs.declared.log_entry.LogEntry.{LogEntry}
+use Rattle.ev_book.specs.declared.log_entry.LogEntry.TheVariants.{Begins}
+use Rattle.ev_book.specs.Standing.{Stands, AllStand}
 use Rattle.ev_peers.specs.History.{RanStand, IsHistoryOf}
-use Rattle.ev_runs.proofs.Running.{history_runs}
+use Rattle.ev_sites.proofs.Running.{history_runs}
 use Rattle.ev_run.specs.RunEdges.{Ended, AllRan, RunsAsFabric}
 
 all_stand : (log : List LogEntry) (place : ℕ) (rans : List Ended) (edges : List Edge) → AllRan rans edges

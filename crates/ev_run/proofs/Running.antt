@@ -38,7 +38,7 @@ use Rattle.ev_run.specs.Inner.RunEdges.{EachConfig}
 use Rattle.ev_run.specs.RunEdges.{system_text, Ran}
 use Rattle.ev_run.specs.RunEdges.{link_failed, was_out_of_memory, all_lost, IsReadOut, ReadsOut, TellsEnded}
 use Rattle.ev_run.specs.Inner.RunEdges.{PutsRest, TellsRest}
-use Rattle.ev_notices.specs.Notices.{Told, lines_of}
+use Rattle.ev_mailboxes.specs.Notices.{Told, lines_of}
 use Rattle.ether_wire.proofs.Appending.{puts_behind}
 use Rattle.ev_run.specs.RunEdges.{start_text, IsStartError, Begins, RunsEdges}
 use Rattle.ev_run.specs.Needs.{threads_of}

@@ -10,8 +10,8 @@ use Rattle.ev_links.specs.declared.wire_out.WireOut.{WireOut}
 use Rattle.ev_peers.specs.EdgeThreads.{EdgeSetup}
 use Rattle.ev_peers.specs.History.{configs_of}
 use Rattle.ev_report.specs.Ends.{Devices}
-use Rattle.ev_runs.specs.Laws.{IsRunOf}
-use Rattle.ev_runs.proofs.Sound.{run_sound}
+use Rattle.ev_sites.specs.RunningEdges.{IsRunOf}
+use Rattle.ev_sites.proofs.Sound.{run_sound}
 use Rattle.ev_run.specs.LinkEnds.{LinkEnd}
 use Rattle.ev_run.specs.Links.{begun_of, AreSetupsOf}
 use Rattle.ev_run.specs.RunEdges.{AllRan, Ran}

@@ -6,7 +6,7 @@ use Rattle.ev_fabric.specs.Fabric.{fabric_of}
 use Rattle.ev_fabric.specs.Opening.{AreConfigs}
 use Rattle.ev_fabric.specs.Sound.{IsSound}
 use Rattle.ev_report.specs.Ends.{Devices}
-use Rattle.ev_runs.specs.Laws.{IsRunOf}
+use Rattle.ev_sites.specs.RunningEdges.{IsRunOf}
 use Rattle.ev_run.specs.LinkEnds.{LinkEnd}
 use Rattle.ev_run.specs.RunEdges.{AllRan, Ran}
 

@@ -12,12 +12,12 @@ use Rattle.ev_edge.specs.Edge.{Edge, table_of}
 use Rattle.ev_edge.specs.declared.config.EdgeConfig.{EdgeConfig}
 use Rattle.ev_peers.specs.EdgeThreads.{EdgeSetup, AreRanFrom}
 use Rattle.ev_peers.specs.History.{configs_of, IsHistoryOf}
-use Rattle.ev_runs.specs.Laws.{IsRunOf}
+use Rattle.ev_sites.specs.RunningEdges.{IsRunOf}
 use Rattle.ev_peers.specs.declared.edge_outcome.EdgeOutcome.{EdgeOutcome}
 use Rattle.ev_links.specs.DeviceName.{text_of}
 use Rattle.ev_links.specs.declared.device_name.DeviceName.{DeviceName}
 use Rattle.ev_links.specs.declared.wire_out.WireOut.{WireOut}
-use Rattle.ev_notices.specs.Notices.{Told, lines_of}
+use Rattle.ev_mailboxes.specs.Notices.{Told, lines_of}
 use Rattle.route_join.specs.Report.{report_of}
 use Rattle.ev_config.specs.declared.whole.Config.{Config}
 use Rattle.ev_config.specs.declared.endpoint.Endpoint.{Endpoint}

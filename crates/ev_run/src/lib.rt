@@ -1,5 +1,5 @@
 //! Edges that run over UDP sockets until an input ends, and their reports at the end.
-#![tactic(auto, using(ether_wire::proofs::Appending::with_text_twice, ether_wire::proofs::Appending::with_text_none))]
+#![tactic(auto)]
 
 mod begun;
 mod bound;

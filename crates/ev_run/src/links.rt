@@ -1,4 +1,6 @@
 //! The links of an edge over the sockets and devices of a run.
+#![tactic(auto, using(ether_wire::proofs::Appending::with_text_twice, ether_wire::proofs::Appending::with_text_none))]
+
 ghost use Rattle.std.specs.Prelude.{◌≡◌, ◌+◌, ◌≤◌, ◌++◌, ◌∷◌, [], map, vec_len, vec_capacity, IfOk};
 ghost use Rattle.ev_links.specs.Wire.{input_device};
 ghost use Rattle.ev_links.specs.WireOut.{destination_of, output_device};

@@ -6,10 +6,9 @@ ghost use Rattle.ev_run.specs.Inner.Lives.{has_said, is_kept_over};
 
 use crate::records::ServedEdges;
 use ether_wire::Addr;
+use ev_book::Naming;
 use ev_exchange::{Known, Life};
-use ev_history::Naming;
-use ev_mailboxes::Control;
-use ev_notices::Refused;
+use ev_mailboxes::{Control, Refused};
 use route_wire::Update;
 use std::alloc::Global;
 use std::sync::Wait;

@@ -1,7 +1,9 @@
 //! Edges that run under a name of their history. Each run picks the name.
+#![tactic(auto, using(ether_wire::proofs::Appending::with_text_twice, ether_wire::proofs::Appending::with_text_none))]
+
 ghost use Rattle.std.specs.Prelude.{◌≡◌, ◌∷◌, [], ◌^◌, length, vec_len, IfOk, OnErr};
 ghost use Rattle.ether_wire.specs.Ends.{IsOpen, Allows};
-ghost use Rattle.ev_history.specs.declared.log_entry.LogEntry.TheVariants.{Begins};
+ghost use Rattle.ev_book.specs.declared.log_entry.LogEntry.TheVariants.{Begins};
 ghost use Rattle.ev_peers.specs.EdgeThreads.{AreRanFrom};
 ghost use Rattle.ev_peers.specs.History.{configs_of, IsHistoryOf};
 ghost use Rattle.ev_run.specs.RunEdges.{ReadsOut};
@@ -11,8 +13,8 @@ use crate::bound::{Sockets, end_all_reads};
 use crate::clients::read_out;
 use crate::run::{Ready, RunContext, tell_meanwhile};
 use ether_wire::{Device, In, Out};
+use ev_book::{Naming, NewHistory};
 use ev_console::SystemDrops;
-use ev_history::{Naming, NewHistory};
 use ev_links::{Wire, WireOut};
 use ev_mailboxes::Boards;
 use ev_peers::{EdgeOutcome, Mailroom, OpenGate, PreparedEdges, run_all};

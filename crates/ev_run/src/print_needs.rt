@@ -1,5 +1,7 @@
 //! The texts about the resources that a run takes, and about the parts of a configuration that it
 //! can't use.
+#![tactic(auto, using(ether_wire::proofs::Appending::with_text_twice, ether_wire::proofs::Appending::with_text_none))]
+
 ghost use Rattle.ether_wire.specs.Ends.{IsOpen, Puts};
 ghost use Rattle.std.specs.Prelude.{◌++◌, [], if◌then◌else◌};
 ghost use Rattle.ev_run.specs.Needs.{threads_text, sockets_text, devices_text, memory_text, needs_text, clients_text, asked_text};

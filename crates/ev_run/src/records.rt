@@ -10,12 +10,11 @@ use crate::client_stream::ClientStream;
 use crate::lives::{OwnLives, PeerLives};
 use crate::watching::second_now;
 use ether_wire::{Addr, Buffered, Flushing, Reader, Writer};
+use ev_book::Naming;
 use ev_exchange::{
     Announcing, Due, EdgeTable, Entrance, Known, Sender, Sessions, StreamEnd, announce, receive,
 };
-use ev_history::Naming;
-use ev_mailboxes::{Control, Joined, Running};
-use ev_notices::Refused;
+use ev_mailboxes::{Control, Joined, Refused, Running};
 use route_wire::Update;
 use std::alloc::{AllocError, Global};
 use std::net::Shutdown;

@@ -1,5 +1,7 @@
 //! Edges that carry frames until the input ends: each at its address and UDP port 4789, its access
 //! ports at sockets of their own. Alerts for the operator are written meanwhile.
+#![tactic(auto, using(ether_wire::proofs::Appending::with_text_twice, ether_wire::proofs::Appending::with_text_none))]
+
 ghost use Rattle.std.specs.Prelude.{◌≡◌, ◌+◌, ◌-◌, ◌^◌, ◌||◌, min, not, nat_lt, is_some, false, length, map, reverse, vec_len, IfOk, OnOk, OnErr, MatchOption};
 ghost use Rattle.std.specs.List.{list_any};
 ghost use Rattle.ether_wire.specs.Ends.{IsOpen, Allows};
@@ -27,8 +29,7 @@ use ether_wire::{Device, In, Out};
 use ev_config::Config;
 use ev_edge::EdgeConfig;
 use ev_links::{Wire, WireOut};
-use ev_mailboxes::{Boards, NoticeBox};
-use ev_notices::notice_worker;
+use ev_mailboxes::{Boards, NoticeBox, notice_worker};
 use ev_peers::{EdgeOutcome, Setup, new_history};
 use ev_report::{Buffers, DEVICE, Devices, MEMORY, MOST_READS, status_of};
 use std::alloc::{AllocError, Global};

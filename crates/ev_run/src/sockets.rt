@@ -129,6 +129,7 @@ fn put_device<N: Out>(notes: &mut N, name: DeviceName) -> Result<(), Device>
 }
 
 /// Writes which device can't be used, and why.
+#[tactic(auto, using(ether_wire::proofs::Appending::with_text_twice))]
 pub(crate) fn put_no_device<N: Out>(
     notes: &mut N,
     name: DeviceName,

@@ -1,4 +1,6 @@
 //! The check before a run that the system starts as many threads as the run needs.
+#![tactic(auto, using(ether_wire::proofs::Appending::with_text_twice, ether_wire::proofs::Appending::with_text_none))]
+
 ghost use Rattle.std.specs.Prelude.{◌≡◌, ◌≤◌, true, false, IfErr, MatchOption};
 ghost use Rattle.ether_wire.specs.Ends.{IsOpen, Puts, with_text};
 ghost use Rattle.ev_run.specs.Needs.{threads_of};

@@ -1,9 +1,9 @@
 //! Watches the sessions with edges elsewhere. An edge whose session is down for too long is away at
 //! the edges of this process, until it has a session again.
 
+use ev_book::Naming;
 use ev_console::take_turn;
 use ev_exchange::Sessions;
-use ev_history::Naming;
 use ev_mailboxes::Running;
 use std::sync::{Mutex, Wait};
 use std::time::Clock;

@@ -1,4 +1,6 @@
 //! Checks the lines of a script without running them.
+#![tactic(auto, using(ether_wire::proofs::Appending::with_text_twice, ether_wire::proofs::Appending::with_text_none))]
+
 ghost use Rattle.std.specs.Prelude.{◌≡◌, ◌+◌, ◌<◌, ◌^◌, ◌&&◌, true};
 ghost use Rattle.ether_wire.specs.Ends.{IsOpen, Puts};
 ghost use Rattle.ev_report.specs.Ends.{Tells};

@@ -1,5 +1,5 @@
 //! Scripts: the language of a line, and the simulation that plays the lines on a fabric of edges.
-#![tactic(auto, using(ether_wire::proofs::Appending::with_text_twice, ether_wire::proofs::Appending::with_text_none))]
+#![tactic(auto)]
 
 mod checking;
 mod script;

@@ -15,7 +15,7 @@ use Rattle.route_join.specs.Taken.{taken_of}
 use Rattle.route_join.specs.Owner.{advert_in}
 use Rattle.mac_arena.specs.Learning.{Learning}
 use Rattle.rstp_run.specs.Events.{start}
-use Rattle.rstp_net.proofs.Ring.{two_ports}
+use Rattle.ev_sites.proofs.Ring.{two_ports}
 use Rattle.ev_claims.specs.Opening as routes
 use Rattle.ev_claims.specs.Pending.{marked}
 use Rattle.ev_claims.specs.Speaker.{Speaker, silent, is_ahead, is_spent, is_newest, is_returning, after_originating}

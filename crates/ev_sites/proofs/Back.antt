@@ -2,8 +2,8 @@
 use Rattle.std.proofs.Common.{◌≡◌, ◌≢◌, ℕ, zero, suc, ◌<◌, ◌≤◌, ◌⊎◌, inl, inr, Bool, true, false, eqb, List, [], ◌∷◌}
 use Rattle.std.proofs.Common.{length, refl, sym, ap, subst, ◌∙◌, arith}
 use Rattle.std.proofs.lemmas.Bool.{eq-eqb, eqb-true}
-use Rattle.rstp_net.specs.Network.{Spot, Network, IsNetwork, IsAtRest, PassesAt, Crosses, Travels, NoCircle}
-use Rattle.rstp_net.proofs.Ways.{spot_same}
+use Rattle.ev_sites.specs.Network.{Spot, Network, IsNetwork, IsAtRest, PassesAt, Crosses, Travels, NoCircle}
+use Rattle.ev_sites.proofs.Ways.{spot_same}
 
 -- two ports are equal, or not
 same_spot : (x y : Spot) → (x ≡ y) ⊎ (x ≢ y)

@@ -9,9 +9,9 @@ use Rattle.route_wire.specs.Fields.{Fields}
 use Rattle.rstp_state.specs.Selection.{selected_ports, selected_root, best_path}
 use Rattle.rstp_run.specs.Events.{RunsHappen}
 use Rattle.rstp_run.specs.Settled.{SettledByLists}
-use Rattle.rstp_net.specs.Network.{Spot, Network, IsBridgeAt, IsNetwork, IsAtRest, PassesAt}
-use Rattle.rstp_net.proofs.Ring.{root_bridge, second_bridge, third_bridge, AreRing, a_ring, network, at_rest, passing}
-use Rattle.rstp_net.proofs.Round.{ring_of}
+use Rattle.ev_sites.specs.Network.{Spot, Network, IsBridgeAt, IsNetwork, IsAtRest, PassesAt}
+use Rattle.ev_sites.proofs.Ring.{root_bridge, second_bridge, third_bridge, AreRing, a_ring, network, at_rest, passing}
+use Rattle.ev_sites.proofs.Round.{ring_of}
 use Rattle.ev_tunnel.specs.declared.decision.Decision.{Decision}
 use Rattle.ev_tunnel.specs.declared.decision.Source.TheVariants.{Port, Tunnel}
 use Rattle.ev_tunnel.specs.Decision.{open_ports, others_of, up_edges, remote_up}

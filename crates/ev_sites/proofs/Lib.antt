@@ -17,3 +17,12 @@ pub mod Anew
 pub mod Sendings
 pub mod Returned
 pub mod Stale
+pub mod Ways
+pub mod After
+pub mod Computing
+pub mod Histories
+pub mod Round
+pub mod Ring
+pub mod Later
+pub mod Running
+pub mod Sound

@@ -18,7 +18,7 @@ use Rattle.rstp_run.specs.Firings.{ComesByEvents}
 use Rattle.rstp_run.specs.RootPort.{Comes}
 use Rattle.rstp_run.specs.Rules.{Tree}
 use Rattle.rstp_run.specs.Settled.{IsReached}
-use Rattle.rstp_net.specs.Network.{IsBridgeAt, IsNetwork}
+use Rattle.ev_sites.specs.Network.{IsBridgeAt, IsNetwork}
 use Rattle.ev_mobility.specs.declared.alert.Alert.{Alert}
 use Rattle.ev_claims.specs.LocalRoutes.{vni_at, after_removal}
 use Rattle.ev_edge.specs.declared.arrival.Arrival.{Arrival}

@@ -11,7 +11,7 @@ use Rattle.mac_arena.specs.declared.station.Entry.{Entry}
 use Rattle.mac_arena.specs.Station.{station_cmp}
 use Rattle.rstp_run.specs.Events.{RunsHappen, start}
 use Rattle.rstp_run.specs.Settled.{SettledByLists}
-use Rattle.rstp_net.proofs.Ring.{two_ports}
+use Rattle.ev_sites.proofs.Ring.{two_ports}
 use Rattle.ev_edge.specs.declared.config.EdgeConfig.{EdgeConfig}
 use Rattle.ev_edge.specs.Edge.{Edge, address_of}
 use Rattle.ev_edge.specs.Steps.{alone}

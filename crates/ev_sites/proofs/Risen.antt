@@ -17,8 +17,8 @@ use Rattle.rstp_run.specs.declared.event.Event.TheVariants as tree_events
 use Rattle.rstp_run.specs.Events.{direct, start, sent_from, firings_at, Happens, RunsHappen, Passes, Learns, IsPort}
 use Rattle.rstp_run.specs.Rules.{Tree}
 use Rattle.rstp_run.specs.Settled.{SettledByLists}
-use Rattle.rstp_net.proofs.Histories.{AreSwept, runs, coming_up, swept-is}
-use Rattle.rstp_net.proofs.Ring.{settings_of, two_ports, root_bridge, root_settled}
+use Rattle.ev_sites.proofs.Histories.{AreSwept, runs, coming_up, swept-is}
+use Rattle.ev_sites.proofs.Ring.{settings_of, two_ports, root_bridge, root_settled}
 use Rattle.ev_tunnel.specs.declared.decision.Decision.{Decision}
 use Rattle.ev_tunnel.specs.declared.decision.Source.{Source}
 use Rattle.ev_tunnel.specs.declared.decision.Source.TheVariants.{Port}

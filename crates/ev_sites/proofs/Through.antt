@@ -5,8 +5,8 @@ use Rattle.std.proofs.lemmas.Option.{same_Some}
 use Rattle.ether_wire.specs.Ports.{IsPort, has_port}
 use Rattle.ev_tunnel.specs.declared.decision.Decision.{Decision}
 use Rattle.rstp_run.specs.Events.{Passes}
-use Rattle.rstp_net.specs.Network.{Spot, Network, IsBridgeAt, IsNetwork, IsAtRest, PassesAt, Crosses, Travels, NoCircle}
-use Rattle.rstp_net.specs.Network.{CanBeAtRest}
+use Rattle.ev_sites.specs.Network.{Spot, Network, IsBridgeAt, IsNetwork, IsAtRest, PassesAt, Crosses, Travels, NoCircle}
+use Rattle.ev_sites.specs.Network.{CanBeAtRest}
 use Rattle.ev_edge.specs.Edge.{Edge, address_of}
 use Rattle.ev_sites.specs.Sites.{Site, IsSiteAt, AreAtRest, Point, IsEdgeOf, DecidesAt, Leaves, ByTunnel, Hops, Goes}
 use Rattle.ev_sites.specs.Sites.{SitesCanBeAtRest}

@@ -50,7 +50,7 @@ use Rattle.ev_fabric.proofs.Example.{nobody_learnt}
 use Rattle.ev_fabric.proofs.StationRounds.{beside_runs}
 use Rattle.ev_sites.specs.Witnesses.{HasRun, IsPendingOf, Delivers, InTraffic, MoveInTraffic, all_steps}
 use Rattle.rstp_run.specs.Events.{start}
-use Rattle.rstp_net.proofs.Ring.{two_ports, root_bridge}
+use Rattle.ev_sites.proofs.Ring.{two_ports, root_bridge}
 use Rattle.ev_sites.proofs.Tables.{Said, table_with, looked_up, found}
 use Rattle.ev_sites.proofs.Guest.{guest, here, there, flood_register, guest_register, said_first, said_guest, said_gone}
 use Rattle.ev_sites.proofs.Guest.{speaker_with, routes_with, keeps, withdraws}

@@ -20,7 +20,7 @@ use Rattle.mac_arena.proofs.Entries.{station_total}
 use Rattle.ev_mobility.specs.declared.alert.Alert.TheVariants.{StaticElsewhere, CounterSpent, TableFull}
 use Rattle.ev_mobility.specs.declared.seq.Seq.TheVariants.{Next}
 use Rattle.rstp_run.specs.Rules.{Tree}
-use Rattle.rstp_net.proofs.Ring.{root_bridge}
+use Rattle.ev_sites.proofs.Ring.{root_bridge}
 use Rattle.ev_claims.specs.Pending.{marked}
 use Rattle.ev_claims.specs.Speaker.{announced_of, is_at}
 use Rattle.ev_claims.specs.LocalRoutes.{LocalRoutes, key_of, fixed, after_take, after_losing_at, after_removal}

@@ -4,7 +4,7 @@ use Rattle.std.specs.Prelude.{◌≡◌, ◌≢◌, ℕ, ◌<◌, ◌^◌, Some,
 use Rattle.rstp_run.specs.RootPort.{CanBe}
 use Rattle.rstp_run.specs.Rules.{Tree}
 use Rattle.rstp_run.specs.Settled.{IsReached}
-use Rattle.rstp_net.specs.Network.{IsBridgeAt, IsAtRest}
+use Rattle.ev_sites.specs.Network.{IsBridgeAt, IsAtRest}
 use Rattle.ev_edge.specs.declared.config.EdgeConfig.{EdgeConfig}
 use Rattle.ev_edge.specs.Config.{settings_of}
 use Rattle.ev_edge.specs.Edge.{Edge}

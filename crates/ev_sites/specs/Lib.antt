@@ -3,3 +3,7 @@ pub mod Fabrics
 pub mod Settled
 pub mod Sessions
 pub mod Witnesses
+pub mod After
+pub mod Network
+pub mod Inner
+pub mod RunningEdges

@@ -2,7 +2,7 @@
 use Rattle.std.specs.Prelude.{◌≡◌, ◌≢◌, ◌⊎◌, ℕ, ◌+◌, true, Some, Result, List, [], ◌∷◌, Contains, slice_get}
 use Rattle.ether_wire.specs.Ports.{IsPort, has_port}
 use Rattle.ev_tunnel.specs.declared.decision.Decision.{Decision}
-use Rattle.rstp_net.specs.Network.{Spot, Network, IsBridgeAt, IsNetwork, IsAtRest, PassesAt, Crosses, Travels}
+use Rattle.ev_sites.specs.Network.{Spot, Network, IsBridgeAt, IsNetwork, IsAtRest, PassesAt, Crosses, Travels}
 use Rattle.ev_edge.specs.declared.refusal.Refusal.{Refusal}
 use Rattle.ev_edge.specs.declared.reply.Reply.{Reply}
 use Rattle.ev_edge.specs.Arrival.{frame_arrival, tunnel_arrival}

@@ -7,7 +7,7 @@ ghost use Rattle.ev_sites.specs.Sites.{
   SitesCanBeAtRest,
 };
 
-use rstp_net::{can_be_at_rest, no_circle};
+use crate::{can_be_at_rest, no_circle};
 
 /// States that, in a network at rest, a frame that a bridge sent onto a segment never comes in at
 /// that bridge again.

@@ -1,4 +1,6 @@
 //! The line of an edge: its number and address, its ports and networks.
+#![tactic(auto, using(ether_wire::proofs::Appending::with_text_twice, ether_wire::proofs::Appending::with_text_none))]
+
 ghost use Rattle.std.specs.Prelude.{◌≡◌};
 ghost use Rattle.ether_wire.specs.Ends.{IsOpen, Puts};
 ghost use Rattle.ev_view.specs.EdgeViews.{comma, port_words, network_words, each_from, served_text, edge_words, edge_line};

@@ -1,6 +1,6 @@
 //! The answers to queries of one edge: its line, the owner of a station with the reasons, its
 //! counts, the stations that it has learnt, the other edges that it lists.
-#![tactic(auto, using(ether_wire::proofs::Appending::with_text_twice, ether_wire::proofs::Appending::with_text_none))]
+#![tactic(auto)]
 
 mod counts;
 mod edge_line;

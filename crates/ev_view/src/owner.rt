@@ -1,4 +1,6 @@
 //! The owner of a station in an edge's table, and why.
+#![tactic(auto, using(ether_wire::proofs::Appending::with_text_twice, ether_wire::proofs::Appending::with_text_none))]
+
 ghost use Rattle.std.specs.Prelude.{◌≡◌, [], None};
 ghost use Rattle.route_join.specs.Updates.{updates_of};
 ghost use Rattle.ether_wire.specs.Ends.{IsOpen, Puts};

@@ -1,4 +1,6 @@
 //! A writer over memory that grows.
+#![tactic(auto, using(ether_wire::proofs::Appending::with_text_twice, ether_wire::proofs::Appending::with_text_none))]
+
 ghost use Rattle.std.specs.Prelude.{◌≡◌, [], Some};
 ghost use Rattle.ether_wire.specs.Ends.{end_of};
 ghost use Rattle.ev_view.specs.Inner.Sheet.{sheet_end};

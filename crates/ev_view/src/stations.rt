@@ -1,4 +1,6 @@
 //! The stations that an edge has learnt or frozen.
+#![tactic(auto, using(ether_wire::proofs::Appending::with_text_twice, ether_wire::proofs::Appending::with_text_none))]
+
 ghost use Rattle.std.specs.Prelude.{◌≡◌};
 ghost use Rattle.ether_wire.specs.Ends.{IsOpen, Puts};
 ghost use Rattle.ev_view.specs.Stations.{is_own, bare_station, own_station, is_of, age_words};

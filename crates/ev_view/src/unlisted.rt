@@ -1,4 +1,6 @@
 //! The edges elsewhere that the configuration doesn't name, after the answer of an edge.
+#![tactic(auto, using(ether_wire::proofs::Appending::with_text_twice, ether_wire::proofs::Appending::with_text_none))]
+
 ghost use Rattle.std.specs.Prelude.{◌≡◌, ◌++◌, IfOk};
 ghost use Rattle.ether_wire.specs.Ends.{IsOpen, Puts};
 ghost use Rattle.ev_view.specs.Peers.{unlisted_line, unlisted_lines, more_line, full_text, unlisted_text, text_after};

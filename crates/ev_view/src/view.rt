@@ -1,4 +1,6 @@
 //! The answer to a query of one edge. It takes no memory and reads only this edge.
+#![tactic(auto, using(ether_wire::proofs::Appending::with_text_twice, ether_wire::proofs::Appending::with_text_none))]
+
 ghost use Rattle.std.specs.Prelude.{◌≡◌, IfOk};
 ghost use Rattle.ether_wire.specs.Ends.{IsOpen, Puts};
 ghost use Rattle.ev_view.specs.EdgeViews.{edge_view_text};

@@ -2,3 +2,4 @@ pub mod Filed
 pub mod Telling
 pub mod Versions
 pub mod Scripted
+pub mod Given

@@ -7,7 +7,7 @@ use Rattle.ether_wire.proofs.Appending.{with_text_twice}
 use Rattle.clap.specs.Words.{IsAmong, fault_of}
 use Rattle.clap.specs.Kinds.{Kinds}
 use Rattle.clap.specs.declared.error.kind.ErrorKind.{ErrorKind}
-use Rattle.ev_words.specs.Args.{program}
+use Rattle.evpnd.specs.Args.{program}
 use Rattle.ev_config.specs.declared.whole.Use.{Use}
 use Rattle.ev_config.specs.Told.{AreFaultLines}
 use Rattle.ev_report.specs.Originators.{Text}

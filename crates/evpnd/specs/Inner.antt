@@ -1,3 +1,4 @@
+pub mod Args
 pub mod Checks
 pub mod Configured
 pub mod Files

@@ -8,3 +8,4 @@ pub mod Used
 pub mod Version
 pub mod Scripts
 pub mod Inner
+pub mod Args

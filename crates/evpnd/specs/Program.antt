@@ -3,14 +3,14 @@ use Rattle.std.specs.Prelude.{◌≡◌, ◌≢◌, ℕ, ◌+◌, ◌⊎◌, Boo
 use Rattle.clap.specs.Words.{fault_of}
 use Rattle.evpnd.specs.declared.program.Argv.{Argv}
 use Rattle.evpnd.specs.declared.program.Argv.TheVariants.{Words, NotText, NoMemory}
-use Rattle.ev_words.specs.declared.subcommand.Subcommand.{Subcommand}
-use Rattle.ev_words.specs.declared.subcommand.Subcommand.TheVariants.{Report, Migrate, Check, Simulate, Play}
-use Rattle.ev_words.specs.declared.subcommand.Subcommand.TheVariants.{Run, Serve, Version}
-use Rattle.ev_words.specs.declared.subcommand.Aim.{Aim}
-use Rattle.ev_words.specs.declared.subcommand.Aim.TheVariants as aim
+use Rattle.evpnd.specs.declared.subcommand.Subcommand.{Subcommand}
+use Rattle.evpnd.specs.declared.subcommand.Subcommand.TheVariants.{Report, Migrate, Check, Simulate, Play}
+use Rattle.evpnd.specs.declared.subcommand.Subcommand.TheVariants.{Run, Serve, Version}
+use Rattle.evpnd.specs.declared.subcommand.Aim.{Aim}
+use Rattle.evpnd.specs.declared.subcommand.Aim.TheVariants as aim
 use Rattle.ev_config.specs.declared.whole.Use.{Use}
 use Rattle.ev_config.specs.declared.whole.Use.TheVariants as used
-use Rattle.ev_words.specs.Args.{Parts, program, Spells}
+use Rattle.evpnd.specs.Args.{Parts, program, Spells}
 use Rattle.ev_script.specs.declared.script.mode.Mode.TheVariants as mode
 use Rattle.ev_report.specs.Originators.{Text}
 use Rattle.ev_report.specs.Usage.{TellsUsage, OfList}

@@ -1,4 +1,6 @@
 //! `evpnd check`: checks whether a configuration is valid.
+#![tactic(auto, using(ether_wire::proofs::Appending::with_text_twice, ether_wire::proofs::Appending::with_text_none, crate::proofs::Telling::sums_put))]
+
 ghost use Rattle.std.specs.Prelude.{◌≡◌, is_ok, if◌then◌else◌, option_map};
 ghost use Rattle.ether_wire.specs.Ends.{Source, IsOpen, Puts};
 ghost use Rattle.ev_report.specs.Ends.{devices};

@@ -1,4 +1,6 @@
 //! The configuration in a file, and the message if there is none.
+#![tactic(auto, using(ether_wire::proofs::Appending::with_text_twice, ether_wire::proofs::Appending::with_text_none))]
+
 ghost use Rattle.std.specs.Prelude.{◌++◌, IfOk};
 ghost use Rattle.ether_wire.specs.Ends.{End, Source, IsOpen, Puts};
 ghost use Rattle.ev_config.specs.Config.{ConfigOf, ServedOf};

@@ -1,8 +1,9 @@
 //! EVPN edge bridges: the program.
-#![tactic(auto, using(ether_wire::proofs::Appending::with_text_twice, ether_wire::proofs::Appending::with_text_none, crate::proofs::Telling::sums_put))]
+#![tactic(auto)]
 
 ghost use Rattle.ether_wire.specs.Ends.{IsOpen};
 
+mod args;
 mod check;
 mod check_script;
 mod configured;
@@ -15,8 +16,10 @@ mod seen;
 mod serve_file;
 mod simulate;
 mod streams;
+mod subcommand;
 mod version;
 
+use crate::args::ClapParser;
 use crate::files::SystemFiles;
 use crate::host::{Descriptors, Host};
 use crate::program::{Argv, run};
@@ -24,7 +27,6 @@ use crate::streams::{Stream, first_closed};
 use ether_wire::{Device, Out, Reader, Writer, put_decimal};
 use ev_report::{DEVICE, Devices, MEMORY};
 use ev_run::ProcessLimits;
-use ev_words::ClapParser;
 use std::os::fd::AsFd;
 use std::os::unix::fs::MetadataExt;
 use std::process::ExitCode;

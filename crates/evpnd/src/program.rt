@@ -1,9 +1,12 @@
 //! A run of the program: from its arguments, over its devices, to its status.
+#![tactic(auto, using(ether_wire::proofs::Appending::with_text_twice, ether_wire::proofs::Appending::with_text_none))]
+
 ghost use Rattle.std.specs.Prelude.{◌≡◌, ◌≢◌, ◌+◌, ◌<◌, ◌^◌, map, string_bytes, [], is_ok, if◌then◌else◌, option_map};
 ghost use Rattle.ether_wire.specs.Ends.{IsOpen};
 ghost use Rattle.clap.specs.Words.{fault_of};
 ghost use Rattle.ev_report.specs.Ends.{AreOpen};
-ghost use Rattle.ev_words.specs.Args.{program, parts_of};
+ghost use Rattle.evpnd.specs.Args.{program};
+ghost use Rattle.evpnd.specs.Inner.Args.{parts_of};
 ghost use Rattle.evpnd.specs.Files.{HasRoom};
 ghost use Rattle.evpnd.specs.Checks.{desk};
 ghost use Rattle.evpnd.specs.Scripts.{ChecksAll};
@@ -12,6 +15,7 @@ ghost use Rattle.ev_report.specs.Failures.{failures_of};
 ghost use Rattle.evpnd.specs.Program.{world, use_of, policy_of, purpose_of, not_text, RunsOpen, FollowsAs, Follows, FollowsTelling, RunsWords, RunsProgram};
 ghost use Rattle.evpnd.specs.Inner.Program.{TellsFault};
 
+use crate::args::{ArgsError, Invocation, Parser, invocation_of};
 use crate::check::{CheckTarget, Purpose, check_all};
 use crate::files::Files;
 use crate::host::{Descriptors, Host};
@@ -20,6 +24,7 @@ use crate::run_file::run_file;
 use crate::serve_file::serve_file;
 use crate::simulate::simulate;
 use crate::streams::tell_closed;
+use crate::subcommand::{Aim, Subcommand};
 use crate::version::version;
 use clap::Error;
 use ether_wire::{In, Out};
@@ -27,7 +32,6 @@ use ev_config::Use;
 use ev_report::{Devices, Failures, MEMORY, tell, tell_failed, tell_words};
 use ev_run::{ThreadPolicy, UdpTable};
 use ev_script::Mode;
-use ev_words::{Aim, ArgsError, Invocation, Parser, Subcommand, invocation_of};
 use std::alloc::Global;
 use std::fs::Files as SocketFiles;
 use std::net::Net;

@@ -1,4 +1,6 @@
 //! The subcommands on a stream of records, and the message if the stream is text.
+#![tactic(auto, using(ether_wire::proofs::Appending::with_text_twice, ether_wire::proofs::Appending::with_text_none))]
+
 ghost use Rattle.std.specs.Prelude.{◌≡◌, ◌+◌, ◌<◌, ◌^◌, ◌&&◌, ◌==◌, not, nat_lt, is_ok, if◌then◌else◌};
 ghost use Rattle.ev_report.specs.Ends.{AreOpen, devices};
 ghost use Rattle.ev_report.specs.Usage.{OfList};

@@ -1,4 +1,6 @@
 //! The standard streams, and the message for one that is closed when the program begins.
+#![tactic(auto, using(ether_wire::proofs::Appending::with_text_twice, ether_wire::proofs::Appending::with_text_none))]
+
 ghost use Rattle.std.specs.Prelude.{◌≡◌};
 ghost use Rattle.ether_wire.specs.Ends.{IsOpen, Puts};
 ghost use Rattle.ev_report.specs.Ends.{AreOpen};

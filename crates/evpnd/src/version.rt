@@ -1,4 +1,6 @@
 //! `evpnd version`.
+#![tactic(auto, using(ether_wire::proofs::Appending::with_text_twice, ether_wire::proofs::Appending::with_text_none))]
+
 ghost use Rattle.ev_report.specs.Ends.{AreOpen};
 ghost use Rattle.evpnd.specs.Version.{TellsVersion};
 

@@ -10,8 +10,8 @@ use Rattle.rstp_state.specs.declared.start.Settings.{Settings}
 use Rattle.rstp_state.specs.declared.port.Topology.TheVariants as topology
 use Rattle.rstp_state.specs.Port.{is_root}
 use Rattle.rstp_state.specs.Selection.{with_choice}
-use Rattle.rstp_machines.specs.Information as info
-use Rattle.rstp_machines.specs.TopologyChange.{notified_at}
+use Rattle.rstp_run.specs.Information as info
+use Rattle.rstp_run.specs.TopologyChange.{notified_at}
 use Rattle.rstp_roles.specs.Rules.{state_does}
 use Rattle.rstp_roles.specs.declared.rule.StateRule.{StateRule}
 use Rattle.rstp_roles.specs.declared.rule.StateRule.TheVariants as state_rule

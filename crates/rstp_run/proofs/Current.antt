@@ -23,8 +23,8 @@ use Rattle.rstp_state.specs.Selection.{selected_root, updates_by, with_choice}
 use Rattle.rstp_state.specs.Start.{ports_from}
 use Rattle.rstp_state.specs.Vector.{is_less, same_times, same_vector}
 use Rattle.rstp_state.proofs.Paths.{least_is_best, least_of_candidates}
-use Rattle.rstp_machines.specs.Information.{handled, message_has, rst_has, with_change_flags, with_info_of}
-use Rattle.rstp_machines.specs.Information.{with_info_time, with_proposal, with_superior_flags}
+use Rattle.rstp_run.specs.Information.{handled, message_has, rst_has, with_change_flags, with_info_of}
+use Rattle.rstp_run.specs.Information.{with_info_time, with_proposal, with_superior_flags}
 use Rattle.rstp_run.specs.declared.event.Event.{Event}
 use Rattle.rstp_run.specs.declared.rule.InformationRule.{InformationRule}
 use Rattle.rstp_run.specs.declared.rule.InformationRule.TheVariants as information_rule

@@ -5,9 +5,9 @@ use Rattle.std.proofs.lemmas.Bool.{cases_Bool}
 use Rattle.rstp_state.specs.declared.port.PortState.{PortState}
 use Rattle.rstp_state.specs.Port.{is_current, is_designated, is_out, is_received, is_root}
 use Rattle.rstp_state.specs.Selection.{best_path, is_through}
-use Rattle.rstp_machines.specs.Class.{class_of}
-use Rattle.rstp_machines.specs.Information.{may_take}
-use Rattle.rstp_machines.specs.TopologyChange.{is_in_tree}
+use Rattle.rstp_run.specs.Class.{class_of}
+use Rattle.rstp_run.specs.Information.{may_take}
+use Rattle.rstp_run.specs.TopologyChange.{is_in_tree}
 use Rattle.rstp_run.specs.declared.rule.InformationRule.TheVariants as information_rule
 use Rattle.rstp_run.specs.declared.rule.ReceiveRule.TheVariants as receive_rule
 use Rattle.rstp_run.specs.declared.rule.Rule.{Rule}

@@ -15,7 +15,7 @@ use Rattle.rstp_roles.specs.declared.rule.RoleRule.{RoleRule}
 use Rattle.rstp_roles.specs.declared.rule.RoleRule.TheVariants as role_rule
 use Rattle.rstp_roles.specs.declared.rule.StateRule.{StateRule}
 use Rattle.rstp_roles.specs.declared.rule.StateRule.TheVariants as state_rule
-use Rattle.rstp_machines.specs.PortReceive as receiving
+use Rattle.rstp_run.specs.PortReceive as receiving
 use Rattle.rstp_run.specs.Machines.{migration_asks, migration_does}
 use Rattle.rstp_run.specs.declared.rule.MigrationRule.{MigrationRule}
 use Rattle.rstp_run.specs.declared.rule.MigrationRule.TheVariants as migration_rule

@@ -1,7 +1,7 @@
 -- Edge and NotEdge don't enable each other at a port that Discard has processed.
 use Rattle.std.proofs.Common.{◌≡◌, Bool, true, false, not, ◌&&◌, ◌||◌, ◌==◌, refl, arith}
 use Rattle.std.proofs.lemmas.Bool.{eqb-true, or_parts, not-false}
-use Rattle.rstp_machines.specs.BridgeDetection.{finds_no_bridge}
+use Rattle.rstp_run.specs.BridgeDetection.{finds_no_bridge}
 use Rattle.rstp_run.specs.Laws.{EdgeRests}
 
 -- if the port is down and finds no bridge, neither of the two rules enables the other

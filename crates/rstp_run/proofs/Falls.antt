@@ -13,8 +13,8 @@ use Rattle.rstp_roles.specs.declared.rule.RoleRule.{RoleRule}
 use Rattle.rstp_roles.specs.declared.rule.RoleRule.TheVariants as role_rule
 use Rattle.rstp_roles.specs.declared.rule.StateRule.{StateRule}
 use Rattle.rstp_roles.specs.declared.rule.StateRule.TheVariants as state_rule
-use Rattle.rstp_machines.specs.BridgeDetection as detection
-use Rattle.rstp_machines.specs.TopologyChange as change
+use Rattle.rstp_run.specs.BridgeDetection as detection
+use Rattle.rstp_run.specs.TopologyChange as change
 use Rattle.rstp_run.specs.declared.rule.Rule.{Rule}
 use Rattle.rstp_run.specs.declared.rule.Rule.TheVariants as rules
 use Rattle.rstp_run.specs.declared.rule.ReceiveRule.{ReceiveRule}

@@ -6,7 +6,7 @@ use Rattle.std.proofs.lemmas.Bool.{cases_Bool}
 use Rattle.std.proofs.lemmas.List.{length-map}
 use Rattle.rstp_state.specs.declared.port.PortState.{PortState}
 use Rattle.rstp_state.specs.Direct.{without_slot}
-use Rattle.rstp_machines.specs.Information as info
+use Rattle.rstp_run.specs.Information as info
 use Rattle.rstp_run.specs.declared.rule.Rule.{Rule}
 use Rattle.rstp_run.specs.declared.rule.Rule.TheVariants as rules
 use Rattle.rstp_run.specs.Events.{direct}

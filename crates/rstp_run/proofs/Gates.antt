@@ -9,8 +9,8 @@ use Rattle.rstp_state.specs.Port.{forward_delay, is_active, is_discarding, is_in
 use Rattle.rstp_roles.specs.RoleTransitions as roles
 use Rattle.rstp_roles.specs.declared.rule.RoleRule.TheVariants as role_rule
 use Rattle.rstp_roles.specs.declared.rule.StateRule.TheVariants as state_rule
-use Rattle.rstp_machines.specs.TopologyChange as changes
-use Rattle.rstp_machines.specs.TopologyChange.{with_change_timer}
+use Rattle.rstp_run.specs.TopologyChange as changes
+use Rattle.rstp_run.specs.TopologyChange.{with_change_timer}
 use Rattle.rstp_run.specs.declared.rule.DetectionRule.TheVariants as detection_rule
 use Rattle.rstp_run.specs.declared.rule.Rule.{Rule}
 use Rattle.rstp_run.specs.declared.rule.Rule.TheVariants as rules

@@ -6,7 +6,7 @@ use Rattle.rstp_state.specs.declared.port.Topology.{Topology}
 use Rattle.rstp_state.specs.Port.{is_active, is_discarding, is_inactive}
 use Rattle.rstp_roles.specs.declared.rule.RoleRule.{RoleRule}
 use Rattle.rstp_roles.specs.declared.rule.RoleRule.TheVariants as role_rule
-use Rattle.rstp_machines.specs.TopologyChange.{with_change_timer}
+use Rattle.rstp_run.specs.TopologyChange.{with_change_timer}
 use Rattle.rstp_run.specs.declared.rule.MigrationRule.TheVariants as migration_rule
 use Rattle.rstp_run.specs.declared.rule.ReceiveRule.TheVariants as receive_rule
 use Rattle.rstp_run.specs.declared.rule.Rule.{Rule}

@@ -32,7 +32,7 @@ use Rattle.rstp_run.specs.Inner.Rest.{role_is_busy, state_is_busy, topology_is_b
 use Rattle.rstp_run.specs.Rules.{Tree, asks, guard, wants_selection, timing_in}
 use Rattle.rstp_run.specs.Runs.{AreOffAt}
 use Rattle.rstp_run.specs.Inner.Runs.{rules_of}
-use Rattle.rstp_machines.specs.Transmit.{is_ready}
+use Rattle.rstp_run.specs.Transmit.{is_ready}
 
 -- neither of two tests holds
 left : (x y : Bool) → (x || y) ≡ false → x ≡ false

@@ -11,10 +11,10 @@ use Rattle.rstp_state.specs.declared.port.Migration.TheVariants as migration
 use Rattle.rstp_state.specs.declared.port.PortState.{PortState}
 use Rattle.rstp_state.specs.declared.port.Timing.{Timing}
 use Rattle.rstp_state.specs.Port.{is_checking, is_current, is_out, is_received}
-use Rattle.rstp_machines.specs.BridgeDetection as detection
-use Rattle.rstp_machines.specs.Information as info
-use Rattle.rstp_machines.specs.PortReceive as receiving
-use Rattle.rstp_machines.specs.Transmit as sends
+use Rattle.rstp_run.specs.BridgeDetection as detection
+use Rattle.rstp_run.specs.Information as info
+use Rattle.rstp_run.specs.PortReceive as receiving
+use Rattle.rstp_run.specs.Transmit as sends
 use Rattle.rstp_run.specs.Machines.{information_asks, information_does, migration_asks, migration_does}
 use Rattle.rstp_run.specs.declared.rule.InformationRule.{InformationRule}
 use Rattle.rstp_run.specs.declared.rule.InformationRule.TheVariants as information_rule

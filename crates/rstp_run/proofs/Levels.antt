@@ -8,9 +8,9 @@ use Rattle.bpdu_wire.specs.declared.bpdu.Bpdu.TheVariants.{Config, Rst, Tcn}
 use Rattle.rstp_state.specs.declared.port.Information.{Information}
 use Rattle.rstp_state.specs.declared.port.PortState.{PortState}
 use Rattle.rstp_state.specs.Port.{is_current, is_out, is_received}
-use Rattle.rstp_machines.specs.Class.{class_of}
-use Rattle.rstp_machines.specs.Information as info
-use Rattle.rstp_machines.specs.PortReceive.{discard_guard, discard_effect, receive_guard, receive_effect}
+use Rattle.rstp_run.specs.Class.{class_of}
+use Rattle.rstp_run.specs.Information as info
+use Rattle.rstp_run.specs.PortReceive.{discard_guard, discard_effect, receive_guard, receive_effect}
 use Rattle.rstp_run.specs.declared.rule.InformationRule.{InformationRule}
 use Rattle.rstp_run.specs.declared.rule.InformationRule.TheVariants as information_rule
 use Rattle.rstp_run.specs.Machines.{information_asks}

@@ -7,9 +7,9 @@ use Rattle.rstp_state.specs.declared.port.Timing.{Timing}
 use Rattle.rstp_state.specs.declared.port.Topology.{Topology}
 use Rattle.rstp_state.specs.declared.port.Topology.TheVariants as topology
 use Rattle.rstp_state.specs.Port.{is_active, is_designated, is_inactive, is_learning, is_root}
-use Rattle.rstp_machines.specs.BridgeDetection as detection
-use Rattle.rstp_machines.specs.PortReceive as receiving
-use Rattle.rstp_machines.specs.TopologyChange as change
+use Rattle.rstp_run.specs.BridgeDetection as detection
+use Rattle.rstp_run.specs.PortReceive as receiving
+use Rattle.rstp_run.specs.TopologyChange as change
 use Rattle.rstp_run.proofs.Dues.{late}
 use Rattle.rstp_run.proofs.Heard.{timed}
 use Rattle.rstp_run.proofs.Inputs.{inputs, wait}

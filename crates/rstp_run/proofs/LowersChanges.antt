@@ -6,13 +6,13 @@ use Rattle.rstp_state.specs.declared.port.Timing.{Timing}
 use Rattle.rstp_state.specs.declared.port.Topology.{Topology}
 use Rattle.rstp_state.specs.declared.port.Topology.TheVariants as topology
 use Rattle.rstp_state.specs.Port.{is_inactive, is_learning, is_active}
-use Rattle.rstp_machines.specs.TopologyChange.{tc_learning_guard, tc_learning_effect, tc_clear_guard, tc_clear_effect}
-use Rattle.rstp_machines.specs.TopologyChange.{tc_inactive_guard, tc_inactive_effect, tc_back_guard, tc_back_effect}
-use Rattle.rstp_machines.specs.TopologyChange.{propagating_guard, propagating_effect, acknowledged_guard}
-use Rattle.rstp_machines.specs.TopologyChange.{acknowledged_effect, flush_guard, flush_effect}
-use Rattle.rstp_machines.specs.TopologyChange.{detected_guard, detected_at, notified_at, notified_tcn_at, is_in_tree}
-use Rattle.rstp_machines.specs.TopologyChange.{notified_tcn_guard, notified_tc_guard, with_change_timer}
-use Rattle.rstp_machines.specs.TopologyChange.{with_propagation}
+use Rattle.rstp_run.specs.TopologyChange.{tc_learning_guard, tc_learning_effect, tc_clear_guard, tc_clear_effect}
+use Rattle.rstp_run.specs.TopologyChange.{tc_inactive_guard, tc_inactive_effect, tc_back_guard, tc_back_effect}
+use Rattle.rstp_run.specs.TopologyChange.{propagating_guard, propagating_effect, acknowledged_guard}
+use Rattle.rstp_run.specs.TopologyChange.{acknowledged_effect, flush_guard, flush_effect}
+use Rattle.rstp_run.specs.TopologyChange.{detected_guard, detected_at, notified_at, notified_tcn_at, is_in_tree}
+use Rattle.rstp_run.specs.TopologyChange.{notified_tcn_guard, notified_tc_guard, with_change_timer}
+use Rattle.rstp_run.specs.TopologyChange.{with_propagation}
 use Rattle.rstp_roles.specs.StateTransitions.{to_learning_guard, to_learning_effect, to_forwarding_guard}
 use Rattle.rstp_roles.specs.StateTransitions.{to_forwarding_effect, to_discarding_guard, to_discarding_effect}
 use Rattle.rstp_run.proofs.Totals.{if_so, if_so-le}

@@ -10,7 +10,7 @@ use Rattle.rstp_state.specs.declared.vector.Vector.{Vector}
 use Rattle.rstp_state.specs.declared.vector.Times.{Times}
 use Rattle.rstp_state.specs.Port.{is_out, is_received}
 use Rattle.rstp_state.specs.Vector.{vector_of, times_of}
-use Rattle.rstp_machines.specs.Information as info
+use Rattle.rstp_run.specs.Information as info
 use Rattle.rstp_run.proofs.Totals.{if_so-le}
 use Rattle.rstp_run.proofs.Measure.{selecting}
 use Rattle.rstp_run.proofs.Basics.{current_not_out, if-is as pick}

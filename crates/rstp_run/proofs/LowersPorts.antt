@@ -10,12 +10,12 @@ use Rattle.rstp_state.specs.declared.port.Information.{Information}
 use Rattle.rstp_state.specs.declared.port.Migration.{Migration}
 use Rattle.rstp_state.specs.declared.port.Timing.{Timing}
 use Rattle.rstp_state.specs.Port.{is_checking, is_selecting, is_sensing, is_out}
-use Rattle.rstp_machines.specs.PortReceive.{discard_guard, discard_effect, receive_guard, receive_effect, is_rst}
-use Rattle.rstp_machines.specs.Migration as moves
-use Rattle.rstp_machines.specs.BridgeDetection.{edge_guard, edge_effect, not_edge_guard, not_edge_effect}
-use Rattle.rstp_machines.specs.BridgeDetection.{finds_no_bridge}
-use Rattle.rstp_machines.specs.Information as info
-use Rattle.rstp_machines.specs.Transmit as sends
+use Rattle.rstp_run.specs.PortReceive.{discard_guard, discard_effect, receive_guard, receive_effect, is_rst}
+use Rattle.rstp_run.specs.Migration as moves
+use Rattle.rstp_run.specs.BridgeDetection.{edge_guard, edge_effect, not_edge_guard, not_edge_effect}
+use Rattle.rstp_run.specs.BridgeDetection.{finds_no_bridge}
+use Rattle.rstp_run.specs.Information as info
+use Rattle.rstp_run.specs.Transmit as sends
 use Rattle.rstp_run.proofs.Totals.{if_so, if_so-le}
 use Rattle.rstp_run.proofs.Measure.{selecting, has_to_turn, migrating, may_turn_edge}
 use Rattle.rstp_run.proofs.Measure.{changing-le, going_on-le, waiting-le}

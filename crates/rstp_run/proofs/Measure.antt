@@ -11,7 +11,7 @@ use Rattle.rstp_state.specs.declared.port.Timing.{Timing}
 use Rattle.rstp_state.specs.declared.port.Topology.{Topology}
 use Rattle.rstp_state.specs.declared.port.Topology.TheVariants as topology
 use Rattle.rstp_state.specs.Port.{is_received, is_out, is_root, same_role, forward_delay}
-use Rattle.rstp_machines.specs.TopologyChange.{is_in_tree}
+use Rattle.rstp_run.specs.TopologyChange.{is_in_tree}
 use Rattle.rstp_run.proofs.Totals.{if_so}
 
 -- ---- the first level

@@ -36,9 +36,9 @@ use Rattle.rstp_run.specs.Laws.{IsOrderly, AreOrderly}
 use Rattle.rstp_run.specs.Machines.{information_does}
 use Rattle.rstp_run.specs.Rules.{Tree, asks, guard, ports_after, timing_in}
 use Rattle.rstp_run.specs.Runs.{Firing, Run}
-use Rattle.rstp_machines.specs.Information.{with_change_flags, with_info_of, with_proposal, with_superior_flags}
-use Rattle.rstp_machines.specs.Information.{message_has, rst_has}
-use Rattle.rstp_machines.specs.TopologyChange.{is_in_tree, with_change_timer}
+use Rattle.rstp_run.specs.Information.{with_change_flags, with_info_of, with_proposal, with_superior_flags}
+use Rattle.rstp_run.specs.Information.{message_has, rst_has}
+use Rattle.rstp_run.specs.TopologyChange.{is_in_tree, with_change_timer}
 use Rattle.rstp_run.proofs.Basics.{if-is}
 use Rattle.rstp_run.proofs.Own.{Nothing, Spread, after-at, own, own_role, own_topology, spread_by, spread_of}
 use Rattle.rstp_run.proofs.Places.{AtAll, at_change, at_map, at_selected}

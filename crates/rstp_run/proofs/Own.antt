@@ -10,8 +10,8 @@ use Rattle.rstp_roles.specs.RoleTransitions as roles
 use Rattle.rstp_roles.specs.Rules.{role_does, state_does}
 use Rattle.rstp_roles.specs.declared.rule.RoleRule.{RoleRule}
 use Rattle.rstp_roles.specs.declared.rule.RoleRule.TheVariants as role_rule
-use Rattle.rstp_machines.specs.TopologyChange as changes
-use Rattle.rstp_machines.specs.TopologyChange.{telling_others, with_propagation}
+use Rattle.rstp_run.specs.TopologyChange as changes
+use Rattle.rstp_run.specs.TopologyChange.{telling_others, with_propagation}
 use Rattle.rstp_run.specs.declared.rule.Rule.{Rule}
 use Rattle.rstp_run.specs.declared.rule.Rule.TheVariants as rules
 use Rattle.rstp_run.specs.declared.rule.TopologyRule.{TopologyRule}

@@ -7,10 +7,10 @@ use Rattle.bpdu_wire.specs.declared.bpdu.Bpdu.TheVariants.{Config, Rst, Tcn}
 use Rattle.rstp_state.specs.declared.port.PortState.{PortState}
 use Rattle.rstp_state.specs.declared.port.Timing.{Timing}
 use Rattle.rstp_state.specs.declared.port.Topology.TheVariants as topology
-use Rattle.rstp_machines.specs.BridgeDetection as detection
-use Rattle.rstp_machines.specs.Information as info
-use Rattle.rstp_machines.specs.PortReceive as receiving
-use Rattle.rstp_machines.specs.TopologyChange.{notified_at}
+use Rattle.rstp_run.specs.BridgeDetection as detection
+use Rattle.rstp_run.specs.Information as info
+use Rattle.rstp_run.specs.PortReceive as receiving
+use Rattle.rstp_run.specs.TopologyChange.{notified_at}
 use Rattle.rstp_run.specs.declared.rule.DetectionRule.TheVariants as detection_rule
 use Rattle.rstp_run.specs.declared.rule.InformationRule.{InformationRule}
 use Rattle.rstp_run.specs.declared.rule.InformationRule.TheVariants as information_rule

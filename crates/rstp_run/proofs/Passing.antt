@@ -7,7 +7,7 @@ use Rattle.rstp_run.specs.declared.rule.Rule.TheVariants.{State as InState}
 use Rattle.rstp_run.specs.Events.{Learns, Passes}
 use Rattle.rstp_run.specs.Laws.{AreOrderly, IsInTree, IsOrderly}
 use Rattle.rstp_run.specs.Rules.{Tree}
-use Rattle.rstp_machines.specs.TopologyChange.{is_in_tree}
+use Rattle.rstp_run.specs.TopologyChange.{is_in_tree}
 use Rattle.rstp_run.proofs.Orderly.{at_place}
 use Rattle.rstp_state.proofs.Basics.{and_right}
 

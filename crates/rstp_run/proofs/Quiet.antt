@@ -14,8 +14,8 @@ use Rattle.rstp_roles.specs.declared.rule.StateRule.{StateRule}
 use Rattle.rstp_roles.specs.declared.rule.StateRule.TheVariants as state_rule
 use Rattle.rstp_run.specs.Machines.{receive_asks, receive_does, migration_asks, migration_does, detection_asks}
 use Rattle.rstp_run.specs.Machines.{detection_does, topology_does, transmit_asks, transmit_does}
-use Rattle.rstp_machines.specs.TopologyChange.{with_change_timer, with_propagation, telling_others}
-use Rattle.rstp_machines.specs.TopologyChange as changes
+use Rattle.rstp_run.specs.TopologyChange.{with_change_timer, with_propagation, telling_others}
+use Rattle.rstp_run.specs.TopologyChange as changes
 use Rattle.rstp_run.specs.declared.rule.ReceiveRule.{ReceiveRule}
 use Rattle.rstp_run.specs.declared.rule.ReceiveRule.TheVariants as receive_rule
 use Rattle.rstp_run.specs.declared.rule.MigrationRule.{MigrationRule}

@@ -20,8 +20,8 @@ use Rattle.rstp_state.specs.Port.{change_at, is_current, is_designated, is_disab
 use Rattle.rstp_state.specs.Selection.{best_path, is_better, is_own, is_same, is_through, role_by, selected_ports}
 use Rattle.rstp_state.specs.Selection.{selected_root, updates_by, with_choice}
 use Rattle.rstp_state.specs.Start.{ports_from}
-use Rattle.rstp_machines.specs.Class.{class_of}
-use Rattle.rstp_machines.specs.Information as info
+use Rattle.rstp_run.specs.Class.{class_of}
+use Rattle.rstp_run.specs.Information as info
 use Rattle.rstp_run.specs.declared.event.Event.{Event}
 use Rattle.rstp_run.specs.declared.event.Event.TheVariants as events
 use Rattle.rstp_run.specs.declared.rule.InformationRule.{InformationRule}

@@ -8,7 +8,7 @@ use Rattle.std.specs.List.{list_any}
 use Rattle.rstp_state.specs.declared.port.PortState.{PortState}
 use Rattle.rstp_state.specs.Direct.{with_second, without_slot}
 use Rattle.rstp_state.specs.Port.{change_at, test_at}
-use Rattle.rstp_machines.specs.PortReceive.{discard_guard, discard_effect, receive_effect}
+use Rattle.rstp_run.specs.PortReceive.{discard_guard, discard_effect, receive_effect}
 use Rattle.rstp_run.specs.declared.event.Event.{Event}
 use Rattle.rstp_run.specs.declared.event.Event.TheVariants as events
 use Rattle.rstp_run.specs.declared.rule.Rule.{Rule}

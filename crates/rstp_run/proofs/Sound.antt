@@ -9,8 +9,8 @@ use Rattle.rstp_state.specs.declared.port.InfoIs.TheVariants as info_is
 use Rattle.rstp_state.specs.Port.{is_out, is_current}
 use Rattle.rstp_run.specs.declared.rule.InformationRule.{InformationRule}
 use Rattle.rstp_run.specs.declared.rule.InformationRule.TheVariants as information_rule
-use Rattle.rstp_machines.specs.Information.{rst_has, message_has, with_info_of, with_superior_flags, with_change_flags}
-use Rattle.rstp_machines.specs.Information.{with_proposal}
+use Rattle.rstp_run.specs.Information.{rst_has, message_has, with_info_of, with_superior_flags, with_change_flags}
+use Rattle.rstp_run.specs.Information.{with_proposal}
 use Rattle.rstp_run.specs.Machines.{information_asks, information_does}
 use Rattle.rstp_run.proofs.Quiet.{IsQuiet, Known, answer_quiet, inferior_quiet, known_of}
 use Rattle.rstp_state.proofs.Basics.{and_left as left}

@@ -25,7 +25,7 @@ use Rattle.rstp_run.specs.declared.rule.TransmitRule.TheVariants as transmit_rul
 use Rattle.rstp_run.specs.Events.{start}
 use Rattle.rstp_run.specs.Rules.{asks, timing_in, wants_selection}
 use Rattle.rstp_run.specs.Runs.{IsSettled}
-use Rattle.rstp_machines.specs.Transmit.{may_send}
+use Rattle.rstp_run.specs.Transmit.{may_send}
 use Rattle.rstp_run.proofs.Orderly.{at_place}
 use Rattle.rstp_run.proofs.Basics.{not_zero}
 

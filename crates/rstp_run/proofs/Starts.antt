@@ -7,7 +7,7 @@ use Rattle.rstp_state.specs.declared.port.PortState.{PortState}
 use Rattle.rstp_state.specs.declared.port.Topology.{Topology}
 use Rattle.rstp_state.specs.Direct.{with_enabled, with_message, with_migration_check, with_second, without_slot}
 use Rattle.rstp_state.specs.Port.{change_at, is_active, is_inactive, is_learning, is_out}
-use Rattle.rstp_machines.specs.TopologyChange as change
+use Rattle.rstp_run.specs.TopologyChange as change
 use Rattle.rstp_run.specs.declared.event.Event.{Event}
 use Rattle.rstp_run.specs.declared.event.Event.TheVariants as events
 use Rattle.rstp_run.specs.declared.rule.InformationRule.TheVariants as information_rule

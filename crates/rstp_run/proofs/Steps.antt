@@ -15,7 +15,7 @@ use Rattle.rstp_run.specs.declared.rule.Rule.TheVariants.{Topology}
 use Rattle.rstp_roles.specs.declared.rule.RoleRule.TheVariants as role_rule
 use Rattle.rstp_run.specs.declared.rule.TopologyRule.TheVariants as topology_rule
 use Rattle.rstp_run.specs.declared.count.Count.{Count}
-use Rattle.rstp_machines.specs.TopologyChange.{telling_others, with_propagation}
+use Rattle.rstp_run.specs.TopologyChange.{telling_others, with_propagation}
 use Rattle.rstp_run.specs.Rules.{Tree, guard, after, ports_after}
 use Rattle.rstp_run.specs.Runs.{AreOffAt, Run, Firing, flushed, flush_after}
 use Rattle.rstp_run.specs.Sweep.{Going, Walk, tries}

@@ -12,11 +12,11 @@ use Rattle.rstp_roles.specs.declared.rule.RoleRule.{RoleRule}
 use Rattle.rstp_roles.specs.declared.rule.RoleRule.TheVariants as role_rule
 use Rattle.rstp_roles.specs.declared.rule.StateRule.{StateRule}
 use Rattle.rstp_roles.specs.declared.rule.StateRule.TheVariants as state_rule
-use Rattle.rstp_machines.specs.BridgeDetection as detection
-use Rattle.rstp_machines.specs.PortReceive as receiving
-use Rattle.rstp_machines.specs.TopologyChange as change
-use Rattle.rstp_machines.specs.TopologyChange.{telling_others, with_propagation}
-use Rattle.rstp_machines.specs.Transmit as sends
+use Rattle.rstp_run.specs.BridgeDetection as detection
+use Rattle.rstp_run.specs.PortReceive as receiving
+use Rattle.rstp_run.specs.TopologyChange as change
+use Rattle.rstp_run.specs.TopologyChange.{telling_others, with_propagation}
+use Rattle.rstp_run.specs.Transmit as sends
 use Rattle.rstp_run.specs.declared.rule.DetectionRule.TheVariants as detection_rule
 use Rattle.rstp_run.specs.declared.rule.MigrationRule.{MigrationRule}
 use Rattle.rstp_run.specs.declared.rule.MigrationRule.TheVariants as migration_rule

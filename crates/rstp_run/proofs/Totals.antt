@@ -5,7 +5,7 @@ use Rattle.std.proofs.Common.{length, slice_get, slice_set, map, refl, ap, â—Œâˆ
 use Rattle.std.specs.List.{enumerate_from, list_any}
 use Rattle.rstp_state.specs.declared.port.PortState.{PortState}
 use Rattle.rstp_state.specs.Port.{change_at, test_at}
-use Rattle.rstp_machines.specs.TopologyChange.{telling_others, with_propagation}
+use Rattle.rstp_run.specs.TopologyChange.{telling_others, with_propagation}
 use Rattle.std.proofs.lemmas.Option.{same_Some as some_is, slice_get-map as map_at}
 
 -- the sum of a number of each port

@@ -7,8 +7,8 @@ use Rattle.rstp_state.specs.declared.port.Timing.{Timing}
 use Rattle.rstp_state.specs.declared.port.Topology.{Topology}
 use Rattle.rstp_state.specs.declared.port.Topology.TheVariants as topology
 use Rattle.rstp_state.specs.Port.{is_active, is_inactive, is_learning}
-use Rattle.rstp_machines.specs.TopologyChange as change
-use Rattle.rstp_machines.specs.TopologyChange.{with_change_timer}
+use Rattle.rstp_run.specs.TopologyChange as change
+use Rattle.rstp_run.specs.TopologyChange.{with_change_timer}
 use Rattle.rstp_run.specs.declared.rule.Rule.{Rule}
 use Rattle.rstp_run.specs.declared.rule.Rule.TheVariants as rules
 use Rattle.rstp_run.specs.declared.rule.TopologyRule.{TopologyRule}

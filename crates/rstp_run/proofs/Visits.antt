@@ -11,8 +11,8 @@ use Rattle.rstp_run.specs.declared.rule.InformationRule.{InformationRule}
 use Rattle.rstp_run.specs.declared.rule.InformationRule.TheVariants as information_rule
 use Rattle.rstp_run.specs.Machines.{information_asks, information_does, receive_asks, receive_does}
 use Rattle.rstp_run.specs.Sweep.{Going, main_order, tries, tries_all}
-use Rattle.rstp_machines.specs.Information as info
-use Rattle.rstp_machines.specs.PortReceive.{discard_effect}
+use Rattle.rstp_run.specs.Information as info
+use Rattle.rstp_run.specs.PortReceive.{discard_effect}
 use Rattle.rstp_run.proofs.Levels as levels
 use Rattle.rstp_run.proofs.Levels.{IsCalm, IsCalmOf, IsChosen, IsChosenOf, IsDown, IsFaced, IsFacedOf, IsFirst}
 use Rattle.rstp_run.proofs.Levels.{IsFirstOf, IsHeard, IsHeldOf, IsOpen, IsTaken, IsTakenOf, IsTried, IsYoung}

@@ -5,9 +5,9 @@ use Rattle.bpdu_wire.specs.Id.{port_number}
 use Rattle.rstp_state.specs.declared.port.PortState.{PortState}
 use Rattle.rstp_state.specs.Port.{test_at}
 use Rattle.rstp_run.specs.Rules.{Tree}
-use Rattle.rstp_machines.specs.BridgeDetection.{edge_guard, edge_effect, not_edge_guard, not_edge_effect}
-use Rattle.rstp_machines.specs.PortReceive.{discard_guard}
-use Rattle.rstp_machines.specs.TopologyChange.{is_in_tree}
+use Rattle.rstp_run.specs.BridgeDetection.{edge_guard, edge_effect, not_edge_guard, not_edge_effect}
+use Rattle.rstp_run.specs.PortReceive.{discard_guard}
+use Rattle.rstp_run.specs.TopologyChange.{is_in_tree}
 
 -- a port that forwards learns, and a port that is neither Root nor Designated should do neither
 abbrev pub is_orderly : PortState → Bool

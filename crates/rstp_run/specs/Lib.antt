@@ -9,3 +9,10 @@ pub mod Runs
 pub mod Settled
 pub mod Sweep
 pub mod Inner
+pub mod BridgeDetection
+pub mod Class
+pub mod Information
+pub mod Migration
+pub mod PortReceive
+pub mod TopologyChange
+pub mod Transmit

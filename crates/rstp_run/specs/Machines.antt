@@ -15,12 +15,12 @@ use Rattle.rstp_run.specs.declared.rule.TopologyRule.{TopologyRule}
 use Rattle.rstp_run.specs.declared.rule.TopologyRule.TheVariants as topology_rule
 use Rattle.rstp_run.specs.declared.rule.TransmitRule.{TransmitRule}
 use Rattle.rstp_run.specs.declared.rule.TransmitRule.TheVariants as transmit_rule
-use Rattle.rstp_machines.specs.PortReceive as receive
-use Rattle.rstp_machines.specs.Migration as migration
-use Rattle.rstp_machines.specs.BridgeDetection as detection
-use Rattle.rstp_machines.specs.Information as information
-use Rattle.rstp_machines.specs.TopologyChange as topology
-use Rattle.rstp_machines.specs.Transmit as transmit
+use Rattle.rstp_run.specs.PortReceive as receive
+use Rattle.rstp_run.specs.Migration as migration
+use Rattle.rstp_run.specs.BridgeDetection as detection
+use Rattle.rstp_run.specs.Information as information
+use Rattle.rstp_run.specs.TopologyChange as topology
+use Rattle.rstp_run.specs.Transmit as transmit
 
 -- the guard and the effect of each rule at its port
 

@@ -16,20 +16,29 @@ ghost use Rattle.rstp_run.specs.Machines.{
   transmit_does,
 };
 
+use crate::bridge_detection::{edge, edge_guard, not_edge, not_edge_guard};
+use crate::information::{
+    aged, aged_guard, disabled, disabled_guard, drop_guard, drop_message, enabled, enabled_guard,
+    inferior, inferior_guard, not_designated, not_designated_guard, other, other_guard, repeated,
+    repeated_guard, superior, superior_guard, update, update_guard,
+};
+use crate::migration::{
+    checked_guard, enter_checking, enter_selecting, enter_sensing, recheck_guard, selected_guard,
+    to_rstp_guard, to_stp_guard,
+};
+use crate::port_receive::{discard, discard_guard, receive, receive_guard};
 use crate::rule::{
     DetectionRule, InformationRule, MigrationRule, ReceiveRule, TopologyRule, TransmitRule,
 };
-use rstp_machines::{
-    acknowledged, acknowledged_guard, aged, aged_guard, checked_guard, detected, detected_guard,
-    disabled, disabled_guard, discard, discard_guard, drop_guard, drop_message, edge, edge_guard,
-    enabled, enabled_guard, enter_checking, enter_selecting, enter_sensing, flush, flush_guard,
-    inferior, inferior_guard, not_designated, not_designated_guard, not_edge, not_edge_guard,
-    notified_tc, notified_tc_guard, notified_tcn, notified_tcn_guard, other, other_guard, periodic,
-    periodic_guard, propagating, propagating_guard, receive, receive_guard, recheck_guard,
-    repeated, repeated_guard, selected_guard, send_config, send_config_guard, send_rst,
-    send_rst_guard, send_tcn, send_tcn_guard, superior, superior_guard, tc_back, tc_back_guard,
-    tc_clear, tc_clear_guard, tc_inactive, tc_inactive_guard, tc_learning, tc_learning_guard,
-    to_rstp_guard, to_stp_guard, update, update_guard,
+use crate::topology_change::{
+    acknowledged, acknowledged_guard, detected, detected_guard, flush, flush_guard, notified_tc,
+    notified_tc_guard, notified_tcn, notified_tcn_guard, propagating, propagating_guard, tc_back,
+    tc_back_guard, tc_clear, tc_clear_guard, tc_inactive, tc_inactive_guard, tc_learning,
+    tc_learning_guard,
+};
+use crate::transmit::{
+    periodic, periodic_guard, send_config, send_config_guard, send_rst, send_rst_guard, send_tcn,
+    send_tcn_guard,
 };
 use rstp_state::{PortState, Timing};
 

@@ -3,15 +3,22 @@
 #![tactic(auto)]
 
 mod bridge;
+mod bridge_detection;
+mod class;
 mod count;
 mod engine;
 mod event;
 mod firing;
+mod information;
 mod laws;
+mod migration;
+mod port_receive;
 mod rest;
 mod rule;
 #[cfg(test)]
 mod tests;
+mod topology_change;
+mod transmit;
 
 pub use bridge::{Bridge, BridgeConfig};
 pub use event::{Effect, Event, Outcome};

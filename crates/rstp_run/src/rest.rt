@@ -6,13 +6,16 @@ ghost use Rattle.rstp_run.specs.Inner.Rest.{receive_is_busy, migration_is_busy, 
 ghost use Rattle.rstp_run.specs.Rules.{wants_selection};
 ghost use Rattle.std.specs.List.{list_any};
 
+use crate::bridge_detection::{edge_guard, not_edge_guard};
+use crate::information::{
+    aged_guard, disabled_guard, drop_guard, enabled_guard, may_take, update_guard,
+};
+use crate::migration::{checked_guard, recheck_guard, selected_guard, to_rstp_guard, to_stp_guard};
+use crate::port_receive::{discard_guard, receive_guard};
 use crate::rule::Part;
-use rstp_machines::{
-    acknowledged_guard, aged_guard, checked_guard, detected_guard, disabled_guard, discard_guard,
-    drop_guard, edge_guard, enabled_guard, flush_guard, may_take, not_edge_guard,
-    notified_tc_guard, notified_tcn_guard, propagating_guard, receive_guard, recheck_guard,
-    selected_guard, tc_back_guard, tc_clear_guard, tc_inactive_guard, tc_learning_guard,
-    to_rstp_guard, to_stp_guard, update_guard,
+use crate::topology_change::{
+    acknowledged_guard, detected_guard, flush_guard, notified_tc_guard, notified_tcn_guard,
+    propagating_guard, tc_back_guard, tc_clear_guard, tc_inactive_guard, tc_learning_guard,
 };
 use rstp_roles::{synced_guard, to_discarding_guard, to_forwarding_guard, to_learning_guard};
 use rstp_state::PortState;

@@ -2,7 +2,7 @@
 use Rattle.std.specs.Prelude.{◌≡◌, ℕ, ◌+◌, List, [], ◌∷◌, length, Option, Some, None, Result}
 use Rattle.std.specs.declared.alloc.AllocError.{AllocError}
 use Rattle.std.specs.declared.thread.PromisedHandle.{PromisedHandle}
-use Rattle.ev_history.specs.Rule.{SeatState}
+use Rattle.ev_book.specs.Rule.{SeatState}
 use Rattle.ev_peers.specs.declared.edge_outcome.EdgeOutcome.{EdgeOutcome}
 use Rattle.ev_peers.specs.declared.run.OfEdge.{OfEdge}
 use Rattle.ev_peers.specs.EdgeThreads.{EdgeSetup}

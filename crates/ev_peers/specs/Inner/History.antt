@@ -2,9 +2,9 @@
 use Rattle.std.specs.Prelude.{◌≡◌, ℕ, ◌+◌, ◌<◌, List, [], ◌∷◌, Option, Some, None, Result, Ok, Err, slice_get}
 use Rattle.std.specs.declared.alloc.AllocError.{AllocError}
 use mathlib.Core.List.{IsPrefix}
-use Rattle.ev_history.specs.declared.log_entry.LogEntry.{LogEntry}
-use Rattle.ev_history.specs.Log.{count as entries_of}
-use Rattle.ev_history.specs.Rule.{SeatState}
+use Rattle.ev_book.specs.declared.log_entry.LogEntry.{LogEntry}
+use Rattle.ev_book.specs.Log.{count as entries_of}
+use Rattle.ev_book.specs.Rule.{SeatState}
 use Rattle.ev_peers.specs.declared.edge_outcome.EdgeOutcome.{EdgeOutcome}
 use Rattle.ev_peers.specs.EdgeThreads.{EdgeSetup}
 use Rattle.ev_peers.specs.History.{IsSeatOf, StandsAt}

@@ -6,7 +6,7 @@ use Rattle.ether_wire.specs.declared.ends.Device as device
 use Rattle.ether_wire.specs.Ends.{End, Puts}
 use Rattle.ev_edge.specs.declared.config.EdgeConfig.{EdgeConfig}
 use Rattle.ev_edge.specs.Config.{IsConfig}
-use Rattle.ev_notices.specs.Notices.{Told, lines_of}
+use Rattle.ev_mailboxes.specs.Notices.{Told, lines_of}
 use Rattle.ev_report.specs.Originators.{Text}
 use Rattle.ev_run.specs.RunEdges.{Ended, TellsEnded}
 

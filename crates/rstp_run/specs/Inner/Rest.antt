@@ -5,17 +5,17 @@ use Rattle.rstp_state.specs.declared.port.PortState.{PortState}
 use Rattle.rstp_state.specs.Port.{is_designated, test_at}
 use Rattle.rstp_roles.specs.RoleTransitions.{synced_guard}
 use Rattle.rstp_roles.specs.StateTransitions.{to_learning_guard, to_forwarding_guard, to_discarding_guard}
-use Rattle.rstp_machines.specs.BridgeDetection.{edge_guard, not_edge_guard}
-use Rattle.rstp_machines.specs.Information.{disabled_guard, drop_guard, enabled_guard, update_guard}
-use Rattle.rstp_machines.specs.Information.{aged_guard, may_take}
-use Rattle.rstp_machines.specs.Migration.{recheck_guard, checked_guard, selected_guard, to_rstp_guard, to_stp_guard}
-use Rattle.rstp_machines.specs.PortReceive.{discard_guard, receive_guard}
+use Rattle.rstp_run.specs.BridgeDetection.{edge_guard, not_edge_guard}
+use Rattle.rstp_run.specs.Information.{disabled_guard, drop_guard, enabled_guard, update_guard}
+use Rattle.rstp_run.specs.Information.{aged_guard, may_take}
+use Rattle.rstp_run.specs.Migration.{recheck_guard, checked_guard, selected_guard, to_rstp_guard, to_stp_guard}
+use Rattle.rstp_run.specs.PortReceive.{discard_guard, receive_guard}
 use Rattle.rstp_run.specs.Rules.{wants_selection}
 use Rattle.rstp_run.specs.declared.rule.Part.{Part}
 use Rattle.rstp_run.specs.declared.rule.Part.TheVariants as part
-use Rattle.rstp_machines.specs.TopologyChange.{tc_learning_guard, detected_guard, tc_clear_guard, tc_inactive_guard}
-use Rattle.rstp_machines.specs.TopologyChange.{tc_back_guard, notified_tcn_guard, notified_tc_guard, propagating_guard}
-use Rattle.rstp_machines.specs.TopologyChange.{acknowledged_guard, flush_guard}
+use Rattle.rstp_run.specs.TopologyChange.{tc_learning_guard, detected_guard, tc_clear_guard, tc_inactive_guard}
+use Rattle.rstp_run.specs.TopologyChange.{tc_back_guard, notified_tcn_guard, notified_tc_guard, propagating_guard}
+use Rattle.rstp_run.specs.TopologyChange.{acknowledged_guard, flush_guard}
 
 abbrev pub receive_is_busy : PortState → Bool
 receive_is_busy port = discard_guard port || receive_guard port

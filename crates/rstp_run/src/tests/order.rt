@@ -6,10 +6,12 @@ use super::{
 };
 use crate::bridge::{Bridge, BridgeConfig};
 use crate::event::{Event, Outcome};
+use crate::information::is_out;
+use crate::migration::is_checking;
 use crate::rule::{MAIN, SENDS};
+use crate::topology_change::is_active;
 use arrayvec::ArrayVec;
 use bpdu_wire::{BridgeId, write};
-use rstp_machines::{is_active, is_checking, is_out};
 use rstp_state::{PortSettings, Role, Settings};
 use std::test::Fail;
 

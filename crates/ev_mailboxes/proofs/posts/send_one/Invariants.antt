@@ -1,5 +1,5 @@
 use Rattle.std.proofs.Common.{◌≡◌}
-use Rattle.ev_channel.specs.Ends.{sent_by}
+use Rattle.ev_mailboxes.specs.Ends.{sent_by}
 use Rattle.ev_mailboxes.specs.declared.edge_message.EdgeMessage.TheVariants.{Record}
 use Rattle.ev_mailboxes.specs.declared.edge_message.Letter.TheVariants.{Of}
 use Rattle.ev_mailboxes.proofs.posts.send_one.Given as goal

@@ -1,5 +1,5 @@
 use Rattle.std.proofs.Common.{ℕ, subst}
-use Rattle.ev_history.specs.Standing.{Stands}
+use Rattle.ev_book.specs.Standing.{Stands}
 use Rattle.ev_peers.proofs.edge_threads.closed.Goals as goal
 
 pub returns-clause-stands : goal.returns-clause-stands

@@ -1,6 +1,6 @@
 use Rattle.std.proofs.Common.{rules, refl, ◌<◌, length, ◌≡◌, Option, Some, List, slice_get}
 use Rattle.std.proofs.lemmas.Option.{slice_get_read}
-use Rattle.ev_history.proofs.Prefixes.{prefix_self, prefix_trans}
+use Rattle.ev_book.proofs.Prefixes.{prefix_self, prefix_trans}
 use Rattle.ev_peers.proofs.Histories.{seen_step, seen_first}
 use Rattle.ev_peers.proofs.history.all_seen.Goals as goal
 

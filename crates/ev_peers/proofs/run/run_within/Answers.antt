@@ -1,5 +1,5 @@
 use Rattle.std.proofs.Common.{◌≡◌, List, length, Option, sym, subst, ◌∙◌}
-use Rattle.ev_history.specs.Rule.{SeatState}
+use Rattle.ev_book.specs.Rule.{SeatState}
 use Rattle.ev_peers.specs.EdgeThreads.{EdgeSetup}
 use Rattle.ev_peers.specs.History.{configs_of, IsHistoryOf}
 use Rattle.ev_peers.specs.Inner.History.{AreSeen, AreSettled}

@@ -1,5 +1,5 @@
 use Rattle.std.proofs.Common.{◌≡◌}
-use Rattle.ev_channel.specs.Ends.{received_by}
+use Rattle.ev_mailboxes.specs.Ends.{received_by}
 use Rattle.ev_mailboxes.proofs.inbox.UpdateBoxUpdatesIn.next.Given as goal
 
 -- no letter came yet

@@ -1,5 +1,0 @@
-use Rattle.ev_channel.proofs.Delivering.{begins}
-use Rattle.ev_channel.proofs.channel.channel.Goals as goal
-
-pub bounded_with-requires-clause-rule : goal.bounded_with-requires-clause-rule
-bounded_with-requires-clause-rule g c = begins

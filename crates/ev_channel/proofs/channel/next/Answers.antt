@@ -1,5 +1,0 @@
-use Rattle.ev_channel.proofs.Delivering.{gets}
-use Rattle.ev_channel.proofs.channel.next.Goals as goal
-
-pub recv_as-requires-clause-rule : goal.recv_as-requires-clause-rule
-recv_as-requires-clause-rule g c = (gets _ _ c.requires.receiver, λ items views d at. tt)

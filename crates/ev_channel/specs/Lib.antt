@@ -1,4 +1,0 @@
-pub mod Delivery
-pub mod Ends
-pub mod Laws
-pub mod Inner

@@ -1,0 +1,3 @@
+pub mod Tellings
+pub mod InTurns
+pub mod Delivering

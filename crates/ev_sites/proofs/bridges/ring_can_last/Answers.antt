@@ -1,0 +1,6 @@
+use Rattle.ev_sites.proofs.Later.{laws_of, ring_lasts}
+use Rattle.ev_sites.proofs.bridges.ring_can_last.Goals as goal
+
+pub returns : goal.returns
+returns c = ring_lasts (laws_of c.settled_by_lists.ensures c.runs_happen.ensures c.roles_last.ensures
+    c.lasting_is_reached.ensures c.losing_keeps_tree.ensures c.passing_is_in_tree.ensures)

@@ -1,6 +1,0 @@
-use Rattle.rstp_net.proofs.After.{until_selection}
-use Rattle.rstp_net.proofs.laws.no_circle_until_selection.Goals as goal
-
-pub returns : goal.returns
-returns c = λ rest now is at_rest later x ports way.
-    c.no_circle_while_kept.ensures rest now is at_rest (until_selection rest now at_rest later) x ports way

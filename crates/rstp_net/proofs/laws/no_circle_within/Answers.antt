@@ -1,6 +1,0 @@
-use Rattle.rstp_net.proofs.After.{no_circle_within}
-use Rattle.rstp_net.proofs.laws.no_circle_within.Goals as goal
-
-pub returns : goal.returns
-returns c = λ rest now is at_rest within x ports way.
-    no_circle_within c.bridge_laws.ensures rest now is at_rest within x ports way

@@ -1,5 +1,0 @@
-use Rattle.rstp_net.proofs.Ring.{a_ring, ring_rests}
-use Rattle.rstp_net.proofs.laws.ring_can_be_at_rest.Goals as goal
-
-pub returns : goal.returns
-returns c = ring_rests _ _ _ _ _ _ _ _ _ (a_ring c.settled_by_lists.ensures c.runs_happen.ensures)

@@ -1,6 +1,0 @@
-use Rattle.rstp_net.proofs.Later.{laws_of, ring_is_kept}
-use Rattle.rstp_net.proofs.laws.ring_can_be_kept.Goals as goal
-
-pub returns : goal.returns
-returns c = ring_is_kept (laws_of c.settled_by_lists.ensures c.runs_happen.ensures c.roles_last.ensures
-    c.lasting_is_reached.ensures c.losing_keeps_tree.ensures c.passing_is_in_tree.ensures)

@@ -1,6 +1,0 @@
-use Rattle.rstp_net.proofs.Later.{laws_of, ring_lasts}
-use Rattle.rstp_net.proofs.laws.ring_can_last.Goals as goal
-
-pub returns : goal.returns
-returns c = ring_lasts (laws_of c.settled_by_lists.ensures c.runs_happen.ensures c.roles_last.ensures
-    c.lasting_is_reached.ensures c.losing_keeps_tree.ensures c.passing_is_in_tree.ensures)
