@@ -15,9 +15,9 @@ front_none t limit e = go t.ageing e
     go [] e = e
     go (x ∷ xs) e = cc
 
-pub front_is : (t : Learning) (limit : ℕ) (s : Station) (o : Option Entry) → Some s ≡ slice_get t.ageing 0
+pub front_is : (t : Learning) (limit : ℕ) {s : Station} {o : Option Entry} → Some s ≡ slice_get t.ageing 0
     → o ≡ entry_at t s → (b : Bool) → is_due limit o ≡ b → cond b (Some s) None ≡ slice_get (due_in t limit) 0
-front_is t limit s o e is b due = go t.ageing e
+front_is t limit {s} e is b due = go t.ageing e
   where
     go : (ss : List Station) → Some s ≡ slice_get ss 0 → cond b (Some s) None ≡ slice_get (due_among t limit ss) 0
     go [] e = cc

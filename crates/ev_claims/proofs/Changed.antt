@@ -1,6 +1,6 @@
 -- which own registers change, and under which numbers
 use Rattle.std.proofs.Common.{◌≡◌, ℕ, zero, suc, ◌+◌, ◌-◌, ◌<◌, ◌≤◌, ◌++◌, inl, inr, Bool, true, false, not, eqb, cond}
-use Rattle.std.proofs.Common.{Option, Some, None, List, [], ◌∷◌, length, refl, sym, ap, subst, ◌∙◌, arith}
+use Rattle.std.proofs.Common.{Option, Some, None, List, [], ◌∷◌, length, refl, sym, ap, ◌∙◌, arith}
 use Rattle.std.specs.Prelude.{slice_get, Contains, ◌||◌, ◌&&◌, filter}
 use Rattle.std.specs.List.{list_any, range_with_len}
 use Rattle.std.specs.Cmp.{nat_eq_equiv}
@@ -37,7 +37,7 @@ pub nothing_changes : (e : Speaker) → OwnChanges e e []
 nothing_changes e = record {
   address = refl;
   incarnation = refl;
-  own = λ i r at. absurd (let no : None ≡ Some r = at in cc);
+  own = λ i r at. absurd (cc (at));
   numbers = λ i r at. cc;
   others = λ r mine none. refl;
   counter = omega arith;
@@ -45,17 +45,17 @@ nothing_changes e = record {
 }
 
 -- ---- one register, then others
-pub more_changes : (e : Speaker) (k : Key) (c : Content) (new : Speaker) (rs : List Register)
+pub more_changes : {e : Speaker} {k : Key} (c : Content) {new : Speaker} {rs : List Register}
     → (Contains rs (own_register e k) → ⊥) → OwnChanges (after_originating e k c) new rs
     → OwnChanges e new (own_register e k ∷ rs)
-more_changes e k c new rs once h = record {
+more_changes {e} {k} c {new} {rs} once h = record {
   address = h.address;
   incarnation = h.incarnation;
   own = mine;
   numbers = numbers;
-  others = λ r of none. h.others r of (λ in'. none (suc in'.0, (let less = in'.1 in omega (arith, less)), in'.2))
+  others = λ r of none. h.others r of (λ in'. none (suc in'.0, (omega (arith, in'.1)), in'.2))
       ∙ at_other e.table (own_register e k) (next_value e c) r (λ same. none (0, omega arith, sym same));
-  counter = let is = h.counter in omega (arith, is);
+  counter = omega (arith, h.counter);
   pending = h.pending;
 }
   where
@@ -67,27 +67,25 @@ more_changes e k c new rs once h = record {
         → IsNumbered new r (e.counter + (i + 1))
     numbers zero r at =
         let same : own_register e k ≡ r = cc in
-        subst (λ q. IsNumbered new q (e.counter + (0 + 1))) same (record {
+        rw (← same) (record {
           value = next_value e c;
           there = h.others (own_register e k) refl once ∙ at_same e.table (own_register e k) (next_value e c);
           present = sym h.incarnation;
           number = omega arith;
         })
-    numbers (suc i) r at = let later = h.numbers i r at in
-        record {
-          value = later.value;
-          there = later.there;
-          present = later.present;
-          number = let is = later.number in
-              omega (arith, is);
-        }
+    numbers (suc i) r at = (let later = h.numbers i r at in record {
+      value = later.value;
+      there = later.there;
+      present = later.present;
+      number = omega (arith, later.number);
+    })
 
 -- ---- stations that go
 pub stands_among : (e : Speaker) (s : Station) (ss : List Station)
     → Contains (registers_of e ss) (own_register e (key_of s)) → stands ss s ≡ true
 stands_among e s [] (k, less, is) = absurd (omega (arith, less))
 stands_among e s (x ∷ ss) (zero, less, is) = or_left (is_same x s) (stands ss s)
-    (eq_same x s (same_station x s (ap (λ (r : Register). r.key) is)))
+    (eq_same x s (same_station (ap (λ (r : Register). r.key) is)))
 stands_among e s (x ∷ ss) (suc k, less, is) = or_right (is_same x s) (stands ss s)
     (stands_among e s ss (k, omega (arith, less), is))
 
@@ -95,8 +93,7 @@ pub removals_change : (e : LocalRoutes) (ss : List Station) → AreOnce ss
     → OwnChanges e.speaker (after_removals e ss).speaker (registers_of e.speaker ss)
 removals_change e [] once = nothing_changes e.speaker
 removals_change e (s ∷ ss) once =
-    more_changes e.speaker (key_of s) Withdrawn (after_removals (after_removal e s) ss).speaker
-    (registers_of e.speaker ss)
+    more_changes Withdrawn
     (λ in'. false≢true (sym once.0 ∙ stands_among e.speaker s ss in'))
     (removals_change (after_removal e s) ss once.1)
 
@@ -108,7 +105,7 @@ removals_entries e (x ∷ ss) s = removals_entries (after_removal e x) ss s ∙ 
     go : (b : Bool) → is_same x s ≡ b → (d : Bool) → cond d None (entry_at (after_removal e x).learned s)
         ≡ cond (b || d) None (entry_at e.learned s)
     go true same true = refl
-    go true same false = ap (entry_at (after_removal e x).learned) (sym (same_true x s same)) ∙ removal_here e.learned x
+    go true same false = (rw (same_true x s same)) ∙ removal_here e.learned x
     go false ne true = refl
     go false ne false = removal_there e.learned x s (λ same. false≢true (sym ne ∙ eq_same x s (sym same)))
 
@@ -126,17 +123,17 @@ due_once t limit [] h = tt
 due_once t limit (x ∷ ss) h = cond_both (is_due limit (entry_at t x)) (x ∷ due_among t limit ss) [] AreOnce
     (λ e. (due_off t limit ss x h.0, due_once t limit ss h.1)) (λ e. tt)
 
-pub ages_out : (e : LocalRoutes) (limit : ℕ) → AreGood e → AgesOut e limit
-ages_out e limit h = record {
+pub ages_out : {e : LocalRoutes} (limit : ℕ) → AreGood e → AgesOut e limit
+ages_out {e} limit h = record {
   exactly = λ s. removals_entries e (due_in e.learned limit) s
-      ∙ ap (λ b. cond b None (entry_at e.learned s)) (due_exact e.learned limit h.lists s);
+      ∙ rw (due_exact e.learned limit h.lists s);
   changes = removals_change e (due_in e.learned limit) (due_once e.learned limit e.learned.ageing h.lists.ageing_once);
 }
 
 -- ---- by port
 stands_append : (xs ys : List Station) (s : Station) → stands (xs ++ ys) s ≡ (stands xs s || stands ys s)
 stands_append [] ys s = refl
-stands_append (x ∷ xs) ys s = ap (λ b. is_same x s || b) (stands_append xs ys s)
+stands_append (x ∷ xs) ys s = (rw (stands_append xs ys s))
     ∙ sym (or_assoc (is_same x s) (stands xs s) (stands ys s))
 
 -- whether an entry is behind one of these ports
@@ -165,9 +162,9 @@ not_later : (o : Option Entry) (p a : ℕ) (ps : List ℕ) → is_on o p ≡ tru
 not_later o p a [] on low climbs = refl
 not_later None p a (q ∷ ps) on low climbs = cc
 not_later (Some x) p a (q ∷ ps) on low climbs =
-    let here = eqb-true x.port p on in
     let more = climbs.0 in
-    or_from (eqb x.port q) (on_any ps (Some x)) (ne_eqb x.port q (λ same. omega (arith, here, same, low, more)))
+    or_from (eqb x.port q) (on_any ps (Some x)) (ne_eqb x.port q (λ same. omega
+    (arith, eqb-true x.port p on, same, low, more)))
     (not_later (Some x) p q ps on (omega (arith, low, more)) climbs.1)
 
 pub once_joined : (xs ys : List Station) → AreOnce xs → AreOnce ys
@@ -198,10 +195,10 @@ flushed_once t lists a [] climbs = tt
 flushed_once t lists a (p ∷ ps) climbs = once_joined (unpinned_on t p) (flushed_at t ps)
     (unpinned_once t (stations_at t.ports (p - 1)) (lists.ports_once (p - 1))) (flushed_once t lists p ps climbs.1)
     (λ s h.
-    let on = and_parts (ages (entry_at t s)) (is_on (entry_at t s) p)
-    (sym (unpinned_exact t p (omega (arith, climbs.0)) lists s) ∙ h) in
     flushed_stands t lists p ps s climbs.1
-    ∙ and_right (ages (entry_at t s)) (on_any ps (entry_at t s)) (not_later (entry_at t s) p p ps on.1 (omega arith)
+    ∙ and_right (ages (entry_at t s)) (on_any ps (entry_at t s)) (not_later (entry_at t s) p p ps (and_parts (ages
+    (entry_at t s)) (is_on (entry_at t s) p) (sym (unpinned_exact t p (omega (arith, climbs.0)) lists s)
+    ∙ h)).1 (omega arith)
     climbs.1))
 
 -- ---- the ports of a set
@@ -214,40 +211,39 @@ climbs_from p a (suc n) =
   where
     lower : (xs : List ℕ) → Climbs (a + 1) xs → Climbs a xs
     lower [] h = tt
-    lower (x ∷ xs) h = (let more = h.0 in omega (arith, more), h.1)
+    lower (x ∷ xs) h = (omega (arith, h.0), h.1)
 
 pub ports_climb : (set : ℕ) → Climbs 0 (ports_of set)
 unfolding ports_after
 ports_climb set = climbs_from (has_port set) 0 64
 
-any_is : (set n : ℕ) → IsPort n → list_any (eqb n) (ports_of set) ≡ has_port set n
-any_is set n port = elim (cases_Bool (has_port set n)) [
+any_is : (set : ℕ) {n : ℕ} → IsPort n → list_any (eqb n) (ports_of set) ≡ has_port set n
+any_is set {n} port = elim (cases_Bool (has_port set n)) [
   | inl has ↦ list_any-from_Contains nat_eq_equiv n (ports_of set) (((are_ports set).exact n).1 (port, has)) ∙ sym has
   | inr not ↦ false_from_ne_true (list_any (eqb n) (ports_of set)) (λ h. false≢true (sym not
       ∙ (((are_ports set).exact n).0 (Contains-from_any eqb-true n (ports_of set) h)).1)) ∙ sym not
 ]
 
-port_range : (ports : List ℕ) (n v : ℕ) → vni_at ports n ≡ Some v → length ports ≤ 64 → IsPort n
-port_range ports zero v at few = cc
-port_range ports (suc l) v at few = record {
+port_range : (ports : List ℕ) (n : ℕ) {v : ℕ} → vni_at ports n ≡ Some v → length ports ≤ 64 → IsPort n
+port_range ports zero at few = cc
+port_range ports (suc l) {v} at few = record {
   least = omega arith;
-  most = (let low = slice_get_within ports l v at in omega (arith, low, few));
+  most = (omega (arith, slice_get_within ports l v at, few));
 }
 
-pub flushed_exact : (e : LocalRoutes) (set : ℕ) → KeepsRoutes e → ListsName e.learned → (s : Station)
+pub flushed_exact : {e : LocalRoutes} (set : ℕ) → KeepsRoutes e → ListsName e.learned → (s : Station)
     → stands (flushed_in e.learned set) s ≡ goes_by_flush set (entry_at e.learned s)
-flushed_exact e set h lists s = flushed_stands e.learned lists 0 (ports_of set) s (ports_climb set)
+flushed_exact {e} set h lists s = flushed_stands e.learned lists 0 (ports_of set) s (ports_climb set)
     ∙ go (entry_at e.learned s) refl
   where
     go : (o : Option Entry) → entry_at e.learned s ≡ o → (ages o && on_any (ports_of set) o) ≡ goes_by_flush set o
     go None at = refl
-    go (Some x) at = ap (λ b. not x.pinned && b)
-        (any_is set x.port (port_range e.ports x.port s.vni (h.ports s x at) h.few))
+    go (Some x) at = rw (any_is set (port_range e.ports x.port (h.ports s x at) h.few))
 
 pub flushes_out : (e : LocalRoutes) (set : ℕ) → AreGood e → FlushesOut e set
 flushes_out e set h = record {
   exactly = λ s. removals_entries e (flushed_in e.learned set) s
-      ∙ ap (λ b. cond b None (entry_at e.learned s)) (flushed_exact e set h.routes h.lists s);
+      ∙ rw (flushed_exact set h.routes h.lists s);
   changes = removals_change e (flushed_in e.learned set)
       (flushed_once e.learned h.lists 0 (ports_of set) (ports_climb set));
 }

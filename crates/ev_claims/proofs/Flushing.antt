@@ -42,9 +42,9 @@ pub record IsFirst (t : Learning) (port : ℕ) (s : Station) : Type 0 where
   pub goes : GoesFirst (λ u. unpinned_on u port) t s
   pub others : AreKept t (gone t s) port
 
-pub first_is : (t : Learning) (s : Station) → ListsName t → (port : ℕ) → 0 < port
+pub first_is : {t : Learning} {s : Station} → ListsName t → (port : ℕ) → 0 < port
     → slice_get (unpinned_on t port) 0 ≡ Some s → IsFirst t port s
-first_is t s lists port some first = record {
+first_is {t} {s} lists port some first = record {
   goes = goes;
   others = λ q some_q ne. off (entry_at t s) refl (and_parts (ages (entry_at t s)) (is_on (entry_at t s) port)
       (sym (unpinned_exact t port some lists s) ∙ ap (λ xs. stands xs s) goes.rest
@@ -58,9 +58,8 @@ first_is t s lists port some first = record {
     off None is on q some_q ne = cc
     off (Some x) is on q some_q ne =
         let xs = stations_at t.ports (q - 1) in
-        let here = eqb-true x.port port on in
-        let absent : stands xs s ≡ false = lists.ports (q - 1) s ∙ ap (λ o. is_on o (q - 1 + 1)) is
-        ∙ ne_eqb x.port (q - 1 + 1) (λ same. ne (omega (arith, same, here, some_q))) in
+        let absent = lists.ports (q - 1) s ∙ ap (λ o. is_on o (q - 1 + 1)) is
+        ∙ ne_eqb x.port (q - 1 + 1) (λ same. ne (omega (arith, same, eqb-true x.port port on, some_q))) in
         ap (λ o. unpinned_among (gone t s) (stations_at (after_removal_at t s o).ports (q - 1))) is
         ∙ ap (unpinned_among (gone t s)) (get_or-map (left s) t.ports (q - 1) [] ∙ left_absent s xs absent)
         ∙ unpinned_stays t s xs absent
@@ -79,13 +78,14 @@ pub flushed_same : (t u : Learning) (ps : List ℕ) → ((q : ℕ) → Contains 
     → flushed_at u ps ≡ flushed_at t ps
 flushed_same t u [] h = refl
 flushed_same t u (p ∷ ps) h = λ i. h p (0, omega arith, refl) i
-    ++ flushed_same t u ps (λ q c. h q (suc c.0, (let less = c.1 in omega (arith, less)), c.2)) i
+    ++ flushed_same t u ps (λ q c. h q (suc c.0, (omega (arith, c.1)), c.2)) i
 
-pub later_ports : (set p q : ℕ) → Contains (ports_after set p) q → p < q
+pub later_ports : (set : ℕ) {p q : ℕ} → Contains (ports_after set p) q → p < q
 unfolding ports_after
-later_ports set p q c =
+later_ports set {p} {q} c =
     let is = (in_filter (has_port set) (range_with_len (p + 1) (64 - p)) q c).0 in
-    let within : is.0 < 64 - p = (let less = is.1 in let size = length-range_with_len (p + 1) (64 - p) in
-    omega (arith, less, size)) in
-    let at : q ≡ p + 1 + is.0 = sym is.2 ∙ get_or-range_with_len (p + 1) (64 - p) is.0 q within in
-    omega (arith, at)
+    omega (
+      arith,
+      (sym is.2 ∙ get_or-range_with_len (p + 1) (64 - p) is.0 q (omega
+          (arith, is.1, length-range_with_len (p + 1) (64 - p)))),
+    )

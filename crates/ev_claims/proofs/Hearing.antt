@@ -1,13 +1,14 @@
 -- the effect of an own update of an earlier incarnation on an edge's own registers
 use Rattle.std.proofs.Common.{◌≡◌, ◌≢◌, inl, inr, ℕ, zero, suc, ◌+◌, ◌≤◌, ◌<◌, Bool, true, false, cond, nat_lt, eqb}
-use Rattle.std.proofs.Common.{Option, Some, None, List, [], ◌∷◌, Result, Ok, Err, drop, refl, sym, ap, subst, ◌∙◌}
+use Rattle.std.proofs.Common.{Option, Some, None, List, [], ◌∷◌, Result, Ok, Err, drop, refl, sym, ap, ◌∙◌}
 use Rattle.std.proofs.Common.{arith}
 use Rattle.std.specs.Prelude.{IsSome, is_some, Contains, OnOk, OnErr, ◌&&◌, ◌||◌, nat_le, slice_get}
 use Rattle.std.specs.List.{list_any}
 use Rattle.std.proofs.lemmas.Bool.Decides.{nat_tests}
 use Rattle.std.specs.Option.{IfNone, option_map}
-use Rattle.std.specs.FinMap.{get, insert, empty, get-empty, same_map}
-use Rattle.std.proofs.lemmas.Bool.{eq-eqb}
+use Rattle.std.specs.FinMap.{insert, empty, get-empty, same_map}
+use Rattle.std.proofs.lemmas.Bool.{eq-eqb, false≢true}
+use Rattle.std.proofs.lemmas.Option.{same_Some}
 use Rattle.route_wire.specs.Order.{register_cmp}
 use Rattle.route_wire.specs.Inner.Totals.{register_total, register_exact}
 use Rattle.route_wire.specs.declared.update.Key.{Key}
@@ -17,7 +18,6 @@ use Rattle.route_wire.specs.declared.update.Content.TheVariants.{Withdrawn, Adve
 use Rattle.route_wire.specs.declared.update.Advert.{Advert}
 use Rattle.route_wire.specs.declared.update.Value.{Value}
 use Rattle.route_wire.specs.Fields.{Fields}
-use Rattle.route_wire.specs.Order.{is_newer}
 use Rattle.route_join.specs.Table.{Table, value_at, update_at, is_news, with_value, with_update}
 use Rattle.route_join.specs.declared.table.Taken.{Taken}
 use Rattle.route_join.specs.declared.table.TakeError.{TakeError}
@@ -47,9 +47,8 @@ IsNoneBefore e known n places = (j : ℕ) (r : Register) → j < places → slic
 pub not_present : (e : Speaker) (u : Fields) (v : Value) → is_newest e u ≡ true → u.value.incarnation < e.incarnation
     → value_at e.table u.register ≡ Some v → v.incarnation ≢ e.incarnation
 not_present e u v newest past at present =
-    let older = not_newer_earlier v u.value (let q = present in omega (arith, q, past)) in
-    let newer : is_newer u.value v ≡ true = ap (λ o. is_news o u.value) (sym at) ∙ newest in
-    cc
+    let newer = ap (λ o. is_news o u.value) (sym at) ∙ newest in
+    cc (not_newer_earlier v u.value (omega (arith, present, past)))
 
 register_is : (e : Speaker) (u : Fields) → u.register.originator ≡ e.address → u.register
     ≡ own_register e u.register.key
@@ -67,17 +66,21 @@ not_said e u h mine newest past = go (own e u.register.key) refl
     go : (o : Option Value) → own e u.register.key ≡ o → own_advert e u.register.key ≡ None
     go None at = ap advert_of at
     go (Some v) at = ap advert_of at ∙ none (advert_in v.content)
-        (λ some. not_present e u v newest past (ap (value_at e.table) (register_is e u mine) ∙ at)
+        (λ some. not_present e u v newest past ((rw (register_is e u mine)) ∙ at)
         (h.alive u.register.key v at some))
 
--- the value that a withdrawal of an earlier incarnation leaves
-pub there_now : (e : Speaker) (u : Fields) → u.register.originator ≡ e.address → is_newest e u ≡ true
-    → own (after_importing e u) u.register.key ≡ Some u.value
-there_now e u mine newest =
-    ap (λ t. value_at t (own_register e u.register.key))
-    (ap (λ b. cond b (with_value e.table u.register u.value) e.table) newest)
-    ∙ ap (value_at (with_value e.table u.register u.value)) (sym (register_is e u mine))
-    ∙ at_same e.table u.register u.value
+module _ (e : Speaker) (u : Fields) (mine : u.register.originator ≡ e.address) (newest : is_newest e u ≡ true) where
+  -- the value that a withdrawal of an earlier incarnation leaves
+  pub there_now : own (after_importing e u) u.register.key ≡ Some u.value
+  there_now = (rw (newest, register_is e u mine))
+      ∙ at_same e.table u.register u.value
+
+  now : {k : Key} {v : Value} → k ≡ u.register.key → own (after_importing e u) k ≡ Some v → u.value ≡ v
+  now {v = v} same there = same_Some u.value v (sym there_now ∙ rw same at there)
+
+  late : {k : Key} {v : Value} → u.value.incarnation < e.incarnation → k ≡ u.register.key
+      → own (after_importing e u) k ≡ Some v → v.incarnation ≢ e.incarnation
+  late past same here present = omega (arith, ap (λ (w : Value). w.incarnation) (now same here), past, present)
 
 pub elsewhere : (e : Speaker) (u : Fields) (k : Key) → k ≢ u.register.key → own (after_importing e u) k ≡ own e k
 elsewhere e u k ne = update_other e.table u.register u.value (own_register e k)
@@ -88,26 +91,22 @@ elsewhere e u k ne = update_other e.table u.register u.value (own_register e k)
 pub unheard : (e : Speaker) (u : Fields) → is_newest e u ≡ false → after_importing e u ≡ e
 unheard e u known = λ i. record e { table = cond (known i) (with_value e.table u.register u.value) e.table }
 
-withdrawn_said : (e : Speaker) (u : Fields) → KeepsNumbers e → u.register.originator ≡ e.address → is_newest e u ≡ true
+withdrawn_said : {e : Speaker} (u : Fields) → KeepsNumbers e → u.register.originator ≡ e.address → is_newest e u ≡ true
     → u.value.incarnation < e.incarnation → advert_in u.value.content ≡ None → (k : Key)
     → own_advert (after_importing e u) k ≡ own_advert e k
-withdrawn_said e u h mine newest past none k = elim (key_or_other k u.register.key) [
-  | inl same ↦ subst (λ j. own_advert (after_importing e u) j ≡ own_advert e j) (sym same)
-      (ap advert_of (there_now e u mine newest) ∙ none ∙ sym (not_said e u h mine newest past))
-  | inr ne ↦ ap advert_of (elsewhere e u k ne)
+withdrawn_said {e} u h mine newest past none k = elim (key_or_other k u.register.key) [
+  | inl same ↦ rw same ((rw (there_now e u mine newest)) ∙ none ∙ sym (not_said e u h mine newest past))
+  | inr ne ↦ rw (elsewhere e u k ne)
 ]
 
-refuted_said : (e : Speaker) (u : Fields) → KeepsNumbers e → u.register.originator ≡ e.address → is_newest e u ≡ true
+refuted_said : {e : Speaker} (u : Fields) → KeepsNumbers e → u.register.originator ≡ e.address → is_newest e u ≡ true
     → u.value.incarnation < e.incarnation → (k : Key) → own_advert
     (after_originating (after_importing e u) u.register.key Withdrawn) k ≡ own_advert e k
-refuted_said e u h mine newest past k = elim (key_or_other k u.register.key) [
-  | inl same ↦ subst (λ j. own_advert (after_originating (after_importing e u) u.register.key Withdrawn) j
-      ≡ own_advert e j)
-      (sym same)
-      (ap advert_of (own_same (after_importing e u) u.register.key Withdrawn)
+refuted_said {e} u h mine newest past k = elim (key_or_other k u.register.key) [
+  | inl same ↦ rw same ((rw (own_same (after_importing e u) u.register.key Withdrawn))
       ∙ sym (not_said e u h mine newest past))
   | inr ne ↦ key_stays (after_importing e u) u.register.key Withdrawn k e.address ne
-      ∙ ap advert_of (elsewhere e u k ne)
+      ∙ rw (elsewhere e u k ne)
 ]
 
 -- not ahead: of an earlier incarnation, or no news
@@ -115,7 +114,7 @@ pub past_if_newest : (e : Speaker) (u : Fields) → is_ahead e u ≡ false → i
     → u.value.incarnation < e.incarnation
 past_if_newest e u behind newest =
     let late : nat_le e.incarnation u.value.incarnation ≡ false =
-    sym (ap (λ b. b && nat_le e.incarnation u.value.incarnation) newest) ∙ behind in
+    (rw newest) ∙ behind in
     grind (arith, nat_tests)
 
 pub own_said : (e : Speaker) (u : Fields) → KeepsNumbers e → u.register.originator ≡ e.address → is_ahead e u ≡ false
@@ -133,8 +132,8 @@ own_said e u h mine behind k = go (is_newest e u) refl
     said : (c : Content) → u.value.content ≡ c → is_newest e u ≡ true
         → own_advert (cond (is_some (advert_in c)) (after_originating (after_importing e u) u.register.key Withdrawn)
         (after_importing e u)) k ≡ own_advert e k
-    said Withdrawn is newest = withdrawn_said e u h mine newest (past_if_newest e u behind newest) (ap advert_in is) k
-    said (Advertised a) is newest = refuted_said e u h mine newest (past_if_newest e u behind newest) k
+    said Withdrawn is newest = withdrawn_said u h mine newest (past_if_newest e u behind newest) (ap advert_in is) k
+    said (Advertised a) is newest = refuted_said u h mine newest (past_if_newest e u behind newest) k
 
     go : (b : Bool) → is_newest e u ≡ b → own_advert (after_importing_own e u) k ≡ own_advert e k
     go false newest =
@@ -167,73 +166,56 @@ pub earlier_numbers : (e : Speaker) (u : Fields) → KeepsNumbers e → u.regist
     → KeepsNumbers (after_importing e u)
 earlier_numbers e u h mine newest past none = record {
   counted = λ k v at present. elim (key_or_other k u.register.key) [
-    | inl same ↦ absurd (late k v same at present)
-    | inr ne ↦ h.counted k v (before k v ne at) present
+    | inl same ↦ absurd (late e u mine newest past same at present)
+    | inr ne ↦ h.counted k v (before k ne at) present
   ];
   distinct = λ k j v w at_k at_j here there same. elim (key_or_other k u.register.key) [
-    | inl is ↦ absurd (late k v is at_k here)
+    | inl is ↦ absurd (late e u mine newest past is at_k here)
     | inr ne ↦ elim (key_or_other j u.register.key) [
-      | inl is ↦ absurd (late j w is at_j there)
-      | inr other ↦ h.distinct k j v w (before k v ne at_k) (before j w other at_j) here there same
+      | inl is ↦ absurd (late e u mine newest past is at_j there)
+      | inr other ↦ h.distinct k j v w (before k ne at_k) (before j other at_j) here there same
     ]
   ];
   past = λ k v at. elim (key_or_other k u.register.key) [
-    | inl same ↦ let is = ap (λ (w : Value). w.incarnation) (now k v same at) in omega (arith, is, past)
-    | inr ne ↦ h.past k v (before k v ne at)
+    | inl same ↦ rw (← now e u mine newest same at) (omega arith)
+    | inr ne ↦ h.past k v (before k ne at)
   ];
   alive = λ k v at some. elim (key_or_other k u.register.key) [
-    | inl same ↦ absurd (let gone : is_some (advert_in v.content) ≡ false =
-        ap (λ (w : Value). is_some (advert_in w.content)) (sym (now k v same at))
-        ∙ ap (λ (o : Option Advert). is_some o) none in let bad : false ≡ true = sym gone ∙ some in cc)
-    | inr ne ↦ h.alive k v (before k v ne at) some
+    | inl same ↦ absurd (false≢true (rw (← now e u mine newest same at, none) at some))
+    | inr ne ↦ h.alive k v (before k ne at) some
   ];
-  known = ap (λ os. list_any (λ x. eqb x e.address) os) (same_listeners e.table u) ∙ h.known;
-  pending = λ r in'.
-      let p = h.pending r in' in (
-        p.0,
-        update_other e.table u.register u.value r (λ same. not_present e u p.0 newest past
-            (ap (value_at e.table) (sym same) ∙ p.1) p.2) ∙ p.1,
-        p.2,
-        p.3,
-      );
+  known = rw (same_listeners e.table u) h.known;
+  pending = λ r in'. let p = h.pending r in' in (
+    p.0,
+    update_other e.table u.register u.value r (λ same. not_present e u p.0 newest past
+        ((rw same) ∙ p.1) p.2) ∙ p.1,
+    p.2,
+    p.3,
+  );
 }
   where
-    before : (k : Key) (v : Value) → k ≢ u.register.key → own (after_importing e u) k ≡ Some v → own e k ≡ Some v
-    before k v ne at = sym (elsewhere e u k ne) ∙ at
-
-    now : (k : Key) (v : Value) → k ≡ u.register.key → own (after_importing e u) k ≡ Some v → u.value ≡ v
-    now k v same at = let both : Some u.value ≡ Some v = sym (there_now e u mine newest)
-        ∙ subst (λ j. own (after_importing e u) j ≡ Some v) same at in cc
-
-    late : (k : Key) (v : Value) → k ≡ u.register.key → own (after_importing e u) k ≡ Some v
-        → v.incarnation ≢ e.incarnation
-    late k v same at present = let is = ap (λ (w : Value). w.incarnation) (now k v same at) in
-        omega (arith, is, past, present)
+    before : (k : Key) {v : Value} → k ≢ u.register.key → own (after_importing e u) k ≡ Some v → own e k ≡ Some v
+    before k ne at = sym (elsewhere e u k ne) ∙ at
 
 pub earlier_rooms : (e : Speaker) (u : Fields) (known : List Register) → HasRooms e known
     → u.register.originator ≡ e.address → is_newest e u ≡ true → u.value.incarnation < e.incarnation
     → HasRooms (after_importing e u) known
-earlier_rooms e u known h mine newest past k v at present =
-    elim (key_or_other k u.register.key) [
-      | inl same ↦
-          let both : Some u.value ≡ Some v = sym (there_now e u mine newest)
-          ∙ subst (λ j. own (after_importing e u) j ≡ Some v) same at in
-          let is : u.value ≡ v = cc in
-          absurd (let life = ap (λ (w : Value). w.incarnation) is in omega (arith, life, past, present))
-      | inr ne ↦ h k v (sym (elsewhere e u k ne) ∙ at) present
-    ]
+earlier_rooms e u known h mine newest past k v at present = elim (key_or_other k u.register.key) [
+  | inl same ↦ absurd (late e u mine newest past same at present)
+  | inr ne ↦ h k v (sym (elsewhere e u k ne) ∙ at) present
+]
 
-pub earlier_speaker : (e : Speaker) (known : List Register) (t : Table) (u : Fields) (r : Result Taken TakeError)
+pub earlier_speaker : {e : Speaker} {known : List Register} {t : Table} (u : Fields) (r : Result Taken TakeError)
     → IsSpeaker e known → u.register.originator ≡ e.address → is_newest e u ≡ true → u.value.incarnation < e.incarnation
     → u.value.content ≡ Withdrawn
     → OnOk r (t ≡ with_update e.table u) → OnErr r (t ≡ e.table) → IsSpeaker (record e { table = t }) known
-earlier_speaker e known t u (Ok x) h mine newest past withdrawn ok err =
-    subst (λ q. IsSpeaker (record e { table = q }) known) (sym ok) (record {
-      numbers = earlier_numbers e u h.numbers mine newest past (ap advert_in withdrawn);
+earlier_speaker {e} {known} u (Ok x) h mine newest past withdrawn ok err =
+    rw ok (record {
+      numbers = earlier_numbers e u h.numbers mine newest past (rw withdrawn);
       rooms = earlier_rooms e u known h.rooms mine newest past;
     })
-earlier_speaker e known t u (Err x) h mine newest past withdrawn ok err =
-    subst (λ q. IsSpeaker (record e { table = q }) known) (sym err) h
+earlier_speaker u (Err x) h mine newest past withdrawn ok err =
+    rw err h
 
 -- ---- an advert of an earlier incarnation is withdrawn without being taken first
 
@@ -243,8 +225,7 @@ value_twice t r v w = λ i. record { originators = t.originators; registers = tw
     twice : insert (insert t.registers r v) r w ≡ insert t.registers r w
     twice = same_map register_total register_exact (insert (insert t.registers r v) r w) (insert t.registers r w)
         (λ q. elim (same_or_other q r) [
-          | inl e ↦ subst (λ z. value_at (with_value (with_value t r v) r w) z ≡ value_at (with_value t r w) z) (sym e)
-              (at_same (with_value t r v) r w ∙ sym (at_same t r w))
+          | inl e ↦ rw e (at_same (with_value t r v) r w ∙ sym (at_same t r w))
           | inr ne ↦ at_other (with_value t r v) r w q ne ∙ at_other t r v q ne ∙ sym (at_other t r w q ne)
         ])
 
@@ -256,8 +237,7 @@ refuted_is e u c mine = λ i. record (after_originating e u.register.key c) { ta
         (own_register e u.register.key) (record { incarnation = e.incarnation; counter = e.counter + 1; content = c })
         ≡ with_value e.table (own_register e u.register.key)
         (record { incarnation = e.incarnation; counter = e.counter + 1; content = c })
-    go true = ap (λ q. with_value (with_value e.table q u.value) (own_register e u.register.key)
-        (record { incarnation = e.incarnation; counter = e.counter + 1; content = c })) (register_is e u mine)
+    go true = (rw (register_is e u mine))
         ∙ value_twice e.table (own_register e u.register.key) u.value
         (record { incarnation = e.incarnation; counter = e.counter + 1; content = c })
     go false = refl
@@ -268,8 +248,8 @@ pub dropped_contains : (rs : List Register) (r : Register) → Contains (drop 1 
 dropped_contains [] r h = h
 dropped_contains (x ∷ rs) r (k, less, is) = (suc k, omega (arith, less), is)
 
-pub announced_speaker : (e : Speaker) (known : List Register) → IsSpeaker e known → IsSpeaker (after_announcing e) known
-announced_speaker e known h = record {
+pub announced_speaker : {e : Speaker} {known : List Register} → IsSpeaker e known → IsSpeaker (after_announcing e) known
+announced_speaker {e} {known} h = record {
   numbers = record {
     counted = h.numbers.counted;
     distinct = h.numbers.distinct;
@@ -290,19 +270,18 @@ somebody_first [] r e = cc
 somebody_first (x ∷ rs) r e = (0, omega arith, let same : r ≡ x = cc in sym same)
 
 -- an announced register exists
-pub announced_there : (e : Speaker) (r : Register) (o : Option Fields) (P : Type 0) → KeepsNumbers e
+pub announced_there : {e : Speaker} {r : Register} (o : Option Fields) (P : Type 0) → KeepsNumbers e
     → Some r ≡ slice_get e.pending 0 → o ≡ update_at e.table r → IfNone o P
-announced_there e r None P h first is =
-    let p = h.pending r (somebody_first e.pending r first) in
-    absurd (let bad : None ≡ Some (record { register = r; value = p.0 }) = is
-    ∙ ap (option_map (λ (v : Value). let u : Fields = record { register = r; value = v } in u)) p.1 in cc)
-announced_there e r (Some u) P h first is = tt
+announced_there {e} {r} None P h first is =
+    absurd (cc (is ∙ ap (option_map (λ (v : Value). (record { register = r; value = v }))) (h.pending r
+    (somebody_first e.pending r first)).1))
+announced_there (Some u) P h first is = tt
 
 -- ---- no update yet
 
 listed : (os : List ℕ) (a : ℕ) → Contains os a → list_any (λ x. eqb x a) os ≡ true
 listed [] a (k, less, is) = absurd (omega (arith, less))
-listed (x ∷ os) a (zero, less, is) = ap (λ b. b || list_any (λ x. eqb x a) os) (eq-eqb x a is)
+listed (x ∷ os) a (zero, less, is) = rw (eq-eqb x a is)
 listed (x ∷ os) a (suc k, less, is) = go (eqb x a) (listed os a (k, omega (arith, less), is))
   where
     go : (b : Bool) → list_any (λ x. eqb x a) os ≡ true → (b || list_any (λ x. eqb x a) os) ≡ true
@@ -310,8 +289,7 @@ listed (x ∷ os) a (suc k, less, is) = go (eqb x a) (listed os a (k, omega (ari
     go false h = h
 
 nothing_at : (e : Speaker) (r : Register) (v : Value) → e.table.registers ≡ empty → value_at e.table r ≢ Some v
-nothing_at e r v is at = let none = ap (λ m. get m r) is ∙ get-empty {X = Value} register_cmp r in
-    let bad : None ≡ Some v = sym none ∙ at in cc
+nothing_at e r v is at = cc (sym ((rw is) ∙ get-empty {X = Value} register_cmp r) ∙ at)
 
 pub silent_speaker : (address incarnation : ℕ) (originators : List ℕ) → Contains originators address
     → IsSpeaker (silent address incarnation originators) []
@@ -322,7 +300,7 @@ silent_speaker address incarnation originators there = record {
     past = λ k v at. absurd (nothing_at e (own_register e k) v refl at);
     alive = λ k v at some. absurd (nothing_at e (own_register e k) v refl at);
     known = listed originators address there;
-    pending = λ r in'. absurd (let less = in'.1 in omega (arith, less));
+    pending = λ r in'. absurd (omega (arith, in'.1));
   };
   rooms = λ k v at present. absurd (nothing_at e (own_register e k) v refl at);
 }

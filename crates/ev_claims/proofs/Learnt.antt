@@ -1,25 +1,24 @@
 -- the learning table after each change: its entries, their number, and the number of places and ports
 use Rattle.std.proofs.Common.{◌≡◌, ◌≢◌, ℕ, zero, suc, ◌+◌, ◌-◌, ◌≤◌, ◌<◌, Bool, true, false, cond, eqb, Option, Some}
-use Rattle.std.proofs.Common.{None, length, map, refl, sym, ap, subst, ◌∙◌, arith}
+use Rattle.std.proofs.Common.{None, length, map, refl, sym, ap, ◌∙◌, arith}
 use Rattle.std.specs.Option.{is_some}
-use Rattle.std.specs.FinMap.{get, get-empty, empty_of_len, insert, remove, len, len-insert, len-remove}
+use Rattle.std.specs.FinMap.{get-empty, empty_of_len, insert, len, len-insert, len-remove}
 use Rattle.std.proofs.lemmas.List.{length-set, length-map}
 use Rattle.std.proofs.lemmas.Bool.Decides.{nat_tests}
-use Rattle.route_wire.specs.declared.update.Key.TheVariants.{Mac}
 use Rattle.mac_arena.specs.declared.station.Station.{Station}
 use Rattle.mac_arena.specs.declared.station.Entry.{Entry}
-use Rattle.mac_arena.specs.declared.table.Learnt.TheVariants.{New, Moved, Refreshed, Pinned}
+use Rattle.mac_arena.specs.declared.table.Learnt.TheVariants.{New, Moved, Refreshed}
 use Rattle.mac_arena.specs.Station.{station_cmp}
 use Rattle.mac_arena.specs.Entry.{pinned_at, heard_at}
-use Rattle.mac_arena.specs.Learning.{Learning, entry_at, is_full, left, joined_by, entered, after_learn, answer_of}
+use Rattle.mac_arena.specs.Learning.{Learning, entry_at, is_full, left, joined_by, entered, after_learn}
 use Rattle.mac_arena.specs.Learning.{learnt_of, after_pin, after_pin_at, after_removal, after_removal_at}
 use Rattle.mac_arena.proofs.Entries.{station_total, gone_here, gone_there}
 use Rattle.ev_claims.specs.LocalRoutes.{key_of}
 
 -- ---- stations by their keys
-pub same_station : (r s : Station) → key_of r ≡ key_of s → r ≡ s
-same_station r s e =
-    let both : Mac r.vni r.mac None ≡ Mac s.vni s.mac None = e in
+pub same_station : {r s : Station} → key_of r ≡ key_of s → r ≡ s
+same_station {r} {s} e =
+    let both = e in
     let vnis : r.vni ≡ s.vni = cc in
     let macs : r.mac ≡ s.mac = cc in
     λ i. record { vni = vnis i; mac = macs i }
@@ -39,12 +38,9 @@ sets_new t s port second = record {
 }
 
 -- a station that is known and not pinned is heard
-pub sets_refresh : (t : Learning) (s : Station) (port second : ℕ) (x : Entry) → entry_at t s ≡ Some x → x.pinned ≡ false
+pub sets_refresh : {t : Learning} {s : Station} (port second : ℕ) {x : Entry} → entry_at t s ≡ Some x → x.pinned ≡ false
     → Sets t (after_learn t s port second (learnt_of t s port)) s (heard_at port second)
-sets_refresh t s port second x known loose = subst (λ o. Sets t
-    (after_learn t s port second (answer_of o (is_full t) port)) s (heard_at port second)) (sym known)
-    (subst (λ b. Sets t (after_learn t s port second (cond b Pinned (cond (eqb x.port port) Refreshed Moved))) s
-    (heard_at port second)) (sym loose) (go (eqb x.port port)))
+sets_refresh {t} {s} port second {x} known loose = rw known (rw loose (go (eqb x.port port)))
   where
     go : (b : Bool) → Sets t (after_learn t s port second (cond b Refreshed Moved)) s (heard_at port second)
     go true = record { entries = refl; places = refl; ports = refl }
@@ -74,29 +70,31 @@ sets_pin t s port room = go (entry_at t s) refl
 -- ---- how many
 pub size_new : (t t' : Learning) (s : Station) (x : Entry) → t'.entries ≡ insert t.entries s x → entry_at t s ≡ None
     → len t'.entries ≡ len t.entries + 1
-size_new t t' s x is none = ap len is ∙ len-insert station_total t.entries s x
-    ∙ ap (λ (o : Option Entry). cond (is_some o) (len t.entries) (len t.entries + 1)) none
+size_new t t' s x is none = (rw is) ∙ len-insert station_total t.entries s x
+    ∙ rw none
 
-pub size_known : (t t' : Learning) (s : Station) (x y : Entry) → t'.entries ≡ insert t.entries s x
+pub size_known : (t t' : Learning) (s : Station) (x : Entry) {y : Entry} → t'.entries ≡ insert t.entries s x
     → entry_at t s ≡ Some y → len t'.entries ≡ len t.entries
-size_known t t' s x y is known = ap len is ∙ len-insert station_total t.entries s x
-    ∙ ap (λ (o : Option Entry). cond (is_some o) (len t.entries) (len t.entries + 1)) known
+size_known t t' s x is known = (rw is) ∙ len-insert station_total t.entries s x
+    ∙ rw known
 
-pub some : (t : Learning) (s : Station) (y : Entry) → entry_at t s ≡ Some y → 0 < len t.entries
-some t s y known = go (len t.entries) refl
+pub some : (t : Learning) (s : Station) {y : Entry} → entry_at t s ≡ Some y → 0 < len t.entries
+some t s known = go (len t.entries) refl
   where
     go : (n : ℕ) → len t.entries ≡ n → 0 < n
-    go zero e = absurd (let none = ap (λ m. get m s) (empty_of_len t.entries e) ∙ get-empty {X = Entry} station_cmp s in
-        let bad : None ≡ Some y = sym none ∙ known in cc)
+    go zero e = absurd (cc (sym ((rw (empty_of_len t.entries e)) ∙ get-empty {X = Entry} station_cmp s)
+        ∙ known))
     go (suc n) e = omega arith
 
 pub size_gone : (t : Learning) (s : Station) (y : Entry) → entry_at t s ≡ Some y
     → len (after_removal t s).entries + 1 ≡ len t.entries
 size_gone t s y known =
-    let one : len (remove t.entries s) ≡ len t.entries - 1 = len-remove station_total t.entries s
-    ∙ ap (λ (o : Option Entry). cond (is_some o) (len t.entries - 1) (len t.entries)) known in
-    let more = some t s y known in
-    ap (λ o. len (after_removal_at t s o).entries + 1) known ∙ omega (arith, one, more)
+    ap (λ o. len (after_removal_at t s o).entries + 1) known ∙ omega (
+      arith,
+      (len-remove station_total t.entries s
+          ∙ ap (λ (o : Option Entry). cond (is_some o) (len t.entries - 1) (len t.entries)) known),
+      some t s known,
+    )
 
 pub room_left : (t : Learning) → len t.entries ≤ length t.places → is_full t ≡ false
     → len t.entries + 1 ≤ length t.places

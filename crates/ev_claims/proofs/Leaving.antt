@@ -33,22 +33,22 @@ known_by test (Some x) none h = refl
 pub flush_known : (e : LocalRoutes) (set : ℕ) → KeepsRoutes e → ListsName e.learned → (s : Station)
     → stands (flushed_in e.learned set) s ≡ true → IsSome (entry_at e.learned s)
 flush_known e set h lists s in' = known_by (goes_by_flush set) (entry_at e.learned s) refl
-    (sym (flushed_exact e set h lists s) ∙ in')
+    (sym (flushed_exact set h lists s) ∙ in')
 
-flush_once : (e : LocalRoutes) (set : ℕ) → AreGood e → AreOnce (flushed_in e.learned set)
-flush_once e set h = flushed_once e.learned h.lists 0 (ports_of set) (ports_climb set)
+flush_once : {e : LocalRoutes} (set : ℕ) → AreGood e → AreOnce (flushed_in e.learned set)
+flush_once {e} set h = flushed_once e.learned h.lists 0 (ports_of set) (ports_climb set)
 
-flush_size : (e : LocalRoutes) (set : ℕ) → AreGood e
+flush_size : {e : LocalRoutes} (set : ℕ) → AreGood e
     → entries (after_flush e set) + length (flushed_in e.learned set) ≡ entries e
-flush_size e set h = removals_size e (flushed_in e.learned set) (flush_once e set h)
+flush_size {e} set h = removals_size e (flushed_in e.learned set) (flush_once set h)
     (flush_known e set h.routes h.lists)
 
 pub flush_leaves : (e : LocalRoutes) (set : ℕ) → AreGood e → Leaves e (after_flush e set)
 flush_leaves e set h = record {
   stations = flushed_in e.learned set;
   are = refl;
-  once = flush_once e set h;
-  few = omega (arith, flush_size e set h);
+  once = flush_once set h;
+  few = omega (arith, flush_size set h);
 }
 
 -- ---- by age
@@ -61,10 +61,10 @@ pub second_leaves : (e : LocalRoutes) (set limit : ℕ) → AreGood e → Leaves
 second_leaves e set limit h = record {
   stations = flushed_in e.learned set ++ due_in t limit;
   are = sym (removals_joined e (flushed_in e.learned set) (due_in t limit));
-  once = once_joined (flushed_in e.learned set) (due_in t limit) (flush_once e set h) due not_both;
+  once = once_joined (flushed_in e.learned set) (due_in t limit) (flush_once set h) due not_both;
   few = omega (
     arith,
-    flush_size e set h,
+    flush_size set h,
     removals_size (after_flush e set) (due_in t limit) due (age_known t limit lists),
     length-append (flushed_in e.learned set) (due_in t limit),
   );
@@ -82,6 +82,5 @@ second_leaves e set limit h = record {
     not_both : (s : Station) → stands (flushed_in e.learned set) s ≡ true
         → stands (due_in (after_flush e set).learned limit) s ≡ false
     not_both s first =
-        let none = removals_entries e (flushed_in e.learned set) s
-        ∙ ap (λ b. cond b None (entry_at e.learned s)) first in
-        due_exact t limit lists s ∙ ap (goes_by_age limit) none
+        due_exact t limit lists s ∙ rw (removals_entries e (flushed_in e.learned set) s
+        ∙ ap (λ b. cond b None (entry_at e.learned s)) first)

@@ -1,6 +1,6 @@
 -- The lists of a learning table name the remaining stations after removals.
 use Rattle.std.proofs.Common.{◌≡◌, inl, inr, ℕ, zero, suc, ◌<◌, true, false, Option, Some, None, List, [], ◌∷◌, length}
-use Rattle.std.proofs.Common.{refl, sym, ap, subst, ◌∙◌, arith}
+use Rattle.std.proofs.Common.{refl, sym, ap, ◌∙◌, arith}
 use Rattle.std.specs.Prelude.{is_some}
 use Rattle.std.proofs.lemmas.Bool.{eq-eqb}
 use Rattle.mac_arena.specs.declared.station.Station.{Station}
@@ -30,31 +30,30 @@ pub named : (e : LocalRoutes) → KeepsRoutes e → ListsName e.learned → AreN
 named e h lists = record { lists = lists; based = based e h }
 
 -- a known station is in a bucket
-some_bucket : (t : Learning) (s : Station) → ListsName t → is_some (entry_at t s) ≡ true → 0 < length t.chains
-some_bucket t s lists known = go t.chains refl
+some_bucket : {t : Learning} (s : Station) → ListsName t → is_some (entry_at t s) ≡ true → 0 < length t.chains
+some_bucket {t} s lists known = go t.chains refl
   where
     on : stands (stations_at t.chains (bucket_in t s)) s ≡ true
-    on = lists.chains (bucket_in t s) s ∙ rw (known, eq-eqb (bucket_in t s) (bucket_in t s) refl) refl
+    on = lists.chains (bucket_in t s) s ∙ rw (known, eq-eqb (bucket_in t s) (bucket_in t s) refl)
 
     go : (cs : List (List Station)) → t.chains ≡ cs → 0 < length t.chains
-    go [] is = absurd (let off : false ≡ true = ap (λ cs. stands (stations_at cs (bucket_in t s)) s) (sym is) ∙ on in
+    go [] is = absurd (let off : false ≡ true = (rw is) ∙ on in
         cc)
     go (c ∷ cs) is = omega (arith, ap length is)
 
-pub removal_named : (t : Learning) (s : Station) → AreNamed t → AreNamed (gone t s)
-removal_named t s h = record {
+pub removal_named : {t : Learning} (s : Station) → AreNamed t → AreNamed (gone t s)
+removal_named {t} s h = record {
   lists = go (entry_at t s) refl;
   based = λ q x at. elim (same_or_other q s) [
-    | inl same ↦ absurd (let none : None ≡ Some x = sym (removal_entry t s).here ∙ ap (entry_at (gone t s)) (sym same)
-        ∙ at in cc)
+    | inl same ↦ absurd (cc (sym (removal_entry t s).here ∙ (rw same) ∙ at))
     | inr ne ↦ h.based q x (sym ((removal_entry t s).others q ne) ∙ at)
   ];
 }
   where
     go : (o : Option Entry) → entry_at t s ≡ o → ListsName (gone t s)
-    go None is = subst ListsName (sym (ap (after_removal_at t s) is)) h.lists
-    go (Some x) is = removal_names t s h.lists (some_bucket t s h.lists (ap is_some is)) h.based
+    go None is = rw (ap (after_removal_at t s) is) h.lists
+    go (Some x) is = removal_names t s h.lists (some_bucket s h.lists (rw is)) h.based
 
 pub removals_named : (e : LocalRoutes) (ss : List Station) → AreNamed e.learned → AreNamed (after_removals e ss).learned
 removals_named e [] h = h
-removals_named e (s ∷ ss) h = removals_named (after_removal e s) ss (removal_named e.learned s h)
+removals_named e (s ∷ ss) h = removals_named (after_removal e s) ss (removal_named s h)

@@ -1,8 +1,9 @@
 -- the invariant of own registers when the edge makes or takes an update
 use Rattle.std.proofs.Common.{◌≡◌, ◌≢◌, ◌⊎◌, inl, inr, ℕ, ◌≤◌, Bool, true, false, cond, Option, Some, None, List}
-use Rattle.std.proofs.Common.{[], ◌∷◌, ◌++◌, refl, sym, ap, subst, ◌∙◌, arith}
+use Rattle.std.proofs.Common.{[], ◌∷◌, ◌++◌, refl, sym, ap, ◌∙◌, arith}
+use Rattle.std.proofs.lemmas.Option.{same_Some}
 use Rattle.std.proofs.lemmas.List.Elements.{Contains-push_cases}
-use Rattle.std.specs.Prelude.{Contains, ◌==◌}
+use Rattle.std.specs.Prelude.{Contains}
 use Rattle.std.specs.List.{list_any}
 use Rattle.std.specs.Ordering.{eq_by_cmp}
 use Rattle.route_wire.specs.declared.update.Key.{Key}
@@ -11,8 +12,8 @@ use Rattle.route_wire.specs.declared.update.Content.{Content}
 use Rattle.route_wire.specs.declared.update.Value.{Value}
 use Rattle.route_wire.specs.Fields.{Fields}
 use Rattle.route_wire.specs.Order.{register_cmp}
-use Rattle.route_join.specs.Table.{value_at, register_of, is_news, with_update}
-use Rattle.route_join.specs.Owner.{advert_of, advert_at}
+use Rattle.route_join.specs.Table.{register_of, is_news, with_update}
+use Rattle.route_join.specs.Owner.{advert_at}
 use Rattle.route_join.proofs.Tables.{same_or_other, at_same, at_other}
 use Rattle.route_join.proofs.Joins.{update_other}
 use Rattle.route_join.proofs.Merging.{same_listeners}
@@ -25,7 +26,7 @@ use Rattle.route_wire.proofs.Newer.{next_newer}
 pub key_or_other : (k j : Key) → (k ≡ j) ⊎ (k ≢ j)
 key_or_other k j = elim (same_or_other (register_of 0 k) (register_of 0 j)) [
   | inl e ↦ inl (ap (λ (r : Register). r.key) e)
-  | inr ne ↦ inr (λ e. ne (ap (register_of 0) e))
+  | inr ne ↦ inr (λ e. ne (rw e))
 ]
 
 pub own_same : (e : Speaker) (k : Key) (c : Content) → own (after_originating e k c) k ≡ Some (next_value e c)
@@ -37,8 +38,8 @@ own_other e k c j ne = at_other e.table (own_register e k) _ (own_register e j)
 
 pub key_stays : (e : Speaker) (k : Key) (c : Content) (j : Key) (o : ℕ) → j ≢ k
     → advert_at (after_originating e k c).table o j ≡ advert_at e.table o j
-key_stays e k c j o ne = ap advert_of (at_other e.table (own_register e k) _ (register_of o j)
-    (λ h. ne (ap (λ (q : Register). q.key) h)))
+key_stays e k c j o ne = rw (at_other e.table (own_register e k) _ (register_of o j) (λ h. ne (ap (λ
+    (q : Register). q.key) h)))
 
 -- ---- the registers that wait
 
@@ -50,86 +51,87 @@ marked_only rs r q = go (list_any (eq_by_cmp register_cmp r) rs)
     go false h = Contains-push_cases rs r q h
 
 -- ---- saying something
-pub now_said : (e : Speaker) (k j : Key) (c : Content) (v : Value) → j ≡ k → own (after_originating e k c) j ≡ Some v
-    → next_value e c ≡ v
-now_said e k j c v same is =
-    let is' : Some (next_value e c) ≡ Some v = sym (own_same e k c)
-    ∙ subst (λ q. own (after_originating e k c) q ≡ Some v) same is in
-    cc
 
-pub said_numbers : (e : Speaker) (k : Key) (c : Content) → KeepsNumbers e → KeepsNumbers (after_originating e k c)
-said_numbers e k c h = record {
-  counted = λ j v is present. elim (key_or_other j k) [
-    | inl same ↦ let number = ap (λ (q : Value). q.counter) (now_said e k j c v same is) in omega (arith, number)
-    | inr ne ↦ let bound : v.counter ≤ e.counter = h.counted j v (before j v ne is) present in omega arith
-  ];
-  distinct = λ i j v w at_i at_j here there same. elim (key_or_other i k) [
-    | inl i_is ↦ elim (key_or_other j k) [
-      | inl j_is ↦ i_is ∙ sym j_is
-      | inr ne ↦
-          let number = ap (λ (q : Value). q.counter) (now_said e k i c v i_is at_i) in
-          let bound : w.counter ≤ e.counter = h.counted j w (before j w ne at_j) there in
-          absurd (omega (arith, number))
-    ]
-    | inr ne ↦ elim (key_or_other j k) [
-      | inl j_is ↦
-          let number = ap (λ (q : Value). q.counter) (now_said e k j c w j_is at_j) in
-          let bound : v.counter ≤ e.counter = h.counted i v (before i v ne at_i) here in
-          absurd (omega (arith, number))
-      | inr other ↦ h.distinct i j v w (before i v ne at_i) (before j w other at_j) here there same
-    ]
-  ];
-  past = λ j v is. elim (key_or_other j k) [
-    | inl same ↦ let life = ap (λ (q : Value). q.incarnation) (now_said e k j c v same is) in omega (arith, life)
-    | inr ne ↦ h.past j v (before j v ne is)
-  ];
-  alive = λ j v is some. elim (key_or_other j k) [
-    | inl same ↦ sym (ap (λ (q : Value). q.incarnation) (now_said e k j c v same is))
-    | inr ne ↦ h.alive j v (before j v ne is) some
-  ];
-  known = h.known;
-  pending = λ r in'. elim (same_or_other r (own_register e k)) [
-    | inl same ↦ (
-      next_value e c,
-      ap (value_at (after_originating e k c).table) same ∙ own_same e k c,
-      refl,
-      ap (λ (q : Register). q.originator) same,
-    )
-    | inr ne ↦ elim (marked_only e.pending (own_register e k) r in') [
-      | inl earlier ↦ let p = h.pending r earlier in (
-        p.0,
-        at_other e.table (own_register e k) (next_value e c) r ne ∙ p.1,
-        p.2,
-        p.3,
-      )
-      | inr same ↦ absurd (ne (sym same))
-    ]
-  ];
-}
-  where
-    before : (j : Key) (v : Value) → j ≢ k → own (after_originating e k c) j ≡ Some v → own e j ≡ Some v
-    before j v ne is = sym (own_other e k c j ne) ∙ is
+module _ (e : Speaker) (k : Key) (c : Content) where
+  pub now_said : {j : Key} {v : Value} → j ≡ k → own (after_originating e k c) j ≡ Some v → next_value e c ≡ v
+  now_said {v = v} same is = same_Some (next_value e c) v (sym (own_same e k c) ∙ rw same at is)
 
--- the next own update is news
-pub said_is_news : (e : Speaker) (k : Key) (c : Content) → KeepsNumbers e → is_news (own e k) (next_value e c) ≡ true
-said_is_news e k c h = go (own e k) refl
-  where
-    go : (o : Option Value) → own e k ≡ o → is_news o (next_value e c) ≡ true
-    go None is = refl
-    go (Some v) is = next_newer v _ (h.past k v is) (λ same. let bound = h.counted k v is same in omega (arith, bound))
+  pub said_before : {j : Key} {v : Value} → j ≢ k → own (after_originating e k c) j ≡ Some v → own e j ≡ Some v
+  said_before {j} ne is = sym (own_other e k c j ne) ∙ is
 
--- so the table that takes it has it
-pub said_joins : (e : Speaker) (k : Key) (c : Content) → KeepsNumbers e
-    → with_update e.table (record { register = own_register e k; value = next_value e c })
-    ≡ (after_originating e k c).table
-said_joins e k c h = ap (λ b. cond b (after_originating e k c).table e.table) (said_is_news e k c h)
+  -- the table that takes the next own update has it, if the present value has an earlier number
+  pub news_joins : ((v : Value) → own e k ≡ Some v → v.incarnation ≤ e.incarnation)
+      → ((v : Value) → own e k ≡ Some v → v.incarnation ≡ e.incarnation → v.counter ≤ e.counter)
+      → with_update e.table (record { register = own_register e k; value = next_value e c })
+      ≡ (after_originating e k c).table
+  news_joins past counted = rw (go (own e k) refl)
+    where
+      go : (o : Option Value) → own e k ≡ o → is_news o (next_value e c) ≡ true
+      go None is = refl
+      go (Some v) is = next_newer v _ (past v is) (λ same. omega (arith, counted v is same))
 
-pub said_rooms : (e : Speaker) (k : Key) (c : Content) (known : List Register) → Contains known (own_register e k)
-    → HasRooms e known → HasRooms (after_originating e k c) known
-said_rooms e k c known here h j v is present = elim (key_or_other j k) [
-  | inl same ↦ subst (λ q. Contains known (own_register e q)) (sym same) here
-  | inr ne ↦ h j v (sym (own_other e k c j ne) ∙ is) present
-]
+  pub said_numbers : KeepsNumbers e → KeepsNumbers (after_originating e k c)
+  said_numbers h = record {
+    counted = λ j v is present. elim (key_or_other j k) [
+      | inl same ↦ rw (← now_said same is) (omega arith)
+      | inr ne ↦ omega (arith, h.counted j v (said_before ne is) present)
+    ];
+    distinct = λ i j v w at_i at_j here there same. elim (key_or_other i k) [
+      | inl i_is ↦ elim (key_or_other j k) [
+        | inl j_is ↦ i_is ∙ sym j_is
+        | inr ne ↦ absurd (omega (
+          arith,
+          ap (λ (q : Value). q.counter) (now_said i_is at_i),
+          h.counted j w
+              (said_before ne at_j) there,
+        ))
+      ]
+      | inr ne ↦ elim (key_or_other j k) [
+        | inl j_is ↦ absurd (omega (
+          arith,
+          ap (λ (q : Value). q.counter) (now_said j_is at_j),
+          h.counted i v
+              (said_before ne at_i) here,
+        ))
+        | inr other ↦ h.distinct i j v w (said_before ne at_i) (said_before other at_j) here there same
+      ]
+    ];
+    past = λ j v is. elim (key_or_other j k) [
+      | inl same ↦ rw (← now_said same is) (omega arith)
+      | inr ne ↦ h.past j v (said_before ne is)
+    ];
+    alive = λ j v is some. elim (key_or_other j k) [
+      | inl same ↦ rw (← now_said same is)
+      | inr ne ↦ h.alive j v (said_before ne is) some
+    ];
+    known = h.known;
+    pending = λ r in'. elim (same_or_other r (own_register e k)) [
+      | inl same ↦ (next_value e c, rw same (own_same e k c), refl, rw same)
+      | inr ne ↦ elim (marked_only e.pending (own_register e k) r in') [
+        | inl earlier ↦ let p = h.pending r earlier in (
+          p.0,
+          at_other e.table (own_register e k) (next_value e c) r ne ∙ p.1,
+          p.2,
+          p.3,
+        )
+        | inr same ↦ absurd (ne (sym same))
+      ]
+    ];
+  }
+
+  -- so the table that takes it has it
+  pub said_joins : KeepsNumbers e → with_update e.table (record {
+    register = own_register e k;
+    value = next_value e c;
+  }) ≡ (after_originating e k c).table
+  said_joins h = news_joins (h.past k) (h.counted k)
+
+  pub said_rooms : (known : List Register) → Contains known (own_register e k) → HasRooms e known
+      → HasRooms (after_originating e k c) known
+  said_rooms known here h j v is present = elim (key_or_other j k) [
+    | inl same ↦ rw same here
+    | inr ne ↦ h j v (said_before ne is) present
+  ]
 
 -- ---- hearing something of another
 pub own_stays : (e : Speaker) (u : Fields) → u.register.originator ≢ e.address → (k : Key)
@@ -140,12 +142,11 @@ own_stays e u other k = update_other e.table u.register u.value (own_register e 
 pub heard_numbers : (e : Speaker) (u : Fields) → u.register.originator ≢ e.address → KeepsNumbers e
     → KeepsNumbers (after_importing e u)
 heard_numbers e u other h = record {
-  counted = λ k v is present. h.counted k v (before k v is) present;
-  distinct = λ k j v w at_k at_j here there same. h.distinct k j v w (before k v at_k) (before j w at_j) here there
-      same;
-  past = λ k v is. h.past k v (before k v is);
-  alive = λ k v is some. h.alive k v (before k v is) some;
-  known = ap (λ os. list_any (λ x. ◌==◌ x e.address) os) (same_listeners e.table u) ∙ h.known;
+  counted = λ k v is. h.counted k v (before k is);
+  distinct = λ k j v w at_k at_j. h.distinct k j v w (before k at_k) (before j at_j);
+  past = λ k v is. h.past k v (before k is);
+  alive = λ k v is. h.alive k v (before k is);
+  known = rw (same_listeners e.table u) h.known;
   pending = λ r in'. let p = h.pending r in' in (
     p.0,
     update_other e.table u.register u.value r
@@ -155,9 +156,9 @@ heard_numbers e u other h = record {
   );
 }
   where
-    before : (k : Key) (v : Value) → own (after_importing e u) k ≡ Some v → own e k ≡ Some v
-    before k v is = sym (own_stays e u other k) ∙ is
+    before : (k : Key) {v : Value} → own (after_importing e u) k ≡ Some v → own e k ≡ Some v
+    before k is = sym (own_stays e u other k) ∙ is
 
 pub heard_rooms : (e : Speaker) (u : Fields) (known : List Register) → u.register.originator ≢ e.address
     → HasRooms e known → HasRooms (after_importing e u) known
-heard_rooms e u known other h k v is present = h k v (sym (own_stays e u other k) ∙ is) present
+heard_rooms e u known other h k v is = h k v (sym (own_stays e u other k) ∙ is)

@@ -3,12 +3,10 @@ use Rattle.std.proofs.Common.{◌≡◌, ◌≢◌, ◌⊎◌, inl, inr, ℕ, ze
 use Rattle.std.proofs.Common.{get_or, refl, sym, ap, subst, ◌∙◌, arith}
 use Rattle.std.specs.Prelude.{IsSome, Contains, ◌↔◌}
 use Rattle.std.specs.List.{refill}
-use Rattle.std.specs.Option.{option_map}
 use Rattle.std.specs.FinMap.{get-empty, len, len-empty}
 use Rattle.std.proofs.lemmas.List.{length-replicate}
 use Rattle.route_wire.specs.declared.update.Key.{Key}
 use Rattle.route_wire.specs.declared.update.Key.TheVariants.{Flood, Mac}
-use Rattle.route_wire.specs.declared.update.Advert.{Advert}
 use Rattle.route_wire.specs.declared.update.Content.TheVariants.{Advert as Advertised}
 use Rattle.route_wire.specs.declared.update.Value.{Value}
 use Rattle.route_wire.specs.Fields.{flood_advert}
@@ -32,20 +30,20 @@ floods_other e (v ∷ vs) k ne = floods_other (after_originating e (Flood v) (Ad
 
 said_there : (e : Speaker) (v : ℕ) → IsSome (own_advert (after_originating e (Flood v) (Advertised flood_advert))
     (Flood v))
-said_there e v = subst IsSome (sym (ap advert_of (own_same e (Flood v) (Advertised flood_advert)))) refl
+said_there e v = rw (ap advert_of (own_same e (Flood v) (Advertised flood_advert)))
 
 -- one list more
-floods_more : (e : Speaker) (w : ℕ) (ws : List ℕ) (v : ℕ)
+floods_more : (e : Speaker) {w : ℕ} (ws : List ℕ) {v : ℕ}
     → IsSome (own_advert (after_floods (after_originating e (Flood w) (Advertised flood_advert)) ws) (Flood v))
     ↔ (IsSome (own_advert (after_originating e (Flood w) (Advertised flood_advert)) (Flood v)) ⊎ Contains ws v)
     → IsSome (own_advert (after_floods e (w ∷ ws)) (Flood v)) ↔ (IsSome (own_advert e (Flood v)) ⊎ Contains (w ∷ ws) v)
-floods_more e w ws v rest = (
+floods_more e {w} ws {v} rest = (
   λ p. elim (rest.0 p) [
     | inl there ↦ elim (key_or_other (Flood v) (Flood w)) [
       | inl same ↦ inr (0, omega arith, let is : v ≡ w = cc in sym is)
       | inr ne ↦ inl (subst IsSome (key_stays e (Flood w) (Advertised flood_advert) (Flood v) e.address ne) there)
     ]
-    | inr later ↦ inr (suc later.0, (let less = later.1 in omega (arith, less)), later.2)
+    | inr later ↦ inr (suc later.0, (omega (arith, later.1)), later.2)
   ],
   λ q. elim q [
     | inl there ↦ elim (key_or_other (Flood v) (Flood w)) [
@@ -72,21 +70,20 @@ floods_are e [] v = (
   λ p. inl p,
   λ q. elim q [
     | inl p ↦ p
-    | inr c ↦ absurd (let less = c.1 in omega (arith, less))
+    | inr c ↦ absurd (omega (arith, c.1))
   ],
 )
-floods_are e (w ∷ ws) v = floods_more e w ws v (floods_are (after_originating e (Flood w) (Advertised flood_advert)) ws
+floods_are e (w ∷ ws) v = floods_more e ws (floods_are (after_originating e (Flood w) (Advertised flood_advert)) ws
     v)
 
 pub floods_counter : (e : Speaker) (vs : List ℕ) → (after_floods e vs).counter ≡ e.counter + length vs
 floods_counter e [] = omega arith
-floods_counter e (v ∷ vs) = let rest = floods_counter (after_originating e (Flood v) (Advertised flood_advert)) vs in
-    omega (arith, rest)
+floods_counter e (v ∷ vs) = omega (arith, floods_counter (after_originating e (Flood v) (Advertised flood_advert)) vs)
 
 nothing_said : (address incarnation : ℕ) (originators : List ℕ) (k : Key)
     → own_advert (silent address incarnation originators) k ≡ None
-nothing_said address incarnation originators k = ap advert_of
-    (get-empty {X = Value} register_cmp (own_register (silent address incarnation originators) k))
+nothing_said address incarnation originators k = rw (get-empty {X = Value} register_cmp (own_register
+    (silent address incarnation originators) k))
 
 nobody : (capacity ports buckets salt : ℕ) (s : Station)
     → entry_at (nothing_learnt capacity ports buckets salt) s ≡ None
@@ -97,22 +94,19 @@ pub opened_routes : (address incarnation : ℕ) (originators vs ports : List ℕ
     → KeepsRoutes (routes_of (after_floods (silent address incarnation originators) vs)
     (nothing_learnt capacity (length ports) buckets salt) ports vs)
 opened_routes address incarnation originators vs ports capacity buckets salt small few listed = record {
-  kinds = λ s. ap (option_map (λ (x : Entry). x.pinned)) (nobody capacity (length ports) buckets salt s)
-      ∙ ap (option_map (λ (a : Advert). a.is_static)) (sym (none (Mac s.vni s.mac None) (λ v q. cc)));
+  kinds = λ s. rw (nobody capacity (length ports) buckets salt s, none (Mac s.vni s.mac None) (λ v q. cc));
   bare = λ s ip. none (Mac s.vni s.mac (Some ip)) (λ v q. cc);
-  ports = λ s x at. absurd (let no = nobody capacity (length ports) buckets salt s in
-      let bad : None ≡ Some x = sym no ∙ at in cc);
+  ports = λ s x at. absurd (cc (sym (nobody capacity (length ports) buckets salt s) ∙ at));
   floods = λ v. (
     λ p. elim ((floods_are start vs v).0 p) [
-      | inl there ↦ absurd (let no = nothing_said address incarnation originators (Flood v) in
-          let bad : IsSome {T = Advert} None = subst IsSome no there in cc)
+      | inl there ↦ absurd (let bad = rw (nothing_said address incarnation originators (Flood v)) at there in cc)
       | inr c ↦ c
     ],
     λ c. (floods_are start vs v).1 (inr c),
   );
   fits = omega (arith, empty, places);
   small = omega (arith, places, small);
-  left = let counted = floods_counter start vs in omega (arith, empty, places, counted, listed);
+  left = omega (arith, empty, places, floods_counter start vs, listed);
   lists = length-replicate (length ports) [];
   few = few;
 }
@@ -135,4 +129,4 @@ pub refilled : (xs ws : List ℕ) → length ws ≡ length xs → refill (length
 refilled [] [] same = refl
 refilled [] (w ∷ ws) same = absurd (omega (arith, same))
 refilled (x ∷ xs) [] same = absurd (omega (arith, same))
-refilled (x ∷ xs) (w ∷ ws) same = ap (λ ys. w ∷ ys) (refilled xs ws (omega (arith, same)))
+refilled (x ∷ xs) (w ∷ ws) same = rw (refilled xs ws (omega (arith, same)))

@@ -1,13 +1,13 @@
 -- the list of those that wait, by nodes and by registers
 use Rattle.std.proofs.Common.{◌≡◌, ◌⊎◌, inl, inr, ℕ, zero, suc, ◌<◌, ◌^◌, Bool, true, false, cond, eqb, Option, Some}
-use Rattle.std.proofs.Common.{None, List, [], ◌∷◌, ◌++◌, length, map, refl, sym, ap, subst, ◌∙◌, arith}
+use Rattle.std.proofs.Common.{None, List, [], ◌∷◌, ◌++◌, length, map, refl, sym, ap, ◌∙◌, arith}
 use Rattle.std.specs.Option.{IfSome, IfNone, is_some}
-use Rattle.std.specs.Prelude.{Contains, ◌||◌, ◌==◌, slice_get, slice_set, slice_index_or, drop}
+use Rattle.std.specs.Prelude.{Contains, ◌||◌, ◌==◌, slice_get, slice_set, drop}
 use Rattle.std.specs.List.{list_any}
 use Rattle.std.specs.Ordering.{eq_by_cmp}
 use Rattle.std.proofs.lemmas.Bool.{eq-eqb, ne_eqb, eqb-true, or_left, or_right, or_cases, cond-true}
 use Rattle.std.proofs.lemmas.List.{map-append, length-append, get_or_append_left}
-use Rattle.std.proofs.lemmas.Option.{slice_get_within, slice_get-get_or, get_or_from_slice_get}
+use Rattle.std.proofs.lemmas.Option.{slice_get_within, slice_get-get_or, get_or_from_slice_get, same_Some}
 use Rattle.idx_links.specs.Links.{has, without, list_at, IsFree}
 use Rattle.idx_links.specs.Families.{Families, lists_of}
 use Rattle.idx_links.proofs.Paths.{has-append, has-left}
@@ -20,32 +20,32 @@ use Rattle.ev_claims.specs.Pending.{marked}
 use Rattle.ev_claims.specs.Inner.Pending.{no_register, register_at, queue, node_of, IsPending}
 
 -- ---- one family of one list
-pub now_queue : (f : Families) (q : List ℕ) → f.families ≡ (q ∷ []) ∷ [] → queue f ≡ q
-now_queue f q is = ap (λ fs. slice_index_or (slice_index_or fs 0 []) 0 []) is
+pub now_queue : (f : Families) {q : List ℕ} → f.families ≡ (q ∷ []) ∷ [] → queue f ≡ q
+now_queue f is = rw is
 
 pub pushed : (f f' : Families) (n : ℕ) → f.families ≡ (queue f ∷ []) ∷ []
     → f'.families ≡ slice_set f.families 0 (slice_set (lists_of f 0) 0 (queue f ++ n ∷ []))
     → f'.families ≡ ((queue f ++ n ∷ []) ∷ []) ∷ []
-pushed f f' n one is = is ∙ ap (λ fs. slice_set fs 0 (slice_set (slice_index_or fs 0 []) 0 (queue f ++ n ∷ []))) one
+pushed f f' n one is = is ∙ rw one
 
 pub unlinked : (f f' : Families) (n : ℕ) → f.families ≡ (queue f ∷ []) ∷ []
     → f'.families ≡ slice_set f.families 0 (map (without n) (lists_of f 0))
     → f'.families ≡ (without n (queue f) ∷ []) ∷ []
-unlinked f f' n one is = is ∙ ap (λ fs. slice_set fs 0 (map (without n) (slice_index_or fs 0 []))) one
+unlinked f f' n one is = is ∙ rw one
 
 -- ---- nodes on a list
 has_first : (x : ℕ) (xs : List ℕ) → has (x ∷ xs) x ≡ true
 has_first x xs = or_left (eqb x x) (has xs x) (eq-eqb x x refl)
 
-has_pushed : (xs : List ℕ) (n m : ℕ) → has (xs ++ n ∷ []) m ≡ true → (has xs m ≡ true) ⊎ (n ≡ m)
-has_pushed xs n m h = elim (or_cases (has xs m) (has (n ∷ []) m) (sym (has-append xs (n ∷ []) m) ∙ h)) [
+has_pushed : (xs : List ℕ) {n m : ℕ} → has (xs ++ n ∷ []) m ≡ true → (has xs m ≡ true) ⊎ (n ≡ m)
+has_pushed xs {n} {m} h = elim (or_cases (has xs m) (has (n ∷ []) m) (sym (has-append xs (n ∷ []) m) ∙ h)) [
   | inl e ↦ inl e
   | inr e ↦ inr (eqb-true n m (elim (or_cases (eqb n m) false e) [ inl is ↦ is | inr off ↦ cc ]))
 ]
 
 pub front_out : (xs : List ℕ) (n : ℕ) → slice_get xs 0 ≡ Some n → without n xs ≡ drop 1 xs
 front_out [] n e = cc
-front_out (x ∷ xs) n e = let same : x ≡ n = cc in cond-true (eqb x n) xs (x ∷ without n xs) (eq-eqb x n same)
+front_out (x ∷ xs) n e = cond-true (eqb x n) xs (x ∷ without n xs) (eq-eqb x n (cc))
 
 -- ---- nodes and their registers
 pub same_names : (rs : List Register) (r : Register) (xs : List ℕ) → ((n : ℕ) → has xs n ≡ true → n < length rs)
@@ -62,32 +62,10 @@ waits_by rs r node [] h = refl
 waits_by rs r node (x ∷ xs) h = λ i. h x (has_first x xs) i || waits_by rs r node xs
     (λ m t. h m (or_right (eqb x m) (has xs m) t)) i
 
-pub waits : (f : Families) (rs : List Register) (nodes : List (Register × ℕ)) (room : ℕ) (r : Register) (node : ℕ)
-    → IsPending f rs nodes room → node_of nodes r ≡ Some node
-    → list_any (eq_by_cmp register_cmp r) (map (register_at rs) (queue f)) ≡ has (queue f) node
-waits f rs nodes room r node p at = waits_by rs r node (queue f)
-    (λ m t. go m (p.within m t) (eq_by_cmp register_cmp r (register_at rs m)) refl)
-  where
-    go : (m : ℕ) → m < length rs → (b : Bool) → eq_by_cmp register_cmp r (register_at rs m) ≡ b
-        → eq_by_cmp register_cmp r (register_at rs m) ≡ (m == node)
-    go m l true e =
-        let same = same_register r (register_at rs m) e in
-        let there = p.there m (register_at rs m) (slice_get-get_or rs m no_register l) in
-        let equal : Some m ≡ Some node = sym there ∙ ap (node_of nodes) (sym same) ∙ at in
-        let nodes_equal : m ≡ node = cc in
-        e ∙ sym (eq-eqb m node nodes_equal)
-    go m l false e = e ∙ sym (ne_eqb m node (λ same.
-        let back = get_or_from_slice_get rs node r no_register (p.back r node at) in
-        let ties : eq_by_cmp register_cmp r (register_at rs m) ≡ true =
-        ap (eq_by_cmp register_cmp r) (ap (register_at rs) same ∙ back) ∙ itself_register r in
-        cc))
-
-pub marked_waiting : (rs : List Register) (xs : List ℕ) (node : ℕ) (r : Register) → register_at rs node ≡ r
+marked_waiting : (rs : List Register) (xs : List ℕ) (node : ℕ) {r : Register} → register_at rs node ≡ r
     → list_any (eq_by_cmp register_cmp r) (map (register_at rs) xs) ≡ false
     → map (register_at rs) (xs ++ node ∷ []) ≡ marked (map (register_at rs) xs) r
-marked_waiting rs xs node r is absent =
-    map-append (register_at rs) xs (node ∷ []) ∙ ap (λ q. map (register_at rs) xs ++ q ∷ []) is
-    ∙ sym (ap (λ b. cond b (map (register_at rs) xs) (map (register_at rs) xs ++ r ∷ [])) absent)
+marked_waiting rs xs node is absent = rw (map-append, is, absent)
 
 pub drop_map : (rs : List Register) (xs : List ℕ) → map (register_at rs) (drop 1 xs) ≡ drop 1 (map (register_at rs) xs)
 drop_map rs [] = refl
@@ -96,69 +74,19 @@ drop_map rs (x ∷ xs) = refl
 pub front_map : (rs : List Register) (xs : List ℕ) (n : ℕ) → slice_get xs 0 ≡ Some n
     → slice_get (map (register_at rs) xs) 0 ≡ Some (register_at rs n)
 front_map rs [] n e = cc
-front_map rs (x ∷ xs) n e = let same : x ≡ n = cc in ap (λ y. Some (register_at rs y)) same
+front_map rs (x ∷ xs) n e = let same : x ≡ n = cc in rw same
 
 pub on_queue : (f : Families) (n : ℕ) (r : Option ℕ) → length (lists_of f 0) ≡ 1 → is_some r ≡ true
     → IfSome r (λ l. has (list_at (lists_of f 0) l) n ≡ true) → IfSome r (λ l. l < length (lists_of f 0))
     → has (queue f) n ≡ true
 on_queue f n None one e on within = cc
 on_queue f n (Some l) one e on within = let zero_is : l ≡ 0 = omega (arith, one, within) in
-    subst (λ k. has (list_at (lists_of f 0) k) n ≡ true) zero_is on
+    rw zero_is at on
 
 pub off_lists : (f : Families) (n : ℕ) (r : Option ℕ) → is_some r ≡ false → IfNone r (IsFree (lists_of f 0) n)
     → IsFree (lists_of f 0) n
 off_lists f n None e free = free
 off_lists f n (Some k) e free = cc
-
--- ---- a register is marked
-pub marked_is : (f f' : Families) (rs : List Register) (nodes : List (Register × ℕ)) (room : ℕ) (r : Register)
-    (node : ℕ) → IsPending f rs nodes room → node_of nodes r ≡ Some node → has (queue f) node ≡ false
-    → queue f' ≡ queue f ++ node ∷ [] → map (register_at rs) (queue f') ≡ marked (map (register_at rs) (queue f)) r
-marked_is f f' rs nodes room r node p at free is = ap (map (register_at rs)) is
-    ∙ marked_waiting rs (queue f) node r (get_or_from_slice_get rs node r no_register (p.back r node at))
-    (waits f rs nodes room r node p at ∙ free)
-
-pub marked_pending : (f f' : Families) (rs : List Register) (nodes : List (Register × ℕ)) (room : ℕ) (r : Register)
-    (node : ℕ) → IsPending f rs nodes room → node_of nodes r ≡ Some node → f'.nodes ≡ f.nodes
-    → f'.families ≡ ((queue f ++ node ∷ []) ∷ []) ∷ [] → IsPending f' rs nodes room
-marked_pending f f' rs nodes room r node p at same is =
-    let now = now_queue f' (queue f ++ node ∷ []) is in
-    record {
-      one = is ∙ ap (λ q. (q ∷ []) ∷ []) (sym now);
-      counted = same ∙ p.counted;
-      fits = p.fits;
-      small = p.small;
-      within = λ m t. elim (has_pushed (queue f) node m (ap (λ q. has q m) (sym now) ∙ t)) [
-        | inl e ↦ p.within m e
-        | inr e ↦ subst (λ x. x < length rs) e (slice_get_within rs node r (p.back r node at))
-      ];
-      there = p.there;
-      back = p.back;
-    }
-
-pub left_pending : (f f' : Families) (rs : List Register) (nodes : List (Register × ℕ)) (room node : ℕ)
-    → IsPending f rs nodes room → f'.nodes ≡ f.nodes → f'.families ≡ (without node (queue f) ∷ []) ∷ []
-    → IsPending f' rs nodes room
-left_pending f f' rs nodes room node p same is =
-    let now = now_queue f' (without node (queue f)) is in
-    record {
-      one = is ∙ ap (λ q. (q ∷ []) ∷ []) (sym now);
-      counted = same ∙ p.counted;
-      fits = p.fits;
-      small = p.small;
-      within = λ m t. p.within m (has-left (queue f) node m (ap (λ q. has q m) (sym now) ∙ t));
-      there = p.there;
-      back = p.back;
-    }
-
--- ---- a register gets a node
-pub get_contains : (rs : List Register) (n : ℕ) (r : Register) → slice_get rs n ≡ Some r → Contains rs r
-get_contains rs n r e = (n, slice_get_within rs n r e, get_or_from_slice_get rs n r r e)
-
-pub not_known : (f : Families) (rs : List Register) (nodes : List (Register × ℕ)) (room : ℕ) (r : Register)
-    → IsPending f rs nodes room → node_of nodes r ≡ None → Contains rs r → false ≡ true
-not_known f rs nodes room r p none h =
-    let bad : None ≡ Some h.0 = sym none ∙ p.there h.0 r (slice_get-get_or rs h.0 r h.1 ∙ ap Some h.2) in cc
 
 at_before : (rs : List Register) (r q : Register) (n : ℕ) → slice_get rs n ≡ Some q
     → slice_get (rs ++ r ∷ []) n ≡ Some q
@@ -172,48 +100,105 @@ at_end (x ∷ rs) r = at_end rs r
 
 pushed_parts : (rs : List Register) (r q : Register) (n : ℕ) → slice_get (rs ++ r ∷ []) n ≡ Some q
     → (slice_get rs n ≡ Some q) ⊎ ((n ≡ length rs) × (r ≡ q))
-pushed_parts [] r q zero e = inr (refl, let same : r ≡ q = cc in same)
+pushed_parts [] r q zero e = inr (refl, (cc))
 pushed_parts [] r q (suc n) e = cc
 pushed_parts (x ∷ rs) r q zero e = inl e
-pushed_parts (x ∷ rs) r q (suc n) e = elim (pushed_parts rs r q n e) [ inl h ↦ inl h | inr h ↦ inr (ap suc h.0, h.1) ]
+pushed_parts (x ∷ rs) r q (suc n) e = elim (pushed_parts rs r q n e) [ inl h ↦ inl h | inr h ↦ inr (rw h.0, h.1) ]
 
-pub room_pending : (f f' : Families) (rs : List Register) (nodes nodes' : List (Register × ℕ)) (room room' : ℕ)
-    (r : Register) → IsPending f rs nodes room
-    → f'.families ≡ f.families → f'.nodes ≡ room' → room' < 2 ^ 32 → length rs < room' → node_of nodes r ≡ None
-    → ((q : Register) → node_of nodes' q ≡ cond (register.eq-value.it r q) (Some (length rs)) (node_of nodes q))
-    → IsPending f' (rs ++ r ∷ []) nodes' room'
-room_pending f f' rs nodes nodes' room room' r p same counted small more absent updates = record {
-  one = same ∙ p.one ∙ ap (λ q. (q ∷ []) ∷ []) (sym kept_queue);
-  counted = counted;
-  fits = omega (arith, length-append rs (r ∷ []), more);
-  small = small;
-  within = λ n t. (let low = p.within n (ap (λ q. has q n) (sym kept_queue) ∙ t) in
-      omega (arith, low, length-append rs (r ∷ [])));
-  there = λ n q at. elim (pushed_parts rs r q n at) [
-    | inl old ↦ updates q ∙ kept q n (p.there n q old) (register.eq-value.it r q) refl
-    | inr new ↦ ap (node_of nodes') (sym new.1) ∙ updates r
-        ∙ ap (λ b. cond b (Some (length rs)) (node_of nodes r)) (tied_registers r r ∙ itself_register r)
-        ∙ ap Some (sym new.0)
-  ];
-  back = λ q n at. from q n (register.eq-value.it r q) refl (sym (updates q) ∙ at);
-}
+module _ {f : Families} {rs : List Register} {nodes : List (Register × ℕ)} {room : ℕ} (p : IsPending f rs nodes room)
   where
-    kept_queue : queue f' ≡ queue f
-    kept_queue = ap (λ fs. slice_index_or (slice_index_or fs 0 []) 0 []) same
+    pub waits : (r : Register) {node : ℕ} → node_of nodes r ≡ Some node
+        → list_any (eq_by_cmp register_cmp r) (map (register_at rs) (queue f)) ≡ has (queue f) node
+    waits r {node} at = waits_by rs r node (queue f)
+        (λ m t. go m (p.within m t) (eq_by_cmp register_cmp r (register_at rs m)) refl)
+      where
+        go : (m : ℕ) → m < length rs → (b : Bool) → eq_by_cmp register_cmp r (register_at rs m) ≡ b
+            → eq_by_cmp register_cmp r (register_at rs m) ≡ (m == node)
+        go m l true e =
+            let same = same_register r (register_at rs m) e in
+            e ∙ sym (eq-eqb m node (same_Some m node (sym (p.there m (register_at rs m)
+            (slice_get-get_or rs m no_register l)) ∙ rw (← same) at)))
+        go m l false e = e ∙ sym (ne_eqb m node (λ same.
+            cc (itself_register r, rw (same, get_or_from_slice_get rs node r no_register (p.back r node at)) at e)))
 
-    kept : (q : Register) (n : ℕ) → node_of nodes q ≡ Some n → (b : Bool) → register.eq-value.it r q ≡ b
-        → cond (register.eq-value.it r q) (Some (length rs)) (node_of nodes q) ≡ Some n
-    kept q n is true e = absurd (let same = same_register r q (sym (tied_registers r q) ∙ e) in
-        let bad : None ≡ Some n = sym absent ∙ ap (node_of nodes) same ∙ is in cc)
-    kept q n is false e = ap (λ b. cond b (Some (length rs)) (node_of nodes q)) e ∙ is
+    -- ---- a register is marked
+    pub marked_is : (r : Register) {node : ℕ} {q : List ℕ} → node_of nodes r ≡ Some node → has (queue f) node ≡ false
+        → q ≡ queue f ++ node ∷ [] → map (register_at rs) q ≡ marked (map (register_at rs) (queue f)) r
+    marked_is r {node} at free is = rw is (marked_waiting rs (queue f) node
+        (get_or_from_slice_get rs node r no_register (p.back r node at)) (waits r at ∙ free))
 
-    from : (q : Register) (n : ℕ) (b : Bool) → register.eq-value.it r q ≡ b
-        → cond (register.eq-value.it r q) (Some (length rs)) (node_of nodes q) ≡ Some n
-        → slice_get (rs ++ r ∷ []) n ≡ Some q
-    from q n true e at =
-        let same = same_register r q (sym (tied_registers r q) ∙ e) in
-        let number : length rs ≡ n = (let h : Some (length rs) ≡ Some n =
-        sym (ap (λ b. cond b (Some (length rs)) (node_of nodes q)) e) ∙ at in cc) in
-        ap (slice_get (rs ++ r ∷ [])) (sym number) ∙ at_end rs r ∙ ap Some same
-    from q n false e at = at_before rs r q n (p.back q n (sym (ap (λ b. cond b (Some (length rs)) (node_of nodes q)) e)
-        ∙ at))
+    pub marked_pending : {f' : Families} (r : Register) {node : ℕ} → node_of nodes r ≡ Some node → f'.nodes ≡ f.nodes
+        → f'.families ≡ ((queue f ++ node ∷ []) ∷ []) ∷ [] → IsPending f' rs nodes room
+    marked_pending {f'} r {node} at same is =
+        let now = now_queue f' is in
+        record {
+          one = rw now is;
+          counted = same ∙ p.counted;
+          fits = p.fits;
+          small = p.small;
+          within = λ m t. elim (has_pushed (queue f) (rw now at t)) [
+            | inl e ↦ p.within m e
+            | inr e ↦ rw (← e) (slice_get_within rs node r (p.back r node at))
+          ];
+          there = p.there;
+          back = p.back;
+        }
+
+    pub left_pending : {f' : Families} (node : ℕ) → f'.nodes ≡ f.nodes
+        → f'.families ≡ (without node (queue f) ∷ []) ∷ [] → IsPending f' rs nodes room
+    left_pending {f'} node same is =
+        let now = now_queue f' is in
+        record {
+          one = rw now is;
+          counted = same ∙ p.counted;
+          fits = p.fits;
+          small = p.small;
+          within = λ m t. p.within m (has-left (queue f) node m (rw now at t));
+          there = p.there;
+          back = p.back;
+        }
+
+    -- ---- a register gets a node
+    pub get_contains : {n : ℕ} (r : Register) → node_of nodes r ≡ Some n → Contains rs r
+    get_contains {n} r at = (let e = p.back r n at in (n, slice_get_within rs n r e, get_or_from_slice_get rs n r r e))
+
+    pub not_known : (r : Register) → node_of nodes r ≡ None → Contains rs r → ⊥
+    not_known r none h = cc (none, p.there h.0 r (slice_get-get_or rs h.0 r h.1 ∙ ap Some h.2))
+
+    pub room_pending : {f' : Families} {nodes' : List (Register × ℕ)} {room' : ℕ} (r : Register)
+        → f'.families ≡ f.families → f'.nodes ≡ room' → room' < 2 ^ 32 → length rs < room' → node_of nodes r ≡ None
+        → ((q : Register) → node_of nodes' q ≡ cond (register.eq-value.it r q) (Some (length rs)) (node_of nodes q))
+        → IsPending f' (rs ++ r ∷ []) nodes' room'
+    room_pending {f'} {nodes'} r same counted small more absent updates = record {
+      one = rw same p.one;
+      counted = counted;
+      fits = omega (arith, length-append rs (r ∷ []), more);
+      small = small;
+      within = λ n t. omega (arith, p.within n (rw same at t), length-append rs (r ∷ []));
+      there = λ n q at. elim (pushed_parts rs r q n at) [
+        | inl old ↦ updates q ∙ kept q n (p.there n q old) (register.eq-value.it r q) refl
+        | inr new ↦ rw (← new.1, new.0) (updates r ∙ rw (tied_registers r r, itself_register r))
+      ];
+      back = λ q n at. from q n (register.eq-value.it r q) refl (sym (updates q) ∙ at);
+    }
+      where
+        kept : (q : Register) (n : ℕ) → node_of nodes q ≡ Some n → (b : Bool) → register.eq-value.it r q ≡ b
+            → cond (register.eq-value.it r q) (Some (length rs)) (node_of nodes q) ≡ Some n
+        kept q n is true e = absurd (cc (
+          absent,
+          is,
+          ap (node_of nodes) (same_register r q (sym (tied_registers r q)
+              ∙ e)),
+        ))
+        kept q n is false e = rw e is
+
+        from : (q : Register) (n : ℕ) (b : Bool) → register.eq-value.it r q ≡ b
+            → cond (register.eq-value.it r q) (Some (length rs)) (node_of nodes q) ≡ Some n
+            → slice_get (rs ++ r ∷ []) n ≡ Some q
+        from q n true e here =
+            rw (
+              ← (same_Some (length rs) n (rw e at here)),
+              ← (same_register r q (sym (tied_registers r q)
+                  ∙ e)),
+            ) (at_end rs r)
+        from q n false e here = at_before rs r q n (p.back q n (rw e at here))

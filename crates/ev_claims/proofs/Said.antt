@@ -1,5 +1,5 @@
 -- the fields of a speaker once it has said or heard something
-use Rattle.std.proofs.Common.{◌≡◌, ◌≢◌, true, false, Option, Some, None, List, Result, Ok, Err, refl, sym, ap, subst}
+use Rattle.std.proofs.Common.{◌≡◌, ◌≢◌, true, false, Option, Some, None, List, Result, Ok, Err, refl, ap}
 use Rattle.std.proofs.Common.{◌∙◌}
 use Rattle.std.specs.Prelude.{OnOk, OnErr, IsSome, ◌↔◌}
 use Rattle.std.specs.Option.{option_map}
@@ -29,57 +29,59 @@ there t r last e = go (value_at t r) refl e
   where
     go : (o : Option Value) → value_at t r ≡ o → Some last
         ≡ option_map (λ (v : Value). let u : Fields = record { register = r; value = v } in u) o → IsThere t r last
-    go None at e = absurd (let no : Some last ≡ None = e in cc)
+    go None at e = absurd (let no = e in cc)
     go (Some v) at e = record {
       value = v;
       at = at;
       valued =
-          (let h : Some last ≡ Some (record { register = r; value = v }) = e in
+          (let h = e in
           let same : last ≡ record { register = r; value = v } = cc in ap (λ (u : Fields). u.value) same);
-      named = (let h : Some last ≡ Some (record { register = r; value = v }) = e in
+      named = (let h = e in
           let same : last ≡ record { register = r; value = v } = cc in ap (λ (u : Fields). u.register) same);
     }
 
 -- a listed originator's update of a register that is there is taken
-pub taken_there : (t t' : Table) (u : Fields) (v : Value) (r : Result Taken TakeError) → value_at t u.register ≡ Some v
+pub taken_there : (t : Table) {t' : Table} (u : Fields) {v : Value} (r : Result Taken TakeError) → value_at t
+    u.register ≡ Some v
     → is_listed t u.register.originator ≡ true
     → OnOk r (t' ≡ with_update t u) → (r ≡ Err UnknownOriginator) ↔ (is_listed t u.register.originator ≡ false)
     → (r ≡ Err NoMemory → value_at t u.register ≡ None) → t' ≡ with_update t u
-taken_there t t' u v (Ok x) at listed ok unknown full = ok
-taken_there t t' u v (Err UnknownOriginator) at listed ok unknown full = absurd (let no = unknown.0 refl in cc)
-taken_there t t' u v (Err NoMemory) at listed ok unknown full = absurd (let no = full refl in cc)
+taken_there t u (Ok x) at listed ok unknown full = ok
+taken_there t u (Err UnknownOriginator) at listed ok unknown full = absurd (cc (unknown.0 refl))
+taken_there t u (Err NoMemory) at listed ok unknown full = absurd (cc (full refl))
 
-pub said_is : (e : Speaker) (known : List Register) (t' : Table) (k : Key) (c : Content) (last u : Fields)
-    (q : Register)
-    (r : Result Taken TakeError) → IsSpeaker e known → Some last ≡ update_at e.table (own_register e k)
+pub said_is : {e : Speaker} {known : List Register} {t' : Table} (k : Key) {c : Content} {last u : Fields} {q :
+    Register} {r : Result Taken TakeError} → IsSpeaker e known → Some last ≡ update_at e.table (own_register e k)
     → u ≡ record { register = q; value = next_value e c } → q ≡ last.register
     → OnOk r (t' ≡ with_update e.table u) → (r ≡ Err UnknownOriginator)
     ↔ (is_listed e.table u.register.originator ≡ false) → (r ≡ Err NoMemory → value_at e.table u.register ≡ None)
     → t' ≡ (after_originating e k c).table
-said_is e known t' k c last u q r h found is named ok unknown full =
+said_is {e} {t'} k {c} {last} {u} {r} h found is named ok unknown full =
     let is_there = there e.table (own_register e k) last found in
-    let register : u.register ≡ own_register e k = ap (λ (x : Fields). x.register) is ∙ named ∙ is_there.named in
-    let whole : u ≡ record { register = own_register e k; value = next_value e c } = is
-    ∙ (λ i. record { register = (named ∙ is_there.named) i; value = next_value e c }) in
-    taken_there e.table t' u is_there.value r (ap (value_at e.table) register ∙ is_there.at)
+    let register = ap (λ (x : Fields). x.register) is ∙ named ∙ is_there.named in
+    taken_there e.table u r ((rw register) ∙ is_there.at)
     (ap (λ (x : Register). is_listed e.table x.originator) register ∙ h.numbers.known) ok unknown full
-    ∙ ap (with_update e.table) whole ∙ said_joins e k c h.numbers
+    ∙ (rw (is ∙ (λ i. record { register = (named ∙ is_there.named) i; value = next_value e c })))
+    ∙ said_joins e k c h.numbers
 
-pub said_speaker : (e : Speaker) (known : List Register) (k : Key) (c : Content) (last : Fields) → IsSpeaker e known
+pub said_speaker : {e : Speaker} {known : List Register} (k : Key) (c : Content) {last : Fields} → IsSpeaker e known
     → IsSome (own_advert e k) → Some last ≡ update_at e.table (own_register e k)
     → IsSpeaker (after_originating e k c) known
-said_speaker e known k c last h said found =
+said_speaker {e} {known} k c {last} h said found =
     let is_there = there e.table (own_register e k) last found in
-    let present = h.numbers.alive k is_there.value is_there.at (subst IsSome (ap advert_of is_there.at) said) in
     record {
       numbers = said_numbers e k c h.numbers;
       rooms =
-          said_rooms e k c known (h.rooms k is_there.value is_there.at present) h.rooms;
+          said_rooms e k c known (h.rooms k is_there.value is_there.at (h.numbers.alive k is_there.value is_there.at
+          (rw (ap advert_of is_there.at) at said))) h.rooms;
     }
 
-pub heard_speaker : (e : Speaker) (known : List Register) (t' : Table) (u : Fields) (r : Result Taken TakeError)
+pub heard_speaker : {e : Speaker} {known : List Register} {t' : Table} (u : Fields) (r : Result Taken TakeError)
     → u.register.originator ≢ e.address → IsSpeaker e known
     → OnOk r (t' ≡ with_update e.table u) → OnErr r (t' ≡ e.table) → IsSpeaker (record e { table = t' }) known
-heard_speaker e known t' u (Ok x) other h ok err = subst (λ t. IsSpeaker (record e { table = t }) known) (sym ok)
-    (record { numbers = heard_numbers e u other h.numbers; rooms = heard_rooms e u known other h.rooms })
-heard_speaker e known t' u (Err x) other h ok err = subst (λ t. IsSpeaker (record e { table = t }) known) (sym err) h
+heard_speaker {e} {known} u (Ok x) other h ok err = rw ok (record {
+  numbers = heard_numbers e u other h.numbers;
+  rooms
+      = heard_rooms e u known other h.rooms;
+})
+heard_speaker u (Err x) other h ok err = rw err h

@@ -1,6 +1,6 @@
 -- A list of own updates, no key twice.
-use Rattle.std.proofs.Common.{◌≡◌, ◌≢◌, inl, inr, ℕ, zero, suc, ◌+◌, ◌≤◌, true, false, cond, Option, Some, None}
-use Rattle.std.proofs.Common.{List, [], ◌∷◌, length, refl, sym, ap, subst, ◌∙◌, arith}
+use Rattle.std.proofs.Common.{◌≡◌, ◌≢◌, inl, inr, ℕ, zero, suc, ◌+◌, ◌≤◌, true, false, Some}
+use Rattle.std.proofs.Common.{List, [], ◌∷◌, length, refl, sym, ap, ◌∙◌, arith}
 use Rattle.std.specs.Prelude.{Contains, IsSome, slice_get, eqb}
 use Rattle.std.specs.List.{AllByRecursion, IsDistinct}
 use Rattle.std.specs.Cmp.{nat_eq_equiv}
@@ -16,7 +16,7 @@ use Rattle.route_wire.specs.declared.update.Content.TheVariants.{Withdrawn, Adve
 use Rattle.route_wire.specs.declared.update.Value.{Value}
 use Rattle.route_wire.specs.Fields.{Fields, flood_advert}
 use Rattle.route_wire.specs.Order.{register_cmp}
-use Rattle.route_join.specs.Table.{value_at, is_news, with_update, with_updates}
+use Rattle.route_join.specs.Table.{value_at, with_updates}
 use Rattle.route_join.proofs.Tables.{at_same, at_other}
 use Rattle.mac_arena.specs.declared.station.Station.{Station}
 use Rattle.mac_arena.specs.Station.{is_same}
@@ -30,8 +30,7 @@ use Rattle.ev_claims.specs.declared.opening.Start.{Start}
 use Rattle.ev_claims.specs.Opening.{IsOpening, Opens, after_floods, floods_of}
 use Rattle.ev_claims.specs.LocalRoutes.{LocalRoutes, entries, key_of, after_removal, after_removals}
 use Rattle.ev_claims.specs.Changes.{OwnChanges, Says, registers_in, after_originations, said_updates}
-use Rattle.ev_claims.proofs.Numbers.{key_or_other, now_said, own_other, own_stays}
-use Rattle.route_wire.proofs.Newer.{next_newer}
+use Rattle.ev_claims.proofs.Numbers.{key_or_other, now_said, said_before, news_joins, own_stays}
 use Rattle.ev_claims.proofs.Learnt.{same_station, size_gone, removal_there}
 use Rattle.ev_claims.proofs.Keeping.{known_entry}
 use Rattle.ev_claims.proofs.Changed.{nothing_changes, more_changes}
@@ -46,20 +45,17 @@ pub record IsBehind (e : Speaker) : Type 0 where
 pub kept_behind : (e : Speaker) → KeepsNumbers e → IsBehind e
 kept_behind e h = record { past = h.past; counted = h.counted }
 
-said_behind : (e : Speaker) (k : Key) (c : Content) → IsBehind e → IsBehind (after_originating e k c)
-said_behind e k c h = record {
+said_behind : {e : Speaker} (k : Key) (c : Content) → IsBehind e → IsBehind (after_originating e k c)
+said_behind {e} k c h = record {
   past = λ j v is. elim (key_or_other j k) [
-    | inl same ↦ let life = ap (λ (q : Value). q.incarnation) (now_said e k j c v same is) in omega (arith, life)
-    | inr ne ↦ h.past j v (before j v ne is)
+    | inl same ↦ rw (← now_said e k c same is) (omega arith)
+    | inr ne ↦ h.past j v (said_before e k c ne is)
   ];
   counted = λ j v is present. elim (key_or_other j k) [
-    | inl same ↦ let number = ap (λ (q : Value). q.counter) (now_said e k j c v same is) in omega (arith, number)
-    | inr ne ↦ let bound : v.counter ≤ e.counter = h.counted j v (before j v ne is) present in omega (arith, bound)
+    | inl same ↦ rw (← now_said e k c same is) (omega arith)
+    | inr ne ↦ omega (arith, h.counted j v (said_before e k c ne is) present)
   ];
 }
-  where
-    before : (j : Key) (v : Value) → j ≢ k → own (after_originating e k c) j ≡ Some v → own e j ≡ Some v
-    before j v ne is = sym (own_other e k c j ne) ∙ is
 
 -- another's update changes no own value
 pub heard_behind : (e : Speaker) (u : Fields) → u.register.originator ≢ e.address → IsBehind e
@@ -69,22 +65,14 @@ heard_behind e u other h = record {
   counted = λ k v is present. h.counted k v (sym (own_stays e u other k) ∙ is) present;
 }
 
--- so the table takes the next own update
-joined : (e : Speaker) (k : Key) (c : Content) → IsBehind e
-    → with_update e.table (record { register = own_register e k; value = next_value e c })
-    ≡ (after_originating e k c).table
-joined e k c h = ap (λ b. cond b (after_originating e k c).table e.table) (go (own e k) refl)
-  where
-    go : (o : Option Value) → own e k ≡ o → is_news o (next_value e c) ≡ true
-    go None is = refl
-    go (Some v) is = next_newer v _ (h.past k v is) (λ same. let bound = h.counted k v is same in omega (arith, bound))
-
+-- so the table takes the next own updates
 sayings_join : (e : Speaker) (ss : List (Key × Content)) → IsBehind e
     → (after_originations e ss).table ≡ with_updates e.table (said_updates e ss)
 sayings_join e [] h = refl
 sayings_join e (s ∷ ss) h =
-    sayings_join (after_originating e s.0 s.1) ss (said_behind e s.0 s.1 h)
-    ∙ ap (λ t. with_updates t (said_updates (after_originating e s.0 s.1) ss)) (sym (joined e s.0 s.1 h))
+    sayings_join (after_originating e s.0 s.1) ss (said_behind s.0 s.1 h)
+    ∙ ap (λ t. with_updates t (said_updates (after_originating e s.0 s.1) ss)) (sym (news_joins e s.0 s.1
+    (h.past s.0) (h.counted s.0)))
 
 -- ---- no key twice
 
@@ -94,7 +82,7 @@ AreApart (s ∷ ss) = ((i : ℕ) (t : Key × Content) → slice_get ss i ≡ Som
 
 said_count : (e : Speaker) (ss : List (Key × Content)) → length (said_updates e ss) ≡ length ss
 said_count e [] = refl
-said_count e (s ∷ ss) = ap suc (said_count (after_originating e s.0 s.1) ss)
+said_count e (s ∷ ss) = rw (said_count (after_originating e s.0 s.1) ss)
 
 -- a register with one of these updates belongs to one of the keys
 said_of : (e : Speaker) (ss : List (Key × Content)) (r : Register) → Contains (registers_in (said_updates e ss)) r
@@ -114,18 +102,16 @@ sayings_change : (e : Speaker) (ss : List (Key × Content)) → AreApart ss
     → OwnChanges e (after_originations e ss) (registers_in (said_updates e ss))
 sayings_change e [] apart = nothing_changes e
 sayings_change e (s ∷ ss) apart =
-    more_changes e s.0 s.1 (after_originations (after_originating e s.0 s.1) ss)
-    (registers_in (said_updates (after_originating e s.0 s.1) ss)) (not_again e s ss apart)
+    more_changes s.1 (not_again e s ss apart)
     (sayings_change (after_originating e s.0 s.1) ss apart.1)
 
 sayings_numbered : (e : Speaker) (ss : List (Key × Content)) → AreApart ss → (i : ℕ) (u : Fields)
     → slice_get (said_updates e ss) i ≡ Some u → IsOwnAt (after_originations e ss) (e.counter + (i + 1)) u
 sayings_numbered e [] apart i u at = cc
 sayings_numbered e (s ∷ ss) apart zero u at =
-    let first : Fields = record { register = own_register e s.0; value = next_value e s.1 } in
-    let same : first ≡ u = cc in
+    let same : (record { register = own_register e s.0; value = next_value e s.1 }) ≡ u = cc in
     let rest = sayings_change (after_originating e s.0 s.1) ss apart.1 in
-    subst (λ q. IsOwnAt (after_originations (after_originating e s.0 s.1) ss) (e.counter + (0 + 1)) q) same (record {
+    rw (← same) (record {
       own = sym rest.address;
       there = rest.others (own_register e s.0) refl (not_again e s ss apart)
           ∙ at_same e.table (own_register e s.0) (next_value e s.1);
@@ -138,8 +124,7 @@ sayings_numbered e (s ∷ ss) apart (suc i) u at =
       own = later.own;
       there = later.there;
       present = later.present;
-      numbered = let is = later.numbered in
-          omega (arith, is);
+      numbered = omega (arith, later.numbered);
     }
 
 sayings_foreign : (e : Speaker) (ss : List (Key × Content)) (r : Register) → r.originator ≢ e.address
@@ -151,7 +136,7 @@ sayings_foreign e (s ∷ ss) r ne = sayings_foreign (after_originating e s.0 s.1
 -- an edge that makes these updates makes them and no other
 pub says : (e new : Speaker) (ss : List (Key × Content)) → new ≡ after_originations e ss → AreApart ss → IsBehind e
     → Says e new ss
-says e new ss is apart h = subst (λ v. Says e v ss) (sym is) (record {
+says e new ss is apart h = rw is (record {
   after = refl;
   changes = sayings_change e ss apart;
   count = said_count e ss;
@@ -161,7 +146,7 @@ says e new ss is apart h = subst (λ v. Says e v ss) (sym is) (record {
 })
 
 pub one_apart : (k : Key) (c : Content) → AreApart ((k, c) ∷ [])
-one_apart k c = (λ i t at same. (let no : None ≡ Some t = at in cc), tt)
+one_apart k c = (λ i t at same. (cc (at)), tt)
 
 -- ---- stations that go
 
@@ -176,7 +161,7 @@ removals_say e (s ∷ ss) = removals_say (after_removal e s) ss
 
 pub withdrawals_count : (ss : List Station) → length (withdrawals ss) ≡ length ss
 withdrawals_count [] = refl
-withdrawals_count (s ∷ ss) = ap suc (withdrawals_count ss)
+withdrawals_count (s ∷ ss) = rw (withdrawals_count ss)
 
 not_withdrawn : (s : Station) (ss : List Station) → stands ss s ≡ false → (i : ℕ) (t : Key × Content)
     → slice_get (withdrawals ss) i ≡ Some t → t.0 ≢ key_of s
@@ -185,7 +170,7 @@ not_withdrawn s (x ∷ ss) not zero t at same =
     let head : Key × Content = (key_of x, Withdrawn) in
     let first : head ≡ t = cc in
     absurd (false≢true (sym not ∙ or_left (is_same x s) (stands ss s)
-    (eq_same x s (same_station x s (ap (λ (q : Key × Content). q.0) first ∙ same)))))
+    (eq_same x s (same_station (ap (λ (q : Key × Content). q.0) first ∙ same)))))
 not_withdrawn s (x ∷ ss) not (suc i) t at same = not_withdrawn s ss (or_parts (is_same x s) (stands ss s) not).1 i t at
     same
 
@@ -200,14 +185,15 @@ pub removals_size : (e : LocalRoutes) (ss : List Station) → AreOnce ss
 removals_size e [] once known = omega arith
 removals_size e (s ∷ ss) once known =
     let entry = known_entry e s (known s (or_left (is_same s s) (stands ss s) (same_self s))) in
-    let one : entries (after_removal e s) + 1 ≡ entries e = size_gone e.learned s entry.0 entry.1 in
-    let rest = removals_size (after_removal e s) ss once.1
-    (λ q in'. subst IsSome (sym (removal_there e.learned s q (apart q in')))
-    (known q (or_right (is_same s q) (stands ss q) in'))) in
-    omega (arith, one, rest)
+    omega (
+      arith,
+      size_gone e.learned s entry.0 entry.1,
+      (removals_size (after_removal e s) ss once.1 (λ q in'. rw
+          (removal_there e.learned s q (apart q in')) (known q (or_right (is_same s q) (stands ss q) in')))),
+    )
   where
     apart : (q : Station) → stands ss q ≡ true → q ≢ s
-    apart q in' same = false≢true (sym once.0 ∙ ap (stands ss) (sym same) ∙ in')
+    apart q in' same = false≢true (sym once.0 ∙ (rw same) ∙ in')
 
 -- ---- the opening
 
@@ -221,9 +207,9 @@ not_flooded v [] apart i t at same = cc
 not_flooded v (w ∷ vs) apart zero t at same =
     let head : Key × Content = (Flood w, Advertised flood_advert) in
     let first : head ≡ t = cc in
-    let keys : Flood w ≡ Flood v = ap (λ (q : Key × Content). q.0) first ∙ same in
+    let keys = ap (λ (q : Key × Content). q.0) first ∙ same in
     let is : w ≡ v = cc in
-    let bad : false ≡ true = sym apart.0 ∙ eq-eqb v w (sym is) in
+    let bad = sym apart.0 ∙ eq-eqb v w (sym is) in
     cc
 not_flooded v (w ∷ vs) apart (suc i) t at same = not_flooded v vs apart.1 i t at same
 
@@ -239,8 +225,8 @@ silent_behind address incarnation originators = record {
 }
   where
     nothing : (k : Key) (v : Value) → own (silent address incarnation originators) k ≢ Some v
-    nothing k v is = let none = get-empty {X = Value} register_cmp
-        (own_register (silent address incarnation originators) k) in let bad : None ≡ Some v = sym none ∙ is in cc
+    nothing k v is = cc (sym (get-empty {X = Value} register_cmp (own_register
+        (silent address incarnation originators) k)) ∙ is)
 
 pub opens : (s : Start) (e : LocalRoutes) → IsOpening s e → IsDistinct eqb s.vnis.items → Opens s e
 opens s e h distinct = record {

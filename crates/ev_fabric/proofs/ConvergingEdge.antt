@@ -1,12 +1,11 @@
 -- The effect of a delivery on an edge's own registers and on its learning table.
 use Rattle.std.proofs.Common.{◌≡◌, ◌≢◌, ◌⊎◌, inl, inr, ◌+◌, ◌≤◌, ◌<◌, Bool, true, false, cond, nat_lt, Option, Some}
-use Rattle.std.proofs.Common.{None, List, [], ◌∷◌, ◌++◌, length, refl, sym, ap, subst, ◌∙◌, arith}
+use Rattle.std.proofs.Common.{None, List, length, refl, sym, ap, ◌∙◌, arith}
 use Rattle.std.proofs.lemmas.Bool.Decides.{nat_tests}
-use Rattle.std.proofs.lemmas.Bool.{and_parts, and_right}
+use Rattle.std.proofs.lemmas.Bool.{cases_Bool, and_parts, false_from_ne_true, true_from_ne_false}
 use Rattle.std.specs.Prelude.{Contains, is_some, not, ◌==◌, ◌&&◌}
-use Rattle.std.specs.List.{list_any}
 use Rattle.std.specs.Option.{option_map}
-use Rattle.std.specs.Ordering.{eq_by_cmp}
+use Rattle.route_wire.specs.declared.update.Ip.{Ip}
 use Rattle.route_wire.specs.declared.update.Key.{Key}
 use Rattle.route_wire.specs.declared.update.Key.TheVariants.{Flood, Mac}
 use Rattle.route_wire.specs.declared.update.Register.{Register}
@@ -14,8 +13,8 @@ use Rattle.route_wire.specs.declared.update.Advert.{Advert}
 use Rattle.route_wire.specs.declared.update.Content.TheVariants.{Withdrawn}
 use Rattle.route_wire.specs.declared.update.Value.{Value}
 use Rattle.route_wire.specs.Fields.{Fields}
-use Rattle.route_wire.specs.Order.{register_cmp, is_newer}
-use Rattle.route_join.specs.Table.{Table, value_at, is_listed, is_news, with_value, with_update, register_of}
+use Rattle.route_wire.specs.Order.{is_newer}
+use Rattle.route_join.specs.Table.{Table, value_at, is_listed, is_news, with_update, register_of}
 use Rattle.route_join.specs.Owner.{advert_in, advert_of, owner}
 use Rattle.route_join.proofs.Tables.{same_or_other, at_same, at_other, not_newer_itself}
 use Rattle.route_join.proofs.Joins.{newer_trans}
@@ -24,23 +23,26 @@ use Rattle.mac_arena.specs.declared.station.Station.{Station}
 use Rattle.mac_arena.specs.declared.station.Entry.{Entry}
 use Rattle.mac_arena.specs.Learning.{entry_at}
 use Rattle.ev_claims.specs.Pending.{marked}
-use Rattle.ev_claims.specs.Speaker.{Speaker, own_register, own_advert, KeepsNumbers, is_at, next_value}
-use Rattle.ev_claims.specs.Speaker.{after_originating}
-use Rattle.ev_claims.specs.Speaker.{after_importing, is_newest, is_ahead, is_returning, is_spent}
-use Rattle.ev_claims.specs.LocalRoutes.{LocalRoutes, KeepsRoutes, key_of, after_removal, after_update, after_own}
-use Rattle.ev_claims.specs.LocalRoutes.{is_lost}
-use Rattle.ev_claims.specs.LocalRoutes.{after_losing, after_take}
+use Rattle.ev_claims.specs.Speaker.{Speaker, own_register, own, own_advert, KeepsNumbers, is_at, next_value}
+use Rattle.ev_claims.specs.Speaker.{after_originating, after_importing, is_newest, is_ahead, is_returning, is_spent}
+use Rattle.ev_claims.specs.LocalRoutes.{LocalRoutes, KeepsRoutes, AreGood, key_of, after_removal, after_update}
+use Rattle.ev_claims.specs.LocalRoutes.{after_own}
+use Rattle.ev_edge.specs.Edge.{Edge}
+use Rattle.ev_claims.specs.LocalRoutes.{is_lost, after_losing, after_take}
 use Rattle.ev_claims.proofs.Values.{not_newer_earlier}
 use Rattle.ev_claims.proofs.Numbers.{key_or_other, own_same, own_other, said_joins, own_stays, heard_numbers}
-use Rattle.ev_claims.proofs.Hearing.{past_if_newest, refuted_is}
+use Rattle.ev_claims.proofs.Hearing.{past_if_newest, refuted_is, not_said}
 use Rattle.ev_claims.proofs.Learnt.{size_gone}
 use Rattle.ev_fabric.specs.ConvergenceEdge.{is_latest, comes_back, returning, unsaid, unannounced, IsLater}
+use Rattle.ev_fabric.proofs.Places.{push_length}
+use Rattle.ev_fabric.proofs.Voices.{marked_cases}
 use Rattle.ev_fabric.proofs.ConvergingNewest.{newest, newest_is, news_up}
 use Rattle.ev_fabric.proofs.ConvergingSums.{count_le, count_less}
 
 -- ---- later states
-pub later_itself : (a : Speaker) → IsLater a a
-later_itself a = record {
+-- only the pending registers change, if anything
+pub later_quiet : (a : Speaker) (rs : List Register) → IsLater a (record a { pending = rs })
+later_quiet a rs = record {
   address = refl;
   incarnation = refl;
   originators = refl;
@@ -48,8 +50,8 @@ later_itself a = record {
   fades = λ k. inl refl;
 }
 
-pub later_trans : (a b c : Speaker) → IsLater a b → IsLater b c → IsLater a c
-later_trans a b c h g = record {
+pub later_trans : {a b c : Speaker} → IsLater a b → IsLater b c → IsLater a c
+later_trans h g = record {
   address = g.address ∙ h.address;
   incarnation = g.incarnation ∙ h.incarnation;
   originators = g.originators ∙ h.originators;
@@ -57,7 +59,7 @@ later_trans a b c h g = record {
   fades = λ k. elim (g.fades k) [
     | inl same ↦ elim (h.fades k) [
       | inl before ↦ inl (same ∙ before)
-      | inr none ↦ inr (ap advert_of same ∙ none)
+      | inr none ↦ inr (rw same none)
     ]
     | inr none ↦ inr none
   ];
@@ -67,22 +69,13 @@ later_trans a b c h g = record {
 pub update_cases : (t : Table) (u : Fields) (r : Register)
     → ((r ≡ u.register) × (is_news (value_at t u.register) u.value ≡ true)
     × (value_at (with_update t u) r ≡ Some u.value)) ⊎ (value_at (with_update t u) r ≡ value_at t r)
-update_cases t u r = go (is_news (value_at t u.register) u.value) refl
-  where
-    go : (b : Bool) → is_news (value_at t u.register) u.value ≡ b
-        → ((r ≡ u.register) × (is_news (value_at t u.register) u.value ≡ true)
-        × (value_at (cond b (with_value t u.register u.value) t) r ≡ Some u.value))
-        ⊎ (value_at (cond b (with_value t u.register u.value) t) r ≡ value_at t r)
-    go true e = elim (same_or_other r u.register) [
-      | inl same ↦ inl (
-        same,
-        e,
-        ap (value_at (with_value t u.register u.value)) same
-            ∙ at_same t u.register u.value,
-      )
-      | inr ne ↦ inr (at_other t u.register u.value r ne)
-    ]
-    go false e = inr refl
+update_cases t u r = elim (cases_Bool (is_news (value_at t u.register) u.value)) [
+  | inl e ↦ elim (same_or_other r u.register) [
+    | inl same ↦ inl (same, e, rw (e, same) (at_same t u.register u.value))
+    | inr ne ↦ inr (rw e (at_other t u.register u.value r ne))
+  ]
+  | inr e ↦ inr (rw e)
+]
 
 -- a value that is no news for a table is no news after any update
 pub news_stay : (t : Table) (u : Fields) (r : Register) (w : Value) → is_news (value_at t r) w ≡ false
@@ -95,27 +88,21 @@ news_stay t u r w h = elim (update_cases t u r) [
     go : (o : Option Value) → value_at t r ≡ o → is_news (value_at t r) w ≡ false
         → value_at (with_update t u) r ≡ Some u.value → is_news (value_at t r) u.value ≡ true
         → is_news (value_at (with_update t u) r) w ≡ false
-    go None at old new more = let never : is_news None w ≡ false = ap (λ o. is_news o w) (sym at) ∙ old in cc
-    go (Some x) at old new more = ap (λ o. is_news o w) new ∙ pick (is_newer w u.value) refl
-      where
-        pick : (b : Bool) → is_newer w u.value ≡ b → is_newer w u.value ≡ false
-        pick false e = e
-        pick true e =
-            let over : is_newer u.value x ≡ true = ap (λ o. is_news o u.value) (sym at) ∙ more in
-            let up : is_newer w x ≡ true = newer_trans x u.value w over e in
-            let low : is_newer w x ≡ false = ap (λ o. is_news o w) (sym at) ∙ old in
-            cc
+    go None at old new more = cc (ap (λ o. is_news o w) (sym at))
+    go (Some x) at old new more = rw new (false_from_ne_true (is_newer w u.value) (λ e.
+        let over : is_newer u.value x ≡ true = ap (λ o. is_news o u.value) (sym at) ∙ more in
+        let up : is_newer w x ≡ true = newer_trans x u.value w over e in
+        cc (ap (λ o. is_news o w) (sym at))))
 
-pub said_later : (e : Speaker) (k : Key) → KeepsNumbers e → IsLater e (after_originating e k Withdrawn)
-said_later e k h = record {
+said_later : {e : Speaker} (k : Key) → KeepsNumbers e → IsLater e (after_originating e k Withdrawn)
+said_later {e} k h = record {
   address = refl;
   incarnation = refl;
   originators = refl;
   news = λ r w is. ap (λ t. is_news (value_at t r) w) (sym (said_joins e k Withdrawn h))
       ∙ news_stay e.table (record { register = own_register e k; value = next_value e Withdrawn }) r w is;
   fades = λ j. elim (key_or_other j k) [
-    | inl same ↦ inr (ap (λ q. own_advert (after_originating e k Withdrawn) q) same
-        ∙ ap advert_of (own_same e k Withdrawn))
+    | inl same ↦ inr (rw (same, own_same e k Withdrawn))
     | inr ne ↦ inl (own_other e k Withdrawn j ne)
   ];
 }
@@ -129,35 +116,34 @@ pub record ComesBack (e : Speaker) (u : Fields) : Type 0 where
 
 pub comes : (e : Speaker) (u : Fields) → comes_back e u ≡ true → ComesBack e u
 comes e u h =
-    let p = and_parts (u.register.originator == e.address) (is_returning e u) h in
-    let q = and_parts (is_newest e u) (nat_lt u.value.incarnation e.incarnation && is_some (advert_in u.value.content))
-    p.1 in
-    let r = and_parts (nat_lt u.value.incarnation e.incarnation) (is_some (advert_in u.value.content)) q.1 in
+    let p = and_parts _ _ h in
+    let q = and_parts _ _ p.1 in
+    let r = and_parts _ _ q.1 in
     let mine : u.register.originator ≡ e.address = (let eq = p.0 in grind (arith, nat_tests)) in
     record { mine = mine; newest = q.0; earlier = r.0; advert = r.1 }
 
 pub comes_when : (e : Speaker) (u : Fields) → ComesBack e u → comes_back e u ≡ true
 comes_when e u c =
-    let mine = c.mine in
     let test : (u.register.originator == e.address) ≡ true = grind (arith, nat_tests) in
-    let newest = c.newest in
-    let earlier = c.earlier in
-    let advert = c.advert in
-    rw (test, newest, earlier, advert) refl
+    rw (test, c.newest, c.earlier, c.advert) refl
 
 -- an update that isn't `ComesBack` doesn't come back
-pub stays_away : (e : Speaker) (u : Fields) → (ComesBack e u → ⊥) → comes_back e u ≡ false
-stays_away e u never = pick (comes_back e u) refl
-  where
-    pick : (x : Bool) → comes_back e u ≡ x → comes_back e u ≡ false
-    pick false e' = e'
-    pick true e' = absurd (never (comes e u e'))
+stays_away : (e : Speaker) (u : Fields) → (ComesBack e u → ⊥) → comes_back e u ≡ false
+stays_away e u never = false_from_ne_true (comes_back e u) (λ back. never (comes e u back))
 
 pub others_stay_away : (e : Speaker) (u : Fields) → u.register.originator ≢ e.address → comes_back e u ≡ false
 others_stay_away e u ne = stays_away e u (λ c. ne c.mine)
 
 pub known_stays_away : (e : Speaker) (u : Fields) → is_newest e u ≡ false → comes_back e u ≡ false
-known_stays_away e u none = stays_away e u (λ c. let newest = c.newest in cc)
+known_stays_away e u none = stays_away e u (λ c. cc)
+
+-- nor does one that is no news, or a withdrawal
+pub idle_away : (e : Speaker) (u : Fields) → (is_newest e u ≡ false) ⊎ (advert_in u.value.content ≡ None)
+    → comes_back e u ≡ false
+idle_away e u h = elim h [
+  | inl old ↦ known_stays_away e u old
+  | inr none ↦ stays_away e u (λ b. cc)
+]
 
 -- ---- the updates that an edge accepts, and their effects
 pub record Accepts (e : Speaker) (u : Fields) : Type 0 where
@@ -167,6 +153,17 @@ pub record Accepts (e : Speaker) (u : Fields) : Type 0 where
 
 abbrev pub heard : LocalRoutes → Fields → LocalRoutes
 heard c u = cond (u.register.originator == c.speaker.address) (after_own c u) (after_take c u)
+
+abbrev pub after_hearing : Edge → Fields → Edge
+after_hearing a u = record a { routes = heard a.routes u }
+
+-- an announcement makes no update and learns nothing
+abbrev pub quieter : LocalRoutes → List Register → LocalRoutes
+quieter c rs = record c { speaker = record c.speaker { pending = rs } }
+
+-- the edge after it announced its first pending register
+abbrev pub after_telling : Edge → List Register → Edge
+after_telling a rs = record a { routes = quieter a.routes rs }
 
 -- an own advert is withdrawn as it comes back, or a station is lost to another edge, or only the table changes
 pub data Heard (c : LocalRoutes) (u : Fields) : LocalRoutes → Type 0 where
@@ -178,44 +175,74 @@ pub data Heard (c : LocalRoutes) (u : Fields) : LocalRoutes → Type 0 where
       → Heard c u (after_removal (after_update c u) s)
   Kept : comes_back c.speaker u ≡ false → Heard c u (after_update c u)
 
-pub hears : (c : LocalRoutes) (u : Fields) → Heard c u (heard c u)
-hears c u = choose (u.register.originator == c.speaker.address) refl
+pub record Loses (c : LocalRoutes) (u : Fields) : Type 0 where
+  pub station : Station
+  pub ip : Option Ip
+  pub key : u.register.key ≡ Mac station.vni station.mac ip
+  pub foreign : u.register.originator ≢ c.speaker.address
+  pub lost : is_lost (after_update c u) station ≡ true
+  pub is : heard c u ≡ after_removal (after_update c u) station
+
+pub hear_cases : (c : LocalRoutes) (u : Fields) → comes_back c.speaker u ≡ false → (heard c u ≡ after_update c u)
+    ⊎ Loses c u
+hear_cases c u never = elim (cases_Bool (u.register.originator == c.speaker.address)) [
+  | inl t ↦ inl (rw (
+    t,
+    false_from_ne_true (is_returning c.speaker u)
+        (λ e. let back : comes_back c.speaker u ≡ true = rw (t, e) refl in cc),
+  ))
+  | inr t ↦ losing (rw t) (grind (arith, nat_tests)) u.register.key refl
+]
   where
-    own_one : u.register.originator ≡ c.speaker.address → (b : Bool) → is_returning c.speaker u ≡ b
-        → Heard c u (record c {
-          speaker = cond b (after_originating (after_importing c.speaker u) u.register.key Withdrawn)
-              (after_importing c.speaker u);
-        })
-    own_one mine true back =
-        let test : (u.register.originator == c.speaker.address) ≡ true = grind (arith, nat_tests) in
-        subst (λ v. Heard c u (record c { speaker = v })) (sym (refuted_is c.speaker u Withdrawn mine))
-        (Back (rw (test, back) refl))
-    own_one mine false stays = Kept (ap (λ b. u.register.originator == c.speaker.address && b) stays
-        ∙ and_right (u.register.originator == c.speaker.address) false refl)
+    losing : heard c u ≡ after_take c u → u.register.originator ≢ c.speaker.address → (k : Key) → u.register.key ≡ k
+        → (heard c u ≡ after_update c u) ⊎ Loses c u
+    losing takes foreign (Flood v) key = inl (takes ∙ ap (after_losing (after_update c u)) key)
+    losing takes foreign (Mac v m ip) key =
+        let s : Station = record { vni = v; mac = m } in
+        let is = takes ∙ ap (after_losing (after_update c u)) key in
+        elim (cases_Bool (is_lost (after_update c u) s)) [
+          | inl e ↦ inr (record {
+            station = s;
+            ip = ip;
+            key = key;
+            foreign = foreign;
+            lost = e;
+            is = is ∙ ap (λ b. cond b (after_removal (after_update c u) s) (after_update c u)) e;
+          })
+          | inr e ↦ inl (is ∙ ap (λ b. cond b (after_removal (after_update c u) s) (after_update c u)) e)
+        ]
 
-    pick : u.register.originator ≢ c.speaker.address → (s : Station) (b : Bool) → is_lost (after_update c u) s ≡ b
-        → Heard c u (cond b (after_removal (after_update c u) s) (after_update c u))
-    pick other s true is = Lost s other is
-    pick other s false is = Kept (others_stay_away c.speaker u other)
+pub hears : (c : LocalRoutes) (u : Fields) → Heard c u (heard c u)
+hears c u = elim (cases_Bool (comes_back c.speaker u)) [
+  | inl back ↦
+      let p = and_parts (u.register.originator == c.speaker.address) (is_returning c.speaker u) back in
+      rw (p.0, p.1, refuted_is c.speaker u Withdrawn (comes c.speaker u back).mine) (Back back)
+  | inr never ↦ elim (hear_cases c u never) [
+    | inl is ↦ rw is (Kept never)
+    | inr l ↦ rw l.is (Lost l.station l.foreign l.lost)
+  ]
+]
 
-    losing : u.register.originator ≢ c.speaker.address → (k : Key) → Heard c u (after_losing (after_update c u) k)
-    losing other (Flood v) = Kept (others_stay_away c.speaker u other)
-    losing other (Mac v m ip) = pick other (record { vni = v; mac = m })
-        (is_lost (after_update c u) (record { vni = v; mac = m })) refl
-
-    choose : (b : Bool) → (u.register.originator == c.speaker.address) ≡ b
-        → Heard c u (cond b (after_own c u) (after_take c u))
-    choose true t = let mine : u.register.originator ≡ c.speaker.address = grind (arith, nat_tests) in
-        own_one mine (is_returning c.speaker u) refl
-    choose false t = let other : u.register.originator ≡ c.speaker.address → ⊥ = grind (arith, nat_tests) in
-        losing other u.register.key
+-- what holds in each of the three cases holds of the edge afterwards
+pub heard_by : (P : LocalRoutes → Type 0) (c : LocalRoutes) (u : Fields)
+    → (comes_back c.speaker u ≡ true
+    → P (record c { speaker = after_originating c.speaker u.register.key Withdrawn }))
+    → ((s : Station) → u.register.originator ≢ c.speaker.address → is_lost (after_update c u) s ≡ true
+    → P (after_removal (after_update c u) s))
+    → (comes_back c.speaker u ≡ false → P (after_update c u)) → P (heard c u)
+heard_by P c u back lost kept = go (heard c u) (hears c u)
+  where
+    go : (d : LocalRoutes) → Heard c u d → P d
+    go _ (Back is) = back is
+    go _ (Lost s other is) = lost s other is
+    go _ (Kept not) = kept not
 
 -- ---- the edge afterwards is a later one
 
 -- an own update that is accepted, is news and doesn't come back is no advert
-pub silent : (e : Speaker) (u : Fields) → Accepts e u → comes_back e u ≡ false → u.register.originator ≡ e.address
+pub silent : {e : Speaker} {u : Fields} → Accepts e u → comes_back e u ≡ false → u.register.originator ≡ e.address
     → is_newest e u ≡ true → advert_in u.value.content ≡ None
-silent e u ok not mine newest = go (advert_in u.value.content) refl
+silent {e} {u} ok not mine newest = go (advert_in u.value.content) refl
   where
     go : (o : Option Advert) → advert_in u.value.content ≡ o → advert_in u.value.content ≡ None
     go None p = p
@@ -227,57 +254,69 @@ silent e u ok not mine newest = go (advert_in u.value.content) refl
           earlier = grind (arith, nat_tests);
           advert = ap is_some p;
         }) in
-        absurd (let bad : false ≡ true = sym not ∙ back in cc)
+        cc
 
-pub kept_later : (e : Speaker) (u : Fields) → Accepts e u → comes_back e u ≡ false → IsLater e (after_importing e u)
-kept_later e u ok not = record {
+kept_later : {e : Speaker} {u : Fields} → Accepts e u → comes_back e u ≡ false → IsLater e (after_importing e u)
+kept_later {e} {u} ok not = record {
   address = refl;
   incarnation = refl;
   originators = same_listeners e.table u;
   news = λ r w is. news_stay e.table u r w is;
   fades = λ k. elim (update_cases e.table u (own_register e k)) [
-    | inl c ↦ inr (ap advert_of c.2 ∙ silent e u ok not (ap (λ (r : Register). r.originator) (sym c.0)) c.1)
+    | inl c ↦ inr (rw c.2 (silent ok not (rw (← c.0)) c.1))
     | inr kept ↦ inl kept
   ];
 }
 
-heard_later_by : (c : LocalRoutes) (u : Fields) (d : LocalRoutes) → KeepsNumbers c.speaker → Accepts c.speaker u
-    → Heard c u d
-    → IsLater c.speaker d.speaker
-heard_later_by c u _ h ok (Back back) = said_later c.speaker u.register.key h
-heard_later_by c u _ h ok (Lost s other lost) =
-    later_trans c.speaker (after_importing c.speaker u) (after_originating (after_importing c.speaker u) (key_of s)
-    Withdrawn)
-    (kept_later c.speaker u ok (others_stay_away c.speaker u other))
-    (said_later (after_importing c.speaker u) (key_of s) (heard_numbers c.speaker u other h))
-heard_later_by c u _ h ok (Kept not) = kept_later c.speaker u ok not
+-- an own register that it changes had no advert before
+replaced_silent : {e : Speaker} {u : Fields} (k : Key) → KeepsNumbers e → Accepts e u → own_register e k ≡ u.register
+    → is_newest e u ≡ true → own_advert e k ≡ None
+replaced_silent {e} {u} k n ok same newest =
+    let mine : u.register.originator ≡ e.address = ap (λ (r : Register). r.originator) (sym same) in
+    ap (own_advert e) (ap (λ (r : Register). r.key) same)
+    ∙ not_said e u n mine newest (past_if_newest e u (ok.ahead mine) newest)
 
-pub heard_later : (c : LocalRoutes) (u : Fields) → KeepsNumbers c.speaker → Accepts c.speaker u
+-- own adverts stay as they are
+pub advert_kept : {e : Speaker} {u : Fields} (k : Key) → KeepsNumbers e → Accepts e u → comes_back e u ≡ false
+    → own_advert (after_importing e u) k ≡ own_advert e k
+advert_kept {e} {u} k n ok not = elim (update_cases e.table u (own_register e k)) [
+  | inl c ↦ rw c.2 (silent ok not (rw (← c.0)) c.1 ∙ sym (replaced_silent k n ok c.0 c.1))
+  | inr kept ↦ ap advert_of kept
+]
+
+pub advert_stays : {e : Speaker} {u : Fields} (k : Key) {x : Advert} → KeepsNumbers e → Accepts e u
+    → own_advert e k ≡ Some x → own (after_importing e u) k ≡ own e k
+advert_stays {e} {u} k n ok is = elim (update_cases e.table u (own_register e k)) [
+  | inl c ↦ cc (replaced_silent k n ok c.0 c.1)
+  | inr kept ↦ kept
+]
+
+pub heard_later : (c : LocalRoutes) {u : Fields} → KeepsNumbers c.speaker → Accepts c.speaker u
     → IsLater c.speaker (heard c u).speaker
-heard_later c u h ok = heard_later_by c u (heard c u) h ok (hears c u)
+heard_later c {u} h ok = heard_by (λ d. IsLater c.speaker d.speaker) c u (λ back. said_later u.register.key h)
+    (λ s other lost. later_trans (kept_later ok (others_stay_away c.speaker u other))
+    (said_later (key_of s) (heard_numbers c.speaker u other h))) (kept_later ok)
 
 -- ---- updates that may come back
-pub comes_before : (a b : Speaker) → IsLater a b → (u : Fields) → comes_back b u ≡ true → comes_back a u ≡ true
-comes_before a b h u back =
-    let c = comes b u back in
-    comes_when a u (record {
-      mine = c.mine ∙ h.address;
-      newest = pick (is_newest a u) refl c.newest;
-      earlier = ap (λ n. nat_lt u.value.incarnation n) (sym h.incarnation) ∙ c.earlier;
-      advert = c.advert;
-    })
-  where
-    pick : (x : Bool) → is_newest a u ≡ x → is_newest b u ≡ true → is_newest a u ≡ true
-    pick true e more = e
-    pick false e more = let none : is_newest b u ≡ false = h.news u.register u.value e in cc
+-- what is news for a later state was news before
+pub news_before : {a b : Speaker} → IsLater a b → (u : Fields) → is_newest b u ≡ true → is_newest a u ≡ true
+news_before {a} h u more = true_from_ne_false (is_newest a u) (λ e. cc (h.news u.register u.value e))
+
+pub comes_before : {a b : Speaker} → IsLater a b → (u : Fields) → comes_back b u ≡ true → comes_back a u ≡ true
+comes_before {a} {b} h u back = let c = comes b u back in comes_when a u (record {
+  mine = c.mine ∙ h.address;
+  newest = news_before h u c.newest;
+  earlier = rw (← h.incarnation) c.earlier;
+  advert = c.advert;
+})
 
 abbrev pub may_return : List Fields → Speaker → Fields → Bool
 may_return pool a u = comes_back a u && is_latest pool u
 
-pub returns_before : (pool : List Fields) (a b : Speaker) → IsLater a b → (u : Fields) → may_return pool b u ≡ true
+returns_before : (pool : List Fields) {a b : Speaker} → IsLater a b → (u : Fields) → may_return pool b u ≡ true
     → may_return pool a u ≡ true
-returns_before pool a b h u is = let t = and_parts (comes_back b u) (is_latest pool u) is in
-    let back = comes_before a b h u t.0 in let last = t.1 in rw (back, last) refl
+returns_before pool {b} h u is = let t = and_parts (comes_back b u) (is_latest pool u) is in
+    rw (comes_before h u t.0, t.1) refl
 
 -- an own update of the edge in the pool is of an earlier incarnation, or is no news to it
 abbrev pub KnowsOwn : List Fields → Speaker → Type 0
@@ -291,23 +330,23 @@ pub record Counted (pool : List Fields) (a : Speaker) (u : Fields) : Type 0 wher
   pub register : update.register ≡ u.register
   pub counts : may_return pool a update ≡ true
 
-pub counted : (pool : List Fields) (a : Speaker) (u : Fields) → KnowsOwn pool a → Contains pool u → comes_back a u
+pub counted : (pool : List Fields) (a : Speaker) {u : Fields} → KnowsOwn pool a → Contains pool u → comes_back a u
     ≡ true
     → Counted pool a u
-counted pool a u knows in' back =
+counted pool a {u} knows in' back =
     let c = comes a u back in
     let n = newest pool u c.advert in
     let inside : Contains pool n.update = elim n.from [
       | inl here ↦ here
-      | inr same ↦ subst (Contains pool) (sym same) in'
+      | inr same ↦ rw same in'
     ] in
-    let mine : n.update.register.originator ≡ a.address = ap (λ (r : Register). r.originator) n.register ∙ c.mine in
-    let news : is_newest a n.update ≡ true = ap (λ r. is_news (value_at a.table r) n.update.value) n.register
-    ∙ news_up (value_at a.table u.register) u n.update c.newest n.order in
+    let mine : n.update.register.originator ≡ a.address = rw n.register c.mine in
+    let news : is_newest a n.update ≡ true = rw n.register (news_up (value_at a.table u.register) u n.update c.newest
+    n.order) in
     let earlier : n.update.value.incarnation < a.incarnation =
     elim (knows n.update inside mine) [
       | inl less ↦ less
-      | inr none ↦ absurd (let bad : false ≡ true = sym none ∙ news in cc)
+      | inr none ↦ cc
     ] in
     let again = comes_when a n.update (record {
       mine = mine;
@@ -315,22 +354,19 @@ counted pool a u knows in' back =
       earlier = grind (arith, nat_tests);
       advert = n.advert;
     }) in
-    let last = newest_is pool u n in
-    record { update = n.update; inside = inside; register = n.register; counts = rw (again, last) refl }
+    record { update = n.update; inside = inside; register = n.register; counts = rw (again, newest_is n) refl }
 
-pub returning_later : (pool : List Fields) (a b : Speaker) → IsLater a b → returning pool b ≤ returning pool a
-returning_later pool a b h = count_le (may_return pool a) (may_return pool b) pool
-    (λ u is. returns_before pool a b h u is)
+returning_later : (pool : List Fields) {a b : Speaker} → IsLater a b → returning pool b ≤ returning pool a
+returning_later pool {a} {b} h = count_le (may_return pool a) (may_return pool b) pool
+    (λ u is. returns_before pool h u is)
 
 -- after its withdrawal no advert of the register comes back
 back_gone : (a : Speaker) (u w : Fields) → w.register ≡ u.register → u.register.originator ≡ a.address
     → comes_back (after_originating a u.register.key Withdrawn) w ≡ false
 back_gone a u w same mine = stays_away (after_originating a u.register.key Withdrawn) w (λ c.
-    let less : w.value.incarnation < a.incarnation = (let earlier = c.earlier in grind (arith, nat_tests)) in
-    let newest = c.newest in
+    let less : w.value.incarnation < a.incarnation = grind (arith, nat_tests) in
     let at : value_at (after_originating a u.register.key Withdrawn).table w.register ≡ Some (next_value a Withdrawn) =
-    ap (value_at (after_originating a u.register.key Withdrawn).table) (same ∙ named)
-    ∙ own_same a u.register.key Withdrawn in
+    rw (same, named) (own_same a u.register.key Withdrawn) in
     let none : is_newest (after_originating a u.register.key Withdrawn) w ≡ false = ap (λ o. is_news o w.value) at
     ∙ not_newer_earlier (next_value a Withdrawn) w.value less in
     cc)
@@ -339,32 +375,26 @@ back_gone a u w same mine = stays_away (after_originating a u.register.key Withd
     named = λ i. register_of (mine i) u.register.key
 
 pub marked_length : (rs : List Register) (r : Register) → length (marked rs r) ≤ length rs + 1
-marked_length rs r = go (list_any (eq_by_cmp register_cmp r) rs)
-  where
-    go : (b : Bool) → length (cond b rs (rs ++ r ∷ [])) ≤ length rs + 1
-    go true = omega arith
-    go false = more rs
-      where
-        more : (rs : List Register) → length (rs ++ r ∷ []) ≤ length rs + 1
-        more [] = omega arith
-        more (x ∷ rs) = let h = more rs in omega (arith, h)
+marked_length rs r = elim (marked_cases rs r) [
+  | inl h ↦ omega (arith, ap length h.1)
+  | inr h ↦ omega (arith, ap length h.1 ∙ push_length rs r)
+]
 
--- an advertised station is learnt
-pub learnt : (c : LocalRoutes) (s : Station) → KeepsRoutes c → is_some (own_advert c.speaker (key_of s)) ≡ true
-    → (x : Entry) × (entry_at c.learned s ≡ Some x)
-learnt c s h some = go (entry_at c.learned s) refl (own_advert c.speaker (key_of s)) refl
+-- a station is learnt and advertised, or neither
+pub learnt_cases : {c : LocalRoutes} (s : Station) → KeepsRoutes c
+    → ((entry_at c.learned s ≡ None) × (own_advert c.speaker (key_of s) ≡ None))
+    ⊎ ((x : Entry) × (y : Advert) × (entry_at c.learned s ≡ Some x) × (own_advert c.speaker (key_of s) ≡ Some y))
+learnt_cases {c} s h = go (entry_at c.learned s) refl (own_advert c.speaker (key_of s)) refl (h.kinds s)
   where
     go : (x : Option Entry) → entry_at c.learned s ≡ x → (y : Option Advert) → own_advert c.speaker (key_of s) ≡ y
-        → (x : Entry) × (entry_at c.learned s ≡ Some x)
-    go (Some x) p y q = (x, p)
-    go None p None q = absurd (let no : is_some {T = Advert} None ≡ true = subst (λ o. is_some o ≡ true) q some in cc)
-    go None p (Some y) q =
-        let k = h.kinds s in
-        let left : option_map {U = Bool} (λ (x : Entry). x.pinned) (entry_at c.learned s) ≡ None =
-        ap (option_map (λ (x : Entry). x.pinned)) p in
-        let right : option_map {U = Bool} (λ (a : Advert). a.is_static) (own_advert c.speaker (key_of s))
-        ≡ Some y.is_static = ap (option_map (λ (a : Advert). a.is_static)) q in
-        absurd (let bad : None ≡ Some y.is_static = sym left ∙ k ∙ right in cc)
+        → option_map (λ (z : Entry). z.pinned) (entry_at c.learned s)
+        ≡ option_map (λ (z : Advert). z.is_static) (own_advert c.speaker (key_of s))
+        → ((entry_at c.learned s ≡ None) × (own_advert c.speaker (key_of s) ≡ None))
+        ⊎ ((x : Entry) × (y : Advert) × (entry_at c.learned s ≡ Some x) × (own_advert c.speaker (key_of s) ≡ Some y))
+    go None p None q k = inl (p, q)
+    go (Some x) p (Some y) q k = inr (x, y, p, q)
+    go None p (Some y) q k = cc (rw (p, q) at k)
+    go (Some x) p None q k = cc (rw (p, q) at k)
 
 -- ---- the number of updates to come never grows, and pays for each number and each announcement
 pub record Pays (pool : List Fields) (a b : LocalRoutes) : Type 0 where
@@ -372,59 +402,52 @@ pub record Pays (pool : List Fields) (a b : LocalRoutes) : Type 0 where
   pub announcements : unannounced pool b ≤ unannounced pool a
   pub returns : returning pool b.speaker ≤ returning pool a.speaker
 
-heard_pays_by : (pool : List Fields) (c : LocalRoutes) (u : Fields) (d : LocalRoutes) → KnowsOwn pool c.speaker
-    → Contains pool u
-    → KeepsRoutes c → KeepsNumbers c.speaker → Accepts c.speaker u → Heard c u d → Pays pool c d
-heard_pays_by pool c u _ knows in' routes h ok (Back back) =
-    let later = said_later c.speaker u.register.key h in
-    let n = counted pool c.speaker u knows in' back in
-    let gone = back_gone c.speaker u n.update n.register (comes c.speaker u back).mine in
+pub heard_pays : (pool : List Fields) {c : LocalRoutes} {u : Fields} → KnowsOwn pool c.speaker → Contains pool u
+    → AreGood c → Accepts c.speaker u → Pays pool c (heard c u)
+heard_pays pool {c} {u} knows in' good ok = heard_by (Pays pool c) c u
+    (λ back.
+    let n = counted pool c.speaker knows in' back in
     let less : returning pool (after_originating c.speaker u.register.key Withdrawn) + 1 ≤ returning pool c.speaker =
     count_less (may_return pool c.speaker) (may_return pool (after_originating c.speaker u.register.key Withdrawn)) pool
-    n.update (returns_before pool c.speaker _ later) n.inside n.counts
-    (ap (λ x. x && is_latest pool n.update) gone) in
-    let marks = marked_length c.speaker.pending (own_register c.speaker u.register.key) in
-    record { numbers = omega (arith, less); announcements = omega (arith, less, marks); returns = omega (arith, less) }
-heard_pays_by pool c u _ knows in' routes h ok (Lost s other lost) =
-    let later = heard_later_by c u (after_removal (after_update c u) s) h ok (Lost s other lost) in
-    let fewer = returning_later pool c.speaker _ later in
-    let some = (and_parts (is_some (own_advert (after_importing c.speaker u) (key_of s)))
-    (not (is_at (owner (after_importing c.speaker u).table s.vni s.mac) c.speaker.address)) lost).0 in
-    let there = learnt c s routes (ap (λ o. is_some (advert_of o)) (sym (own_stays c.speaker u other (key_of s)))
-    ∙ some) in
-    let less = size_gone c.learned s there.0 there.1 in
-    let marks = marked_length c.speaker.pending (own_register c.speaker (key_of s)) in
-    record { numbers = omega (arith, less, fewer); announcements = omega (arith, less, fewer, marks); returns = fewer }
-heard_pays_by pool c u _ knows in' routes h ok (Kept not) =
-    let fewer = returning_later pool c.speaker _ (kept_later c.speaker u ok not) in
-    record { numbers = omega (arith, fewer); announcements = omega (arith, fewer); returns = fewer }
-
-pub heard_pays : (pool : List Fields) (c : LocalRoutes) (u : Fields) → KnowsOwn pool c.speaker → Contains pool u
-    → KeepsRoutes c → KeepsNumbers c.speaker → Accepts c.speaker u → Pays pool c (heard c u)
-heard_pays pool c u knows in' routes h ok = heard_pays_by pool c u (heard c u) knows in' routes h ok (hears c u)
+    (returns_before pool (said_later u.register.key good.numbers)) n.inside n.counts
+    (rw (back_gone c.speaker u n.update n.register (comes c.speaker u back).mine)) in
+    omega (arith, marked_length c.speaker.pending (own_register c.speaker u.register.key)))
+    (λ s other lost.
+    elim (learnt_cases s good.routes) [
+      | inl no' ↦ cc (
+        (and_parts (is_some (own_advert (after_importing c.speaker u) (key_of s)))
+            (not (is_at (owner (after_importing c.speaker u).table s.vni s.mac) c.speaker.address)) lost).0,
+        own_stays c.speaker u other (key_of s),
+        no'.1,
+      )
+      | inr there ↦
+          omega (
+            arith,
+            size_gone c.learned s there.0 there.2,
+            returning_later pool
+                (later_trans (kept_later ok (others_stay_away c.speaker u other))
+                (said_later (key_of s) (heard_numbers c.speaker u other good.numbers))),
+            marked_length c.speaker.pending
+                (own_register c.speaker (key_of s)),
+          )
+    ])
+    (λ not. omega (arith, returning_later pool (kept_later ok not)))
 
 -- ---- after a delivery the update is no news
 updated_has : (t : Table) (u : Fields) → is_news (value_at (with_update t u) u.register) u.value ≡ false
-updated_has t u = go (is_news (value_at t u.register) u.value) refl
-  where
-    go : (b : Bool) → is_news (value_at t u.register) u.value ≡ b
-        → is_news (value_at (cond b (with_value t u.register u.value) t) u.register) u.value ≡ false
-    go true e = ap (λ o. is_news o u.value) (at_same t u.register u.value) ∙ not_newer_itself u.value
-    go false e = e
-
-heard_has_by : (c : LocalRoutes) (u : Fields) (d : LocalRoutes) → KeepsNumbers c.speaker → Heard c u d
-    → is_newest d.speaker u ≡ false
-heard_has_by c u _ h (Back back) =
-    let b = comes c.speaker u back in
-    let less : u.value.incarnation < c.speaker.incarnation = (let earlier = b.earlier in grind (arith, nat_tests)) in
-    let named : u.register ≡ own_register c.speaker u.register.key =
-    (let mine = b.mine in λ i. register_of (mine i) u.register.key) in
-    ap (λ r. is_news (value_at (after_originating c.speaker u.register.key Withdrawn).table r) u.value) named
-    ∙ ap (λ o. is_news o u.value) (own_same c.speaker u.register.key Withdrawn)
-    ∙ not_newer_earlier (next_value c.speaker Withdrawn) u.value less
-heard_has_by c u _ h (Lost s other lost) = (said_later (after_importing c.speaker u) (key_of s)
-    (heard_numbers c.speaker u other h)).news u.register u.value (updated_has c.speaker.table u)
-heard_has_by c u _ h (Kept not) = updated_has c.speaker.table u
+updated_has t u = elim (cases_Bool (is_news (value_at t u.register) u.value)) [
+  | inl e ↦ rw (e, at_same t u.register u.value) (not_newer_itself u.value)
+  | inr e ↦ rw e e
+]
 
 pub heard_has : (c : LocalRoutes) (u : Fields) → KeepsNumbers c.speaker → is_newest (heard c u).speaker u ≡ false
-heard_has c u h = heard_has_by c u (heard c u) h (hears c u)
+heard_has c u h = heard_by (λ d. is_newest d.speaker u ≡ false) c u
+    (λ back.
+    let b = comes c.speaker u back in
+    let less : u.value.incarnation < c.speaker.incarnation = grind (arith, nat_tests) in
+    let named : u.register ≡ own_register c.speaker u.register.key =
+    (λ i. register_of (b.mine i) u.register.key) in
+    rw (named, own_same c.speaker u.register.key Withdrawn) (not_newer_earlier (next_value c.speaker Withdrawn) u.value
+    less))
+    (λ s other lost. (said_later (key_of s) (heard_numbers c.speaker u other h)).news u.register u.value
+    (updated_has c.speaker.table u)) (λ not. updated_has c.speaker.table u)

@@ -1,38 +1,35 @@
 -- A delivery of an update that is no news, or of a withdrawal, takes nothing from an edge and makes nothing pending.
-use Rattle.std.proofs.Common.{◌≡◌, ◌≢◌, ◌⊎◌, inl, inr, ℕ, Bool, true, false, cond, nat_lt, Option, Some, None, refl}
-use Rattle.std.proofs.Common.{sym, ap, subst, ◌∙◌, arith}
+use Rattle.std.proofs.Common.{◌≡◌, ◌≢◌, ◌⊎◌, inl, inr, ℕ, true, false, Option, Some, None, refl}
+use Rattle.std.proofs.Common.{sym, ap, ◌∙◌, arith}
 use Rattle.std.proofs.lemmas.Bool.Decides.{nat_tests}
-use Rattle.std.specs.Prelude.{Contains, IsSome, is_some, not, ◌==◌, ◌&&◌}
+use Rattle.std.specs.Prelude.{Contains, not, ◌==◌}
 use Rattle.route_wire.specs.declared.update.Ip.{Ip}
 use Rattle.route_wire.specs.declared.update.Key.{Key}
-use Rattle.route_wire.specs.declared.update.Key.TheVariants.{Flood, Mac}
+use Rattle.route_wire.specs.declared.update.Key.TheVariants.{Mac}
 use Rattle.route_wire.specs.declared.update.Register.{Register}
 use Rattle.route_wire.specs.declared.update.Advert.{Advert}
 use Rattle.route_wire.specs.declared.update.Content.TheVariants.{Withdrawn}
 use Rattle.route_wire.specs.Fields.{Fields}
-use Rattle.route_join.specs.Table.{Table, value_at, with_value, register_of}
-use Rattle.route_join.specs.Owner.{advert_in, advert_of, advert_at, owner, IsOwner}
+use Rattle.route_join.specs.Table.{Table, value_at, register_of}
+use Rattle.route_join.specs.Owner.{advert_in, advert_of, advert_at, IsOwner}
 use Rattle.route_join.proofs.Tables.{same_or_other, at_same, at_other}
 use Rattle.mac_arena.specs.declared.station.Station.{Station}
-use Rattle.ev_claims.specs.Speaker.{Speaker, own_register, own_advert, KeepsNumbers, is_at, next_value}
-use Rattle.ev_claims.specs.Speaker.{after_originating}
-use Rattle.ev_claims.specs.Speaker.{after_importing, is_newest, is_returning}
-use Rattle.ev_claims.specs.LocalRoutes.{LocalRoutes, key_of, after_removal, after_update, after_own, is_lost}
-use Rattle.ev_claims.specs.LocalRoutes.{after_losing}
-use Rattle.ev_claims.specs.LocalRoutes.{after_take}
+use Rattle.ev_claims.specs.Speaker.{Speaker, own_register, own_advert, KeepsNumbers, next_value, after_originating}
+use Rattle.ev_claims.specs.Speaker.{after_importing, is_newest}
+use Rattle.ev_claims.specs.LocalRoutes.{LocalRoutes, key_of, after_update, is_lost}
 use Rattle.ev_claims.proofs.Numbers.{marked_only, own_stays}
 use Rattle.ev_edge.specs.Edge.{OwnsAt}
 use Rattle.ev_fabric.specs.ConvergenceEdge.{comes_back}
 use Rattle.ev_fabric.proofs.Sends.{owner_found}
-use Rattle.ev_fabric.proofs.ConvergingEdge.{update_cases, Accepts, Heard, Back, Lost, Kept, heard, hears, silent}
-use Rattle.ev_fabric.proofs.ConvergingEdge.{others_stay_away}
+use Rattle.ev_fabric.proofs.ConvergingEdge.{update_cases, Accepts, heard, silent}
+use Rattle.ev_fabric.proofs.ConvergingEdge.{others_stay_away, hear_cases, idle_away, heard_by}
 
 -- ---- owners
-fewer_owner : (t u : Table) (vni mac o : ℕ) → IsOwner t vni mac o
+fewer_owner : {t : Table} (u : Table) {vni mac o : ℕ} → IsOwner t vni mac o
     → ((ip : Option Ip) → advert_at u o (Mac vni mac ip) ≡ advert_at t o (Mac vni mac ip))
     → ((p : ℕ) (j : Option Ip) (b : Advert) → advert_at u p (Mac vni mac j) ≡ Some b
     → advert_at t p (Mac vni mac j) ≡ Some b) → IsOwner u vni mac o
-fewer_owner t u vni mac o h own fewer = record {
+fewer_owner u h own fewer = record {
   ip = h.ip;
   advert = h.advert;
   own = own h.ip ∙ h.own;
@@ -40,7 +37,7 @@ fewer_owner t u vni mac o h own fewer = record {
 }
 
 -- another's update that is no news, or a withdrawal, takes no station from the edge
-pub still_owner : (c : LocalRoutes) (u : Fields) → ((s : Station) → OwnsAt c s) → u.register.originator
+still_owner : (c : LocalRoutes) (u : Fields) → ((s : Station) → OwnsAt c s) → u.register.originator
     ≢ c.speaker.address
     → (is_newest c.speaker u ≡ false) ⊎ (advert_in u.value.content ≡ None) → (s : Station)
     → is_lost (after_update c u) s ≡ false
@@ -54,70 +51,35 @@ still_owner c u owns other idle s = go (own_advert (after_importing c.speaker u)
         ≡ Some b → advert_at c.speaker.table p (Mac s.vni s.mac j) ≡ Some b
     kept p j b is = elim (update_cases c.speaker.table u (register_of p (Mac s.vni s.mac j))) [
       | inl h ↦ elim idle [
-        | inl old ↦ absurd (let bad : false ≡ true = sym old ∙ h.1 in cc)
-        | inr none ↦ absurd (let bad : None ≡ Some b = sym none ∙ ap advert_of (sym h.2) ∙ is in cc)
+        | inl old ↦ cc (h.1)
+        | inr none ↦ cc (ap advert_of (sym h.2))
       ]
-      | inr same ↦ ap advert_of (sym same) ∙ is
+      | inr same ↦ rw (← same) is
     ]
 
     go : (o : Option Advert) → own_advert (after_importing c.speaker u) (key_of s) ≡ o
         → is_lost (after_update c u) s ≡ false
-    go None is = ap (λ o. is_some o && not (is_at (owner (after_importing c.speaker u).table s.vni s.mac)
-        c.speaker.address))
-        is
+    go None is = rw is
     go (Some x) is =
-        let before = owns s (subst IsSome (sym is ∙ same None) refl) in
-        let after = fewer_owner c.speaker.table (after_importing c.speaker u).table s.vni s.mac c.speaker.address before
-        same
-        kept in
-        let found = owner_found (after_importing c.speaker u).table s.vni s.mac c.speaker.address after in
         let test : (c.speaker.address == c.speaker.address) ≡ true = grind (arith, nat_tests) in
-        rw (is, found, test) refl
+        rw (
+          is,
+          owner_found (fewer_owner (after_importing c.speaker u).table
+              (owns s (rw (← same None, is) refl)) same kept),
+          test,
+        ) refl
 
 pub idle_hearing : (c : LocalRoutes) (u : Fields) → ((s : Station) → OwnsAt c s)
     → (is_newest c.speaker u ≡ false) ⊎ (advert_in u.value.content ≡ None) → heard c u ≡ after_update c u
-idle_hearing c u owns idle = choose (u.register.originator == c.speaker.address) refl
-  where
-    quiet : is_returning c.speaker u ≡ false
-    quiet = elim idle [
-      | inl old ↦ ap (λ b. b && (nat_lt u.value.incarnation c.speaker.incarnation
-          && is_some (advert_in u.value.content)))
-          old
-      | inr none ↦ ap (λ (o : Option Advert). is_newest c.speaker u
-          && (nat_lt u.value.incarnation c.speaker.incarnation && is_some o)) none
-          ∙ both (is_newest c.speaker u) (nat_lt u.value.incarnation c.speaker.incarnation)
-    ]
-      where
-        both : (x y : Bool) → (x && (y && false)) ≡ false
-        both true true = refl
-        both true false = refl
-        both false y = refl
-
-    losing : u.register.originator ≢ c.speaker.address → (k : Key) → after_losing (after_update c u) k
-        ≡ after_update c u
-    losing other (Flood v) = refl
-    losing other (Mac v m ip) = ap (λ b. cond b (after_removal (after_update c u) (record { vni = v; mac = m }))
-        (after_update c u)) (still_owner c u owns other idle (record { vni = v; mac = m }))
-
-    choose : (b : Bool) → (u.register.originator == c.speaker.address) ≡ b
-        → cond b (after_own c u) (after_take c u) ≡ after_update c u
-    choose true t = ap (λ b. record c {
-      speaker = cond b (after_originating (after_importing c.speaker u) u.register.key Withdrawn)
-          (after_importing c.speaker u);
-    }) quiet
-    choose false t = let other : u.register.originator ≡ c.speaker.address → ⊥ = grind (arith, nat_tests) in
-        losing other u.register.key
+idle_hearing c u owns idle = elim (hear_cases c u (idle_away c.speaker u idle)) [
+  | inl is ↦ is
+  | inr l ↦ cc (l.lost, still_owner c u owns l.foreign idle l.station)
+]
 
 -- an update that is no news leaves an edge unchanged
 pub known_hearing : (c : LocalRoutes) (u : Fields) → ((s : Station) → OwnsAt c s) → is_newest c.speaker u ≡ false
     → heard c u ≡ c
-known_hearing c u owns none = idle_hearing c u owns (inl none)
-    ∙ (λ i. record c {
-      speaker = record c.speaker {
-        table =
-            cond (none i) (with_value c.speaker.table u.register u.value) c.speaker.table;
-      };
-    })
+known_hearing c u owns none = let same : after_update c u ≡ c = rw none in idle_hearing c u owns (inl none) ∙ same
 
 -- ---- each pending register is withdrawn
 abbrev pub Mourns : Speaker → Type 0
@@ -125,32 +87,23 @@ Mourns e = (r : Register) → Contains e.pending r → advert_of (value_at e.tab
 
 said_mourns : (e : Speaker) (k : Key) → Mourns e → Mourns (after_originating e k Withdrawn)
 said_mourns e k h r in' = elim (same_or_other r (own_register e k)) [
-  | inl same ↦ ap (λ q. advert_of (value_at (after_originating e k Withdrawn).table q)) same
-      ∙ ap advert_of (at_same e.table (own_register e k) (next_value e Withdrawn))
+  | inl same ↦ rw (same, at_same e.table (own_register e k) (next_value e Withdrawn))
   | inr ne ↦ elim (marked_only e.pending (own_register e k) r in') [
-    | inl before ↦ ap advert_of (at_other e.table (own_register e k) (next_value e Withdrawn) r ne) ∙ h r before
+    | inl before ↦ rw (at_other e.table (own_register e k) (next_value e Withdrawn) r ne) (h r before)
     | inr now ↦ absurd (ne (sym now))
   ]
 ]
 
 -- pending registers are own ones, so an accepted update that doesn't come back leaves them without advert
-kept_mourns : (e : Speaker) (u : Fields) → KeepsNumbers e → Accepts e u → comes_back e u ≡ false → Mourns e
+kept_mourns : {e : Speaker} {u : Fields} → KeepsNumbers e → Accepts e u → comes_back e u ≡ false → Mourns e
     → Mourns (after_importing e u)
-kept_mourns e u n ok not h r in' = elim (update_cases e.table u r) [
-  | inl c ↦ ap advert_of c.2 ∙ silent e u ok not (ap (λ (q : Register). q.originator) (sym c.0)
-      ∙ (n.pending r in').3)
-      c.1
-  | inr kept ↦ ap advert_of kept ∙ h r in'
+kept_mourns {e} {u} n ok not h r in' = elim (update_cases e.table u r) [
+  | inl c ↦ rw c.2 (silent ok not (rw (← c.0) ((n.pending r in').3)) c.1)
+  | inr kept ↦ rw kept (h r in')
 ]
 
-heard_mourns_by : (c : LocalRoutes) (u : Fields) (d : LocalRoutes) → KeepsNumbers c.speaker → Accepts c.speaker u
-    → Heard c u d
-    → Mourns c.speaker → Mourns d.speaker
-heard_mourns_by c u _ n ok (Back back) h = said_mourns c.speaker u.register.key h
-heard_mourns_by c u _ n ok (Lost s other lost) h = said_mourns (after_importing c.speaker u) (key_of s)
-    (kept_mourns c.speaker u n ok (others_stay_away c.speaker u other) h)
-heard_mourns_by c u _ n ok (Kept not) h = kept_mourns c.speaker u n ok not h
-
-pub heard_mourns : (c : LocalRoutes) (u : Fields) → KeepsNumbers c.speaker → Accepts c.speaker u → Mourns c.speaker
+pub heard_mourns : (c : LocalRoutes) {u : Fields} → KeepsNumbers c.speaker → Accepts c.speaker u → Mourns c.speaker
     → Mourns (heard c u).speaker
-heard_mourns c u n ok h = heard_mourns_by c u (heard c u) n ok (hears c u) h
+heard_mourns c {u} n ok h = heard_by (λ d. Mourns d.speaker) c u (λ back. said_mourns c.speaker u.register.key h)
+    (λ s other lost. said_mourns (after_importing c.speaker u) (key_of s)
+    (kept_mourns n ok (others_stay_away c.speaker u other) h)) (λ not. kept_mourns n ok not h)

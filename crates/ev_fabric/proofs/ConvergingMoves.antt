@@ -1,209 +1,213 @@
 -- The effect of an announcement or a delivery on a fabric.
-use Rattle.std.proofs.Common.{◌≡◌, ◌⊎◌, inl, inr, ℕ, suc, ◌+◌, ◌≤◌, Bool, true, false, cond, eqb}
-use Rattle.std.proofs.Common.{Option, Some, None, Result, Ok, Err, List, [], ◌∷◌, ◌++◌, length, refl, sym, ap, subst}
-use Rattle.std.proofs.Common.{◌∙◌, arith}
+use Rattle.std.proofs.Common.{◌≡◌, ◌≢◌, inl, inr, ℕ, suc, ◌+◌, ◌≤◌, Bool, true, false, Some, Result}
+use Rattle.std.proofs.Common.{Ok, Err, List, [], ◌∷◌, ◌++◌, length, refl, sym, ap, ◌∙◌, arith}
 use Rattle.std.proofs.lemmas.Bool.Decides.{nat_tests}
-use Rattle.std.proofs.lemmas.List.Elements.{Contains-push_cases}
-use Rattle.std.specs.Prelude.{not, ◌&&◌, ◌==◌, Contains, slice_get, slice_set, drop}
-use Rattle.std.specs.Option.{option_map}
+use Rattle.std.specs.Prelude.{not, ◌&&◌, ◌==◌, Contains, slice_set, drop}
 use Rattle.std.specs.List.{list_any}
+use Rattle.std.specs.Option.{option_map}
 use Rattle.route_wire.specs.declared.update.Register.{Register}
 use Rattle.route_wire.specs.declared.update.Value.{Value}
 use Rattle.route_wire.specs.Fields.{Fields}
-use Rattle.route_wire.specs.Order.{is_newer}
-use Rattle.route_wire.proofs.Newer.{not_newer_lower}
-use Rattle.route_join.specs.Table.{value_at, is_listed, is_news}
+use Rattle.route_join.specs.Table.{value_at}
 use Rattle.route_join.proofs.Tables.{not_newer_itself}
-use Rattle.ev_claims.specs.Speaker.{Speaker, KeepsNumbers, announced, announced_of, is_newest}
-use Rattle.ev_claims.specs.LocalRoutes.{LocalRoutes, after_own, after_take, after_announcement}
+use Rattle.ev_claims.specs.Speaker.{Speaker, announced_of, is_newest}
 use Rattle.ev_edge.specs.declared.event.Event.TheVariants as events
 use Rattle.ev_edge.specs.declared.reply.Reply.{Reply}
 use Rattle.ev_edge.specs.declared.refusal.Refusal as edge
-use Rattle.ev_edge.specs.Edge.{Edge, table_of, address_of}
-use Rattle.ev_edge.specs.Steps.{Steps, nothing, Takes as TakesBy}
+use Rattle.ev_edge.specs.Edge.{Edge, IsGoodEdge, table_of, address_of}
+use Rattle.ev_edge.specs.Steps.{Takes as TakesBy}
+use Rattle.ev_edge.proofs.Remaining.{steps_good}
 use Rattle.ev_fabric.specs.declared.refusal.FabricRefusal.{FabricRefusal}
 use Rattle.ev_fabric.specs.declared.step.Step.{Step}
 use Rattle.ev_fabric.specs.declared.step.Step.TheVariants.{Local, Announce, Deliver, Restart}
-use Rattle.ev_fabric.specs.Fabric.{Fabric, IsEdge}
-use Rattle.ev_fabric.specs.Steps.{with_edge, with_announced, AnnouncesAt, FabricSteps}
-use Rattle.ev_fabric.specs.Sound.{update_of, IsBehind, IsSound}
+use Rattle.ev_fabric.specs.Fabric.{Fabric, IsEdge, incarnation_of}
+use Rattle.ev_fabric.specs.Steps.{StepsAt, AnnouncesAt, FabricSteps}
+use Rattle.ev_fabric.specs.Sound.{update_of, IsSound}
 use Rattle.ev_fabric.specs.ConvergenceEdge.{is_over, is_latest, comes_back, returning, unsaid, unannounced, IsLater}
-use Rattle.ev_fabric.specs.Convergence.{IsQuiet, Rests, full_pool, to_come}
+use Rattle.ev_fabric.specs.Convergence.{IsQuiet, full_pool, to_come}
 use Rattle.ev_fabric.proofs.Places.{minus, set_cases, contains_at, push_length}
-use Rattle.ev_fabric.proofs.Cases.{at_edge, at_delivery}
-use Rattle.ev_fabric.proofs.ConvergingSums.{sum_set, count_le, count_push, set_itself, set_kept}
+use Rattle.ev_fabric.proofs.Cases.{at_edge, at_delivery, announces_it}
+use Rattle.ev_fabric.proofs.Voices.{behind_not_newer}
+use Rattle.ev_fabric.proofs.ConvergingSums.{sum_set, count_le, count_push, set_itself}
 use Rattle.ev_fabric.proofs.ConvergingNewest.{any_front}
-use Rattle.ev_fabric.proofs.ConvergingEdge.{later_itself, later_trans, Accepts, heard, heard_later, may_return}
-use Rattle.ev_fabric.proofs.ConvergingEdge.{KnowsOwn}
-use Rattle.ev_fabric.proofs.ConvergingEdge.{heard_pays, others_stay_away, known_stays_away}
-use Rattle.ev_edge.proofs.Staying.{Keeps}
-use Rattle.ev_fabric.proofs.ConvergingGood.{IsSteady, good_kept, heard_keeps, heard_steady, quieter}
-use Rattle.ev_fabric.proofs.ConvergingGood.{quieter_keeps}
+use Rattle.ev_fabric.proofs.ConvergingEdge.{later_quiet, Accepts, heard, heard_later, may_return, KnowsOwn, Pays}
+use Rattle.ev_fabric.proofs.ConvergingEdge.{heard_pays, others_stay_away, known_stays_away, quieter, after_hearing}
+use Rattle.ev_fabric.proofs.ConvergingEdge.{after_telling}
 
--- ---- the used parts of a sound fabric's invariant
+-- ---- own updates in the pool of a sound fabric
 pub record Kept (f : Fabric) : Type 0 where
-  pub apart : (i j : ℕ) (a b : Edge) → IsEdge f i a → IsEdge f j b → address_of a ≡ address_of b → i ≡ j
-  pub keeps : (i : ℕ) (a : Edge) → IsEdge f i a → Keeps a.routes a.clock
-  pub steady : (i : ℕ) (a : Edge) → IsEdge f i a → IsSteady a
+  pub sound : IsSound f
   pub knows : (i : ℕ) (a : Edge) → IsEdge f i a → KnowsOwn f.pool a.routes.speaker
-  pub sources : (u : Fields) → Contains f.pool u → (i : ℕ) × (a : Edge) × IsEdge f i a
-      × (address_of a ≡ u.register.originator)
-  pub listed : (i j : ℕ) (a b : Edge) → IsEdge f i a → IsEdge f j b → is_listed (table_of a) (address_of b) ≡ true
-
--- an update that an edge has announced in this incarnation is no news to it
-behind_no_news : (e : Speaker) (u : Fields) → IsBehind e.incarnation e.table u → is_newest e u ≡ false
-behind_no_news e u b = ap (λ o. is_news o u.value) b.there ∙ elim b.order as (λ _. is_newer u.value b.says ≡ false) [
-  | inl equal ↦ ap (λ w. is_newer u.value w) (sym equal) ∙ not_newer_itself u.value
-  | inr less ↦ not_newer_lower u.value b.says (b.present ∙ sym b.alive) less
-]
 
 pub sound_kept : (f : Fabric) → IsSound f → Kept f
 sound_kept f h = record {
-  apart = h.apart;
-  keeps = λ i a at. (good_kept a (h.good i a at)).0;
-  steady = λ i a at. (good_kept a (h.good i a at)).1;
+  sound = h;
   knows = λ i a at u in' mine. elim ((h.told i a at).behind u in' mine) [
     | inl earlier ↦ inl earlier
-    | inr b ↦ inr (behind_no_news a.routes.speaker u b)
+    | inr b ↦ inr (rw b.there (behind_not_newer b))
   ];
-  sources = h.sources;
-  listed = h.listed;
 }
 
 -- ---- the form of a quiet step
+
+-- an edge announces its first pending register
+pub record Telling (old : Fabric) : Type 0 where
+  pub place : ℕ
+  pub edge : Edge
+  pub update : Fields
+  pub rest : List Register
+  pub at : IsEdge old place edge
+  pub pending : edge.routes.speaker.pending ≡ update.register ∷ rest
+  pub there : value_at (table_of edge) update.register ≡ Some update.value
+  pub alive : update.value.incarnation ≡ incarnation_of edge
+  pub own : update.register.originator ≡ address_of edge
+  pub good : IsGoodEdge (after_telling edge rest)
+
+-- an edge takes an update
+pub record Taking (old : Fabric) : Type 0 where
+  pub place : ℕ
+  pub edge : Edge
+  pub update : Fields
+  pub at : IsEdge old place edge
+  pub inside : Contains old.pool update
+  pub ok : Accepts edge.routes.speaker update
+  pub good : IsGoodEdge (after_hearing edge update)
+
+abbrev pub told : {old : Fabric} → Telling old → Fabric
+told {old} t = record old {
+  edges = slice_set old.edges t.place (after_telling t.edge t.rest);
+  pool = old.pool ++ t.update ∷ [];
+}
+
+abbrev pub taken : {old : Fabric} → Taking old → Fabric
+taken {old} t = record old { edges = slice_set old.edges t.place (after_hearing t.edge t.update) }
+
 pub data Move (old : Fabric) : Fabric → Type 0 where
   Stays : Move old old
-  Tells : (i : ℕ) (a : Edge) (r : Register) (rs : List Register) (v : Value) → IsEdge old i a
-      → a.routes.speaker.pending ≡ r ∷ rs → value_at (table_of a) r ≡ Some v
-      → Move old (record old {
-        edges = slice_set old.edges i (record a { routes = quieter a.routes rs });
-        pool = old.pool ++ update_of r v ∷ [];
-      })
-  Takes : (i : ℕ) (a : Edge) (u : Fields) → IsEdge old i a → Contains old.pool u → Accepts a.routes.speaker u
-      → Move old (record old { edges = slice_set old.edges i (record a { routes = heard a.routes u }) })
+  Tells : (t : Telling old) → Move old (told t)
+  Takes : (t : Taking old) → Move old (taken t)
 
-pub same_edges : (f : Fabric) (i : ℕ) (a : Edge) → IsEdge f i a → record f { edges = slice_set f.edges i a } ≡ f
-same_edges f i a at = λ j. record f { edges = set_itself f.edges i a at j }
+pub same_edges : (f : Fabric) (i : ℕ) {a : Edge} → IsEdge f i a → record f { edges = slice_set f.edges i a } ≡ f
+same_edges f i at = λ j. record f { edges = set_itself f.edges i at j }
 
--- the announced update: none if nothing is pending; otherwise the value of the register that has been pending longest
-pub announced_none : (e : Speaker) → e.pending ≡ [] → announced e ≡ None
-announced_none e pend = ap (announced_of e) pend
-
-pub announced_some : (e : Speaker) (r : Register) (rs : List Register) (v : Value) → e.pending ≡ r ∷ rs
-    → value_at e.table r ≡ Some v → announced e ≡ Some (update_of r v)
-announced_some e r rs v pend is = ap (announced_of e) pend ∙ ap (option_map (λ (w : Value). update_of r w)) is
-
-pub quiet_routes : (c : LocalRoutes) (rs : List Register) → drop 1 c.speaker.pending ≡ rs → after_announcement c
-    ≡ quieter c rs
-quiet_routes c rs is = ap (quieter c) is
-
-pub silent_routes : (c : LocalRoutes) → c.speaker.pending ≡ [] → after_announcement c ≡ c
-silent_routes c pend = quiet_routes c [] (ap (drop 1) pend) ∙ ap (quieter c) (sym pend)
-
-moved_announce : (old new : Fabric) (i : ℕ) (a b : Edge) (told : Option Fields) (rs : List Register)
-    → KeepsNumbers a.routes.speaker → IsEdge old i a → a.routes.speaker.pending ≡ rs → told ≡ announced a.routes.speaker
-    → b ≡ record a { routes = after_announcement a.routes }
-    → new ≡ record (with_edge old (suc i) b) { pool = with_announced old.pool told } → Move old new
-moved_announce old new i a b told [] n at pend told_is b_is is = subst (Move old) (sym whole) Stays
+moved_announce : {old : Fabric} (new : Fabric) (i : ℕ) {a : Edge} (reply : Reply) (rs : List Register) → IsSound old
+    → IsEdge old i a → a.routes.speaker.pending ≡ rs → AnnouncesAt old (suc i) a (Ok reply) new → Move old new
+moved_announce {old} new i {a} reply [] sound at none h = rw (
+  h.2,
+  minus i,
+  h.1.1,
+  ap (quieter a.routes) (ap (drop 1) none ∙ sym none),
+  announces_it reply h.1.0 ∙ ap (announced_of a.routes.speaker) none,
+) same
   where
-    none : told ≡ None
-    none = told_is ∙ announced_none a.routes.speaker pend
+    same : Move old (record old { edges = slice_set old.edges i a })
+    same = rw (same_edges old i at) Stays
+moved_announce {old} new i {a} reply (r ∷ rs) sound at pend h =
+    let good = sound.good i a at in
+    let p = good.routes.numbers.pending r (rw pend (0, omega arith, refl)) in
+    let b_is : h.0 ≡ after_telling a rs = h.1.1 ∙ ap (λ l. after_telling a (drop 1 l)) pend in
+    rw (
+      h.2,
+      minus i,
+      b_is,
+      announces_it reply h.1.0
+          ∙ (ap (announced_of a.routes.speaker) pend ∙ ap (option_map (λ (v : Value). update_of r v)) p.1),
+    )
+    (Tells (record {
+      place = i;
+      edge = a;
+      update = update_of r p.0;
+      rest = rs;
+      at = at;
+      pending = pend;
+      there = p.1;
+      alive = p.2;
+      own = p.3;
+      good = rw b_is at (steps_good a events.Announce (Ok reply) h.0 good h.1);
+    }))
 
-    same : b ≡ a
-    same = b_is ∙ (λ j. record a { routes = silent_routes a.routes pend j })
-
-    whole : new ≡ old
-    whole = is ∙ (λ j. record old {
-      edges = slice_set old.edges (minus i j) (same j);
-      pool = with_announced old.pool (none j);
-    }) ∙ same_edges old i a at
-moved_announce old new i a b told (r ∷ rs) n at pend told_is b_is is =
-    go (n.pending r (subst (λ l. Contains l r) (sym pend) (0, omega arith, refl)))
+moved_take : {old : Fabric} (new : Fabric) (i : ℕ) {a : Edge} (u : Fields) {result : Result Reply FabricRefusal}
+    → IsSound old → IsEdge old i a → Contains old.pool u → StepsAt old (suc i) a (events.Take u) result new
+    → Move old new
+moved_take {old} new i {a} u sound at in' s = choose (u.register.originator == address_of a) refl s.answer s.steps
   where
-    same : b ≡ record a { routes = quieter a.routes rs }
-    same = b_is ∙ (λ j. record a { routes = quiet_routes a.routes rs (ap (drop 1) pend) j })
+    stays : s.after ≡ a → Move old new
+    stays same = rw (s.new_is, minus i, same, same_edges old i at) Stays
 
-    go : (v : Value) × (value_at (table_of a) r ≡ Some v) × (v.incarnation ≡ a.routes.speaker.incarnation)
-        × (r.originator ≡ address_of a) → Move old new
-    go (v, there, p, q) = subst (Move old) (sym whole) (Tells i a r rs v at pend there)
-      where
-        some : told ≡ Some (update_of r v)
-        some = told_is ∙ announced_some a.routes.speaker r rs v pend there
-
-        whole : new ≡ record old {
-          edges = slice_set old.edges i (record a { routes = quieter a.routes rs });
-          pool = old.pool ++ update_of r v ∷ [];
-        }
-        whole = is ∙ (λ j. record old {
-          edges = slice_set old.edges (minus i j) (same j);
-          pool = with_announced old.pool (some j);
-        })
-
-moved_take : (old new : Fabric) (i : ℕ) (a b : Edge) (u : Fields) (answer : Result Reply edge.Refusal)
-    → Keeps a.routes a.clock → IsEdge old i a → Contains old.pool u → Steps a (events.Take u) answer b
-    → new ≡ with_edge old (suc i) b → Move old new
-moved_take old new i a b u answer k at in' h is = choose (u.register.originator == address_of a) refl answer h
-  where
-    stays : b ≡ a → Move old new
-    stays same =
-        let whole : new ≡ old = is ∙ (λ j. record old { edges = slice_set old.edges (minus i j) (same j) })
-        ∙ same_edges old i a at in
-        subst (Move old) (sym whole) Stays
-
-    takes : Accepts a.routes.speaker u → b ≡ record a { routes = heard a.routes u } → Move old new
-    takes ok same =
-        let whole : new ≡ record old { edges = slice_set old.edges i (record a { routes = heard a.routes u }) } = is
-        ∙ (λ j. record old { edges = slice_set old.edges (minus i j) (same j) }) in
-        subst (Move old) (sym whole) (Takes i a u at in' ok)
+    takes : Accepts a.routes.speaker u → s.after ≡ after_hearing a u → Move old new
+    takes ok same = rw (s.new_is, minus i, same) (Takes (record {
+      place = i;
+      edge = a;
+      update = u;
+      at = at;
+      inside = in';
+      ok = ok;
+      good = rw same at (steps_good a (events.Take u) s.answer s.after (sound.good i a at) s.steps);
+    }))
 
     choose : (x : Bool) → (u.register.originator == address_of a) ≡ x → (answer : Result Reply edge.Refusal)
-        → TakesBy x a u answer b → Move old new
+        → TakesBy x a u answer s.after → Move old new
     choose true t (Ok reply) h =
         let mine : u.register.originator ≡ address_of a = grind (arith, nat_tests) in
         takes (record {
-          listed = ap (is_listed (table_of a)) mine ∙ k.numbers.known;
+          listed = rw mine (sound.good i a at).routes.numbers.known;
           ahead = λ _. h.0;
           spent = λ _. h.1;
-        })
-        (h.3 ∙ (λ j. record a { routes = cond (t' j) (after_own a.routes u) (after_take a.routes u) }))
-      where
-        t' : true ≡ (u.register.originator == address_of a)
-        t' = sym t
-    choose true t (Err r) h = stays h.1
+        }) (rw (h.3, t))
     choose false t (Ok reply) h =
-        let other : u.register.originator ≡ address_of a → ⊥ = grind (arith, nat_tests) in
+        let other : u.register.originator ≢ address_of a = grind (arith, nat_tests) in
         takes (record { listed = h.0; ahead = λ mine. absurd (other mine); spent = λ mine. absurd (other mine) })
-        (h.2 ∙ (λ j. record a { routes = cond (t' j) (after_own a.routes u) (after_take a.routes u) }))
-      where
-        t' : false ≡ (u.register.originator == address_of a)
-        t' = sym t
+        (rw (h.2, t))
+    choose true t (Err r) h = stays h.1
     choose false t (Err r) h = stays h.1
 
-pub moved : (old new : Fabric) (step : Step) (result : Result Reply FabricRefusal) → Kept old → IsQuiet step
-    → FabricSteps old step result new → Move old new
-moved old new (Local e event) result k quiet h = absurd quiet
-moved old new (Restart e n) result k quiet h = absurd quiet
-moved old new (Announce e) result k quiet h =
-    at_edge (Move old new) old new result (λ e a. AnnouncesAt old e a result new) e h
-    (λ is. subst (Move old) (sym is.1) Stays) (λ i a _ is. announces i a is result)
+pub moved : {old : Fabric} (new : Fabric) (step : Step) (result : Result Reply FabricRefusal) → IsSound old
+    → IsQuiet step → FabricSteps old step result new → Move old new
+moved new (Local e event) result sound quiet h = absurd quiet
+moved new (Restart e n) result sound quiet h = absurd quiet
+moved {old} new (Announce e) result sound quiet h =
+    at_edge (Move old new) old new result (λ e a. AnnouncesAt old e a result new) e h (λ is. rw is.1 Stays)
+    (λ i a _ at. announces i a at result)
   where
     announces : (i : ℕ) (a : Edge) → IsEdge old i a → (result : Result Reply FabricRefusal)
-        → AnnouncesAt old (suc i) a result new
-        → Move old new
-    announces i a is (Ok reply) h = moved_announce old new i a h.0 reply.announced a.routes.speaker.pending
-        (k.keeps i a is).numbers is refl (told h.1.0) h.1.1 h.2
-      where
-        told : {o : Option Fields} → ◌≡◌ {A = Result Reply edge.Refusal} (Ok reply)
-            (Ok (record nothing { announced = o })) → reply.announced ≡ o
-        told e = let same = ap (λ (x : Result Reply edge.Refusal). elim x as (λ _. Option Fields) [
-          | Ok r ↦ r.announced
-          | Err r ↦ None
-        ]) e in same
-    announces i a is (Err why) h = subst (Move old) (sym h.1) Stays
-moved old new (Deliver e n) result k quiet h =
-    at_delivery (Move old new) old new result e n h (λ why is. subst (Move old) (sym is.1) Stays)
-    (λ i a n u _ _ is there s. moved_take old new i a s.after u s.answer (k.keeps i a is) is
-    (contains_at old.pool n u there) s.steps s.new_is)
+        → AnnouncesAt old (suc i) a result new → Move old new
+    announces i a at (Ok reply) h = moved_announce new i reply a.routes.speaker.pending sound at refl h
+    announces i a at (Err why) h = rw h.1 Stays
+moved {old} new (Deliver e n) result sound quiet h =
+    at_delivery (Move old new) old new result e n h (λ why is. rw is.1 Stays)
+    (λ i a n u _ _ at there s. moved_take new i u sound at (contains_at old.pool n there) s)
+
+-- ---- an update that an edge announces is no news to it, and comes back to no edge
+pub told_known : {old : Fabric} (t : Telling old) → is_newest t.edge.routes.speaker t.update ≡ false
+told_known t = rw t.there (not_newer_itself t.update.value)
+
+pub told_away : {old : Fabric} (t : Telling old) → comes_back t.edge.routes.speaker t.update ≡ false
+told_away t = known_stays_away t.edge.routes.speaker t.update (told_known t)
+
+pub told_others : {old : Fabric} → IsSound old → (t : Telling old) (j : ℕ) {b : Edge} → j ≢ t.place → IsEdge old j b
+    → t.update.register.originator ≢ address_of b
+told_others sound t j {b} ne at same = ne (sound.apart j t.place b t.edge at t.at (sym same ∙ t.own))
+
+pub told_elsewhere : {old : Fabric} → IsSound old → (t : Telling old) (j : ℕ) {b : Edge} → j ≢ t.place
+    → IsEdge old j b → comes_back b.routes.speaker t.update ≡ false
+told_elsewhere sound t j {b} ne at = others_stay_away b.routes.speaker t.update (told_others sound t j ne at)
+
+push_returns : (pool : List Fields) (a : Speaker) (u : Fields) → comes_back a u ≡ false
+    → returning (pool ++ u ∷ []) a ≤ returning pool a
+push_returns pool a u none = omega (
+  arith,
+  count_push (may_return (pool ++ u ∷ []) a) pool u (rw none),
+  count_le (may_return pool a)
+      (may_return (pool ++ u ∷ []) a) pool (λ x. front x (comes_back a x)),
+)
+  where
+    off : (x : Bool) → not x ≡ true → x ≡ false
+    off false e = refl
+    off true e = cc
+
+    front : (x : Fields) (b : Bool) → (b && is_latest (pool ++ u ∷ []) x) ≡ true → (b && is_latest pool x) ≡ true
+    front x true is = ap not (any_front (is_over x) pool (u ∷ []) (off (list_any (is_over x) (pool ++ u ∷ [])) is))
+    front x false is = is
 
 -- ---- each edge afterwards is a later state of the one before, and pays for its numbers
 pub record Before (old new : Fabric) (j : ℕ) (b : Edge) : Type 0 where
@@ -214,294 +218,65 @@ pub record Before (old new : Fabric) (j : ℕ) (b : Edge) : Type 0 where
       + unsaid old.pool was.routes
   pub returns : returning new.pool b.routes.speaker ≤ returning old.pool was.routes.speaker
 
--- an update that another edge announced doesn't come back
-pub push_returns : (pool : List Fields) (a : Speaker) (u : Fields) → comes_back a u ≡ false
-    → returning (pool ++ u ∷ []) a ≤ returning pool a
-push_returns pool a u none =
-    let same = count_push (may_return (pool ++ u ∷ []) a) pool u (ap (λ x. x && is_latest (pool ++ u ∷ []) u) none) in
-    let less = count_le (may_return pool a) (may_return (pool ++ u ∷ []) a) pool
-    (λ x is. front x (comes_back a x) is) in
-    omega (arith, same, less)
-  where
-    off : (x : Bool) → not x ≡ true → x ≡ false
-    off false e = refl
-    off true e = cc
+taken_pays : {old : Fabric} → IsSound old → (t : Taking old)
+    → Pays old.pool t.edge.routes (heard t.edge.routes t.update)
+taken_pays {old} sound t = heard_pays old.pool ((sound_kept old sound).knows t.place t.edge t.at) t.inside
+    (sound.good t.place t.edge t.at).routes t.ok
 
-    front : (x : Fields) (b : Bool) → (b && is_latest (pool ++ u ∷ []) x) ≡ true → (b && is_latest pool x) ≡ true
-    front x true is = ap not (any_front (is_over x) pool (u ∷ []) (off (list_any (is_over x) (pool ++ u ∷ [])) is))
-    front x false is = is
-
--- an update that an edge announces is no news to it, and so doesn't come back
-pub announced_known : (e : Speaker) (r : Register) (v : Value) → value_at e.table r ≡ Some v
-    → is_newest e (update_of r v) ≡ false
-announced_known e r v is = ap (λ o. is_news o v) is ∙ not_newer_itself v
-
-pub announced_away : (e : Speaker) (r : Register) (v : Value) → value_at e.table r ≡ Some v
-    → comes_back e (update_of r v) ≡ false
-announced_away e r v is = known_stays_away e (update_of r v) (announced_known e r v is)
-
-pub quieter_later : (c : LocalRoutes) (rs : List Register) → IsLater c.speaker (quieter c rs).speaker
-quieter_later c rs = record {
-  address = refl;
-  incarnation = refl;
-  originators = refl;
-  news = λ r w h. h;
-  fades = λ k. inl refl;
-}
-
--- a pending register is an own one
-pub own_pending : (e : Speaker) (r : Register) (rs : List Register) → KeepsNumbers e → e.pending ≡ r ∷ rs
-    → r.originator ≡ e.address
-own_pending e r rs n pend = (n.pending r (subst (λ l. Contains l r) (sym pend) (0, omega arith, refl))).3
-
-pub before : (old new : Fabric) → Move old new → Kept old → (j : ℕ) (b : Edge) → IsEdge new j b → Before old new j b
-before old _ Stays h j b at = record {
+-- an edge that stays
+pub stays_before : (old new : Fabric) (j : ℕ) {b : Edge} → IsEdge old j b
+    → returning new.pool b.routes.speaker ≤ returning old.pool b.routes.speaker → Before old new j b
+stays_before old new j {b} at less = record {
   was = b;
   at = at;
-  later = later_itself b.routes.speaker;
+  later = later_quiet b.routes.speaker b.routes.speaker.pending;
   numbers = omega arith;
-  returns = omega arith;
+  returns = less;
 }
-before old _ (Tells i a r rs v at pend is) h j b at_b =
-    elim (set_cases old.edges i after j b at_b) [
-      | inl p ↦ subst (Before old next j) (sym p.1) (record {
-        was = a;
-        at = subst (λ n. IsEdge old n a) (sym p.0) at;
-        later = quieter_later a.routes rs;
-        numbers = omega (arith, mine);
-        returns = omega (arith, mine);
-      })
-      | inr p ↦
-          let none = push_returns old.pool b.routes.speaker u
-          (others_stay_away b.routes.speaker u (λ same. p.0
-          (h.apart j i b a p.1 at (sym same ∙ own_pending a.routes.speaker r rs (h.keeps i a at).numbers pend)))) in
-          record {
-            was = b;
-            at = p.1;
-            later = later_itself b.routes.speaker;
-            numbers = omega (arith, none);
-            returns = omega (arith, none);
-          }
-    ]
-  where
-    u : Fields
-    u = update_of r v
 
-    after : Edge
-    after = record a { routes = quieter a.routes rs }
-
-    next : Fabric
-    next = record old { edges = slice_set old.edges i after; pool = old.pool ++ u ∷ [] }
-
-    mine : returning (old.pool ++ u ∷ []) (quieter a.routes rs).speaker ≤ returning old.pool a.routes.speaker
-    mine = push_returns old.pool (quieter a.routes rs).speaker u (announced_away (quieter a.routes rs).speaker r v is)
-before old _ (Takes i a u at in' ok) h j b at_b = elim (set_cases old.edges i after j b at_b) [
-  | inl p ↦
-      let pays = heard_pays old.pool a.routes u (h.knows i a at) in' (h.keeps i a at).routes
-      (h.keeps i a at).numbers
-      ok in
-      subst (Before old next j) (sym p.1) (record {
-        was = a;
-        at = subst (λ n. IsEdge old n a) (sym p.0) at;
-        later = heard_later a.routes u (h.keeps i a at).numbers ok;
-        numbers = pays.numbers;
-        returns = pays.returns;
-      })
-  | inr p ↦ record {
-    was = b;
-    at = p.1;
-    later = later_itself b.routes.speaker;
+pub before : {old new : Fabric} → Move old new → IsSound old → (j : ℕ) {b : Edge} → IsEdge new j b → Before old new j b
+before {old} Stays sound j at = stays_before old old j at (omega arith)
+before {old} (Tells t) sound j {b} at_b = elim (set_cases old.edges t.place (after_telling t.edge t.rest) j b at_b) [
+  | inl p ↦ let less = push_returns old.pool t.edge.routes.speaker t.update (told_away t) in rw p.1 (record {
+    was = t.edge;
+    at = rw p.0 t.at;
+    later = later_quiet t.edge.routes.speaker t.rest;
     numbers = omega arith;
     returns = omega arith;
-  }
+  })
+  | inr p ↦ stays_before old (told t) j p.1
+      (push_returns old.pool b.routes.speaker t.update (told_elsewhere sound t j p.0 p.1))
 ]
-  where
-    after : Edge
-    after = record a { routes = heard a.routes u }
-
-    next : Fabric
-    next = record old { edges = slice_set old.edges i after }
+before {old} (Takes t) sound j {b} at_b = elim (set_cases old.edges t.place (after_hearing t.edge t.update) j b at_b) [
+  | inl p ↦ let pays = taken_pays sound t in rw p.1 (record {
+    was = t.edge;
+    at = rw p.0 t.at;
+    later = heard_later t.edge.routes (sound.good t.place t.edge t.at).routes.numbers t.ok;
+    numbers = pays.numbers;
+    returns = pays.returns;
+  })
+  | inr p ↦ stays_before old (taken t) j p.1 (omega arith)
+]
 
 -- ---- the bound never grows
-pub told_fewer : (old : Fabric) (i : ℕ) (a : Edge) (r : Register) (rs : List Register) (v : Value) → Kept old
-    → IsEdge old i a → a.routes.speaker.pending ≡ r ∷ rs → value_at (table_of a) r ≡ Some v
-    → to_come (record old {
-      edges = slice_set old.edges i (record a { routes = quieter a.routes rs });
-      pool = old.pool ++ update_of r v ∷ [];
-    }) + 1 ≤ to_come old
-told_fewer old i a r rs v h at pend is =
-    let none = push_returns old.pool (quieter a.routes rs).speaker u
-    (announced_away (quieter a.routes rs).speaker r v is) in
-    let shorter : length a.routes.speaker.pending ≡ suc (length rs) = ap length pend in
-    let here : unannounced (old.pool ++ u ∷ []) (quieter a.routes rs) + 1 ≤ unannounced old.pool a.routes =
-    omega (arith, none, shorter) in
-    sum_set (λ (x : Edge). unannounced old.pool x.routes) (λ (x : Edge). unannounced (old.pool ++ u ∷ []) x.routes) 1
-    old.edges i a (record a { routes = quieter a.routes rs }) at here (λ j x ne at_x.
-    let stays = push_returns old.pool x.routes.speaker u (others_stay_away x.routes.speaker u
-    (λ same. ne (h.apart j i x a at_x at (sym same ∙ own_pending a.routes.speaker r rs (h.keeps i a at).numbers
-    pend)))) in omega (arith, stays))
-  where
-    u : Fields
-    u = update_of r v
+pub told_fewer : {old : Fabric} → IsSound old → (t : Telling old) → to_come (told t) + 1 ≤ to_come old
+told_fewer {old} sound t =
+    sum_set (λ (x : Edge). unannounced old.pool x.routes) (λ (x : Edge). unannounced (told t).pool x.routes) 1 old.edges
+    t.place t.edge (after_telling t.edge t.rest) t.at
+    (omega (arith, push_returns old.pool t.edge.routes.speaker t.update (told_away t), ap length t.pending))
+    (λ j x ne at. omega (arith, push_returns old.pool x.routes.speaker t.update (told_elsewhere sound t j ne at)))
 
-pub taken_fewer : (old : Fabric) (i : ℕ) (a : Edge) (u : Fields) → Kept old → IsEdge old i a → Contains old.pool u
-    → Accepts a.routes.speaker u → to_come (record old {
-      edges =
-          slice_set old.edges i (record a { routes = heard a.routes u });
-    }) ≤ to_come old
-taken_fewer old i a u h at in' ok =
-    let pays = heard_pays old.pool a.routes u (h.knows i a at) in' (h.keeps i a at).routes (h.keeps i a at).numbers
-    ok in
-    let here : unannounced old.pool (heard a.routes u) + 0 ≤ unannounced old.pool a.routes =
-    (let less = pays.announcements in omega (arith, less)) in
-    let sums = sum_set (λ (x : Edge). unannounced old.pool x.routes) (λ (x : Edge). unannounced old.pool x.routes) 0
-    old.edges i a (record a { routes = heard a.routes u }) at here (λ j x ne at_x. omega arith) in
-    omega (arith, sums)
+pub taken_fewer : {old : Fabric} → IsSound old → (t : Taking old) → to_come (taken t) ≤ to_come old
+taken_fewer {old} sound t =
+    let pays = taken_pays sound t in
+    omega (
+      arith,
+      sum_set (λ (x : Edge). unannounced old.pool x.routes) (λ (x : Edge). unannounced old.pool x.routes) 0
+          old.edges t.place t.edge (after_hearing t.edge t.update) t.at (omega (arith, pays.announcements))
+          (λ j x ne at. omega arith),
+    )
 
-pub move_full : (old new : Fabric) → Move old new → Kept old → full_pool new ≤ full_pool old
-move_full old _ Stays h = omega arith
-move_full old _ (Tells i a r rs v at pend is) h =
-    let fewer = told_fewer old i a r rs v h at pend is in
-    let longer = push_length old.pool (update_of r v) in
-    omega (arith, fewer, longer)
-move_full old _ (Takes i a u at in' ok) h = let fewer = taken_fewer old i a u h at in' ok in omega (arith, fewer)
-
--- ---- each step keeps the invariant
-pub forward : (old new : Fabric) → Move old new → (j : ℕ) (a : Edge) → IsEdge old j a → (b : Edge) × IsEdge new j b
-forward old _ Stays j a at = (a, at)
-forward old _ (Tells i c r rs v at_c pend is) j a at = set_kept old.edges i (record c { routes = quieter c.routes rs })
-    j a at
-forward old _ (Takes i c u at_c in' ok) j a at = set_kept old.edges i (record c { routes = heard c.routes u }) j a at
-
-move_keeps : (old new : Fabric) → Move old new → Kept old → (j : ℕ) (b : Edge) → IsEdge new j b → Keeps b.routes b.clock
-move_keeps old _ Stays h j b at = h.keeps j b at
-move_keeps old _ (Tells i a r rs v at pend is) h j b at_b =
-    elim (set_cases old.edges i (record a { routes = quieter a.routes rs }) j b at_b) [
-      | inl p ↦ subst (λ (x : Edge). Keeps x.routes x.clock) (sym p.1)
-          (quieter_keeps a.routes r rs a.clock pend (h.keeps i a at))
-      | inr p ↦ h.keeps j b p.1
-    ]
-move_keeps old _ (Takes i a u at in' ok) h j b at_b = elim (set_cases old.edges i
-    (record a { routes = heard a.routes u }) j b at_b) [
-      | inl p ↦ subst (λ (x : Edge). Keeps x.routes x.clock) (sym p.1)
-          (heard_keeps a.routes u a.clock ok (h.keeps i a at))
-      | inr p ↦ h.keeps j b p.1
-    ]
-
--- a new update of the pool is of the edge that announced it, and known to it
-move_pool : (old new : Fabric) → Move old new → Kept old → (w : Fields) → Contains new.pool w
-    → Contains old.pool w ⊎ ((i : ℕ) × (a : Edge) × IsEdge old i a × (w.register.originator ≡ address_of a)
-    × (is_newest a.routes.speaker w ≡ false))
-move_pool old _ Stays h w in' = inl in'
-move_pool old _ (Tells i a r rs v at pend is) h w in' =
-    elim (Contains-push_cases old.pool (update_of r v) w in') [
-      | inl earlier ↦ inl earlier
-      | inr now ↦ inr (
-        i,
-        a,
-        at,
-        ap (λ (x : Fields). x.register.originator) (sym now)
-            ∙ own_pending a.routes.speaker r rs (h.keeps i a at).numbers pend,
-        ap (λ (x : Fields). is_newest a.routes.speaker x) (sym now) ∙ announced_known a.routes.speaker r v is,
-      )
-    ]
-move_pool old _ (Takes i a u at in' ok) h w in'' = inl in''
-
-move_steady : (old new : Fabric) → Move old new → Kept old → (j : ℕ) (b : Edge) → IsEdge new j b → IsSteady b
-move_steady old _ Stays h j b at = h.steady j b at
-move_steady old _ (Tells i a r rs v at pend is) h j b at_b =
-    elim (set_cases old.edges i (record a { routes = quieter a.routes rs }) j b at_b) [
-      | inl p ↦ subst IsSteady (sym p.1) (record { ports = (h.steady i a at).ports; early = (h.steady i a at).early })
-      | inr p ↦ h.steady j b p.1
-    ]
-move_steady old _ (Takes i a u at in' ok) h j b at_b = elim (set_cases old.edges i
-    (record a { routes = heard a.routes u }) j b at_b) [
-      | inl p ↦ subst IsSteady (sym p.1) (heard_steady a u (h.steady i a at))
-      | inr p ↦ h.steady j b p.1
-    ]
-
-pub move_kept : (old new : Fabric) → Move old new → Kept old → Kept new
-move_kept old new move h = record {
-  apart = λ i j a b at_a at_b same. let x = was i a at_a in let y = was j b at_b in
-      h.apart i j x.was y.was x.at y.at (sym x.later.address ∙ same ∙ y.later.address);
-  keeps = move_keeps old new move h;
-  steady = move_steady old new move h;
-  knows = λ j b at_b u in' mine.
-      let x = was j b at_b in
-      elim (move_pool old new move h u in') [
-        | inl earlier ↦ elim (h.knows j x.was x.at u earlier (mine ∙ x.later.address)) [
-          | inl past ↦ inl (let life = x.later.incarnation in omega (arith, past, life))
-          | inr none ↦ inr (x.later.news u.register u.value none)
-        ]
-        | inr s ↦
-            let place : j ≡ s.0 = h.apart j s.0 x.was s.1 x.at s.2 (sym x.later.address ∙ sym mine ∙ s.3) in
-            let same : Some x.was ≡ Some s.1 = sym x.at
-            ∙ subst (λ n. slice_get old.edges n ≡ Some s.1) (sym place) s.2 in
-            let is : s.1 ≡ x.was = cc in
-            inr (x.later.news u.register u.value (subst (λ (e : Edge). is_newest e.routes.speaker u ≡ false) is s.4))
-      ];
-  sources = λ u in'. elim (move_pool old new move h u in') [
-    | inl earlier ↦ let s = h.sources u earlier in source s.0 s.1 s.2 u s.3
-    | inr s ↦ source s.0 s.1 s.2 u (sym s.3)
-  ];
-  listed = λ i j a b at_a at_b.
-      let x = was i a at_a in
-      let y = was j b at_b in
-      ap (λ os. list_any (λ o. eqb o (address_of b)) os) x.later.originators
-      ∙ ap (is_listed (table_of x.was)) y.later.address ∙ h.listed i j x.was y.was x.at y.at;
-}
-  where
-    was : (j : ℕ) (b : Edge) → IsEdge new j b → Before old new j b
-    was j b at = before old new move h j b at
-
-    source : (i : ℕ) (a : Edge) → IsEdge old i a → (u : Fields) → address_of a ≡ u.register.originator
-        → (i : ℕ) × (a : Edge) × IsEdge new i a × (address_of a ≡ u.register.originator)
-    source i a at u is =
-        let b = forward old new move i a at in
-        let x = was i b.0 b.1 in
-        let same : Some x.was ≡ Some a = sym x.at ∙ at in
-        let is_a : x.was ≡ a = cc in
-        (i, b.0, b.1, x.later.address ∙ ap (λ (e : Edge). address_of e) is_a ∙ is)
-
--- ---- runs
-pub rests_kept : (steps : List Step) (old new : Fabric) → Rests old steps new → Kept old → Kept new
-rests_kept [] old new h k = subst Kept (sym h) k
-rests_kept (step ∷ steps) old new h k = rests_kept steps h.0 new h.5
-    (move_kept old h.0 (moved old h.0 step h.1 k h.2 h.4) k)
-
-pub rests_full : (steps : List Step) (old new : Fabric) → Kept old → Rests old steps new → full_pool new ≤ full_pool old
-rests_full [] old new k h = let same = ap full_pool h in omega (arith, same)
-rests_full (step ∷ steps) old new k h =
-    let move = moved old h.0 step h.1 k h.2 h.4 in
-    let one = move_full old h.0 move k in
-    let more = rests_full steps h.0 new (move_kept old h.0 move k) h.5 in
-    omega (arith, one, more)
-
-pub rests_pool_length : (steps : List Step) (old new : Fabric) → Kept old → Rests old steps new
-    → length new.pool ≤ full_pool old
-rests_pool_length steps old new k h = let less = rests_full steps old new k h in omega (arith, less)
-
-before_trans : (old mid new : Fabric) (j : ℕ) (c : Edge) (g : Before mid new j c) → Before old mid j g.was
-    → Before old new j c
-before_trans old mid new j c g h = record {
-  was = h.was;
-  at = h.at;
-  later = later_trans h.was.routes.speaker g.was.routes.speaker c.routes.speaker h.later g.later;
-  numbers = (let a = g.numbers in let b = h.numbers in omega (arith, a, b));
-  returns = (let a = g.returns in let b = h.returns in omega (arith, a, b));
-}
-
-pub rests_before : (steps : List Step) (old new : Fabric) → Kept old → Rests old steps new → (j : ℕ) (b : Edge)
-    → IsEdge new j b → Before old new j b
-rests_before [] old new k h j b at = subst (λ f. Before old f j b) (sym h)
-    (record {
-      was = b;
-      at = subst (λ f. IsEdge f j b) h at;
-      later = later_itself b.routes.speaker;
-      numbers = omega arith;
-      returns = omega arith;
-    })
-rests_before (step ∷ steps) old new k h j b at =
-    let move = moved old h.0 step h.1 k h.2 h.4 in
-    let later = rests_before steps h.0 new (move_kept old h.0 move k) h.5 j b at in
-    before_trans old h.0 new j b later (before old h.0 move k j later.was later.at)
+pub move_full : {old new : Fabric} → Move old new → IsSound old → full_pool new ≤ full_pool old
+move_full Stays sound = omega arith
+move_full {old} (Tells t) sound = omega (arith, told_fewer sound t, push_length old.pool t.update)
+move_full (Takes t) sound = omega (arith, taken_fewer sound t)

@@ -1,12 +1,11 @@
 -- Among the adverts of one register a list has a newest one.
 use Rattle.std.proofs.Common.{◌≡◌, ◌⊎◌, inl, inr, zero, suc, Bool, true, false, Option, Some, None, List, [], ◌∷◌, ◌++◌}
-use Rattle.std.proofs.Common.{refl, sym, ap, subst, ◌∙◌, arith}
-use Rattle.std.proofs.lemmas.Bool.{or_parts}
+use Rattle.std.proofs.Common.{refl, sym, ap, ◌∙◌, arith}
+use Rattle.std.proofs.lemmas.Bool.{cases_Bool, or_parts, false_from_ne_true}
 use Rattle.std.proofs.lemmas.List.Folds.{list_any-append}
 use Rattle.std.specs.Prelude.{Contains, is_some, not, ◌&&◌, ◌||◌}
 use Rattle.std.specs.List.{list_any}
 use Rattle.std.specs.Ordering.{eq_by_cmp, is_lt, ordering_reverse}
-use Rattle.route_wire.specs.declared.update.Register.{Register}
 use Rattle.route_wire.specs.declared.update.Value.{Value}
 use Rattle.route_wire.specs.Fields.{Fields}
 use Rattle.route_wire.specs.Order.{register_cmp, is_newer}
@@ -14,15 +13,16 @@ use Rattle.route_wire.specs.Inner.Totals.{value_total}
 use Rattle.route_join.specs.Table.{is_news}
 use Rattle.route_join.specs.Owner.{advert_in}
 use Rattle.ev_fabric.specs.ConvergenceEdge.{is_over, is_latest}
+use Rattle.ev_fabric.proofs.ConvergingSums.{later_one}
 use Rattle.route_join.proofs.Orders.{less}
 use Rattle.route_join.proofs.Tables.{same_register, not_newer_itself}
 use Rattle.route_join.proofs.Joins.{newer_trans, not_newer_trans}
 
-pub any_none : {X : Type 0} (p : X → Bool) (xs : List X) → ((x : X) → Contains xs x → p x ≡ false)
+any_none : {X : Type 0} (p : X → Bool) (xs : List X) → ((x : X) → Contains xs x → p x ≡ false)
     → list_any p xs ≡ false
 any_none p [] h = refl
 any_none p (x ∷ xs) h = both (p x) (list_any p xs) (h x (0, omega arith, refl))
-    (any_none p xs (λ y in'. h y (suc in'.0, (let lt = in'.1 in omega (arith, lt)), in'.2)))
+    (any_none p xs (λ y in'. h y (suc in'.0, (omega (arith, in'.1)), in'.2)))
   where
     both : (a b : Bool) → a ≡ false → b ≡ false → (a || b) ≡ false
     both false false p q = refl
@@ -64,79 +64,68 @@ newest [] u some = record {
   register = refl;
   advert = some;
   order = inl refl;
-  above = λ x in'. absurd (let lt = in'.1 in omega (arith, lt));
+  above = λ x in'. absurd (omega (arith, in'.1));
 }
-newest (x ∷ us) u some = go (is_over u x) refl (λ w is. newest us w is)
+newest (x ∷ us) u some = elim (cases_Bool (is_over u x)) [
+  | inl e ↦
+      let t = three (eq_by_cmp register_cmp x.register u.register) (is_some (advert_in x.value.content))
+      (is_newer x.value u.value) e in
+      let n = newest us x t.1 in
+      more n (same_register x.register u.register t.0) (inr t.2) (inl (0, omega arith, refl))
+      (λ r a. elim n.order [
+        | inl same ↦ rw same (not_newer_itself x.value)
+        | inr above ↦ turned n.update.value x.value above
+      ])
+  | inr e ↦
+      let n = newest us u some in
+      more n refl (inl refl) (inr refl) (λ r a.
+      let low = false_from_ne_true (is_newer x.value u.value)
+      (λ p. let q : eq_by_cmp register_cmp x.register u.register ≡ true = rw n.register at r in
+      let over : is_over u x ≡ true = rw (q, a, p) refl in cc) in
+      elim n.order [
+        | inl same ↦ rw same low
+        | inr above ↦ not_newer_trans n.update.value u.value x.value (turned n.update.value u.value above) low
+      ])
+]
   where
-    later : (y : Fields) → Contains us y → Contains (x ∷ us) y
-    later y (i, lt, is) = (suc i, omega (arith, lt), is)
+    -- of two values one is newer
+    turned : (v w : Value) → is_newer v w ≡ true → is_newer w v ≡ false
+    turned v w above = ap is_lt (value_total.antisymm v w ∙ ap ordering_reverse (less _ above))
 
-    either : (y w : Fields) → Contains (x ∷ us) y → (is_over w x ≡ false)
-        → ((z : Fields) → Contains us z → is_over w z ≡ false) → is_over w y ≡ false
-    either y w (zero, lt, is) here rest = subst (λ z. is_over w z ≡ false) is here
-    either y w (suc i, lt, is) here rest = rest y (i, omega (arith, lt), is)
-
-    go : (b : Bool) → is_over u x ≡ b → ((w : Fields) → is_some (advert_in w.value.content) ≡ true → Newest us w)
-        → Newest (x ∷ us) u
-    go true e rest =
-        let t = three (eq_by_cmp register_cmp x.register u.register) (is_some (advert_in x.value.content))
-        (is_newer x.value u.value) e in
-        let n = rest x t.1 in
-        record {
-          update = n.update;
-          from = elim n.from [
-            | inl in' ↦ inl (later n.update in')
-            | inr same ↦ inl (0, omega arith, sym same)
-          ];
-          register = n.register ∙ same_register x.register u.register t.0;
-          advert = n.advert;
-          order = inr (elim n.order [
-            | inl same ↦
-                ap (λ (w : Fields). is_newer w.value u.value) same ∙ t.2
-            | inr more ↦ newer_trans u.value x.value n.update.value t.2 more
-          ]);
-          above = λ y in'. either y n.update in' (not_over n.update x
-              (λ r a. elim n.order [
-                | inl same ↦ ap (λ (w : Fields). is_newer x.value w.value) same ∙ not_newer_itself x.value
-                | inr more ↦ ap is_lt (value_total.antisymm n.update.value x.value ∙ ap ordering_reverse (less _ more))
-              ])) n.above;
-        }
-    go false e rest =
-        let n = rest u some in
-        record {
-          update = n.update;
-          from = elim n.from [
-            | inl in' ↦ inl (later n.update in')
-            | inr same ↦ inr same
-          ];
-          register = n.register;
-          advert = n.advert;
-          order = n.order;
-          above = λ y in'. either y n.update in' (not_over n.update x
-              (λ r a. elim n.order [
-                | inl same ↦ ap (λ (w : Fields). is_newer x.value w.value) same
-                    ∙ low (subst (λ (q : Register). eq_by_cmp register_cmp x.register q ≡ true) n.register r) a
-                    (is_newer x.value u.value) refl
-                | inr more ↦ not_newer_trans n.update.value u.value x.value
-                    (ap is_lt (value_total.antisymm n.update.value u.value ∙ ap ordering_reverse (less _ more)))
-                    (low (subst (λ (q : Register). eq_by_cmp register_cmp x.register q ≡ true) n.register r) a
-                    (is_newer x.value u.value) refl)
-              ])) n.above;
-        }
+    -- from the newest of the rest, over the element or not
+    more : {w : Fields} (n : Newest us w) → w.register ≡ u.register → (w ≡ u) ⊎ (is_newer w.value u.value ≡ true)
+        → Contains (x ∷ us) w ⊎ (w ≡ u) → (eq_by_cmp register_cmp x.register n.update.register ≡ true
+        → is_some (advert_in x.value.content) ≡ true → is_newer x.value n.update.value ≡ false) → Newest (x ∷ us) u
+    more {w} n same order inside off = record {
+      update = n.update;
+      from = elim n.from [
+        | inl in' ↦ inl (later_one x us n.update in')
+        | inr is ↦ rw is inside
+      ];
+      register = n.register ∙ same;
+      advert = n.advert;
+      order = elim n.order [
+        | inl is ↦ rw is order
+        | inr above ↦ inr (elim order [
+          | inl is ↦ rw is at above
+          | inr newer ↦ newer_trans u.value w.value n.update.value newer above
+        ])
+      ];
+      above = above;
+    }
       where
-        low : eq_by_cmp register_cmp x.register u.register ≡ true → is_some (advert_in x.value.content) ≡ true
-            → (c : Bool) → is_newer x.value u.value ≡ c → is_newer x.value u.value ≡ false
-        low r a false p = p
-        low r a true p = let over : is_over u x ≡ true = rw (r, a, p) refl in cc
+        above : (y : Fields) → Contains (x ∷ us) y → is_over n.update y ≡ false
+        above y (zero, lt, is) = rw is at (not_over n.update x off)
+        above y (suc i, lt, is) = n.above y (i, omega arith, is)
 
-pub newest_is : (us : List Fields) (u : Fields) (n : Newest us u) → is_latest us n.update ≡ true
-newest_is us u n = ap not (any_none (is_over n.update) us n.above)
+pub newest_is : {us : List Fields} {u : Fields} (n : Newest us u) → is_latest us n.update ≡ true
+newest_is {us} n = ap not (any_none (is_over n.update) us n.above)
 
 pub news_up : (o : Option Value) (u w : Fields) → is_news o u.value ≡ true → (w ≡ u) ⊎ (is_newer w.value u.value ≡ true)
     → is_news o w.value ≡ true
 news_up None u w h order = refl
 news_up (Some v) u w h order = elim order [
   | inl same ↦
-      ap (λ (x : Fields). is_newer x.value v) same ∙ h
+      rw same h
   | inr more ↦ newer_trans v u.value w.value h more
 ]

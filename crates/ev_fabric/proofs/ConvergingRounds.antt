@@ -1,109 +1,156 @@
 -- Two rounds make an undisturbed fabric agree.
-use Rattle.std.proofs.Common.{◌≡◌, ◌⊎◌, inl, inr, ℕ, zero, suc, ◌<◌, ◌≤◌, ◌^◌, Bool, true, false, cond, nat_le, Option}
-use Rattle.std.proofs.Common.{Some, None, Result, Ok, Err, List, [], ◌∷◌, ◌++◌, length, refl, sym, ap, subst, ◌∙◌}
-use Rattle.std.proofs.Common.{arith}
+use Rattle.std.proofs.lemmas.List.Sums.{count_by-le-length, sum_by_push}
+use Rattle.ev_edge.specs.declared.config.EdgeConfig.{EdgeConfig}
+use Rattle.ev_fabric.specs.Opening.{AreConfigs, IsStart}
+use Rattle.ev_fabric.proofs.Opened.{start_sound}
+use Rattle.std.proofs.Common.{◌≡◌, ◌≢◌, ◌⊎◌, inl, inr, ℕ, zero, suc, ◌+◌, ◌<◌, ◌≤◌, ◌^◌, true, false, nat_le, Option}
+use Rattle.std.proofs.Common.{Some, length-drop, None, Result, Ok, Err, List, [], ◌∷◌, ◌++◌, length, refl, sym, ap, ◌∙◌}
+use Rattle.std.proofs.Common.{arith, Bool, cond, subst}
 use Rattle.std.proofs.lemmas.Bool.Decides.{nat_tests}
-use Rattle.std.proofs.lemmas.Bool.{cases_eq}
-use Rattle.std.proofs.lemmas.List.Elements.{Contains-append_cases, Contains-push_cases}
+use Rattle.std.proofs.lemmas.Bool.{cases_Bool, cases_eq}
+use Rattle.std.proofs.lemmas.List.Elements.{Contains-push_cases, All-nil, All-cons, All-head, All-tail, All-append}
 use Rattle.std.proofs.lemmas.Option.{slice_get_within}
-use Rattle.std.specs.Prelude.{◌&&◌, ◌==◌, Contains, slice_get, slice_set, drop}
-use Rattle.std.specs.Option.{MatchOption}
-use Rattle.route_wire.specs.declared.update.Register.{Register}
+use Rattle.std.specs.Prelude.{◌==◌, Contains, slice_get}
+use Rattle.std.specs.List.{All}
 use Rattle.route_wire.specs.declared.update.Value.{Value}
 use Rattle.route_wire.specs.Fields.{Fields}
 use Rattle.route_wire.specs.Order.{is_newer}
-use Rattle.route_join.specs.Table.{value_at, is_listed, is_news}
+use Rattle.route_join.specs.Table.{value_at, is_news}
 use Rattle.route_join.specs.Owner.{advert_in, advert_of}
 use Rattle.route_join.specs.Taken.{taken_of}
-use Rattle.ev_claims.specs.Speaker.{announced, is_newest, is_ahead, is_returning, is_spent}
-use Rattle.ev_claims.specs.LocalRoutes.{LocalRoutes, after_own, after_take, after_announcement, loses_pinned}
-use Rattle.ev_edge.specs.declared.event.Event.TheVariants as events
+use Rattle.ev_claims.specs.Speaker.{announced, is_newest, is_returning, Speaker}
+use Rattle.ev_claims.specs.LocalRoutes.{capacity, after_own, after_take, after_announcement, loses_pinned}
 use Rattle.ev_edge.specs.declared.reply.Reply.{Reply}
-use Rattle.ev_edge.specs.declared.refusal.Refusal as edge
 use Rattle.ev_edge.specs.declared.refusal.Refusal.TheVariants.{Edge as OfEdge}
 use Rattle.ev_edge.specs.declared.refusal.EdgeRefusal.TheVariants.{NoMemory as EdgeNoMemory}
 use Rattle.ev_edge.specs.Edge.{Edge, table_of, address_of}
-use Rattle.ev_edge.specs.Steps.{Steps, Takes as TakesBy, nothing, lost_alert}
+use Rattle.ev_edge.specs.Steps.{Steps, nothing, lost_alert}
 use Rattle.ev_fabric.specs.declared.refusal.FabricRefusal.{FabricRefusal}
 use Rattle.ev_fabric.specs.declared.refusal.FabricRefusal.TheVariants.{NoSuchEdge, NoSuchUpdate, Edge as OfAnEdge}
 use Rattle.ev_fabric.specs.declared.step.Step.{Step}
 use Rattle.ev_fabric.specs.declared.step.Step.TheVariants.{Local, Announce, Deliver, Restart}
-use Rattle.ev_fabric.specs.Fabric.{Fabric, nth, IsEdge}
-use Rattle.ev_fabric.specs.Steps.{with_edge, with_announced, of_edge, IsRefused, StepsAt, AnnouncesAt, FabricSteps}
-use Rattle.ev_fabric.specs.Sound.{update_of}
+use Rattle.ev_fabric.specs.Fabric.{Fabric, IsEdge}
+use Rattle.ev_fabric.specs.Steps.{with_edge, with_announced, of_edge, StepsAt, AnnouncesAt, FabricSteps}
+use Rattle.ev_fabric.specs.Sound.{IsSound}
 use Rattle.ev_fabric.specs.Agreed.{AllAgree}
-use Rattle.ev_fabric.specs.ConvergenceEdge.{comes_back, unannounced}
-use Rattle.ev_fabric.specs.Convergence.{IsQuiet, IsGranted, Rests, AllQuiet, full_pool, HasNumbers, announcing, taking}
-use Rattle.ev_fabric.specs.Convergence.{each}
-use Rattle.ev_fabric.specs.Convergence.{round, two_rounds, WasGiven, AllGiven, AllSilent}
+use Rattle.ev_fabric.specs.ConvergenceEdge.{comes_back, returning, unannounced, missing}
+use Rattle.ev_fabric.specs.Convergence.{IsQuiet, IsGranted, Rests, full_pool, HasNumbers, announcing, taking, each}
+use Rattle.ev_fabric.specs.Convergence.{round, two_rounds, WasGiven, AllGiven, AllSilent, to_come, work, Works}
 use Rattle.ev_fabric.proofs.Agreements.{none_pending}
-use Rattle.ev_fabric.proofs.Places.{minus, set_cases, set_same, contains_at}
-use Rattle.ev_fabric.proofs.Cases.{at_edge, at_delivery, at_given}
-use Rattle.ev_fabric.proofs.ConvergingSums.{sum_has, count_some, place_of, later_one}
-use Rattle.ev_fabric.proofs.ConvergingEdge.{Accepts, heard, heard_has, may_return, counted}
-use Rattle.ev_fabric.proofs.ConvergingIdle.{idle_hearing, Mourns, heard_mourns}
-use Rattle.ev_fabric.proofs.ConvergingGood.{quieter}
-use Rattle.ev_fabric.proofs.ConvergingMoves.{Kept, Move, Stays, Tells, Takes, moved, before, move_kept}
-use Rattle.ev_fabric.proofs.ConvergingMoves.{rests_kept}
-use Rattle.ev_fabric.proofs.ConvergingMoves.{rests_full, rests_before}
+use Rattle.ev_fabric.proofs.Places.{minus, set_cases, each_set, contains_at}
+use Rattle.ev_fabric.proofs.Calls.{answered as ok_answer}
+use Rattle.ev_fabric.proofs.Cases.{nth_cases, at_edge, at_delivery, at_given}
+use Rattle.ev_fabric.proofs.ConvergingSums.{sum_has, count_some, place_of, later_one, sum_set, count_less}
+use Rattle.ev_fabric.proofs.ConvergingEdge.{Accepts, heard, heard_has, may_return, counted, later_trans, after_hearing}
+use Rattle.ev_fabric.proofs.ConvergingEdge.{KnowsOwn, after_telling, heard_later, news_before}
+use Rattle.ev_fabric.proofs.ConvergingIdle.{idle_hearing, Mourns, heard_mourns, known_hearing}
+use Rattle.ev_fabric.proofs.ConvergingMoves.{Kept, sound_kept, Move, Stays, Tells, Takes, moved, Before, stays_before}
+use Rattle.ev_fabric.proofs.ConvergingMoves.{before, move_full, Taking, told, taken, same_edges, told_known, told_fewer}
+use Rattle.ev_fabric.proofs.ConvergingMoves.{taken_fewer}
+use Rattle.ev_fabric.proofs.Fabrics.{move_sound, along, rests_sound}
+use Rattle.route_wire.specs.declared.update.Register.{Register}
+use Rattle.ev_edge.specs.declared.event.Event.TheVariants as events
+use Rattle.ev_edge.specs.declared.refusal.Refusal as edge
+
+-- ---- what announcements and deliveries keep
+pub rests_full : (steps : List Step) {old : Fabric} (new : Fabric) → IsSound old → Rests old steps new
+    → full_pool new ≤ full_pool old
+rests_full steps {old} new sound h = along (λ f. full_pool f ≤ full_pool old)
+    (λ x y s move less. omega (arith, move_full move s)) steps new h sound (omega arith)
+
+pub rests_before : (steps : List Step) {old : Fabric} (new : Fabric) → IsSound old → Rests old steps new → (j : ℕ)
+    {b : Edge} → IsEdge new j b → Before old new j b
+rests_before steps {old} new sound h j {b} at = along (λ f. (j : ℕ) (b : Edge) → IsEdge f j b → Before old f j b)
+    (λ x y s move p j b at.
+    let g = before move s j at in
+    let h = p j g.was g.at in
+    record {
+      was = h.was;
+      at = h.at;
+      later = later_trans h.later g.later;
+      numbers = omega (arith, g.numbers, h.numbers);
+      returns = omega (arith, g.returns, h.returns);
+    }) steps new h sound (λ j b at. stays_before old old j at (omega arith)) j b at
 
 -- ---- a fabric whose edges take each update of the pool
 pub record IsReady (f : Fabric) : Type 0 where
-  pub kept : Kept f
+  pub sound : IsSound f
   pub numbers : HasNumbers f
 
-pub move_ready : (old new : Fabric) → Move old new → IsReady old → IsReady new
-move_ready old new move h = record {
-  kept = move_kept old new move h.kept;
+move_ready : {old new : Fabric} → Move old new → IsReady old → IsReady new
+move_ready move h = record {
+  sound = move_sound move h.sound;
   numbers = λ i a at some.
-      let x = before old new move h.kept i a at in
-      let fewer = x.returns in
-      let bound = h.numbers i x.was x.at (omega (arith, some, fewer)) in
-      let pays = x.numbers in
-      omega (arith, bound, pays);
+      let x = before move h.sound i at in
+      omega (arith, h.numbers i x.was x.at (omega (arith, x.returns)), x.numbers);
 }
 
 -- an edge of a ready fabric takes each update of the pool
-pub ready_accepted : (f : Fabric) → IsReady f → (i : ℕ) (a : Edge) (u : Fields) → IsEdge f i a → Contains f.pool u
+ready_accepted : {f : Fabric} → IsReady f → (i : ℕ) {a : Edge} {u : Fields} → IsEdge f i a → Contains f.pool u
     → Accepts a.routes.speaker u
-ready_accepted f h i a u at in' = record {
-  listed = let source = h.kept.sources u in' in ap (is_listed (table_of a)) (sym source.3)
-      ∙ h.kept.listed i source.0 a source.1 at source.2;
-  ahead = λ mine. behind mine (is_newest a.routes.speaker u) refl;
-  spent = λ mine. rich mine (is_returning a.routes.speaker u) refl;
-}
-  where
-    behind : u.register.originator ≡ address_of a → (b : Bool) → is_newest a.routes.speaker u ≡ b
-        → is_ahead a.routes.speaker u ≡ false
-    behind mine false none = ap (λ b. b && nat_le a.routes.speaker.incarnation u.value.incarnation) none
-    behind mine true newest = elim (h.kept.knows i a at u in' mine) [
+ready_accepted {f} h i {a} {u} at in' = record {
+  listed = let source = h.sound.sources u in' in
+      rw (← source.3) (h.sound.listed i source.0 a source.1 at source.2);
+  ahead = λ mine. elim (cases_Bool (is_newest a.routes.speaker u)) [
+    | inl newest ↦ elim (knows i a at u in' mine) [
       | inl earlier ↦ let late : nat_le a.routes.speaker.incarnation u.value.incarnation ≡ false =
           grind (arith, nat_tests) in rw (newest, late) refl
-      | inr none ↦ absurd (let bad : false ≡ true = sym none ∙ newest in cc)
+      | inr none ↦ cc
     ]
-
-    rich : u.register.originator ≡ address_of a → (b : Bool) → is_returning a.routes.speaker u ≡ b
-        → is_spent a.routes.speaker u ≡ false
-    rich mine false none = ap (λ b. b && nat_le (2 ^ 63) a.routes.speaker.counter) none
-    rich mine true back =
+    | inr none ↦ rw none
+  ];
+  spent = λ mine. elim (cases_Bool (is_returning a.routes.speaker u)) [
+    | inl back ↦
         let test : (u.register.originator == address_of a) ≡ true = grind (arith, nat_tests) in
         let comes : comes_back a.routes.speaker u ≡ true = rw (test, back) refl in
-        let c = counted f.pool a.routes.speaker u (h.kept.knows i a at) in' comes in
-        let one = count_some (may_return f.pool a.routes.speaker) f.pool c.update c.inside c.counts in
-        let bound = h.numbers i a at (omega (arith, one)) in
-        let few : a.routes.speaker.counter < 2 ^ 63 = omega (arith, one, bound) in
-        let low : nat_le (2 ^ 63) a.routes.speaker.counter ≡ false = grind (arith, nat_tests) in
+        let c = counted f.pool a.routes.speaker (knows i a at) in' comes in
+        let one = count_some (may_return f.pool a.routes.speaker) f.pool c.inside c.counts in
+        let bound = h.numbers i a at (omega arith) in
+        let low : nat_le (2 ^ 63) a.routes.speaker.counter ≡ false =
+        (let few : a.routes.speaker.counter < 2 ^ 63 = omega arith in grind (arith, nat_tests)) in
         rw (back, low) refl
+    | inr none ↦ rw none
+  ];
+}
+  where
+    knows : (i : ℕ) (a : Edge) → IsEdge f i a → KnowsOwn f.pool a.routes.speaker
+    knows = (sound_kept f h.sound).knows
 
-pub rests_ready : (steps : List Step) (old new : Fabric) → Rests old steps new → IsReady old → IsReady new
-rests_ready [] old new h ready = subst IsReady (sym h) ready
-rests_ready (step ∷ steps) old new h ready = rests_ready steps h.0 new h.5
-    (move_ready old h.0 (moved old h.0 step h.1 ready.kept h.2 h.4) ready)
+pub rests_ready : (steps : List Step) {old : Fabric} (new : Fabric) → Rests old steps new → IsReady old → IsReady new
+rests_ready steps new h ready = along IsReady (λ x y _ move r. move_ready move r) steps new h ready.sound ready
 
-pub split : (xs ys : List Step) (old new : Fabric) → Rests old (xs ++ ys) new
+split : (xs ys : List Step) (old new : Fabric) → Rests old (xs ++ ys) new
     → (mid : Fabric) × Rests old xs mid × Rests mid ys new
 split [] ys old new h = (old, refl, h)
 split (x ∷ xs) ys old new h = let rest = split xs ys h.0 new h.5 in (rest.0, (h.0, h.1, h.2, h.3, h.4, rest.1), rest.2)
+
+-- the steps of each of several edges
+module _ (f : ℕ → List Step) where
+  each_keeps : (Q : Fabric → Type 0) (m : ℕ)
+      → ((e : ℕ) (old new : Fabric) → e ≤ m → IsReady old → Rests old (f e) new → Q old → Q new)
+      → {old : Fabric} (new : Fabric) → IsReady old → Rests old (each f m) new → Q old → Q new
+  each_keeps Q zero keep new ready h q = rw h q
+  each_keeps Q (suc m) keep {old} new ready h q =
+      let s = split (f (suc m)) (each f m) old new h in
+      each_keeps Q m (λ e old new le. keep e old new (omega arith)) new (rests_ready (f (suc m)) s.0 s.1 ready)
+      s.2 (keep (suc m) old s.0 (omega arith) ready s.1 q)
+
+  -- what one edge's steps bring about, the others' keep
+  pub each_brings : (i : ℕ) (P Q : Fabric → Type 0)
+      → ((e : ℕ) (old new : Fabric) → e ≢ suc i → IsReady old → Rests old (f e) new
+      → (P old → P new) × (Q old → Q new))
+      → ((old new : Fabric) → IsReady old → Rests old (f (suc i)) new → P old → Q new)
+      → (m : ℕ) → i < m → {old : Fabric} (new : Fabric) → IsReady old → Rests old (each f m) new → P old → Q new
+  each_brings i P Q keep bring zero lt new ready h p = absurd (omega arith)
+  each_brings i P Q keep bring (suc m) lt {old} new ready h p =
+      let s = split (f (suc m)) (each f m) old new h in
+      let mid = rests_ready (f (suc m)) s.0 s.1 ready in
+      elim (cases_eq i m) [
+        | inl same ↦ each_keeps Q m (λ e x y le ready h. (keep e x y (omega (arith, same)) ready h).1) new mid s.2
+            (bring old s.0 ready (rw same s.1) p)
+        | inr ne ↦ each_brings i P Q keep bring m (omega arith) new mid s.2
+            ((keep (suc m) old s.0 (omega arith) ready s.1).0 p)
+      ]
 
 -- ---- arrivals
 
@@ -111,354 +158,231 @@ split (x ∷ xs) ys old new h = let rest = split xs ys h.0 new h.5 in (rest.0, (
 abbrev pub Has : Fabric → ℕ → Fields → Type 0
 Has f i u = (a : Edge) → IsEdge f i a → is_newest a.routes.speaker u ≡ false
 
-pub rests_has : (steps : List Step) (old new : Fabric) → Kept old → Rests old steps new → (i : ℕ) (u : Fields)
-    → Has old i u → Has new i u
-rests_has steps old new kept h i u has b at = let x = rests_before steps old new kept h i b at in
+pub rests_has : (steps : List Step) {old : Fabric} (new : Fabric) → IsSound old → Rests old steps new → (i : ℕ)
+    (u : Fields) → Has old i u → Has new i u
+rests_has steps new sound h i u has b at = let x = rests_before steps new sound h i at in
     x.later.news u.register u.value (has x.was x.at)
 
-took : (old new : Fabric) (i : ℕ) (a b : Edge) (u : Fields) → Kept old → IsEdge old i a
-    → b ≡ record a { routes = heard a.routes u } → new ≡ with_edge old (suc i) b → Has new i u
-took old new i a b u kept at same is c at_c =
-    let edges : new.edges ≡ slice_set old.edges i (record a { routes = heard a.routes u }) =
-    ap (λ (f : Fabric). f.edges) is ∙ (λ j. slice_set old.edges (minus i j) (same j)) in
-    let here : slice_get new.edges i ≡ Some (record a { routes = heard a.routes u }) = ap (λ l. slice_get l i) edges
-    ∙ set_same old.edges i a (record a { routes = heard a.routes u }) at in
-    let both : Some (record a { routes = heard a.routes u }) ≡ Some c = sym here ∙ at_c in
-    let c_is : record a { routes = heard a.routes u } ≡ c = cc in
-    subst (λ (e : Edge). is_newest e.routes.speaker u ≡ false) c_is (heard_has a.routes u (kept.keeps i a at).numbers)
+-- an update of the pool keeps its place
+pool_keeps : {old new : Fabric} → Move old new → (k : ℕ) {u : Fields} → slice_get old.pool k ≡ Some u
+    → slice_get new.pool k ≡ Some u
+pool_keeps Stays k at = at
+pool_keeps (Takes t) k at = at
+pool_keeps {old} (Tells t) k {u} at = front old.pool k at
+  where
+    front : (us : List Fields) (k : ℕ) → slice_get us k ≡ Some u → slice_get (us ++ t.update ∷ []) k ≡ Some u
+    front [] k at = cc
+    front (x ∷ us) zero at = at
+    front (x ∷ us) (suc k) at = front us k at
+
+pub rests_pool : (steps : List Step) {old : Fabric} (new : Fabric) → IsSound old → Rests old steps new → (k : ℕ)
+    {u : Fields} → slice_get old.pool k ≡ Some u → slice_get new.pool k ≡ Some u
+rests_pool steps new sound h k {u} at = along (λ f. slice_get f.pool k ≡ Some u)
+    (λ x y _ move there. pool_keeps move k there) steps new h sound at
+
+took : {old : Fabric} (new : Fabric) (i : ℕ) {a : Edge} (b : Edge) (u : Fields) → IsSound old → IsEdge old i a
+    → b ≡ after_hearing a u → new ≡ with_edge old (suc i) b → Has new i u
+took {old} new i {a} b u sound at same is c at_c = elim (set_cases old.edges i b i c (rw (is, minus i) at at_c)) [
+  | inl p ↦ rw (p.1, same) (heard_has a.routes u (sound.good i a at).routes.numbers)
+  | inr p ↦ absurd (p.0 refl)
+]
 
 -- after an answered delivery the edge has taken the update
 pub answered : (a b : Edge) (u : Fields) (reply : Reply) → Steps a (events.Take u) (Ok reply) b
     → b ≡ record a { routes = heard a.routes u }
-answered a b u reply h = choose (u.register.originator == address_of a) refl h
-  where
-    choose : (x : Bool) → (u.register.originator == address_of a) ≡ x → TakesBy x a u (Ok reply) b
-        → b ≡ record a { routes = heard a.routes u }
-    choose true t h = h.3 ∙ (λ j. record a { routes = cond (sym t j) (after_own a.routes u) (after_take a.routes u) })
-    choose false t h = h.2 ∙ (λ j. record a { routes = cond (sym t j) (after_own a.routes u) (after_take a.routes u) })
+answered a b u reply h = elim (cases_Bool (u.register.originator == address_of a)) [
+  | inl t ↦ rw ((rw t at h).3, t)
+  | inr t ↦ rw ((rw t at h).2, t)
+]
 
 -- an accepted update is refused only for lack of memory
-not_refused : (a b : Edge) (u : Fields) (why : edge.Refusal) → Accepts a.routes.speaker u
+not_refused : (a b : Edge) {u : Fields} (why : edge.Refusal) → Accepts a.routes.speaker u
     → Steps a (events.Take u) (Err why) b → why ≡ OfEdge EdgeNoMemory
-not_refused a b u why ok h = choose (u.register.originator == address_of a) refl h
-  where
-    choose : (x : Bool) → (u.register.originator == address_of a) ≡ x → TakesBy x a u (Err why) b
-        → why ≡ OfEdge EdgeNoMemory
-    choose true t h =
-        let mine : u.register.originator ≡ address_of a = grind (arith, nat_tests) in
-        elim h.0 [
-          | inl ahead ↦ absurd (let bad : false ≡ true = sym (ok.ahead mine) ∙ ahead.1 in cc)
-          | inr rest ↦ elim rest [
-            | inl spent ↦ absurd (let bad : false ≡ true = sym (ok.spent mine) ∙ spent.1 in cc)
-            | inr memory ↦ memory.0
-          ]
+not_refused a b {u} why ok h = elim (cases_Bool (u.register.originator == address_of a)) [
+  | inl t ↦
+      let mine : u.register.originator ≡ address_of a = grind (arith, nat_tests) in
+      elim (rw t at h).0 [
+        | inl ahead ↦ cc (ok.ahead mine, ahead.1)
+        | inr rest ↦ elim rest [
+          | inl spent ↦ cc (ok.spent mine, spent.1)
+          | inr memory ↦ memory.0
         ]
-    choose false t h = elim h.0 [
-      | inl unknown ↦ absurd (let bad : true ≡ false = sym ok.listed ∙ unknown.1 in cc)
-      | inr memory ↦ memory.0
-    ]
-
--- an edge's answer of the fabric's form
-ok_answer : (answer : Result Reply edge.Refusal) (reply : Reply) → Ok reply ≡ of_edge answer → answer ≡ Ok reply
-ok_answer (Ok r) reply e = let same : reply ≡ r = cc in ap Ok (sym same)
-ok_answer (Err r) reply e = cc
+      ]
+  | inr t ↦ elim (rw t at h).0 [
+    | inl unknown ↦ cc (ok.listed, unknown.1)
+    | inr memory ↦ memory.0
+  ]
+]
 
 pub given_ok : (old new : Fabric) (i k : ℕ) (reply : Reply) (u : Fields) → Kept old
     → FabricSteps old (Deliver (suc i) (suc k)) (Ok reply) new → slice_get old.pool k ≡ Some u → Has new i u
 given_ok old new i k reply u kept h at_u =
-    at_given (Has new i u) old new (Ok reply) i k u h at_u (λ none is. absurd (let never = is.0 in cc))
-    (λ a at s. took old new i a s.after u kept at (answered a s.after u reply
-    (subst (λ x. Steps a (events.Take u) x s.after) (ok_answer s.answer reply s.result_is) s.steps)) s.new_is)
+    at_given (Has new i u) old new (Ok reply) i k h at_u (λ none is. cc (is.0))
+    (λ a at s. took new i s.after u kept.sound at (answered a s.after u reply
+    (rw (ok_answer reply s.answer s.result_is) at s.steps)) s.new_is)
 
-granted_take : (old new : Fabric) (i : ℕ) (a b : Edge) (u : Fields) (result : Result Reply FabricRefusal)
-    (answer : Result Reply edge.Refusal) → Kept old → Accepts a.routes.speaker u → IsEdge old i a
-    → IsGranted result
-    → result ≡ of_edge answer → Steps a (events.Take u) answer b → new ≡ with_edge old (suc i) b → Has new i u
-granted_take old new i a b u result (Ok reply) kept ok at granted is h new_is =
-    took old new i a b u kept at (answered a b u reply h) new_is
-granted_take old new i a b u result (Err why) kept ok at granted is h new_is =
-    absurd ((subst IsGranted is granted).1 (ap OfAnEdge (not_refused a b u why ok h)))
-
-pub given : (old new : Fabric) (i k : ℕ) (result : Result Reply FabricRefusal) (u : Fields) → IsReady old
-    → IsGranted result
-    → FabricSteps old (Deliver (suc i) (suc k)) result new → slice_get old.pool k ≡ Some u → Has new i u
-given old new i k result u ready granted h at_u =
-    at_given (Has new i u) old new result i k u h at_u
-    (λ none is a at. absurd (let at' : slice_get old.edges i ≡ Some a =
-    subst (λ (f : Fabric). slice_get f.edges i ≡ Some a) is.1 at in let bad : None ≡ Some a = sym none ∙ at' in cc))
-    (λ a at s. granted_take old new i a s.after u result s.answer ready.kept
-    (ready_accepted old ready i a u at (contains_at old.pool k u at_u)) at granted s.result_is s.steps s.new_is)
-
--- ---- deliveries leave the pool
-abbrev OnlyTakes : List Step → Type 0
-OnlyTakes [] = Unit {0}
-OnlyTakes (Local e event ∷ steps) = ⊥
-OnlyTakes (Announce e ∷ steps) = ⊥
-OnlyTakes (Deliver e k ∷ steps) = OnlyTakes steps
-OnlyTakes (Restart e n ∷ steps) = ⊥
-
-pub deliver_pool : (old new : Fabric) (e k : ℕ) (result : Result Reply FabricRefusal)
-    → FabricSteps old (Deliver e k) result new → new.pool ≡ old.pool
-deliver_pool old new e k result h =
-    at_delivery (new.pool ≡ old.pool) old new result e k h (λ why is. ap (λ (f : Fabric). f.pool) is.1)
-    (λ x a n u _ _ at there s. ap (λ (f : Fabric). f.pool) s.new_is)
-
-takes_pool : (steps : List Step) (old new : Fabric) → OnlyTakes steps → Rests old steps new → new.pool ≡ old.pool
-takes_pool [] old new only h = ap (λ (f : Fabric). f.pool) h
-takes_pool (Deliver e k ∷ steps) old new only h = takes_pool steps h.0 new only h.5 ∙ deliver_pool old h.0 e k h.1 h.4
-takes_pool (Local e event ∷ steps) old new only h = absurd only
-takes_pool (Announce e ∷ steps) old new only h = absurd only
-takes_pool (Restart e n ∷ steps) old new only h = absurd only
-
-takes_append : (xs ys : List Step) → OnlyTakes xs → OnlyTakes ys → OnlyTakes (xs ++ ys)
-takes_append [] ys p q = q
-takes_append (Deliver e k ∷ xs) ys p q = takes_append xs ys p q
-takes_append (Local e event ∷ xs) ys p q = absurd p
-takes_append (Announce e ∷ xs) ys p q = absurd p
-takes_append (Restart e n ∷ xs) ys p q = absurd p
-
-takes_taking : (e n : ℕ) → OnlyTakes (taking e n)
-takes_taking e zero = tt
-takes_taking e (suc n) = takes_taking e n
-
-takes_each : (m n : ℕ) → OnlyTakes (each (λ e. taking e n) m)
-takes_each zero n = tt
-takes_each (suc m) n = takes_append (taking (suc m) n) (each (λ e. taking e n) m) (takes_taking (suc m) n)
-    (takes_each m n)
-
-taking_has : (n i : ℕ) (old new : Fabric) → IsReady old → Rests old (taking (suc i) n) new → (k : ℕ) (u : Fields)
-    → k < n → slice_get old.pool k ≡ Some u → Has new i u
-taking_has zero i old new ready h k u lt at = absurd (omega (arith, lt))
-taking_has (suc n) i old new ready h k u lt at = elim (cases_eq k n) [
-  | inl same ↦ rests_has (taking (suc i) n) h.0 new mid.kept h.5 i u
-      (given old h.0 i n h.1 u ready h.3 h.4 (subst (λ x. slice_get old.pool x ≡ Some u) same at))
-  | inr ne ↦ taking_has n i h.0 new mid h.5 k u (omega (arith, lt, ne))
-      (ap (λ l. slice_get l k) (deliver_pool old h.0 (suc i) (suc n) h.1 h.4) ∙ at)
-]
+pub given : {old : Fabric} (new : Fabric) (i k : ℕ) (result : Result Reply FabricRefusal) {u : Fields} → IsReady old
+    → IsGranted result → FabricSteps old (Deliver (suc i) (suc k)) result new → slice_get old.pool k ≡ Some u
+    → Has new i u
+given {old} new i k result {u} ready granted h at_u =
+    at_given (Has new i u) old new result i k h at_u
+    (λ none is a at. absurd (let at' : slice_get old.edges i ≡ Some a = rw is.1 at at in cc))
+    (λ a at s. takes a at s s.answer s.result_is s.steps)
   where
-    mid : IsReady h.0
-    mid = move_ready old h.0 (moved old h.0 (Deliver (suc i) (suc n)) h.1 ready.kept h.2 h.4) ready
+    takes : (a : Edge) → IsEdge old i a → (s : StepsAt old (suc i) a (events.Take u) result new)
+        → (answer : Result Reply edge.Refusal) → result ≡ of_edge answer → Steps a (events.Take u) answer s.after
+        → Has new i u
+    takes a at s (Ok reply) is steps = took new i s.after u ready.sound at (answered a s.after u reply steps) s.new_is
+    takes a at s (Err why) is steps = absurd ((rw is at granted).1 (ap OfAnEdge (not_refused a s.after why
+        (ready_accepted ready i at (contains_at old.pool k at_u)) steps)))
 
-each_has : (m n : ℕ) (old new : Fabric) → IsReady old → Rests old (each (λ e. taking e n) m) new → (i : ℕ) → i < m
-    → (k : ℕ) (u : Fields) → k < n → slice_get old.pool k ≡ Some u → Has new i u
-each_has zero n old new ready h i i_lt k u lt at = absurd (omega (arith, i_lt))
-each_has (suc m) n old new ready h i i_lt k u lt at = elim (cases_eq i m) [
-  | inl same ↦ subst (λ x. Has new x u) (sym same) (rests_has (each (λ e. taking e n) m) s.0 new mid.kept s.2 m u
-      (taking_has n m old s.0 ready s.1 k u lt at))
-  | inr ne ↦ each_has m n s.0 new mid s.2 i (omega (arith, i_lt, ne)) k u lt
-      (ap (λ l. slice_get l k) (takes_pool (taking (suc m) n) old s.0 (takes_taking (suc m) n) s.1) ∙ at)
-]
+-- a step of another edge leaves this one
+announce_else : (old new : Fabric) (e : ℕ) (result : Result Reply FabricRefusal)
+    → FabricSteps old (Announce e) result new → (i : ℕ) → e ≢ suc i → {c : Edge} → IsEdge new i c → IsEdge old i c
+announce_else old new e result h i ne {c} at_c =
+    at_edge (IsEdge old i c) old new result (λ e a. AnnouncesAt old e a result new) e h (λ is. rw is.1 at at_c)
+    (λ x a named _ s. other x a named result s)
   where
-    s : (mid : Fabric) × Rests old (taking (suc m) n) mid × Rests mid (each (λ e. taking e n) m) new
-    s = split (taking (suc m) n) (each (λ e. taking e n) m) old new h
+    other : (x : ℕ) (a : Edge) → e ≡ suc x → (result : Result Reply FabricRefusal)
+        → AnnouncesAt old (suc x) a result new → IsEdge old i c
+    other x a named (Ok reply) s = elim (set_cases old.edges x s.0 i c (rw (s.2, minus x) at at_c)) [
+      | inl p ↦ absurd (ne (omega (arith, p.0)))
+      | inr p ↦ p.1
+    ]
+    other x a named (Err why) s = rw s.1 at at_c
 
-    mid : IsReady s.0
-    mid = rests_ready (taking (suc m) n) old s.0 s.1 ready
+pub announcing_else : (n e : ℕ) (old new : Fabric) → Rests old (announcing e n) new → (i : ℕ) → e ≢ suc i → {c : Edge}
+    → IsEdge new i c → IsEdge old i c
+announcing_else zero e old new h i ne at = rw h at at
+announcing_else (suc n) e old new h i ne at =
+    announce_else old h.0 e h.1 h.4 i ne (announcing_else n e h.0 new h.5 i ne at)
+
+-- ---- the two halves of a round
+abbrev announcings : ℕ → ℕ → List Step
+announcings m n = each (λ e. announcing e n) m
+
+abbrev deliveries : ℕ → ℕ → List Step
+deliveries m n = each (λ e. taking e n) m
+
+-- deliveries leave the pool
+taking_pool : (n e : ℕ) (old new : Fabric) → Rests old (taking e n) new → new.pool ≡ old.pool
+taking_pool zero e old new h = rw h
+taking_pool (suc n) e old new h = taking_pool n e h.0 new h.5
+    ∙ at_delivery (h.0.pool ≡ old.pool) old h.0 h.1 e (suc n) h.4 (λ why is. rw is.1)
+    (λ x a n u _ _ at there s. rw s.new_is)
+
+taking_has : (n i k : ℕ) {u : Fields} → k < n → (old new : Fabric) → IsReady old
+    → Rests old (taking (suc i) n) new → slice_get old.pool k ≡ Some u → Has new i u
+taking_has zero i k lt old new ready h at = absurd (omega arith)
+taking_has (suc n) i k {u} lt old new ready h at =
+    let move = moved h.0 (Deliver (suc i) (suc n)) h.1 ready.sound h.2 h.4 in
+    let mid = move_ready move ready in
+    elim (cases_eq k n) [
+      | inl same ↦ rests_has (taking (suc i) n) new mid.sound h.5 i u (given h.0 i n h.1 ready h.3 h.4 (rw same at at))
+      | inr ne ↦ taking_has n i k (omega arith) h.0 new mid h.5 (pool_keeps move k at)
+    ]
+
+each_has : {m n : ℕ} (i k : ℕ) {u : Fields} → i < m → k < n → {old : Fabric} (new : Fabric) → IsReady old
+    → Rests old (deliveries m n) new → slice_get old.pool k ≡ Some u → Has new i u
+each_has {m} {n} i k {u} i_lt k_lt new ready h at = each_brings (λ e. taking e n) i (λ f. slice_get f.pool k ≡ Some u)
+    (λ f. Has f i u)
+    (λ e _ new _ ready h. (
+      rests_pool (taking e n) new ready.sound h k,
+      rests_has (taking e n) new ready.sound h i u,
+    )) (taking_has n i k k_lt) m i_lt new ready h at
 
 -- ---- announcements empty the list of pending registers
 abbrev pub Few : Fabric → ℕ → ℕ → Type 0
 Few f i n = (a : Edge) → IsEdge f i a → length a.routes.speaker.pending ≤ n
 
-dropped_one : (rs : List Register) (n : ℕ) → length rs ≤ suc n → length (drop 1 rs) ≤ n
-dropped_one [] n less = omega arith
-dropped_one (r ∷ rs) n less = omega (arith, less)
-
-dropped_fewer : (rs : List Register) → length (drop 1 rs) ≤ length rs
-dropped_fewer [] = omega arith
-dropped_fewer (r ∷ rs) = omega arith
-
-pub announce_one : (old new : Fabric) (i n : ℕ) (result : Result Reply FabricRefusal) → IsGranted result
-    → FabricSteps old (Announce (suc i)) result new → Few old i (suc n) → Few new i n
-announce_one old new i n result granted h few c at_c = go (slice_get old.edges i) refl h
+announce_one : {old : Fabric} (new : Fabric) (i n : ℕ) (result : Result Reply FabricRefusal) → IsSound old
+    → IsGranted result → FabricSteps old (Announce (suc i)) result new → Few old i (suc n) → Few new i n
+announce_one {old} new i n result sound granted h few c at_c = go result granted (rw x.at at h)
   where
-    at : (a : Edge) → IsEdge old i a → (result : Result Reply FabricRefusal) → IsGranted result
-        → AnnouncesAt old (suc i) a result new → length c.routes.speaker.pending ≤ n
-    at a is (Ok reply) granted h =
-        let edges : new.edges ≡ slice_set old.edges i h.0 = ap (λ (f : Fabric). f.edges) h.2
-        ∙ ap (λ x. slice_set old.edges x h.0) (minus i) in
-        let here : slice_get new.edges i ≡ Some h.0 = ap (λ l. slice_get l i) edges ∙ set_same old.edges i a h.0 is in
-        let both : Some h.0 ≡ Some c = sym here ∙ at_c in
-        let c_is : h.0 ≡ c = cc in
-        let pend : c.routes.speaker.pending ≡ drop 1 a.routes.speaker.pending =
-        ap (λ (e : Edge). e.routes.speaker.pending) (sym c_is ∙ h.1.1) in
-        subst (λ l. length l ≤ n) (sym pend) (dropped_one a.routes.speaker.pending n (few a is))
-    at a is (Err why) granted h = absurd (granted.0 h.0.0)
+    x : Before old new i c
+    x = before (moved new (Announce (suc i)) result sound tt h) sound i at_c
 
-    go : (o : Option Edge) → slice_get old.edges i ≡ o → MatchOption o (IsRefused NoSuchEdge old result new)
-        (λ a. AnnouncesAt old (suc i) a result new) → length c.routes.speaker.pending ≤ n
-    go None is h = absurd (let at' : slice_get old.edges i ≡ Some c =
-        subst (λ (f : Fabric). slice_get f.edges i ≡ Some c) h.1 at_c in let bad : None ≡ Some c = sym is ∙ at' in cc)
-    go (Some a) is h = at a is result granted h
-
-announce_few : (old new : Fabric) (e : ℕ) (result : Result Reply FabricRefusal)
-    → FabricSteps old (Announce e) result new
-    → (i n : ℕ) → Few old i n → Few new i n
-announce_few old new e result h i n few c at_c =
-    at_edge (length c.routes.speaker.pending ≤ n) old new result (λ e a. AnnouncesAt old e a result new) e h
-    (λ is. few c (subst (λ f. IsEdge f i c) is.1 at_c)) (λ j a _ is. at j a is result)
-  where
-    at : (j : ℕ) (a : Edge) → IsEdge old j a → (result : Result Reply FabricRefusal)
-        → AnnouncesAt old (suc j) a result new
+    go : (result : Result Reply FabricRefusal) → IsGranted result → AnnouncesAt old (suc i) x.was result new
         → length c.routes.speaker.pending ≤ n
-    at j a is (Ok reply) h =
-        let edges : new.edges ≡ slice_set old.edges j h.0 = ap (λ (f : Fabric). f.edges) h.2
-        ∙ ap (λ x. slice_set old.edges x h.0) (minus j) in
-        elim (set_cases old.edges j h.0 i c (subst (λ l. slice_get l i ≡ Some c) edges at_c)) [
-          | inl p ↦
-              let pend : c.routes.speaker.pending ≡ drop 1 a.routes.speaker.pending =
-              ap (λ (e : Edge). e.routes.speaker.pending) (p.1 ∙ h.1.1) in
-              let less = dropped_fewer a.routes.speaker.pending in
-              let bound = few a (subst (λ x. IsEdge old x a) (sym p.0) is) in
-              let same = ap length pend in
-              omega (arith, less, bound, same)
-          | inr p ↦ few c p.1
-        ]
-    at j a is (Err why) h = few c (subst (λ f. IsEdge f i c) h.1 at_c)
+    go (Ok reply) granted h = elim (set_cases old.edges i h.0 i c (rw (h.2, minus i) at at_c)) [
+      | inl p ↦ rw (p.1, h.1.1) (omega (arith, length-drop 1 x.was.routes.speaker.pending, few x.was x.at))
+      | inr p ↦ absurd (p.0 refl)
+    ]
+    go (Err why) granted h = absurd (granted.0 h.0.0)
 
-pub announcing_few : (n e : ℕ) (old new : Fabric) → Rests old (announcing e n) new → (i m : ℕ) → Few old i m
-    → Few new i m
-announcing_few zero e old new h i m few = subst (λ f. Few f i m) (sym h) few
-announcing_few (suc n) e old new h i m few = announcing_few n e h.0 new h.5 i m (announce_few old h.0 e h.1 h.4 i m few)
+pub announcing_none : (n i : ℕ) {old : Fabric} (new : Fabric) → IsSound old → Rests old (announcing (suc i) n) new
+    → Few old i n → Few new i 0
+announcing_none zero i new sound h few = rw h few
+announcing_none (suc n) i new sound h few =
+    announcing_none n i new (move_sound (moved h.0 (Announce (suc i)) h.1 sound h.2 h.4) sound) h.5
+    (announce_one h.0 i n h.1 sound h.3 h.4 few)
 
-pub announcing_none : (n i : ℕ) (old new : Fabric) → Rests old (announcing (suc i) n) new → Few old i n → Few new i 0
-announcing_none zero i old new h few = subst (λ f. Few f i 0) (sym h) few
-announcing_none (suc n) i old new h few = announcing_none n i h.0 new h.5 (announce_one old h.0 i n h.1 h.3 h.4 few)
-
-each_few : (m n : ℕ) (old new : Fabric) → Rests old (each (λ e. announcing e n) m) new → (i x : ℕ) → Few old i x
-    → Few new i x
-each_few zero n old new h i x few = subst (λ f. Few f i x) (sym h) few
-each_few (suc m) n old new h i x few = let s = split (announcing (suc m) n) (each (λ e. announcing e n) m) old new h in
-    each_few m n s.0 new s.2 i x (announcing_few n (suc m) old s.0 s.1 i x few)
-
-each_none : (m n : ℕ) (old new : Fabric) → Rests old (each (λ e. announcing e n) m) new → (i : ℕ) → i < m → Few old i n
-    → Few new i 0
-each_none zero n old new h i lt few = absurd (omega (arith, lt))
-each_none (suc m) n old new h i lt few = elim (cases_eq i m) [
-  | inl same ↦ each_few m n s.0 new s.2 i 0 (subst (λ x. Few s.0 x 0) (sym same)
-      (announcing_none n m old s.0 s.1 (subst (λ x. Few old x n) same few)))
-  | inr ne ↦ each_none m n s.0 new s.2 i (omega (arith, lt, ne)) (announcing_few n (suc m) old s.0 s.1 i n few)
-]
-  where
-    s : (mid : Fabric) × Rests old (announcing (suc m) n) mid × Rests mid (each (λ e. announcing e n) m) new
-    s = split (announcing (suc m) n) (each (λ e. announcing e n) m) old new h
+each_none : {m : ℕ} (n i : ℕ) → i < m → {old : Fabric} (new : Fabric) → IsReady old
+    → Rests old (announcings m n) new → Few old i n → Few new i 0
+each_none {m} n i lt new ready h few = each_brings (λ e. announcing e n) i (λ f. Few f i n) (λ f. Few f i 0)
+    (λ e old new ne _ h. (
+      (λ few c at. few c (announcing_else n e old new h i ne at)),
+      (λ few c at. few c (announcing_else n e old new h i ne at)),
+    )) (λ old new ready h. announcing_none n i new ready.sound h) m lt new ready h few
 
 -- ---- calm: each pending register is withdrawn, and each update that some edge hasn't got is a withdrawal
-pub record IsCalm (f : Fabric) : Type 0 where
-  pub mourns : (i : ℕ) (a : Edge) → IsEdge f i a → Mourns a.routes.speaker
-  pub known : (i : ℕ) (a : Edge) (u : Fields) → IsEdge f i a → Contains f.pool u
+abbrev AllMourn : Fabric → Type 0
+AllMourn f = (i : ℕ) (a : Edge) → IsEdge f i a → Mourns a.routes.speaker
+
+record IsCalm (f : Fabric) : Type 0 where
+  mourns : AllMourn f
+  known : (i : ℕ) (a : Edge) (u : Fields) → IsEdge f i a → Contains f.pool u
       → (is_newest a.routes.speaker u ≡ false) ⊎ (advert_in u.value.content ≡ None)
 
-shorter_mourns : (c : LocalRoutes) (r : Register) (rs : List Register) → c.speaker.pending ≡ r ∷ rs → Mourns c.speaker
-    → Mourns (quieter c rs).speaker
-shorter_mourns c r rs pend h q in' = h q (subst (λ l. Contains l q) (sym pend) (later_one r rs q in'))
+move_mourns : (old new : Fabric) → IsSound old → Move old new → AllMourn old → AllMourn new
+move_mourns old _ sound Stays h = h
+move_mourns old _ sound (Tells t) h = each_set (λ (e : Edge). Mourns e.routes.speaker) old.edges t.place
+    (after_telling t.edge t.rest)
+    (λ q in'. h t.place t.edge t.at q (rw t.pending (later_one t.update.register t.rest q in'))) h
+move_mourns old _ sound (Takes t) h = each_set (λ (e : Edge). Mourns e.routes.speaker) old.edges t.place
+    (after_hearing t.edge t.update)
+    (heard_mourns t.edge.routes (sound.good t.place t.edge t.at).routes.numbers t.ok (h t.place t.edge t.at)) h
 
-pub move_mourns : (old new : Fabric) → Move old new → Kept old
-    → ((i : ℕ) (a : Edge) → IsEdge old i a → Mourns a.routes.speaker) → (i : ℕ) (a : Edge) → IsEdge new i a
-    → Mourns a.routes.speaker
-move_mourns old _ Stays kept h j b at_b = h j b at_b
-move_mourns old _ (Tells i a r rs v at pend is) kept h j b at_b =
-    elim (set_cases old.edges i (record a { routes = quieter a.routes rs }) j b at_b) [
-      | inl p ↦ subst (λ (e : Edge). Mourns e.routes.speaker) (sym p.1) (shorter_mourns a.routes r rs pend (h i a at))
-      | inr p ↦ h j b p.1
-    ]
-move_mourns old _ (Takes i a u at in' ok) kept h j b at_b =
-    elim (set_cases old.edges i (record a { routes = heard a.routes u }) j b at_b) [
-      | inl p ↦ subst (λ (e : Edge). Mourns e.routes.speaker) (sym p.1)
-          (heard_mourns a.routes u (kept.keeps i a at).numbers ok (h i a at))
-      | inr p ↦ h j b p.1
-    ]
+-- a new update of the pool is a withdrawal
+move_withdraws : {old new : Fabric} → Move old new → AllMourn old → (w : Fields) → Contains new.pool w
+    → Contains old.pool w ⊎ (advert_in w.value.content ≡ None)
+move_withdraws Stays h w in' = inl in'
+move_withdraws (Takes t) h w in' = inl in'
+move_withdraws {old} (Tells t) h w in' = elim (Contains-push_cases old.pool t.update w in') [
+  | inl earlier ↦ inl earlier
+  | inr now ↦ inr (rw (← now) (ap advert_of (sym t.there)
+      ∙ h t.place t.edge t.at t.update.register (rw t.pending (0, omega arith, refl))))
+]
 
-pub rests_mourns : (steps : List Step) (old new : Fabric) → Rests old steps new → Kept old
-    → ((i : ℕ) (a : Edge) → IsEdge old i a → Mourns a.routes.speaker) → (i : ℕ) (a : Edge) → IsEdge new i a
-    → Mourns a.routes.speaker
-rests_mourns [] old new h kept mourns = λ i a at. mourns i a (subst (λ f. IsEdge f i a) h at)
-rests_mourns (step ∷ steps) old new h kept mourns =
-    let move = moved old h.0 step h.1 kept h.2 h.4 in
-    rests_mourns steps h.0 new h.5 (move_kept old h.0 move kept) (move_mourns old h.0 move kept mourns)
-
-pub move_calm : (old new : Fabric) → Move old new → Kept old → IsCalm old → IsCalm new
-move_calm old _ Stays kept h = h
-move_calm old _ (Tells i a r rs v at pend is) kept h = record {
-  mourns = move_mourns old next move kept h.mourns;
-  known = λ j b w at_b in'.
-      let x = before old next move kept j b at_b in
-      elim (Contains-push_cases old.pool u w in') [
+move_calm : {old new : Fabric} → IsSound old → Move old new → IsCalm old → IsCalm new
+move_calm {old} {new} sound move h = record {
+  mourns = move_mourns old new sound move h.mourns;
+  known = λ j b w at in'.
+      let x = before move sound j at in
+      elim (move_withdraws move h.mourns w in') [
         | inl earlier ↦ elim (h.known j x.was w x.at earlier) [
           | inl old ↦ inl (x.later.news w.register w.value old)
           | inr none ↦ inr none
         ]
-        | inr now ↦ inr (ap (λ (y : Fields). advert_in y.value.content) (sym now) ∙ withdrawn)
-      ];
-}
-  where
-    u : Fields
-    u = update_of r v
-
-    next : Fabric
-    next = record old {
-      edges = slice_set old.edges i (record a { routes = quieter a.routes rs });
-      pool = old.pool ++ u ∷ [];
-    }
-
-    move : Move old next
-    move = Tells i a r rs v at pend is
-
-    withdrawn : advert_in v.content ≡ None
-    withdrawn = ap advert_of (sym is) ∙ h.mourns i a at r (subst (λ l. Contains l r) (sym pend) (0, omega arith, refl))
-move_calm old _ (Takes i a u at in' ok) kept h = record {
-  mourns = move_mourns old next move kept h.mourns;
-  known = λ j b w at_b in''.
-      let x = before old next move kept j b at_b in
-      elim (h.known j x.was w x.at in'') [
-        | inl old ↦ inl (x.later.news w.register w.value old)
         | inr none ↦ inr none
       ];
 }
-  where
-    next : Fabric
-    next = record old { edges = slice_set old.edges i (record a { routes = heard a.routes u }) }
-
-    move : Move old next
-    move = Takes i a u at in' ok
 
 -- then nothing becomes pending
-move_few : (old new : Fabric) → Move old new → Kept old → IsCalm old → (j n : ℕ) → Few old j n → Few new j n
-move_few old _ Stays kept calm j n few = few
-move_few old _ (Tells i a r rs v at pend is) kept calm j n few =
-    λ b at_b. elim (set_cases old.edges i (record a { routes = quieter a.routes rs }) j b at_b) [
-      | inl p ↦
-          let bound = few a (subst (λ x. IsEdge old x a) (sym p.0) at) in
-          let more : length a.routes.speaker.pending ≡ suc (length rs) = ap length pend in
-          let same : length b.routes.speaker.pending ≡ length rs = ap (λ (e : Edge). length e.routes.speaker.pending)
-          p.1 in
-          omega (arith, bound, more, same)
-      | inr p ↦ few b p.1
-    ]
-move_few old _ (Takes i a u at in' ok) kept calm j n few =
-    λ b at_b. elim (set_cases old.edges i (record a { routes = heard a.routes u }) j b at_b) [
-      | inl p ↦
-          let bound = few a (subst (λ x. IsEdge old x a) (sym p.0) at) in
-          let idle = idle_hearing a.routes u (kept.keeps i a at).holds.owns (calm.known i a u at in') in
-          let same : length b.routes.speaker.pending ≡ length a.routes.speaker.pending =
-          ap (λ (e : Edge). length e.routes.speaker.pending) p.1
-          ∙ ap (λ (c : LocalRoutes). length c.speaker.pending) idle in
-          omega (arith, bound, same)
-      | inr p ↦ few b p.1
-    ]
-
-pub rests_calm : (steps : List Step) (old new : Fabric) → Rests old steps new → Kept old → IsCalm old → IsCalm new
-rests_calm [] old new h kept calm = subst IsCalm (sym h) calm
-rests_calm (step ∷ steps) old new h kept calm =
-    let move = moved old h.0 step h.1 kept h.2 h.4 in
-    rests_calm steps h.0 new h.5 (move_kept old h.0 move kept) (move_calm old h.0 move kept calm)
-
-pub rests_few : (steps : List Step) (old new : Fabric) → Rests old steps new → Kept old → IsCalm old → (j n : ℕ)
-    → Few old j n → Few new j n
-rests_few [] old new h kept calm j n few = subst (λ f. Few f j n) (sym h) few
-rests_few (step ∷ steps) old new h kept calm j n few =
-    let move = moved old h.0 step h.1 kept h.2 h.4 in
-    rests_few steps h.0 new h.5 (move_kept old h.0 move kept) (move_calm old h.0 move kept calm) j n
-    (move_few old h.0 move kept calm j n few)
+move_few : {old new : Fabric} → IsSound old → Move old new → IsCalm old → (j n : ℕ) → Few old j n → Few new j n
+move_few sound Stays calm j n few b at = few b at
+move_few {old} sound (Tells t) calm j n few b at = elim (set_cases old.edges t.place _ j b at) [
+  | inl p ↦ rw p.1 (omega (arith, few t.edge (rw p.0 t.at), ap length t.pending))
+  | inr p ↦ few b p.1
+]
+move_few {old} sound (Takes t) calm j n few b at = elim (set_cases old.edges t.place _ j b at) [
+  | inl p ↦ rw (
+    p.1,
+    idle_hearing t.edge.routes t.update (sound.good t.place t.edge t.at).keeps.owns
+        (calm.known t.place t.edge t.update t.at t.inside),
+  ) (few t.edge (rw p.0 t.at))
+  | inr p ↦ few b p.1
+]
 
 -- ---- a round
 
@@ -467,69 +391,67 @@ pub record IsEnough (m n : ℕ) (f : Fabric) : Type 0 where
   pub edges : (i : ℕ) (a : Edge) → IsEdge f i a → i < m
   pub updates : full_pool f ≤ n
 
-rests_enough : (m n : ℕ) (steps : List Step) (old new : Fabric) → Rests old steps new → Kept old → IsEnough m n old
-    → IsEnough m n new
-rests_enough m n steps old new h kept enough = record {
-  edges = λ i a at. let x = rests_before steps old new kept h i a at in enough.edges i x.was x.at;
-  updates = let less = rests_full steps old new kept h in let bound = enough.updates in omega (arith, less, bound);
+rests_enough : {m n : ℕ} (steps : List Step) {old : Fabric} (new : Fabric) → IsReady old → Rests old steps new
+    → IsEnough m n old → IsEnough m n new
+rests_enough steps new ready h enough = record {
+  edges = λ i a at. let x = rests_before steps new ready.sound h i at in enough.edges i x.was x.at;
+  updates = omega (arith, rests_full steps new ready.sound h, enough.updates);
 }
-
-enough_few : (m n : ℕ) (f : Fabric) → IsEnough m n f → (i : ℕ) → Few f i n
-enough_few m n f enough i a at =
-    let one = sum_has (λ (x : Edge). unannounced f.pool x.routes) f.edges i a at in
-    let bound = enough.updates in
-    omega (arith, one, bound)
 
 -- after the announcements of a round nothing is pending, and after its deliveries each edge has the whole pool
 record Rounds (m n : ℕ) (old new : Fabric) : Type 0 where
   mid : Fabric
-  announced : Rests old (each (λ e. announcing e n) m) mid
-  silent : (i : ℕ) (a : Edge) → IsEdge mid i a → a.routes.speaker.pending ≡ []
-  delivered : Rests mid (each (λ e. taking e n) m) new
+  announced : Rests old (announcings m n) mid
+  ready : IsReady mid
+  silent : (i : ℕ) → Few mid i 0
+  delivered : Rests mid (deliveries m n) new
   arrived : (i : ℕ) (a : Edge) (u : Fields) → IsEdge new i a → Contains new.pool u → is_newest a.routes.speaker u
       ≡ false
 
-no_length : (rs : List Register) → length rs ≤ 0 → rs ≡ []
+pub no_length : {X : Type 0} (xs : List X) → length xs ≤ 0 → xs ≡ []
 no_length [] h = refl
-no_length (r ∷ rs) h = absurd (omega (arith, h))
+no_length (x ∷ xs) h = absurd (omega arith)
 
-rounds : (m n : ℕ) (old new : Fabric) → IsReady old → IsEnough m n old → Rests old (round m n) new → Rounds m n old new
-rounds m n old new ready enough h = record {
+rounds : {m n : ℕ} {old : Fabric} (new : Fabric) → IsReady old → IsEnough m n old → Rests old (round m n) new
+    → Rounds m n old new
+rounds {m} {n} {old} new ready enough h = record {
   mid = s.0;
   announced = s.1;
-  silent = λ i a at. no_length a.routes.speaker.pending (each_none m n old s.0 s.1 i (between.edges i a at)
-      (enough_few m n old enough i) a at);
+  ready = mid;
+  silent = λ i a at. each_none n i (between.edges i a at) s.0 ready s.1
+      (λ b at_b. omega (arith, sum_has (λ (x : Edge). unannounced old.pool x.routes) old.edges i at_b, enough.updates))
+      a at;
   delivered = s.2;
   arrived = λ i a u at in'.
-      let same : new.pool ≡ s.0.pool = takes_pool (each (λ e. taking e n) m) s.0 new (takes_each m n) s.2 in
-      let x = rests_before (each (λ e. taking e n) m) s.0 new mid_ready.kept s.2 i a at in
-      let place = place_of s.0.pool u (subst (λ l. Contains l u) same in') in
-      let below = slice_get_within s.0.pool place.0 u place.1 in
-      let bound = between.updates in
-      each_has m n s.0 new mid_ready s.2 i (between.edges i x.was x.at) place.0 u (omega (arith, below, bound)) place.1
-      a at;
+      let x = rests_before (deliveries m n) new mid.sound s.2 i at in
+      let place = place_of s.0.pool u (rw same at in') in
+      each_has i place.0 (between.edges i x.was x.at)
+      (omega (arith, slice_get_within s.0.pool place.0 u place.1, between.updates)) new mid s.2 place.1 a at;
 }
   where
-    s : (mid : Fabric) × Rests old (each (λ e. announcing e n) m) mid × Rests mid (each (λ e. taking e n) m) new
-    s = split (each (λ e. announcing e n) m) (each (λ e. taking e n) m) old new h
+    s : (mid : Fabric) × Rests old (announcings m n) mid × Rests mid (deliveries m n) new
+    s = split (announcings m n) (deliveries m n) old new h
 
-    mid_ready : IsReady s.0
-    mid_ready = rests_ready (each (λ e. announcing e n) m) old s.0 s.1 ready
+    mid : IsReady s.0
+    mid = rests_ready (announcings m n) s.0 s.1 ready
 
     between : IsEnough m n s.0
-    between = rests_enough m n (each (λ e. announcing e n) m) old s.0 s.1 ready.kept enough
+    between = rests_enough (announcings m n) s.0 ready s.1 enough
+
+    same : new.pool ≡ s.0.pool
+    same = each_keeps (λ e. taking e n) (λ f. f.pool ≡ s.0.pool) m
+        (λ e x y _ _ h is. taking_pool n e x y h ∙ is) new mid s.2 refl
 
 -- the first round leads to calm
-first_round : (m n : ℕ) (old new : Fabric) → IsReady old → IsEnough m n old → Rests old (round m n) new → IsCalm new
-first_round m n old new ready enough h = record {
-  mourns = rests_mourns (each (λ e. taking e n) m) r.mid new r.delivered
-      (rests_ready (each (λ e. announcing e n) m) old r.mid r.announced ready).kept
-      (λ i a at q in'. absurd (none_pending (subst (λ l. Contains l q) (r.silent i a at) in')));
-  known = λ i a u at in'. inl (r.arrived i a u at in');
-}
-  where
-    r : Rounds m n old new
-    r = rounds m n old new ready enough h
+first_round : {m n : ℕ} {old : Fabric} (new : Fabric) → IsReady old → IsEnough m n old → Rests old (round m n) new
+    → IsCalm new
+first_round {m} {n} new ready enough h =
+    let r = rounds new ready enough h in
+    record {
+      mourns = along AllMourn move_mourns (deliveries m n) new r.delivered r.ready.sound
+          (λ i a at q in'. absurd (none_pending (rw (no_length a.routes.speaker.pending (r.silent i a at)) at in')));
+      known = λ i a u at in'. inl (r.arrived i a u at in');
+    }
 
 pub arrived_value : (o : Option Value) (w : Value) → is_news o w ≡ false
     → (v : Value) × (o ≡ Some v) × (is_newer w v ≡ false)
@@ -537,79 +459,61 @@ arrived_value None w h = cc
 arrived_value (Some v) w h = (v, refl, h)
 
 -- from calm one round leads to agreement
-pub second_round : (m n : ℕ) (old new : Fabric) → IsReady old → IsCalm old → IsEnough m n old
+second_round : {m n : ℕ} {old : Fabric} (new : Fabric) → IsReady old → IsCalm old → IsEnough m n old
     → Rests old (round m n) new → AllAgree new
-second_round m n old new ready calm enough h = record {
-  quiet = λ i a at. no_length a.routes.speaker.pending (rests_few (each (λ e. taking e n) m) r.mid new r.delivered
-      mid_ready.kept (rests_calm (each (λ e. announcing e n) m) old r.mid r.announced ready.kept calm) i 0
-      (λ b at_b. let none = ap length (r.silent i b at_b) in omega (arith, none)) a at);
+second_round {m} {n} {old} new ready calm enough h = record {
+  quiet = λ i a at. no_length a.routes.speaker.pending ((along (λ f. IsCalm f × Few f i 0)
+      (λ x y k move p. (move_calm k move p.0, move_few k move p.0 i 0 p.1))
+      (deliveries m n) new r.delivered r.ready.sound (
+        along IsCalm (λ x y k move c. move_calm k move c) (announcings m n) r.mid r.announced ready.sound calm,
+        r.silent i,
+      )).1 a at);
   arrived = λ i a at u in'. arrived_value (value_at (table_of a) u.register) u.value (r.arrived i a u at in');
 }
   where
     r : Rounds m n old new
-    r = rounds m n old new ready enough h
+    r = rounds new ready enough h
 
-    mid_ready : IsReady r.mid
-    mid_ready = rests_ready (each (λ e. announcing e n) m) old r.mid r.announced ready
-
-pub two_rounds_agree : (m n : ℕ) (old new : Fabric) → IsReady old → IsEnough m n old
+pub two_rounds_agree : {m n : ℕ} {old : Fabric} (new : Fabric) → IsReady old → IsEnough m n old
     → Rests old (round m n ++ round m n) new → AllAgree new
-two_rounds_agree m n old new ready enough h =
+two_rounds_agree {m} {n} {old} new ready enough h =
     let s = split (round m n) (round m n) old new h in
-    second_round m n s.0 new (rests_ready (round m n) old s.0 s.1 ready) (first_round m n old s.0 ready enough s.1)
-    (rests_enough m n (round m n) old s.0 s.1 ready.kept enough) s.2
+    second_round new (rests_ready (round m n) s.0 s.1 ready) (first_round s.0 ready enough s.1)
+    (rests_enough (round m n) s.0 ready s.1 enough) s.2
 
 pub enough_itself : (f : Fabric) → IsEnough (length f.edges) (full_pool f) f
 enough_itself f = record { edges = λ i a at. slice_get_within f.edges i a at; updates = omega arith }
 
 -- ---- fairness
-pool_keeps : (old new : Fabric) → Move old new → (k : ℕ) (u : Fields) → slice_get old.pool k ≡ Some u
-    → slice_get new.pool k ≡ Some u
-pool_keeps old _ Stays k u at = at
-pool_keeps old _ (Tells i a r rs v at_a pend is) k u at = front old.pool k at
-  where
-    front : (us : List Fields) (k : ℕ) → slice_get us k ≡ Some u → slice_get (us ++ update_of r v ∷ []) k ≡ Some u
-    front [] k at = cc
-    front (x ∷ us) zero at = at
-    front (x ∷ us) (suc k) at = front us k at
-pool_keeps old _ (Takes i a w at_a in' ok) k u at = at
-
-rests_pool : (steps : List Step) (old new : Fabric) → Kept old → Rests old steps new → (k : ℕ) (u : Fields)
-    → slice_get old.pool k ≡ Some u → slice_get new.pool k ≡ Some u
-rests_pool [] old new kept h k u at = subst (λ (f : Fabric). slice_get f.pool k ≡ Some u) (sym h) at
-rests_pool (step ∷ steps) old new kept h k u at =
-    let move = moved old h.0 step h.1 kept h.2 h.4 in
-    rests_pool steps h.0 new (move_kept old h.0 move kept) h.5 k u (pool_keeps old h.0 move k u at)
 
 -- the update of an answered delivery was in the pool
 was_there : (old new : Fabric) (i k : ℕ) (reply : Reply) → FabricSteps old (Deliver (suc i) (suc k)) (Ok reply) new
     → (u : Fields) × (slice_get old.pool k ≡ Some u)
 was_there old new i k reply h =
     at_delivery ((u : Fields) × (slice_get old.pool k ≡ Some u)) old new (Ok reply) (suc i) (suc k) h
-    (λ why is. absurd (let never = is.0 in cc))
-    (λ x a n u _ update at there s. (u, ap (slice_get old.pool) (omega (arith, update)) ∙ there))
+    (λ why is. cc (is.0))
+    (λ x a n u _ update at there s. (u, ap (slice_get old.pool) (omega arith) ∙ there))
 
-was_given : (old : Fabric) (steps : List Step) (new : Fabric) → Kept old → (i k : ℕ) (u : Fields)
+was_given : {old : Fabric} {steps : List Step} {new : Fabric} → IsSound old → (i k : ℕ) {u : Fields}
     → slice_get new.pool k ≡ Some u → WasGiven old steps new (suc i) (suc k) → Has new i u
-was_given old steps new kept i k u at g =
-    let mid = rests_kept g.earlier old g.mid g.before kept in
+was_given {new} sound i k {u} at g =
+    let mid = rests_sound g.earlier g.mid g.before sound in
     let there = was_there g.mid g.next i k g.reply g.given in
-    let move = moved g.mid g.next (Deliver (suc i) (suc k)) (Ok g.reply) mid tt g.given in
-    let next = move_kept g.mid g.next move mid in
-    let now = rests_pool g.later g.next new next g.after k there.0 (pool_keeps g.mid g.next move k there.0 there.1) in
-    let both : Some there.0 ≡ Some u = sym now ∙ at in
+    let move = moved g.next (Deliver (suc i) (suc k)) (Ok g.reply) mid tt g.given in
+    let next = move_sound move mid in
+    let now = rests_pool g.later new next g.after k (pool_keeps move k there.1) in
     let same : there.0 ≡ u = cc in
-    subst (Has new i) same (rests_has g.later g.next new next g.after i there.0
-    (given_ok g.mid g.next i k g.reply there.0 mid g.given there.1))
+    rw same at (rests_has g.later new next g.after i there.0
+    (given_ok g.mid g.next i k g.reply there.0 (sound_kept g.mid mid) g.given there.1))
 
-pub fair_agrees : (old : Fabric) (steps : List Step) (new : Fabric) → Kept old → AllGiven old steps new → AllSilent new
-    → AllAgree new
-fair_agrees old steps new kept all quiet = record {
+pub fair_agrees : {old : Fabric} (steps : List Step) (new : Fabric) → IsSound old → AllGiven old steps new
+    → AllSilent new → AllAgree new
+fair_agrees steps new sound all quiet = record {
   quiet = quiet;
   arrived = λ i a at u in'.
       let place = place_of new.pool u in' in
       arrived_value (value_at (table_of a) u.register) u.value
-      (was_given old steps new kept i place.0 u place.1 (all i a place.0 u at place.1) a at);
+      (was_given sound i place.0 place.1 (all i a place.0 u at place.1) a at);
 }
 
 -- ---- such runs exist: no step of them needs to be refused
@@ -617,114 +521,303 @@ abbrev pub MayStep : Fabric → Step → Type 0
 MayStep f step = (mid : Fabric) × (result : Result Reply FabricRefusal) × IsGranted result
     × FabricSteps f step result mid
 
-taking_step : (a : Edge) (u : Fields) → Accepts a.routes.speaker u
+taking_step : (a : Edge) {u : Fields} → Accepts a.routes.speaker u
     → (reply : Reply) × (b : Edge) × Steps a (events.Take u) (Ok reply) b
-taking_step a u ok = choose (u.register.originator == address_of a) refl
-  where
-    choose : (x : Bool) → (u.register.originator == address_of a) ≡ x
-        → (reply : Reply) × (b : Edge) × TakesBy x a u (Ok reply) b
-    choose true t =
-        let mine : u.register.originator ≡ address_of a = grind (arith, nat_tests) in (
-          record nothing { taken = Some (taken_of (table_of a) u) },
-          record a { routes = after_own a.routes u },
-          (ok.ahead mine, ok.spent mine, refl, refl),
-        )
-    choose false t = (
-      record nothing { taken = Some (taken_of (table_of a) u); alert = lost_alert (loses_pinned a.routes u) },
-      record a { routes = after_take a.routes u },
-      (ok.listed, refl, refl),
-    )
+taking_step a {u} ok = elim (cases_Bool (u.register.originator == address_of a)) [
+  | inl t ↦ let mine : u.register.originator ≡ address_of a = grind (arith, nat_tests) in (
+    record nothing { taken = Some (taken_of (table_of a) u) },
+    record a { routes = after_own a.routes u },
+    rw t (ok.ahead mine, ok.spent mine, refl, refl),
+  )
+  | inr t ↦ (
+    record nothing { taken = Some (taken_of (table_of a) u); alert = lost_alert (loses_pinned a.routes u) },
+    record a { routes = after_take a.routes u },
+    rw t (ok.listed, refl, refl),
+  )
+]
 
-pub quiet_step : (f : Fabric) (step : Step) → IsReady f → IsQuiet step → MayStep f step
-quiet_step f (Local e event) ready quiet = absurd quiet
-quiet_step f (Restart e n) ready quiet = absurd quiet
-quiet_step f (Announce e) ready quiet = go e (nth f.edges e) refl
-  where
-    at : (i : ℕ) (a : Edge) → IsEdge f i a → (mid : Fabric) × (result : Result Reply FabricRefusal) × IsGranted result
-        × AnnouncesAt f (suc i) a result mid
-    at i a is =
-        let b : Edge = record a { routes = after_announcement a.routes } in
-        let reply : Reply = record nothing { announced = announced a.routes.speaker } in (
-          record (with_edge f (suc i) b) { pool = with_announced f.pool reply.announced },
-          Ok reply,
-          tt,
-          (b, (refl, refl), refl),
-        )
-
-    go : (e : ℕ) (o : Option Edge) → nth f.edges e ≡ o → (mid : Fabric) × (result : Result Reply FabricRefusal)
-        × IsGranted result × MatchOption o (IsRefused NoSuchEdge f result mid) (λ a. AnnouncesAt f e a result mid)
-    go e None is = (f, Err NoSuchEdge, ((λ q. cc), (λ q. cc)), (refl, refl))
-    go zero (Some a) is = cc
-    go (suc i) (Some a) is = at i a is
-quiet_step f (Deliver e k) ready quiet = go e (nth f.edges e) refl
-  where
-    at : (i : ℕ) (a : Edge) → IsEdge f i a → (k : ℕ) (o : Option Fields) → nth f.pool k ≡ o
-        → (mid : Fabric) × (result : Result Reply FabricRefusal) × IsGranted result
-        × MatchOption o (IsRefused NoSuchUpdate f result mid) (λ u. StepsAt f (suc i) a (events.Take u) result mid)
-    at i a is k None there = (f, Err NoSuchUpdate, ((λ q. cc), (λ q. cc)), (refl, refl))
-    at i a is zero (Some u) there = cc
-    at i a is (suc k) (Some u) there =
-        let ok = ready_accepted f ready i a u is (contains_at f.pool k u there) in
-        let t = taking_step a u ok in (
-          with_edge f (suc i) t.1,
+quiet_step : {f : Fabric} (step : Step) → IsReady f → IsQuiet step → MayStep f step
+quiet_step (Local e event) ready quiet = absurd quiet
+quiet_step (Restart e n) ready quiet = absurd quiet
+quiet_step {f} (Announce e) ready quiet = elim (nth_cases f.edges e) [
+  | inl none ↦ (f, Err NoSuchEdge, ((λ q. cc), (λ q. cc)), rw none (refl, refl))
+  | inr x ↦
+      let b : Edge = record x.1 { routes = after_announcement x.1.routes } in
+      let reply : Reply = record nothing { announced = announced x.1.routes.speaker } in (
+        record (with_edge f (suc x.0) b) { pool = with_announced f.pool reply.announced },
+        Ok reply,
+        tt,
+        rw (x.2, x.3) (b, (refl, refl), refl),
+      )
+]
+quiet_step {f} (Deliver e k) ready quiet = elim (nth_cases f.edges e) [
+  | inl none ↦ (f, Err NoSuchEdge, ((λ q. cc), (λ q. cc)), rw none (refl, refl))
+  | inr x ↦ elim (nth_cases f.pool k) [
+    | inl none ↦ (f, Err NoSuchUpdate, ((λ q. cc), (λ q. cc)), rw (x.2, x.3, none) (refl, refl))
+    | inr y ↦
+        let t = taking_step x.1 (ready_accepted ready x.0 x.3 (contains_at f.pool y.0 y.3)) in (
+          with_edge f (suc x.0) t.1,
           Ok t.0,
           tt,
-          record {
+          rw (x.2, x.3, y.2, y.3) (record {
             after = t.1;
             answer = Ok t.0;
             steps = t.2;
             result_is = refl;
             new_is = refl;
-          },
+          }),
         )
-
-    go : (e : ℕ) (o : Option Edge) → nth f.edges e ≡ o → (mid : Fabric) × (result : Result Reply FabricRefusal)
-        × IsGranted result × MatchOption o (IsRefused NoSuchEdge f result mid)
-        (λ a. MatchOption (nth f.pool k) (IsRefused NoSuchUpdate f result mid)
-        (λ u. StepsAt f e a (events.Take u) result mid))
-    go e None is = (f, Err NoSuchEdge, ((λ q. cc), (λ q. cc)), (refl, refl))
-    go zero (Some a) is = cc
-    go (suc i) (Some a) is = at i a is k (nth f.pool k) refl
-
-pub may_rest : (steps : List Step) (f : Fabric) → IsReady f → AllQuiet steps → (new : Fabric) × Rests f steps new
-may_rest [] f ready quiet = (f, refl)
-may_rest (step ∷ steps) f ready quiet =
-    let is_quiet = quiet step (0, omega arith, refl) in
-    let s = quiet_step f step ready is_quiet in
-    let next = move_ready f s.0 (moved f s.0 step s.1 ready.kept is_quiet s.3) ready in
-    let rest = may_rest steps s.0 next (λ x in'. quiet x (later_one step steps x in')) in
-    (rest.0, (s.0, s.1, is_quiet, s.2, s.3, rest.1))
-
-quiet_append : (xs ys : List Step) → AllQuiet xs → AllQuiet ys → AllQuiet (xs ++ ys)
-quiet_append xs ys p q step in' = elim (Contains-append_cases xs ys step in') [
-  | inl h ↦ p step h
-  | inr h ↦ q step h
+  ]
 ]
 
-quiet_first : (x : Step) (xs : List Step) → IsQuiet x → AllQuiet xs → AllQuiet (x ∷ xs)
-quiet_first x xs p q step (zero, lt, is) = subst IsQuiet is p
-quiet_first x xs p q step (suc i, lt, is) = q step (i, omega (arith, lt), is)
+pub may_rest : (steps : List Step) {f : Fabric} → IsReady f → All IsQuiet steps → (new : Fabric) × Rests f steps new
+may_rest [] {f} ready quiet = (f, refl)
+may_rest (step ∷ steps) ready quiet =
+    let is_quiet = All-head IsQuiet step steps quiet in
+    let s = quiet_step step ready is_quiet in
+    let rest = may_rest steps (move_ready (moved s.0 step s.1 ready.sound is_quiet s.3) ready)
+    (All-tail IsQuiet step steps quiet) in
+    (rest.0, (s.0, s.1, is_quiet, s.2, s.3, rest.1))
 
-quiet_none : AllQuiet []
-quiet_none step (i, lt, is) = absurd (omega (arith, lt))
+quiet_announcing : (n e : ℕ) → All IsQuiet (announcing e n)
+quiet_announcing zero e = All-nil IsQuiet
+quiet_announcing (suc n) e = All-cons IsQuiet (Announce e) (announcing e n) tt (quiet_announcing n e)
 
-quiet_announcing : (e n : ℕ) → AllQuiet (announcing e n)
-quiet_announcing e zero = quiet_none
-quiet_announcing e (suc n) = quiet_first (Announce e) (announcing e n) tt (quiet_announcing e n)
+quiet_taking : (n e : ℕ) → All IsQuiet (taking e n)
+quiet_taking zero e = All-nil IsQuiet
+quiet_taking (suc n) e = All-cons IsQuiet (Deliver e (suc n)) (taking e n) tt (quiet_taking n e)
 
-quiet_taking : (e n : ℕ) → AllQuiet (taking e n)
-quiet_taking e zero = quiet_none
-quiet_taking e (suc n) = quiet_first (Deliver e (suc n)) (taking e n) tt (quiet_taking e n)
+quiet_each : (f : ℕ → List Step) → ((e : ℕ) → All IsQuiet (f e)) → (m : ℕ) → All IsQuiet (each f m)
+quiet_each f h zero = All-nil IsQuiet
+quiet_each f h (suc m) = All-append IsQuiet (f (suc m)) (each f m) (h (suc m)) (quiet_each f h m)
 
-quiet_each : (f : ℕ → List Step) → ((e : ℕ) → AllQuiet (f e)) → (m : ℕ) → AllQuiet (each f m)
-quiet_each f h zero = quiet_none
-quiet_each f h (suc m) = quiet_append (f (suc m)) (each f m) (h (suc m)) (quiet_each f h m)
+quiet_round : (m n : ℕ) → All IsQuiet (round m n)
+quiet_round m n = All-append IsQuiet (announcings m n) (deliveries m n)
+    (quiet_each (λ e. announcing e n) (quiet_announcing n) m) (quiet_each (λ e. taking e n) (quiet_taking n) m)
 
-quiet_round : (m n : ℕ) → AllQuiet (round m n)
-quiet_round m n = quiet_append (each (λ e. announcing e n) m) (each (λ e. taking e n) m)
-    (quiet_each (λ e. announcing e n) (λ e. quiet_announcing e n) m)
-    (quiet_each (λ e. taking e n) (λ e. quiet_taking e n) m)
+pub quiet_rounds : (f : Fabric) → All IsQuiet (two_rounds f)
+quiet_rounds f =
+    let one = quiet_round (length f.edges) (full_pool f) in
+    All-append IsQuiet (round (length f.edges) (full_pool f)) (round (length f.edges) (full_pool f)) one one
 
-pub quiet_rounds : (f : Fabric) → AllQuiet (two_rounds f)
-quiet_rounds f = quiet_append (round (length f.edges) (full_pool f)) (round (length f.edges) (full_pool f))
-    (quiet_round (length f.edges) (full_pool f)) (quiet_round (length f.edges) (full_pool f))
+-- ---- fabrics in which plenty of numbers are left
+-- if nothing was announced, nothing comes back
+pub start_numbers : {configs : List EdgeConfig} {f : Fabric} → IsStart configs f → HasNumbers f
+start_numbers {f} h i a at some =
+    let none : returning f.pool a.routes.speaker ≡ 0 = rw h.quiet in
+    absurd (omega arith)
+
+pub few_numbers : {f : Fabric} → IsSound f → ((i : ℕ) (a : Edge) → IsEdge f i a
+    → a.routes.speaker.counter + capacity a.routes + length f.pool ≤ 2 ^ 63) → HasNumbers f
+few_numbers {f} h few i a at some =
+    omega (
+      arith,
+      (h.good i a at).routes.routes.fits,
+      few i a at,
+      count_by-le-length
+          (may_return f.pool a.routes.speaker) f.pool,
+    )
+
+-- two rounds from an opened fabric
+pub agreement : (configs : List EdgeConfig) (f : Fabric) → AreConfigs configs → IsStart configs f
+    → (new : Fabric) × Rests f (two_rounds f) new × AllAgree new × IsSound new
+agreement configs f are start =
+    let sound = start_sound configs f are start in
+    let ready : IsReady f = assumption (start_numbers start) in
+    let run = may_rest (two_rounds f) ready (quiet_rounds f) in (
+      run.0,
+      run.1,
+      two_rounds_agree run.0 ready (enough_itself f) run.1,
+      rests_sound (two_rounds f) run.0 run.1 sound,
+    )
+
+-- ---- each announcement or delivery that changes a fabric uses up some of a bounded amount of work
+
+abbrev one : Bool → ℕ
+one b = cond b 1 0
+
+one_most : (b : Bool) → one b ≤ 1
+one_most true = omega arith
+one_most false = omega arith
+
+missing_push : (pool : List Fields) (e : Speaker) (u : Fields) → missing (pool ++ u ∷ []) e ≤ missing pool e + 1
+missing_push pool e u =
+    let sum : missing (pool ++ u ∷ []) e ≡ missing pool e + one (is_newest e u) =
+    sum_by_push (λ w. one (is_newest e w)) pool u in
+    omega (arith, one_most (is_newest e u))
+
+missing_none : (pool : List Fields) (e : Speaker) (u : Fields) → is_newest e u ≡ false
+    → missing (pool ++ u ∷ []) e ≡ missing pool e
+missing_none pool e u none =
+    let sum : missing (pool ++ u ∷ []) e ≡ missing pool e + one (is_newest e u) =
+    sum_by_push (λ w. one (is_newest e w)) pool u in
+    let here : one (is_newest e u) ≡ 0 = ap one none in
+    omega arith
+
+-- a delivery of an update that is no news leaves the fabric unchanged
+same_take : {old : Fabric} → IsSound old → (t : Taking old) → is_newest t.edge.routes.speaker t.update ≡ false
+    → taken t ≡ old
+same_take {old} sound t none = rw (
+  known_hearing t.edge.routes t.update (sound.good t.place t.edge t.at).keeps.owns none,
+  same_edges old t.place t.at,
+)
+
+-- the work of one edge of a fabric with this pool, to which so many updates may still come
+abbrev load : List Fields → ℕ → Edge → ℕ
+load pool n e = missing pool e.routes.speaker + n
+
+move_works : {old new : Fabric} → Move old new → IsSound old → (new ≡ old) ⊎ (work new < work old)
+move_works Stays sound = inl refl
+move_works {old} (Tells t) sound =
+    let fewer = told_fewer sound t in
+    let after = after_telling t.edge t.rest in
+    inr (omega (
+      arith,
+      sum_set (load old.pool (to_come old)) (load (told t).pool (to_come (told t))) 0 old.edges
+          t.place t.edge after t.at
+          (omega (arith, missing_none old.pool after.routes.speaker t.update (told_known t)))
+          (λ j x ne at. omega (arith, missing_push old.pool x.routes.speaker t.update)),
+    ))
+move_works {old} (Takes t) sound = elim (cases_Bool (is_newest t.edge.routes.speaker t.update)) [
+  | inl news ↦
+      let numbers = (sound.good t.place t.edge t.at).routes.numbers in
+      let fewer = taken_fewer sound t in
+      let after = after_hearing t.edge t.update in
+      inr (omega (
+        arith,
+        sum_set (load old.pool (to_come old)) (load old.pool (to_come (taken t))) 1 old.edges
+            t.place t.edge after t.at
+            (omega (
+              arith,
+              count_less (is_newest t.edge.routes.speaker) (is_newest after.routes.speaker) old.pool
+                  (news_before (heard_later t.edge.routes numbers t.ok)) t.inside news
+                  (heard_has t.edge.routes t.update numbers),
+            )) (λ j x ne at. omega arith),
+      ))
+  | inr none ↦ inl (same_take sound t none)
+]
+
+pub works_bound : (steps : List Step) {old : Fabric} (new : Fabric) → IsSound old → Works old steps new
+    → length steps + work new ≤ work old
+works_bound [] new sound h = omega (arith, ap work h)
+works_bound (step ∷ steps) new sound h =
+    let move = moved h.0 step h.1 sound h.2 h.4 in
+    elim (move_works move sound) [
+      | inl same ↦ absurd (h.5 same)
+      | inr less ↦ omega (arith, works_bound steps new (move_sound move sound) h.6)
+    ]
+
+-- ---- if all agree, no quiet step changes anything
+agreed_stays : {old new : Fabric} → Move old new → IsSound old → AllAgree old → new ≡ old
+agreed_stays Stays sound agree = refl
+agreed_stays (Tells t) sound agree = cc (t.pending, agree.quiet t.place t.edge t.at)
+agreed_stays (Takes t) sound agree = let v = agree.arrived t.place t.edge t.at t.update t.inside in
+    same_take sound t (rw v.1 v.2)
+
+pub agreed_rests : (steps : List Step) {old : Fabric} (new : Fabric) → IsSound old → AllAgree old
+    → Rests old steps new → new ≡ old
+agreed_rests [] new sound agree h = h
+agreed_rests (step ∷ steps) new sound agree h =
+    let same = agreed_stays (moved h.0 step h.1 sound h.2 h.4) sound agree in
+    agreed_rests steps new (rw same sound) (rw same agree) h.5 ∙ same
+
+-- ---- if not all agree, some step changes something
+find : {X : Type 0} (P Q : X → Type 0) (xs : List X) → ((x : X) → P x ⊎ Q x)
+    → ((i : ℕ) (x : X) → slice_get xs i ≡ Some x → P x) ⊎ ((i : ℕ) × (x : X) × (slice_get xs i ≡ Some x) × Q x)
+find P Q [] test = inl (λ i x at. cc)
+find P Q (x ∷ xs) test = elim (test x) [
+  | inl here ↦ elim (find P Q xs test) [
+    | inl rest ↦ inl (all here rest)
+    | inr found ↦ inr (suc found.0, found.1, found.2, found.3)
+  ]
+  | inr found ↦ inr (0, x, refl, found)
+]
+  where
+    all : P x → ((i : ℕ) (y : _) → slice_get xs i ≡ Some y → P y) → (i : ℕ) (y : _) → slice_get (x ∷ xs) i ≡ Some y
+        → P y
+    all here rest zero y at = let same : x ≡ y = cc in rw same at here
+    all here rest (suc i) y at = rest i y at
+
+-- an edge has something pending, or lacks an update of the pool, or neither
+abbrev IsBusy : List Fields → Edge → Type 0
+IsBusy pool a = ((r : Register) × (rs : List Register) × (a.routes.speaker.pending ≡ r ∷ rs))
+    ⊎ ((n : ℕ) × (u : Fields) × (slice_get pool n ≡ Some u) × (is_newest a.routes.speaker u ≡ true))
+
+abbrev IsIdle : List Fields → Edge → Type 0
+IsIdle pool a = (a.routes.speaker.pending ≡ []) × ((n : ℕ) (u : Fields) → slice_get pool n ≡ Some u
+    → is_newest a.routes.speaker u ≡ false)
+
+idle_or_busy : (pool : List Fields) (a : Edge) → IsIdle pool a ⊎ IsBusy pool a
+idle_or_busy pool a = go a.routes.speaker.pending refl
+  where
+    either : (u : Fields) → (is_newest a.routes.speaker u ≡ false) ⊎ (is_newest a.routes.speaker u ≡ true)
+    either u = elim (cases_Bool (is_newest a.routes.speaker u)) [ inl e ↦ inr e | inr e ↦ inl e ]
+
+    go : (rs : List Register) → a.routes.speaker.pending ≡ rs → IsIdle pool a ⊎ IsBusy pool a
+    go [] e = elim (find (λ u. is_newest a.routes.speaker u ≡ false) (λ u. is_newest a.routes.speaker u ≡ true) pool
+        either) [
+          | inl none ↦ inl (e, none)
+          | inr found ↦ inr (inr found)
+        ]
+    go (r ∷ rs) e = inr (inl (r, rs, e))
+
+pub goes_on : {f : Fabric} → IsReady f → AllAgree f ⊎ ((step : Step) × (new : Fabric) × Works f (step ∷ []) new)
+goes_on {f} ready = elim (find (IsIdle f.pool) (IsBusy f.pool) f.edges (idle_or_busy f.pool)) [
+  | inl idle ↦ inl (record {
+    quiet = λ i a at. (idle i a at).0;
+    arrived = λ i a at u in'. let place = place_of f.pool u in' in
+        arrived_value (value_at (table_of a) u.register) u.value ((idle i a at).1 place.0 u place.1);
+  })
+  | inr found ↦ inr (elim found.3 [
+    | inl pending ↦ says found.0 found.1 found.2 pending.0 pending.1 pending.2
+    | inr missing ↦ takes found.0 found.1 found.2 missing.0 missing.1 missing.2 missing.3
+  ])
+]
+  where
+    says : (i : ℕ) (a : Edge) → IsEdge f i a → (r : Register) (rs : List Register) → a.routes.speaker.pending ≡ r ∷ rs
+        → (step : Step) × (new : Fabric) × Works f (step ∷ []) new
+    says i a at r rs pend =
+        let s = quiet_step (Announce (suc i)) ready tt in (
+          Announce (suc i),
+          s.0,
+          (
+            s.0,
+            s.1,
+            tt,
+            s.2,
+            s.3,
+            (λ same.
+                let long : length a.routes.speaker.pending ≡ suc (length rs) = ap length pend in
+                omega (
+                  arith,
+                  announce_one s.0 i (length rs) s.1 ready.sound s.2 s.3 few a
+                      (subst (λ g. IsEdge g i a) (sym same) at),
+                )),
+            refl,
+          ),
+        )
+      where
+        few : (b : Edge) → IsEdge f i b → length b.routes.speaker.pending ≤ suc (length rs)
+        few b at_b =
+            let same : a ≡ b = cc in
+            let long : length b.routes.speaker.pending ≡ suc (length rs) =
+            rw (← same, pend) in
+            omega arith
+
+    takes : (i : ℕ) (a : Edge) → IsEdge f i a → (n : ℕ) (u : Fields) → slice_get f.pool n ≡ Some u
+        → is_newest a.routes.speaker u ≡ true → (step : Step) × (new : Fabric) × Works f (step ∷ []) new
+    takes i a at n u there news =
+        let s = quiet_step (Deliver (suc i) (suc n)) ready tt in (
+          Deliver (suc i) (suc n),
+          s.0,
+          (
+            s.0,
+            s.1,
+            tt,
+            s.2,
+            s.3,
+            (λ same.
+                cc (given s.0 i n s.1 ready s.2 s.3 there a (subst (λ g. IsEdge g i a) (sym same) at))),
+            refl,
+          ),
+        )

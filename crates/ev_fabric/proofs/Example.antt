@@ -1,7 +1,7 @@
 -- Two edges with one VNI as they are opened: the laws' first premise can be met.
-use Rattle.std.proofs.Common.{◌≡◌, ◌≤◌, ◌==◌, ◌&&◌, ◌||◌, ℕ, zero, suc, ◌+◌, true, false, Some, None, List, [], ◌∷◌}
-use Rattle.std.proofs.Common.{refl, sym, ap, subst, ◌∙◌, eqb, arith, lit<, lit≤, ◌++◌}
-use Rattle.std.specs.Prelude.{Contains, is_some, is_none, slice_get, slice_index_or, nat_lt}
+use Rattle.std.proofs.Common.{◌≡◌, ◌≤◌, ◌==◌, ◌&&◌, ℕ, zero, suc, true, false, Some, None, List, [], ◌∷◌, refl, sym, ap}
+use Rattle.std.proofs.Common.{subst, ◌∙◌, eqb, arith, lit<, lit≤, ◌++◌}
+use Rattle.std.specs.Prelude.{Contains, is_none, slice_get, slice_index_or, nat_lt}
 use Rattle.std.specs.List.{IsDistinct}
 use Rattle.std.proofs.lemmas.Bool.Decides.{nat_tests}
 use Rattle.std.proofs.lemmas.List.Sorted.{IsPermutation-refl}
@@ -12,8 +12,8 @@ use Rattle.route_wire.specs.Fields.{flood_advert}
 use Rattle.mac_arena.specs.declared.station.Station.{Station}
 use Rattle.mac_arena.specs.declared.station.Entry.{Entry}
 use Rattle.mac_arena.specs.Station.{station_cmp}
-use Rattle.mac_arena.specs.Learning.{Learning, entry_at, nothing_learnt, stations_at, bucket_in}
-use Rattle.mac_arena.specs.ListsName.{ListsName, AreOnce, stands, is_on, ages}
+use Rattle.mac_arena.specs.Learning.{Learning, entry_at, nothing_learnt, stations_at}
+use Rattle.mac_arena.specs.ListsName.{ListsName, ages}
 use Rattle.idx_links.specs.Links.{has}
 use Rattle.rstp_state.specs.declared.start.Settings.{Settings}
 use Rattle.rstp_run.specs.Events.{start}
@@ -96,7 +96,7 @@ differ = ((refl, tt), (tt, tt))
 pub two_listen : (o : ℕ) → Contains addresses o → Contains listeners o
 two_listen o (zero, l, e) = (zero, lit< tt, e)
 two_listen o (suc zero, l, e) = (suc zero, lit< tt, e)
-two_listen o (suc (suc n), l, e) = absurd (omega (arith, l))
+two_listen o (suc (suc n), l, e) = absurd (omega arith)
 
 pub one_network : IsDistinct eqb (5001 ∷ [])
 unfolding IsDistinct
@@ -105,7 +105,7 @@ one_network = (tt, tt)
 pub served : (v : ℕ) → Contains (5001 ∷ 5001 ∷ []) v → Contains (5001 ∷ []) v
 served v (zero, l, e) = (zero, lit< tt, e)
 served v (suc zero, l, e) = (zero, lit< tt, e)
-served v (suc (suc n), l, e) = absurd (omega (arith, l))
+served v (suc (suc n), l, e) = absurd (omega arith)
 
 pub fits : (tree : Settings) (address : ℕ) → 1 ≤ tree.hello → Contains listeners address → IsConfig
     (config_of tree address)
@@ -130,14 +130,14 @@ pushed xs ys new c e p = e ∙ λ i. p i ++ c ∷ []
 
 -- a property of two or three elements holds for each element of their list
 pub each : (P : EdgeConfig → Type 0) (x y : EdgeConfig) → P x → P y → (c : EdgeConfig) → Contains (x ∷ y ∷ []) c → P c
-each P x y h k c (zero, l, e) = subst P e h
-each P x y h k c (suc zero, l, e) = subst P e k
-each P x y h k c (suc (suc n), l, e) = absurd (omega (arith, l))
+each P x y h k c (zero, l, e) = rw e at h
+each P x y h k c (suc zero, l, e) = rw e at k
+each P x y h k c (suc (suc n), l, e) = absurd (omega arith)
 
 pub each_of_three : (P : EdgeConfig → Type 0) (x y z : EdgeConfig) → P x → P y → P z → (c : EdgeConfig)
     → Contains (x ∷ y ∷ z ∷ []) c → P c
-each_of_three P x y z h k m c (zero, l, e) = subst P e h
-each_of_three P x y z h k m c (suc n, l, e) = each P y z k m c (n, omega (arith, l), e)
+each_of_three P x y z h k m c (zero, l, e) = rw e at h
+each_of_three P x y z h k m c (suc n, l, e) = each P y z k m c (n, omega arith, e)
 
 pub are_configs : (tree : Settings) → 1 ≤ tree.hello → AreConfigs (configs_of tree)
 are_configs tree hello = record {
@@ -188,7 +188,7 @@ opens_routes : (tree : Settings) (address : ℕ) → routes.IsOpening (start_of 
     (opened_routes_of address)
 opens_routes tree address = record {
   vnis = IsPermutation-refl (5001 ∷ []);
-  ascending = λ k d from within. absurd (omega (arith, within));
+  ascending = λ k d from within. absurd (omega arith);
   speaker = refl;
   learned = refl;
   ports = refl;
@@ -211,8 +211,8 @@ opens tree address = record {
 none : (s : Station) → entry_at nobody_learnt s ≡ None
 none s = get-empty {X = Entry} station_cmp s
 
-no_entry : {A : Type 0} (s : Station) (x : Entry) → entry_at nobody_learnt s ≡ Some x → A
-no_entry s x at = let e : None ≡ Some x = sym (none s) ∙ at in let no : ⊥ = cc in absurd no
+no_entry : {A : Type 0} (s : Station) {x : Entry} → entry_at nobody_learnt s ≡ Some x → A
+no_entry s {x} at = let e : None ≡ Some x = sym (none s) ∙ at in let no : ⊥ = cc in absurd no
 
 no_chain : (b : ℕ) → stations_at nobody_learnt.chains b ≡ []
 no_chain zero = refl
@@ -223,31 +223,30 @@ no_port zero = refl
 no_port (suc zero) = refl
 no_port (suc (suc l)) = refl
 
-no_place : (n : ℕ) (s : Station) → slice_index_or nobody_learnt.places n None ≡ Some s → ⊥
-no_place zero s at = cc
-no_place (suc n) s at = cc
+no_place : (n : ℕ) {s : Station} → slice_index_or nobody_learnt.places n None ≡ Some s → ⊥
+no_place zero at = cc
+no_place (suc n) at = cc
 
 free : (n : ℕ) → has nobody_learnt.free n ≡ (nat_lt n 1 && is_none (slice_index_or nobody_learnt.places n None))
 free zero = refl
 free (suc n) =
     let other : (0 == suc n) ≡ false = grind (arith, nat_tests) in
     let past : nat_lt (suc n) 1 ≡ false = grind (arith, nat_tests) in
-    ap (λ b. b || false) other ∙ sym (ap (λ b. b && true) past)
+    rw other (sym (rw past))
 
 lists_name : ListsName nobody_learnt
 lists_name = record {
-  chains = λ b s. ap (λ xs. stands xs s) (no_chain b) ∙ sym
-      (ap (λ o. is_some o && (bucket_in nobody_learnt s == b)) (none s));
-  chains_once = λ b. subst AreOnce (sym (no_chain b)) tt;
-  ports = λ l s. ap (λ xs. stands xs s) (no_port l) ∙ sym (ap (λ o. is_on o (l + 1)) (none s));
-  ports_once = λ l. subst AreOnce (sym (no_port l)) tt;
+  chains = λ b s. rw (no_chain b) (sym (rw (none s)));
+  chains_once = λ b. rw (no_chain b) tt;
+  ports = λ l s. rw (no_port l) (sym (rw (none s)));
+  ports_once = λ l. rw (no_port l) tt;
   ageing = λ s. sym (ap ages (none s));
   ageing_once = tt;
   rises = tt;
-  pinned_at_zero = λ s x at pinned. no_entry s x at;
-  placed = λ s x at. no_entry s x at;
-  known = λ n s at. absurd (no_place n s at);
-  one_place = λ n m s at_n at_m. absurd (no_place n s at_n);
+  pinned_at_zero = λ s x at pinned. no_entry s at;
+  placed = λ s x at. no_entry s at;
+  known = λ n s at. absurd (no_place n at);
+  one_place = λ n m s at_n at_m. absurd (no_place n at_n);
   free = free;
   free_once = (refl, tt);
 }

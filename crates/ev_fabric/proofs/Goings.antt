@@ -1,170 +1,97 @@
 -- In every run edges stay, their incarnations rise, and the pool grows.
-use Rattle.std.proofs.Common.{◌≡◌, inl, inr, ℕ, zero, suc, ◌≤◌, Option, Some, None, Result, Ok, Err, List, [], ◌∷◌}
-use Rattle.std.proofs.Common.{◌++◌, length, refl, sym, ap, subst, ◌∙◌, arith, length-set}
+use Rattle.std.proofs.Common.{◌≡◌, inl, inr, ℕ, zero, suc, ◌≤◌, Some, Result, Ok, Err, List, [], ◌∷◌}
+use Rattle.std.proofs.Common.{◌++◌, refl, sym, ap, ◌∙◌, arith, length-set}
 use Rattle.std.proofs.lemmas.Bool.{cases_eq}
 use Rattle.std.proofs.lemmas.List.{append-nil, append_assoc}
 use Rattle.std.proofs.lemmas.Option.{none-some}
 use Rattle.std.specs.Prelude.{slice_get, slice_set}
 use Rattle.route_wire.specs.Fields.{Fields}
 use Rattle.ev_edge.specs.declared.reply.Reply.{Reply}
-use Rattle.ev_edge.specs.declared.event.Event.{Event}
-use Rattle.ev_edge.specs.declared.event.Event.TheVariants as events
-use Rattle.ev_edge.specs.Edge.{Edge, address_of}
+use Rattle.ev_edge.specs.Edge.{Edge}
 use Rattle.ev_fabric.specs.declared.refusal.FabricRefusal.{FabricRefusal}
 use Rattle.ev_fabric.specs.declared.refusal.FabricRefusal.TheVariants.{NoSuchEdge}
 use Rattle.ev_fabric.specs.declared.step.Step.{Step}
-use Rattle.ev_fabric.specs.declared.step.Step.TheVariants.{Local, Announce, Deliver, Restart}
+use Rattle.ev_fabric.specs.declared.step.Step.TheVariants.{Restart}
 use Rattle.ev_fabric.specs.Fabric.{Fabric, IsEdge, nth, incarnation_of}
-use Rattle.ev_fabric.specs.Local.{event_of}
 use Rattle.ev_fabric.specs.Sound.{IsSound, IsOf}
-use Rattle.ev_fabric.specs.Steps.{with_announced, StepsAt, AnnouncesAt, in_incarnation, OpensAnew}
-use Rattle.ev_fabric.specs.Steps.{RestartsAt}
-use Rattle.ev_fabric.specs.Steps.{FabricSteps}
+use Rattle.ev_fabric.specs.Steps.{in_incarnation, OpensAnew, RestartsAt, FabricSteps}
 use Rattle.ev_fabric.specs.Later.{IsLaterEdge, IsLaterFabric, RunsLead, RestsRun, AdvertsAreAnew}
 use Rattle.ev_fabric.proofs.Places.{minus, set_same, set_other}
-use Rattle.ev_fabric.proofs.Voices.{AreOne}
-use Rattle.ev_fabric.proofs.Events.{Leaves}
+use Rattle.ev_fabric.proofs.Voices.{talks_one}
+use Rattle.ev_fabric.proofs.Events.{local_talks}
 use Rattle.ev_fabric.proofs.Opened.{opened_of, fit_in_life}
-use Rattle.ev_fabric.proofs.Cases.{at_edge, at_delivery}
-use Rattle.ev_fabric.proofs.Fabrics.{step_sound, runs_sound, local_leaves, given_leaves}
+use Rattle.ev_fabric.proofs.Cases.{at_edge}
+use Rattle.ev_fabric.proofs.ConvergingEdge.{heard_later, after_hearing, after_telling}
+use Rattle.ev_fabric.proofs.ConvergingMoves.{Stays, Tells, Takes, told, taken}
+use Rattle.ev_fabric.proofs.Fabrics.{Did, Moved, Spoke, Opened, did, step_sound, runs_sound}
 use Rattle.ev_fabric.proofs.Agreements.{none_back}
-
--- ---- one edge
-
-edge_itself : (a : Edge) → IsLaterEdge a a
-edge_itself a = record { address = refl; life = omega arith }
-
-edge_further : (a b c : Edge) → IsLaterEdge a b → IsLaterEdge b c → IsLaterEdge a c
-edge_further a b c h g = record {
-  address = g.address ∙ h.address;
-  life = let low = h.life in let high = g.life in
-      omega (arith, low, high);
-}
-
-same_life : (a b : Edge) → AreOne a.routes.speaker b.routes.speaker → IsLaterEdge a b
-same_life a b one = record { address = one.address; life = let life = one.incarnation in omega (arith, life) }
 
 -- ---- one step
 
-fabric_itself : (f : Fabric) → IsLaterFabric f f
-fabric_itself f = record {
-  count = refl;
-  edges = λ i a at. (a, at, edge_itself a);
-  more = [];
-  pool = sym (append-nil f.pool);
-}
+edge_further : {a b c : Edge} → IsLaterEdge a b → IsLaterEdge b c → IsLaterEdge a c
+edge_further h g = omega arith
 
 unchanged : (old new : Fabric) → new ≡ old → IsLaterFabric old new
-unchanged old new is = subst (IsLaterFabric old) (sym is) (fabric_itself old)
+unchanged old new is = rw is (record {
+  count = refl;
+  edges = λ i a at. (a, at, omega arith);
+  more = [];
+  pool = sym (append-nil old.pool);
+})
 
 pub one_there : (f : Fabric) (i : ℕ) (a x : Edge) → IsEdge f i a → IsEdge f i x → a ≡ x
 one_there f i a x p q = cc
 
 -- one edge becomes another one, and the pool may grow
-one_later : (old new : Fabric) (i : ℕ) (a b : Edge) (more : List Fields) → IsEdge old i a
-    → new.edges ≡ slice_set old.edges i b → IsLaterEdge a b → new.pool ≡ old.pool ++ more → IsLaterFabric old new
-one_later old new i a b more at edges later pool = record {
-  count = ap length edges ∙ length-set old.edges i b;
+one_later : {old : Fabric} (new : Fabric) (i : ℕ) {a : Edge} (b : Edge) (more : List Fields) → IsEdge old i a
+    → new.edges ≡ slice_set old.edges i b → new.pool ≡ old.pool ++ more → IsLaterEdge a b → IsLaterFabric old new
+one_later {old} new i {a} b more at edges pool later = record {
+  count = rw edges (length-set old.edges i b);
   edges = λ j x at_x. elim (cases_eq j i) [
     | inl same ↦
-        let here : IsEdge old i x = subst (λ n. IsEdge old n x) same at_x in
-        let is : a ≡ x = one_there old i a x at here in (
-          b,
-          subst (λ l. slice_get l j ≡ Some b) (sym edges)
-              (subst (λ n. slice_get (slice_set old.edges i b) n ≡ Some b) (sym same) (set_same old.edges i a b at)),
-          subst (λ z. IsLaterEdge z b) is later,
-        )
-    | inr ne ↦ (x, subst (λ l. slice_get l j ≡ Some x) (sym edges) (set_other old.edges i b j x ne at_x), edge_itself x)
+        let is : a ≡ x = one_there old i a x at (rw same at at_x) in
+        (b, rw (edges, same) (set_same old.edges i b at), rw is at later)
+    | inr ne ↦ (x, rw edges (set_other old.edges i b j ne at_x), omega arith)
   ];
   more = more;
   pool = pool;
 }
 
-steps_later : (old new : Fabric) (i : ℕ) (a : Edge) (event : Event) (result : Result Reply FabricRefusal)
-    → IsEdge old i a
-    → (s : StepsAt old (suc i) a event result new) → Leaves old.pool a.routes.speaker s.after.routes.speaker
-    → IsLaterFabric old new
-steps_later old new i a event result at s leaves =
-    one_later old new i a s.after [] at (ap (λ (f : Fabric). f.edges) s.new_is
-    ∙ ap (λ n. slice_set old.edges n s.after) (minus i)) (same_life a s.after leaves.one)
-    (ap (λ (f : Fabric). f.pool) s.new_is ∙ sym (append-nil old.pool))
-
--- an announced update is put at the pool's end
-grown : (pool : List Fields) (o : Option Fields) → (more : List Fields) × (with_announced pool o ≡ pool ++ more)
-grown pool None = ([], sym (append-nil pool))
-grown pool (Some u) = (u ∷ [], refl)
-
-announces_later : (old new : Fabric) (i : ℕ) (a : Edge) (result : Result Reply FabricRefusal) → IsEdge old i a
-    → AnnouncesAt old (suc i) a result new → IsLaterFabric old new
-announces_later old new i a (Err why) at s = unchanged old new s.1
-announces_later old new i a (Ok reply) at s =
-    let more = grown old.pool reply.announced in
-    let speaker = s.1.1 in
-    one_later old new i a s.0 more.0 at (ap (λ (f : Fabric). f.edges) s.2
-    ∙ ap (λ n. slice_set old.edges n s.0) (minus i))
-    (record { address = ap address_of speaker; life = let life = ap incarnation_of speaker in omega (arith, life) })
-    (ap (λ (f : Fabric). f.pool) s.2 ∙ more.1)
-
 -- the edge that is opened again
-anew : (old new : Fabric) (i : ℕ) (a : Edge) (n : ℕ) (reply : Reply) → IsSound old → IsEdge old i a
+anew : {old new : Fabric} (i : ℕ) {a : Edge} {n : ℕ} {reply : Reply} → IsSound old → IsEdge old i a
     → (s : OpensAnew old (suc i) a n reply new) → IsOf (in_incarnation s.config n) s.after
-anew old new i a n reply h at s = opened_of (in_incarnation s.config n) s.after
-    (fit_in_life s.config n (h.configs i s.config a s.config_is at).config) s.opened
+anew i {a} {n} h at s = opened_of (fit_in_life n (h.configs i s.config a s.config_is at).config) s.opened
 
-restart_later : (old new : Fabric) (i : ℕ) (a : Edge) (n : ℕ) (reply : Reply) → IsSound old → IsEdge old i a
-    → OpensAnew old (suc i) a n reply new → IsLaterFabric old new
-restart_later old new i a n reply h at s =
-    one_later old new i a s.after [] at (ap (λ (f : Fabric). f.edges) s.new_is
-    ∙ ap (λ m. slice_set old.edges m s.after) (minus i))
-    (record {
-      address = after.address ∙ sym was.address;
-      life = let life = after.life in let higher = s.higher in
-          omega (arith, life, higher);
-    })
-    (ap (λ (f : Fabric). f.pool) s.new_is ∙ sym (append-nil old.pool))
-  where
-    was : IsOf s.config a
-    was = h.configs i s.config a s.config_is at
-
-    after : IsOf (in_incarnation s.config n) s.after
-    after = anew old new i a n reply h at s
-
-restarts_later : (old new : Fabric) (i : ℕ) (a : Edge) (n : ℕ) (result : Result Reply FabricRefusal) → IsSound old
-    → IsEdge old i a → RestartsAt old (suc i) a n result new → IsLaterFabric old new
-restarts_later old new i a n (Ok reply) h at s = restart_later old new i a n reply h at s
-restarts_later old new i a n (Err why) h at s = unchanged old new s.1
-
-pub step_later : (old new : Fabric) (step : Step) (result : Result Reply FabricRefusal) → IsSound old
-    → FabricSteps old step result new → IsLaterFabric old new
-step_later old new (Local e event) result h s =
-    at_edge (IsLaterFabric old new) old new result (λ e a. StepsAt old e a (event_of event) result new) e s
-    (λ is. unchanged old new is.1)
-    (λ i a _ at s. steps_later old new i a (event_of event) result at s
-    (local_leaves old i a s.after event s.answer h at s.steps))
-step_later old new (Announce e) result h s =
-    at_edge (IsLaterFabric old new) old new result (λ e a. AnnouncesAt old e a result new) e s
-    (λ is. unchanged old new is.1) (λ i a _ at s. announces_later old new i a result at s)
-step_later old new (Deliver e k) result h s =
-    at_delivery (IsLaterFabric old new) old new result e k s (λ why is. unchanged old new is.1)
-    (λ i a n u _ _ at there s. steps_later old new i a (events.Take u) result at s
-    (given_leaves old i n a s.after u s.answer h at there s.steps))
-step_later old new (Restart e n) result h s =
-    at_edge (IsLaterFabric old new) old new result (λ e a. RestartsAt old e a n result new) e s
-    (λ is. unchanged old new is.1) (λ i a _ at s. restarts_later old new i a n result h at s)
+did_later : {old new : Fabric} {step : Step} → IsSound old → Did old step new → IsLaterFabric old new
+did_later {old} h (Moved Stays) = unchanged old old refl
+did_later h (Moved (Tells t)) = one_later (told t) t.place (after_telling t.edge t.rest) (t.update ∷ []) t.at refl refl
+    (omega arith)
+did_later {old} h (Moved (Takes t)) =
+    let one = heard_later t.edge.routes (h.good t.place t.edge t.at).routes.numbers t.ok in
+    one_later (taken t) t.place (after_hearing t.edge t.update) [] t.at refl (sym (append-nil old.pool))
+    (omega (arith, one.address, one.incarnation))
+did_later {old} h (Spoke x a b event answer at steps) =
+    let one = talks_one (local_talks a event answer b steps) in
+    one_later (record old { edges = slice_set old.edges x b }) x b [] at refl (sym (append-nil old.pool))
+    (omega (arith, one.address, one.incarnation))
+did_later {old} h (Opened x a n reply new at s) =
+    let after = anew x h at s in
+    one_later new x s.after [] at (rw (s.new_is, minus x)) (rw s.new_is (sym (append-nil old.pool)))
+    (omega (arith, after.address, (h.configs x s.config a s.config_is at).address, after.life, s.higher))
 
 -- ---- lists of steps
 
 pub fabric_further : (f g k : Fabric) → IsLaterFabric f g → IsLaterFabric g k → IsLaterFabric f k
 fabric_further f g k x y = record {
   count = y.count ∙ x.count;
-  edges = λ i a at. let b = x.edges i a at in let c = y.edges i b.0 b.1 in (c.0, c.1, edge_further a b.0 c.0 b.2 c.2);
+  edges = λ i a at. let b = x.edges i a at in let c = y.edges i b.0 b.1 in (c.0, c.1, edge_further b.2 c.2);
   more = x.more ++ y.more;
   pool = y.pool ∙ ap (λ l. l ++ y.more) x.pool ∙ append_assoc f.pool x.more y.more;
 }
 
 pub runs_lead : RunsLead
 runs_lead [] old new h s = unchanged old new s
-runs_lead (step ∷ steps) old new h s = fabric_further old s.0 new (step_later old s.0 step s.1 h s.2)
+runs_lead (step ∷ steps) old new h s = fabric_further old s.0 new (did_later h (did s.0 step s.1 h s.2))
     (runs_lead steps s.0 new (step_sound old s.0 step s.1 s.2 h) s.3)
 
 pub rests_run : RestsRun
@@ -184,9 +111,8 @@ opened_there old mid e n reply h s =
     at_edge ((a : Edge) × (nth mid.edges e ≡ Some a) × (incarnation_of a ≡ n)) old mid (Ok reply)
     (λ e a. RestartsAt old e a n (Ok reply) mid) e s (λ is. absurd (no_answer reply is.0)) (λ i a e_is at s. (
       s.after,
-      ap (nth mid.edges) e_is ∙ ap (λ l. slice_get l i) (ap (λ (f : Fabric). f.edges) s.new_is
-          ∙ ap (λ m. slice_set old.edges m s.after) (minus i)) ∙ set_same old.edges i a s.after at,
-      (anew old mid i a n reply h at s).life,
+      ap (nth mid.edges) e_is ∙ ap (λ l. slice_get l i) (rw (s.new_is, minus i)) ∙ set_same old.edges i s.after at,
+      (anew i h at s).life,
     ))
 
 pub adverts_are_anew : AdvertsAreAnew
@@ -206,8 +132,11 @@ adverts_are_anew old mid new e n reply steps h restart runs agree i b c at_b at_
         let x = (runs_lead steps mid new sound_mid runs).edges j anew.0 anew.1 in
         let here : slice_get new.edges j ≡ Some b = at in
         let same : x.0 ≡ b = one_there new j x.0 b x.1 here in
-        let lives = x.2.life in
-        let life = anew.2 in
-        let equal = ap incarnation_of same in
-        let own = none_back new sound agree i j c b at_c here r v mine is some in
-        omega (arith, lives, life, equal, own)
+        omega (
+          arith,
+          x.2.life,
+          anew.2,
+          ap incarnation_of same,
+          none_back new sound agree i j c b at_c here r v mine is
+              some,
+        )

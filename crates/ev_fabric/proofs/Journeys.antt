@@ -1,14 +1,13 @@
 -- From a port of one edge to the port of another: the datagram that the first one sends comes out at the second.
 use Rattle.std.proofs.lemmas.Bool.{and_from}
-use Rattle.std.proofs.Common.{◌≡◌, ◌≢◌, ℕ, zero, suc, ◌<◌, ◌==◌, ◌^◌, Bool, true, false, cond, not, drop, Option}
-use Rattle.std.proofs.Common.{Some, None, Result, Ok, Err, List, refl, sym, ap, subst, ◌∙◌, arith}
+use Rattle.std.proofs.Common.{◌≡◌, ◌≢◌, ℕ, zero, suc, ◌<◌, ◌==◌, ◌^◌, Bool, true, false, cond, not, drop, Option, Some}
+use Rattle.std.proofs.Common.{None, Result, Ok, Err, List, refl, sym, ap, ◌∙◌, arith}
 use Rattle.std.proofs.lemmas.Bool.Decides.{nat_tests}
 use Rattle.ether_wire.specs.Frame.{frame_of, destination_of, payload_of}
 use Rattle.ether_wire.specs.declared.frame.FrameRefusal.{FrameRefusal}
 use Rattle.bpdu_wire.specs.Reading.{reading}
 use Rattle.bpdu_wire.specs.declared.bpdu.Bpdu.{Bpdu}
 use Rattle.bpdu_wire.specs.declared.refusal.BpduRefusal as bpdu
-use Rattle.vxlan_wire.specs.Vxlan.{instance_of}
 use Rattle.vxlan_wire.proofs.VxlanLemmas.{instance_of-header_of}
 use Rattle.route_join.specs.Table.{is_listed}
 use Rattle.mac_arena.specs.declared.station.Entry.{Entry}
@@ -17,15 +16,11 @@ use Rattle.ev_claims.specs.LocalRoutes.{vni_at}
 use Rattle.ev_edge.specs.declared.arrival.Arrival.{Arrival}
 use Rattle.ev_edge.specs.declared.arrival.Arrival.TheVariants.{Dropped, Data}
 use Rattle.ev_edge.specs.declared.event.Event.{Event}
-use Rattle.ev_edge.specs.declared.refusal.EdgeRefusal.TheVariants.{UnknownOriginator, NoSuchVni}
 use Rattle.ev_edge.specs.declared.refusal.Refusal.{Refusal}
-use Rattle.ev_edge.specs.declared.refusal.Refusal.TheVariants.{Edge as OfEdge}
 use Rattle.ev_edge.specs.declared.reply.Reply.{Reply}
 use Rattle.ev_edge.specs.Arrival.{port_arrival, frame_arrival, arrival_on, arrival_at, reserved_arrival, message_in}
-use Rattle.ev_edge.specs.Arrival.{data_in}
+use Rattle.ev_edge.specs.Arrival.{data_in, holds_bpdu, is_up, inner_arrival, serves, tunnel_arrival}
 use Rattle.ether_wire.specs.Addr.{is_reserved}
-use Rattle.ev_edge.specs.Arrival.{holds_bpdu, is_up, inner_arrival, serves, datagram_arrival}
-use Rattle.ev_edge.specs.Arrival.{tunnel_arrival}
 use Rattle.ev_edge.specs.Edge.{Edge, IsGoodEdge, table_of, address_of}
 use Rattle.ev_edge.specs.Steps.{TunnelSteps, Steps}
 use Rattle.ev_edge.proofs.Admitting.{of_admitted}
@@ -75,10 +70,10 @@ arrives_inner e port octets vni destination source is = go (vni_at e.routes.port
     go (Some v) q = at_port v (is_up e.tree port) (frame_of octets) q
 
 -- a good edge serves the VNIs of its ports
-serves_own : (o : Edge) (vni q : ℕ) → IsGoodEdge o → vni_at o.routes.ports q ≡ Some vni → serves o vni ≡ true
-serves_own o vni zero good is = cc
-serves_own o vni (suc l) good is = sym (any_is true o.routes.vnis vni
-    ((λ t. good.keeps.served vni (contains_at o.routes.ports l vni is)), (λ c. refl)))
+serves_own : {o : Edge} {vni : ℕ} (q : ℕ) → IsGoodEdge o → vni_at o.routes.ports q ≡ Some vni → serves o vni ≡ true
+serves_own zero good is = cc
+serves_own {o} {vni} (suc l) good is = sym (any_is true o.routes.vnis vni
+    ((λ t. good.keeps.served vni (contains_at o.routes.ports l is)), (λ c. refl)))
 
 -- the datagram of the frame is one of its VNI, at an edge that serves it and lists the sender
 arrives_there : (o : Edge) (from vni destination source : ℕ) (octets : List ℕ) → vni < 2 ^ 24
@@ -87,11 +82,12 @@ arrives_there : (o : Edge) (from vni destination source : ℕ) (octets : List �
     → tunnel_arrival o from (datagram_of vni octets) ≡ Ok (Data vni destination source)
 arrives_there o from vni destination source octets small listed other served inner =
     let apart : not (from == address_of o) ≡ true = grind (arith, nat_tests) in
-    ap (λ b. cond b (datagram_arrival o (instance_of (datagram_of vni octets))) (Err (OfEdge UnknownOriginator)))
-    (and_from (is_listed (table_of o) from) (not (from == address_of o)) listed apart)
-    ∙ ap (datagram_arrival o) (instance_of-header_of vni octets small)
-    ∙ ap (λ b. cond b (inner_arrival vni (frame_of octets)) (Err (OfEdge NoSuchVni))) served
-    ∙ inner
+    rw (
+      and_from (is_listed (table_of o) from) (not (from == address_of o)) listed apart,
+      instance_of-header_of vni
+          octets small,
+      served,
+    ) inner
 
 pub station_from_port_to_port : StationFromPortToPort
 station_from_port_to_port f s h agree i j o a b at_o at_a apart says up small event port reply frame steps = (
@@ -100,8 +96,7 @@ station_from_port_to_port f s h agree i j o a b at_o at_a apart says up small ev
     entry = x.0;
     behind = x.1;
     out = λ arrival result after is step. answers arrival result after is step
-        (subst (λ r. TunnelSteps r o result after) arrives
-        (tunnel_step o arrival result after (address_of a) (datagram_of s.vni frame.octets) is step));
+        (rw arrives at (tunnel_step o arrival result after (address_of a) (datagram_of s.vni frame.octets) is step));
   },
 )
   where
@@ -114,7 +109,7 @@ station_from_port_to_port f s h agree i j o a b at_o at_a apart says up small ev
     arrives : tunnel_arrival o (address_of a) (datagram_of s.vni frame.octets) ≡ Ok (Data s.vni s.mac frame.source)
     arrives = arrives_there o (address_of a) s.vni s.mac frame.source frame.octets small (h.listed i j o a at_o at_a)
         (λ same. apart (h.apart i j o a at_o at_a (sym same)))
-        (serves_own o s.vni x.0.port (h.good i o at_o) x.1.port)
+        (serves_own x.0.port (h.good i o at_o) x.1.port)
         (arrives_inner a port frame.octets s.vni s.mac frame.source frame.arrives)
 
     answers : (arrival : Event) (result : Result Reply Refusal) (after : Edge)
@@ -131,8 +126,8 @@ station_from_port_to_port f s h agree i j o a b at_o at_a apart says up small ev
           source = frame.source;
           arrives = arrives;
         }) step in
-        let same : e.0 ≡ x.0 = (let p = e.1.learnt in let q = x.1.learnt in cc) in
-        (answer, refl, subst (λ (y : Entry). GoesOut y.port (Passes o.tree y.port) answer) same e.2)
+        let same : e.0 ≡ x.0 = (cc (e.1.learnt, x.1.learnt)) in
+        (answer, refl, rw same at e.2)
 
 pub from_port_to_port : FromPortToPort
 from_port_to_port f h agree i j o a b s = station_from_port_to_port f s h ((agree_on_each f agree).stations s) i j o a b

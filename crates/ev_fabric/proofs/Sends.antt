@@ -1,11 +1,11 @@
 -- The destinations of a frame for a station that some edge advertises.
-use Rattle.std.proofs.Common.{◌≡◌, ◌≢◌, ℕ, zero, suc, ◌≤◌, ◌==◌, ◌&&◌, Bool, true, false, cond, not, Option}
-use Rattle.std.proofs.Common.{Some, None, Result, Ok, List, [], ◌∷◌, length, refl, sym, ap, subst, ◌∙◌, arith}
-use Rattle.std.proofs.lemmas.Bool.{and_parts, and_from}
+use Rattle.std.proofs.Common.{◌≡◌, ◌≢◌, inl, inr, ℕ, zero, suc, ◌≤◌, ◌==◌, ◌&&◌, Bool, true, false, cond, not, Option}
+use Rattle.std.proofs.Common.{Some, None}
+use Rattle.std.proofs.Common.{Result, Ok, List, length, refl, sym, ap, subst, ◌∙◌, arith}
+use Rattle.std.proofs.lemmas.Bool.{and_parts, and_from, eq-eqb}
 use Rattle.std.specs.Prelude.{IsTrue, ◌↔◌, ◌||◌}
 use Rattle.std.specs.FinMap.{FinMap}
 use Rattle.std.specs.Option.{MatchOption, option_map}
-use Rattle.std.proofs.lemmas.Bool.{eq-eqb}
 use Rattle.std.proofs.lemmas.Bool.Decides.{nat_tests}
 use Rattle.std.proofs.lemmas.Option.{slice_get_within}
 use Rattle.ether_wire.specs.Addr.{is_group}
@@ -13,7 +13,6 @@ use Rattle.ether_wire.specs.Ports.{IsPort, has_port, with_port}
 use Rattle.ether_wire.proofs.PortLemmas.{has_port-none, has_port-with}
 use Rattle.route_wire.specs.declared.update.Ip.{Ip}
 use Rattle.route_wire.specs.declared.update.Key.TheVariants.{Mac}
-use Rattle.route_wire.specs.declared.update.Advert.{Advert}
 use Rattle.route_join.specs.Table.{Table}
 use Rattle.route_join.specs.Owner.{advert_at, owner, IsOwner, IsUnowned}
 use Rattle.route_join.proofs.Owners.{one_owner, owner_is, owner_along}
@@ -28,9 +27,8 @@ use Rattle.ev_mobility.specs.declared.window.Window.{Window}
 use Rattle.ev_tunnel.specs.declared.decision.Decision.{Decision}
 use Rattle.ev_tunnel.specs.declared.decision.Source.{Source}
 use Rattle.ev_tunnel.specs.declared.decision.Source.TheVariants.{Port, Tunnel}
-use Rattle.ev_tunnel.specs.Decision.{is_up, up_owner, local_up, remote_up}
+use Rattle.ev_tunnel.specs.Decision.{up_owner}
 use Rattle.ev_tunnel.proofs.DecisionLemmas.{owner_up}
-use Rattle.ev_claims.specs.Speaker.{own_advert}
 use Rattle.ev_claims.specs.LocalRoutes.{key_of, vni_at, moving, after_advert}
 use Rattle.ev_edge.specs.declared.arrival.Arrival.TheVariants.{Data}
 use Rattle.ev_edge.specs.declared.event.Event.{Event}
@@ -52,6 +50,7 @@ use Rattle.ev_fabric.specs.Laws.{FramesComeOut, TunnelFramesComeOut}
 use Rattle.ev_fabric.specs.Station.{StationFramesGo}
 use Rattle.ev_fabric.proofs.Agreements.{learnt, individual}
 use Rattle.ev_fabric.proofs.Stations.{agree_on_each, station_one, station_owner}
+use Rattle.ev_fabric.proofs.ConvergingEdge.{learnt_cases}
 use Rattle.ev_claims.proofs.Numbers.{key_stays as said_other}
 
 -- ---- learning a station leaves the others
@@ -65,19 +64,14 @@ pub record LeavesBe (a b : Edge) (s : Station) : Type 0 where
       ≡ advert_at (table_of a) o (Mac s.vni s.mac ip)
 
 leaves_itself : (a : Edge) (s : Station) → LeavesBe a a s
-leaves_itself a s = record { address = refl; tree = refl; away = refl; entry = refl; adverts = λ o ip. refl }
+leaves_itself a s = assumption
 
 same_leaves : (a b : Edge) (s : Station) → b ≡ a → LeavesBe a b s
-same_leaves a b s is = subst (λ x. LeavesBe a x s) (sym is) (leaves_itself a s)
+same_leaves a b s is = rw is (leaves_itself a s)
 
 entry_leaves : (e : Edge) (q : Station) (port : ℕ) (s : Station) → s ≢ q → LeavesBe e (refreshed e q port) s
-entry_leaves e q port s ne = record {
-  address = refl;
-  tree = refl;
-  away = refl;
-  entry = (learn_entry e.routes.learned q port e.clock (learnt_of e.routes.learned q port)).others s ne;
-  adverts = λ o ip. refl;
-}
+entry_leaves e q port s ne =
+    assumption ((learn_entry e.routes.learned q port e.clock (learnt_of e.routes.learned q port)).others s ne)
 
 advert_leaves : (e : Edge) (q : Station) (port n : ℕ) (windows : FinMap station_cmp Window) (s : Station) → s ≢ q
     → LeavesBe e (record e {
@@ -85,73 +79,41 @@ advert_leaves : (e : Edge) (q : Station) (port n : ℕ) (windows : FinMap statio
       windows = windows;
       quotas = quotas_with e q port;
     }) s
-advert_leaves e q port n windows s ne = record {
-  address = refl;
-  tree = refl;
-  away = refl;
-  entry = (learn_entry e.routes.learned q port e.clock New).others s ne;
-  adverts = λ o ip. said_other e.routes.speaker (key_of q) (moving n) (Mac s.vni s.mac ip) o (other_key s q ip None ne);
-}
+advert_leaves e q port n windows s ne =
+    record {
+      address = refl;
+      tree = refl;
+      away = refl;
+      entry = (learn_entry e.routes.learned q port e.clock New).others s ne;
+      adverts = λ o ip. said_other e.routes.speaker (key_of q) (moving n) (Mac s.vni s.mac ip) o
+          (other_key s q ip None ne);
+    }
 
 learns_leave : (b : Bool) (e : Edge) (q : Station) (port : ℕ) (told : Option Alert) (e' : Edge) (s : Station) → s ≢ q
     → LearnsIf b e q port told e' → LeavesBe e e' s
 learns_leave b e q port told e' s ne h = learnt_by (λ x. LeavesBe e x s) e q port told e' (leaves_itself e s)
     (λ heard. entry_leaves e q port s ne)
-    (record { address = refl; tree = refl; away = refl; entry = refl; adverts = λ o ip. refl })
+    (assumption)
     (λ new. advert_leaves e q port 0 e.windows s ne) (λ n new. advert_leaves e q port n _ s ne) b h
 
 -- ---- the effects of a frame
 
-abbrev port_or : Option (ℕ × List ℕ) → ℕ → ℕ
-port_or None d = d
-port_or (Some p) d = p.0
-
-abbrev octets_or : Option (ℕ × List ℕ) → List ℕ → List ℕ
-octets_or None d = d
-octets_or (Some p) d = p.1
+both_of : {p q : ℕ} {xs ys : List ℕ} → ◌≡◌ {A = Option (ℕ × List ℕ)} (Some (p, xs)) (Some (q, ys))
+    → (p ≡ q) × (xs ≡ ys)
+both_of {p} {q} {xs} {ys} is =
+    let both : ◌≡◌ {A = ℕ × List ℕ} (p, xs) (q, ys) = cc in (ap (λ x. x.0) both, ap (λ x. x.1) both)
 
 frame_step : (a : Edge) (event : Event) (result : Result Reply Refusal) (b : Edge) (port : ℕ) (octets : List ℕ)
     → frame_in event ≡ Some (port, octets) → Steps a event result b
     → FrameSteps (frame_arrival a port octets) a port result b
-frame_step a (events.Frame p bytes) result b port octets is h =
-    let ports : p ≡ port = ap (λ o. port_or o p) is in
-    let same : bytes.now ≡ octets = ap (λ o. octets_or o bytes.now) is in
-    subst (λ q. FrameSteps (frame_arrival a q octets) a q result b) ports
-    (subst (λ l. FrameSteps (frame_arrival a p l) a p result b) same h)
-frame_step a (events.TunnelFrame from bytes) result b port octets is h = cc
-frame_step a (events.Take u) result b port octets is h = cc
-frame_step a (events.Pin s p) result b port octets is h = cc
-frame_step a (events.Unpin s) result b port octets is h = cc
-frame_step a (events.Thaw s) result b port octets is h = cc
-frame_step a events.Second result b port octets is h = cc
-frame_step a (events.PortUp p) result b port octets is h = cc
-frame_step a (events.PortDown p) result b port octets is h = cc
-frame_step a (events.Mcheck p) result b port octets is h = cc
-frame_step a events.Announce result b port octets is h = cc
-frame_step a (events.Away o) result b port octets is h = cc
-frame_step a (events.Back o) result b port octets is h = cc
+frame_step a (events.Frame p bytes) result b port octets is h = let x = both_of is in rw (← x.0, ← x.1) h
+frame_step a other result b port octets is h = cc
 
-pub tunnel_step : (a : Edge) (event : Event) (result : Result Reply Refusal) (b : Edge) (from : ℕ)
-    (octets : List ℕ)
+pub tunnel_step : (a : Edge) (event : Event) (result : Result Reply Refusal) (b : Edge) (from : ℕ) (octets : List ℕ)
     → tunnel_frame_in event ≡ Some (from, octets) → Steps a event result b
     → TunnelSteps (tunnel_arrival a from octets) a result b
-tunnel_step a (events.TunnelFrame o bytes) result b from octets is h =
-    let edges : o ≡ from = ap (λ p. port_or p o) is in
-    let same : bytes.now ≡ octets = ap (λ p. octets_or p bytes.now) is in
-    subst (λ q. TunnelSteps (tunnel_arrival a q octets) a result b) edges
-    (subst (λ l. TunnelSteps (tunnel_arrival a o l) a result b) same h)
-tunnel_step a (events.Frame p bytes) result b from octets is h = cc
-tunnel_step a (events.Take u) result b from octets is h = cc
-tunnel_step a (events.Pin s p) result b from octets is h = cc
-tunnel_step a (events.Unpin s) result b from octets is h = cc
-tunnel_step a (events.Thaw s) result b from octets is h = cc
-tunnel_step a events.Second result b from octets is h = cc
-tunnel_step a (events.PortUp p) result b from octets is h = cc
-tunnel_step a (events.PortDown p) result b from octets is h = cc
-tunnel_step a (events.Mcheck p) result b from octets is h = cc
-tunnel_step a events.Announce result b from octets is h = cc
-tunnel_step a (events.Away o) result b from octets is h = cc
-tunnel_step a (events.Back o) result b from octets is h = cc
+tunnel_step a (events.TunnelFrame o bytes) result b from octets is h = let x = both_of is in rw (← x.0, ← x.1) h
+tunnel_step a other result b from octets is h = cc
 
 -- a frame for the station: its source is learnt, and it is sent
 pub record IsSent (a b : Edge) (s : Station) (from : Source) (reply : Reply) : Type 0 where
@@ -167,17 +129,19 @@ sent true (Some d) b vni destination from told h = (d, refl, h)
 sent false (Some d) b vni destination from told h = cc
 
 -- a frame that is counted first
-taking_leaves : (a b : Edge) (port : ℕ) (s : Station) → LeavesBe (taking_on a port s.vni s.mac) b s → LeavesBe a b s
-taking_leaves a b port s h =
-    record { address = h.address; tree = h.tree; away = h.away; entry = h.entry; adverts = h.adverts }
+taking_leaves : (a : Edge) {b : Edge} (port : ℕ) {s : Station} → LeavesBe (taking_on a port s.vni s.mac) b s → LeavesBe
+    a b s
+taking_leaves a port h =
+    assumption
 
-pub frame_sent : (a b : Edge) (event : Event) (port : ℕ) (s : Station) (reply : Reply) → IsFrameFor a event port s
+pub frame_sent : {a : Edge} (b : Edge) {event : Event} {port : ℕ} {s : Station} (reply : Reply) → IsFrameFor a event
+    port s
     → Steps a event (Ok reply) b → IsSent a b s (Port port) reply
-frame_sent a b event port s reply frame steps =
+frame_sent {a} b {event} {port} {s} reply frame steps =
     let d = sent steps_are.passes reply.decision b s.vni s.mac (Port port) (steps_are.are_passed.1 frame.passes)
     steps_are.sending in
     record {
-      leaves = taking_leaves a b port s (learns_leave (steps_are.learning.learns && not (is_group frame.source))
+      leaves = taking_leaves a port (learns_leave (steps_are.learning.learns && not (is_group frame.source))
           (taking_on a port s.vni s.mac) (record { vni = s.vni; mac = frame.source }) port reply.alert b s other
           steps_are.learning.learning);
       decision = d.0;
@@ -192,81 +156,58 @@ frame_sent a b event port s reply frame steps =
     other : s ≢ record { vni = s.vni; mac = frame.source }
     other same = frame.other (ap (λ (q : Station). q.mac) (sym same))
 
-tunnel_sent : (a b : Edge) (event : Event) (s : Station) (reply : Reply) → IsTunnelFrameFor a event s
+tunnel_sent : {a : Edge} (b : Edge) {event : Event} {s : Station} (reply : Reply) → IsTunnelFrameFor a event s
     → Steps a event (Ok reply) b → IsSent a b s Tunnel reply
-tunnel_sent a b event s reply frame steps =
+tunnel_sent {a} b {event} {s} reply frame steps =
     let d = sent true reply.decision b s.vni s.mac Tunnel refl
-    (subst (λ e. SendsIf true e s.vni s.mac Tunnel reply.decision) (sym steps_are.2) steps_are.0) in
+    (rw steps_are.2 steps_are.0) in
     record { leaves = same_leaves a b s steps_are.2; decision = d.0; there = d.1; is = d.2 }
   where
     steps_are : TunnelSteps (Ok (Data s.vni s.mac frame.source)) a (Ok reply) b
-    steps_are = subst (λ r. TunnelSteps r a (Ok reply) b) frame.arrives
-        (tunnel_step a event (Ok reply) b frame.from frame.octets frame.frame steps)
+    steps_are = rw frame.arrives at (tunnel_step a event (Ok reply) b frame.from frame.octets frame.frame steps)
 
 -- ---- to another edge
 
 -- the walk finds an owner if there is one
-pub owner_found : (t : Table) (vni mac o : ℕ) → IsOwner t vni mac o → owner t vni mac ≡ Some o
-owner_found t vni mac o h = go (owner t vni mac) (owner_is t vni mac)
+pub owner_found : {t : Table} {vni mac o : ℕ} → IsOwner t vni mac o → owner t vni mac ≡ Some o
+owner_found {t} {vni} {mac} {o} h = go (owner t vni mac) (owner_is t vni mac)
   where
     go : (x : Option ℕ) → MatchOption x (IsUnowned t vni mac) (IsOwner t vni mac) → x ≡ Some o
-    go None none = let some = h.own in let no = none o h.ip in cc
+    go None none = cc (h.own, none o h.ip)
     go (Some p) is = ap Some (one_owner t vni mac p o is h)
 
 -- a station that an edge doesn't advertise isn't learnt there
-pub no_entry : (a : Edge) (s : Station) → IsGoodEdge a → (Advertises a s → ⊥) → entry_at a.routes.learned s ≡ None
-no_entry a s h none = go (entry_at a.routes.learned s) refl (own_advert a.routes.speaker (key_of s)) refl
-  where
-    go : (x : Option Entry) → entry_at a.routes.learned s ≡ x → (y : Option Advert)
-        → own_advert a.routes.speaker (key_of s) ≡ y → entry_at a.routes.learned s ≡ None
-    go None e y q = e
-    go (Some x) e (Some y) q = absurd (none (None, y, q))
-    go (Some x) e None q =
-        let k = h.routes.routes.kinds s in
-        let left : option_map {U = Bool} (λ (x : Entry). x.pinned) (entry_at a.routes.learned s) ≡ Some x.pinned =
-        ap (option_map (λ (x : Entry). x.pinned)) e in
-        let right : option_map {U = Bool} (λ (x : Advert). x.is_static) (own_advert a.routes.speaker (key_of s))
-        ≡ None =
-        ap (option_map (λ (x : Advert). x.is_static)) q in
-        absurd (let bad : Some x.pinned ≡ None = sym left ∙ k ∙ right in cc)
-
-pub elsewhere_local : (away : List ℕ) (t : Table) (vni m own o members passing port : ℕ) (entry : Option ℕ)
-    → is_group m ≡ false → entry ≡ None → up_owner away (owner t vni m) ≡ Some o → (o == own) ≡ false
-    → local_up away t vni m entry own (Port port) members passing ≡ 0
-elsewhere_local away t vni m own o members passing port entry group none is ne = rw (group, none, is, ne) refl
-
-pub elsewhere_remote : (away : List ℕ) (t : Table) (vni m own o port : ℕ) (entry : Option ℕ) → is_group m ≡ false
-    → entry ≡ None → up_owner away (owner t vni m) ≡ Some o → (o == own) ≡ false
-    → remote_up away t vni m entry own (Port port) ≡ o ∷ []
-elsewhere_remote away t vni m own o port entry group none is ne = rw (group, none, is, ne) refl
+pub no_entry : {a : Edge} (s : Station) → IsGoodEdge a → (Advertises a s → ⊥) → entry_at a.routes.learned s ≡ None
+no_entry s h none = elim (learnt_cases s h.routes.routes) [
+  | inl no' ↦ no'.0
+  | inr x ↦ absurd (none (None, x.1, x.3))
+]
 
 pub station_frames_go : StationFramesGo
 station_frames_go f s h agree i j o a b at_o at_a apart says up event port reply frame steps =
     record {
       decision = x.decision;
       there = x.there;
-      local = x.is.local ∙ elsewhere_local b.away (table_of b) s.vni s.mac (address_of b) (address_of o)
-          x.is.members x.is.passing port (port_of b s.vni s.mac) single none owned far;
-      remote = x.is.remote ∙ elsewhere_remote b.away (table_of b) s.vni s.mac (address_of b) (address_of o) port
-          (port_of b s.vni s.mac) single none owned far;
+      local = rw (x.is.local, single, none, owned, far);
+      remote = rw (x.is.remote, single, none, owned, far);
     }
   where
     x : IsSent a b s (Port port) reply
-    x = frame_sent a b event port s reply frame steps
+    x = frame_sent b reply frame steps
 
     single : is_group s.mac ≡ false
-    single = individual o s (h.good i o at_o) says
+    single = individual s (h.good i o at_o) says
 
     none : port_of b s.vni s.mac ≡ None
     none = ap (option_map (λ (y : Entry). y.port)) (x.leaves.entry
-        ∙ no_entry a s (h.good j a at_a) (λ y. apart (station_one f s h agree i j o a at_o at_a says y)))
+        ∙ no_entry s (h.good j a at_a) (λ y. apart (station_one s h agree i j o a at_o at_a says y)))
 
     owned : up_owner b.away (owner (table_of b) s.vni s.mac) ≡ Some (address_of o)
     owned = owner_up b.away (owner (table_of b) s.vni s.mac) (address_of o)
-        (owner_found (table_of b) s.vni s.mac (address_of o)
+        (owner_found
         (owner_along (table_of a) (table_of b) s.vni s.mac (address_of o) (λ p ip. sym (x.leaves.adverts p ip))
-        (station_owner f s h agree i j o a at_o at_a says)))
-        (subst (λ (l : List ℕ). is_up l (address_of o) ≡ true) (sym x.leaves.away) up)
+        (station_owner s h agree i j o a at_o at_a says)))
+        (rw x.leaves.away up)
 
     far : (address_of o == address_of b) ≡ false
     far = let differs : address_of o ≢ address_of b = (λ q. apart (h.apart i j o a at_o at_a (q ∙ x.leaves.address))) in
@@ -278,28 +219,22 @@ frames_go f h agree i j o a b s = station_frames_go f s h ((agree_on_each f agre
 
 -- ---- at the edge itself
 
-home_local : (away : List ℕ) (t : Table) (vni m own members passing port q : ℕ) (entry : Option ℕ)
-    → is_group m ≡ false → entry ≡ Some q
-    → local_up away t vni m entry own (Port port) members passing
-    ≡ cond (has_port passing q && not (port == q)) (with_port 0 q) 0
-home_local away t vni m own members passing port q entry group some = rw (group, some) refl
-
-home_remote : (away : List ℕ) (t : Table) (vni m own port q : ℕ) (entry : Option ℕ) → is_group m ≡ false
-    → entry ≡ Some q → remote_up away t vni m entry own (Port port) ≡ []
-home_remote away t vni m own port q entry group some = rw (group, some) refl
-
-tunnel_local : (away : List ℕ) (t : Table) (vni m own members passing q : ℕ) (entry : Option ℕ) → is_group m ≡ false
-    → entry ≡ Some q
-    → local_up away t vni m entry own Tunnel members passing ≡ cond (has_port passing q && true) (with_port 0 q) 0
-tunnel_local away t vni m own members passing q entry group some = rw (group, some) refl
-
 -- one port, or none
 alone : (c : Bool) (q p : ℕ) → IsPort q → (has_port (cond c (with_port 0 q) 0) p ≡ true) ↔ ((p ≡ q) × (c ≡ true))
 alone true q p is = (
   λ there. (grind (arith, nat_tests, has_port-with 0 q is p, has_port-none p, there), refl),
   λ h. has_port-with 0 q is p ∙ ap (λ b. b || has_port 0 p) (eq-eqb q p (sym h.0)),
 )
-alone false q p is = (λ there. absurd (let none = has_port-none p in cc), λ h. absurd (let bad = h.1 in cc))
+alone false q p is = (λ there. cc (has_port-none p), λ h. cc (h.1))
+
+-- so a frame goes out at the port exactly if it may
+goes_out : {set q : ℕ} (c : Bool) (May : Type 0) → IsPort q → set ≡ cond c (with_port 0 q) 0 → (c ≡ true) ↔ May
+    → (p : ℕ) → (has_port set p ≡ true) ↔ ((p ≡ q) × May)
+goes_out {q = q} c May port is may p =
+    let a = alone c q p port in (
+      λ there. let h = a.0 (rw (← is) there) in (h.0, may.0 h.1),
+      λ h. rw is (a.1 (h.0, may.1 h.1)),
+    )
 
 -- a port of a VNI is one of the bridge's
 record IsThere (o : Edge) (q : ℕ) : Type 0 where
@@ -310,103 +245,72 @@ record IsThere (o : Edge) (q : ℕ) : Type 0 where
 there : (o : Edge) (vni q : ℕ) → IsGoodEdge o → vni_at o.routes.ports q ≡ Some vni → IsThere o q
 there o vni zero h is = cc
 there o vni (suc l) h is =
-    let less = slice_get_within o.routes.ports l vni is in
-    let same = h.keeps.ports in
-    let few = h.routes.routes.few in
-    record { least = omega arith; most = omega (arith, less, same); few = omega (arith, less, few) }
+    omega (arith, slice_get_within o.routes.ports l vni is, h.keeps.ports, h.routes.routes.few)
+
+-- the entry of a station that an edge advertises, and its port
+module _ {o : Edge} (s : Station) (good : IsGoodEdge o) (says : Advertises o s) where
+  e : (x : Entry) × IsBehindPort o s x
+  e = learnt o s good says
+
+  t : IsThere o e.0.port
+  t = there o s.vni e.0.port good e.1.port
+
+  module _ {b : Edge} {source : Source} {reply : Reply} (x : IsSent o b s source reply) where
+    some : port_of b s.vni s.mac ≡ Some e.0.port
+    some = rw (x.leaves.entry, e.1.learnt)
+
+    passes : (has_port x.is.passing e.0.port ≡ true) ↔ Passes o.tree e.0.port
+    passes =
+        let are = x.is.are_passing e.0.port in (
+          λ on. rw x.leaves.tree at (are.0 on).1,
+          λ may. are.1 ((t.least, rw x.leaves.tree t.most), rw x.leaves.tree may),
+        )
 
 pub frames_come_out : FramesComeOut
 frames_come_out o b s good says event port reply frame steps = (
-  e.0,
-  e.1,
+  (e s good says).0,
+  (e s good says).1,
   record {
     decision = x.decision;
     there = x.there;
-    local = local;
-    remote = x.is.remote ∙ home_remote b.away (table_of b) s.vni s.mac (address_of b) port
-        e.0.port (port_of b s.vni s.mac)
-        (individual o s good says) some;
+    local = goes_out (has_port x.is.passing q && not (port == q)) (Passes o.tree q × (q ≢ port))
+        (omega (arith, t s good says))
+        (rw (x.is.local, individual s good says, some s good says x)) (
+          λ on.
+              let two = and_parts (has_port x.is.passing q) (not (port == q)) on in
+              ((passes s good says x).0 two.0, λ same. grind (arith, nat_tests, two.1)),
+          λ may. and_from (has_port x.is.passing q) (not (port == q)) ((passes s good says x).1 may.0)
+              (grind (arith, nat_tests, may.1)),
+        );
+    remote = rw (x.is.remote, individual s good says, some s good says x);
   },
 )
   where
     x : IsSent o b s (Port port) reply
-    x = frame_sent o b event port s reply frame steps
+    x = frame_sent b reply frame steps
 
-    e : (x : Entry) × IsBehindPort o s x
-    e = learnt o s good says
-
-    some : port_of b s.vni s.mac ≡ Some e.0.port
-    some = ap (option_map (λ (y : Entry). y.port)) (x.leaves.entry ∙ e.1.learnt)
-
-    t : IsThere o e.0.port
-    t = there o s.vni e.0.port good e.1.port
-
-    passes : (has_port x.is.passing e.0.port ≡ true) ↔ (((1 ≤ e.0.port) × (e.0.port ≤ length b.tree.ports))
-        × Passes b.tree e.0.port)
-    passes = x.is.are_passing e.0.port
-
-    local : (p : ℕ) → (has_port x.decision.local p ≡ true)
-        ↔ ((p ≡ e.0.port) × (Passes o.tree e.0.port × (e.0.port ≢ port)))
-    local p =
-        let is = x.is.local ∙ home_local b.away (table_of b) s.vni s.mac (address_of b) x.is.members x.is.passing
-        port e.0.port
-        (port_of b s.vni s.mac) (individual o s good says) some in
-        let a = alone (has_port x.is.passing e.0.port && not (port == e.0.port)) e.0.port p
-        (record { least = t.least; most = t.few }) in (
-          λ there.
-              let h = a.0 (ap (λ set. has_port set p) (sym is) ∙ there) in
-              let two = and_parts (has_port x.is.passing e.0.port) (not (port == e.0.port)) h.1 in (
-                h.0,
-                (
-                  subst (λ r. Passes r e.0.port) x.leaves.tree (passes.0 two.0).1,
-                  λ same. (let no = two.1 in grind (arith, nat_tests)),
-                ),
-              ),
-          λ h. ap (λ set. has_port set p) is ∙ a.1 (
-            h.0,
-            and_from (has_port x.is.passing e.0.port) (not (port == e.0.port))
-                (passes.1 (
-                  (t.least, subst (λ r. e.0.port ≤ length r.ports) (sym x.leaves.tree) t.most),
-                  subst (λ r. Passes r e.0.port) (sym x.leaves.tree) h.1.0,
-                ))
-                (let ne = h.1.1 in grind (arith, nat_tests)),
-          ),
-        )
+    q : ℕ
+    q = (e s good says).0.port
 
 pub tunnel_frames_come_out : TunnelFramesComeOut
-tunnel_frames_come_out o b s good says event reply frame steps =
-    (e.0, e.1, record { decision = x.decision; there = x.there; local = local; remote = x.is.remote })
+tunnel_frames_come_out o b s good says event reply frame steps = (
+  (e s good says).0,
+  (e s good says).1,
+  record {
+    decision = x.decision;
+    there = x.there;
+    local = goes_out (has_port x.is.passing q && true) (Passes o.tree q)
+        (omega (arith, t s good says))
+        (rw (x.is.local, individual s good says, some s good says x)) (
+          λ on. (passes s good says x).0 (and_parts (has_port x.is.passing q) true on).0,
+          λ may. and_from (has_port x.is.passing q) true ((passes s good says x).1 may) refl,
+        );
+    remote = x.is.remote;
+  },
+)
   where
     x : IsSent o b s Tunnel reply
-    x = tunnel_sent o b event s reply frame steps
+    x = tunnel_sent b reply frame steps
 
-    e : (x : Entry) × IsBehindPort o s x
-    e = learnt o s good says
-
-    some : port_of b s.vni s.mac ≡ Some e.0.port
-    some = ap (option_map (λ (y : Entry). y.port)) (x.leaves.entry ∙ e.1.learnt)
-
-    t : IsThere o e.0.port
-    t = there o s.vni e.0.port good e.1.port
-
-    local : (p : ℕ) → (has_port x.decision.local p ≡ true) ↔ ((p ≡ e.0.port) × Passes o.tree e.0.port)
-    local p =
-        let is = x.is.local ∙ tunnel_local b.away (table_of b) s.vni s.mac (address_of b) x.is.members
-        x.is.passing e.0.port
-        (port_of b s.vni s.mac) (individual o s good says) some in
-        let passes = x.is.are_passing e.0.port in
-        let a = alone (has_port x.is.passing e.0.port && true) e.0.port p
-        (record { least = t.least; most = t.few }) in (
-          λ there.
-              let h = a.0 (ap (λ set. has_port set p) (sym is) ∙ there) in
-              let two = and_parts (has_port x.is.passing e.0.port) true h.1 in
-              (h.0, subst (λ r. Passes r e.0.port) x.leaves.tree (passes.0 two.0).1),
-          λ h. ap (λ set. has_port set p) is ∙ a.1 (
-            h.0,
-            and_from (has_port x.is.passing e.0.port) true
-                (passes.1 (
-                  (t.least, subst (λ r. e.0.port ≤ length r.ports) (sym x.leaves.tree) t.most),
-                  subst (λ r. Passes r e.0.port) (sym x.leaves.tree) h.1,
-                )) refl,
-          ),
-        )
+    q : ℕ
+    q = (e s good says).0.port

@@ -1,11 +1,11 @@
 -- Frames for a station between its move and the agreement on it.
-use Rattle.std.proofs.Common.{◌≡◌, ◌≢◌, ◌⊎◌, inl, inr, ℕ, zero, suc, ◌==◌, Bool, true, false, Option, Some, None, Ok}
-use Rattle.std.proofs.Common.{List, [], ◌∷◌, refl, sym, ap, subst, ◌∙◌, arith}
-use Rattle.std.proofs.lemmas.Bool.{cases_eq}
+use Rattle.std.proofs.Common.{◌≡◌, ◌≢◌, ◌⊎◌, inl, inr, ℕ, ◌==◌, true, false, Option, Some, None, Ok, List}
+use Rattle.std.proofs.Common.{refl, sym, ap, ◌∙◌, arith}
 use Rattle.std.proofs.lemmas.Bool.Decides.{nat_tests}
+use Rattle.std.proofs.lemmas.Bool.{cases_Bool}
 use Rattle.std.proofs.lemmas.List.Elements.{Contains-append_cases}
-use Rattle.std.specs.Prelude.{Contains, slice_get}
-use Rattle.std.specs.Option.{MatchOption, option_map}
+use Rattle.std.specs.Prelude.{Contains}
+use Rattle.std.specs.Option.{MatchOption}
 use Rattle.ether_wire.specs.Addr.{is_group}
 use Rattle.route_wire.specs.declared.update.Ip.{Ip}
 use Rattle.route_wire.specs.declared.update.Key.TheVariants.{Mac}
@@ -13,16 +13,14 @@ use Rattle.route_wire.specs.declared.update.Register.{Register}
 use Rattle.route_wire.specs.declared.update.Advert.{Advert}
 use Rattle.route_wire.specs.declared.update.Value.{Value}
 use Rattle.route_wire.specs.Fields.{Fields}
-use Rattle.route_wire.specs.Order.{is_newer}
 use Rattle.route_wire.specs.Inner.Totals.{neither_newer}
-use Rattle.route_join.specs.Table.{Table, value_at, is_news, register_of}
+use Rattle.route_join.specs.Table.{value_at, is_news, register_of}
 use Rattle.route_join.specs.Flood.{flood_of}
 use Rattle.route_join.specs.Owner.{advert_in, advert_of, advert_at, owner, IsOwner, IsUnowned}
 use Rattle.route_join.proofs.Owners.{owner_is}
 use Rattle.mac_arena.specs.declared.station.Station.{Station}
-use Rattle.mac_arena.specs.declared.station.Entry.{Entry}
 use Rattle.ev_tunnel.specs.declared.decision.Source.TheVariants.{Port}
-use Rattle.ev_tunnel.specs.Decision.{is_up, up_owner, up_edges, open_ports, others_of, local_up, remote_up}
+use Rattle.ev_tunnel.specs.Decision.{is_up, up_owner, up_edges, open_ports, others_of}
 use Rattle.ev_tunnel.proofs.DecisionLemmas.{owner_up, owner_away}
 use Rattle.ev_claims.specs.Speaker.{own_advert}
 use Rattle.ev_claims.specs.LocalRoutes.{key_of}
@@ -32,7 +30,6 @@ use Rattle.ev_edge.specs.Edge.{Edge, table_of, address_of}
 use Rattle.ev_edge.specs.Sending.{port_of}
 use Rattle.ev_edge.specs.Steps.{Steps}
 use Rattle.ev_fabric.specs.declared.step.Step.{Step}
-use Rattle.ev_fabric.specs.declared.step.Step.TheVariants.{Local}
 use Rattle.ev_fabric.specs.Fabric.{Fabric, IsEdge}
 use Rattle.ev_fabric.specs.Sound.{update_of, IsSound}
 use Rattle.ev_fabric.specs.Agreed.{Advertises}
@@ -41,174 +38,91 @@ use Rattle.ev_fabric.specs.Station.{is_of, StationComes, RunsBeside, NoneRestart
 use Rattle.ev_fabric.specs.Meanwhile.{IsFlooded, GoesHome, FramesMeanwhile}
 use Rattle.ev_fabric.proofs.Agreements.{individual, advert_bare}
 use Rattle.ev_fabric.proofs.Stations.{about_station, station_one, station_from}
-use Rattle.ev_fabric.proofs.Fabrics.{step_sound}
-use Rattle.ev_fabric.proofs.Sends.{IsSent, frame_sent, no_entry, elsewhere_local, elsewhere_remote, frames_come_out}
+use Rattle.ev_fabric.proofs.Sends.{IsSent, frame_sent, no_entry, frames_come_out}
 use Rattle.ev_fabric.proofs.ConvergingRounds.{Has}
-use Rattle.ev_fabric.proofs.StationStages.{filter_has, filter_from, IsAside, aside_quiet}
+use Rattle.ev_fabric.proofs.StationStages.{on, filter_has, filter_from, aside_quiet}
 use Rattle.ev_fabric.proofs.StationTaken.{runs_has}
 use Rattle.ev_fabric.proofs.StationAlone.{agreed_known}
-use Rattle.ev_fabric.proofs.StationMotion.{StageOf, Phase, AtFirst, AtTold, AtLost, AtOver, AtAged, AtLeft, AtBack}
-use Rattle.ev_fabric.proofs.StationMotion.{Stage, runs_stage}
-use Rattle.ev_fabric.proofs.StationMotion.{begins, u, base, first_stage, known_still, Begins}
+use Rattle.ev_fabric.proofs.StationMotion.{one_edge, Plan, Old, New, Other, phase_news, Stage, runs_stage, plan}
+use Rattle.ev_fabric.proofs.StationMotion.{mid_sound}
+use Rattle.ev_fabric.proofs.StationMotion.{first_stage, known_still}
 use Rattle.ev_fabric.proofs.StationRounds.{beside_runs}
 
-module _ (old : Fabric) (i j : ℕ) (s : Station) (mid : Fabric) (sound : IsSound old)
+module _ {old : Fabric} {i j : ℕ} {s : Station} {mid : Fabric} (sound : IsSound old)
     (m : StationComes old i j s mid) where
-  abbrev begun : Begins old i j s m.from m.to mid
-  begun = begins old i j s mid sound m
-
-  abbrev before : List Fields
-  before = base old i j s mid sound m
-
-  abbrev advert : Fields
-  advert = u old i j s mid sound m
+  abbrev p : Plan
+  p = plan sound m false
 
   -- each edge knows the updates of the station that the pool had before the move
   abbrev AllKnow : Fabric → Type 0
   AllKnow f = (y : ℕ) (w : Fields) → Contains old.pool w → is_of s w.register ≡ true → Has f y w
 
   know_mid : AllKnow mid
-  know_mid y w in' of = known_still old i j s mid sound m w (λ z. agreed_known old s m.agree z w in' of) y
+  know_mid y w in' of = known_still sound m w (λ z. agreed_known old s m.agree z in' of) y
 
   -- ---- whose adverts an edge has
-  module _ (new : Fabric) (still_sound : IsSound new) (know : AllKnow new)
-      (stage : Stage false before i j s (address_of m.from) advert new.pool new.edges) where
+  module _ {new : Fabric} (still_sound : IsSound new) (know : AllKnow new)
+      (stage : Stage p new.pool new.edges) where
     -- an advert that was in the pool before and is there still is the old place's
-    old_advert : (x : ℕ) (a : Edge) → IsEdge new x a → (o : ℕ) (ip : Option Ip) (v : Value)
+    old_advert : (x : ℕ) {a : Edge} → IsEdge new x a → (o : ℕ) (ip : Option Ip) (v : Value)
         → value_at (table_of a) (register_of o (Mac s.vni s.mac ip)) ≡ Some v → (y : Advert)
         → advert_in v.content ≡ Some y → Contains old.pool (update_of (register_of o (Mac s.vni s.mac ip)) v)
         → o ≡ address_of m.from
-    old_advert x a at o ip v there y says in' = go (sound.sources (update_of r v) in')
-      where
-        r : Register
-        r = register_of o (Mac s.vni s.mac ip)
-
-        of : is_of s r ≡ true
-        of = about_station s ip
-
-        go : ((l : ℕ) × (p : Edge) × IsEdge old l p × (address_of p ≡ o)) → o ≡ address_of m.from
-        go (l, p, at_p, name) = from_is (m.agree.arrived l p (update_of r v) at_p of in')
-          where
-            from_is : ((w : Value) × (value_at (table_of p) r ≡ Some w) × (is_newer v w ≡ false))
-                → o ≡ address_of m.from
-            from_is (w, has, low) =
-                let known : is_news (value_at (table_of a) r) w ≡ false =
-                know x (update_of r w) (station_from old s sound m.agree l p r w at_p of has) of a at in
-                let back : is_newer w v ≡ false = ap (λ z. is_news z w) (sym there) ∙ known in
-                let same : v ≡ w = neither_newer v w low back in
-                let own_is : value_at (table_of p) (register_of (address_of p) (Mac s.vni s.mac ip)) ≡ Some w =
-                ap (λ q. value_at (table_of p) (register_of q (Mac s.vni s.mac ip))) name ∙ has in
-                let advertises : own_advert p.routes.speaker (Mac s.vni s.mac ip) ≡ Some y =
-                ap advert_of own_is ∙ ap (λ (z : Value). advert_in z.content) (sym same) ∙ says in
-                let place = station_one old s sound m.agree l i p m.from at_p m.at_from (ip, y, advertises) m.had in
-                let both : Some p ≡ Some m.from = sym at_p
-                ∙ subst (λ n. slice_get old.edges n ≡ Some m.from) (sym place) m.at_from in
-                let p_is : p ≡ m.from = cc in
-                sym name ∙ ap (λ (e : Edge). address_of e) p_is
+    old_advert x {a} at o ip v there y says in' =
+        let r : Register = register_of o (Mac s.vni s.mac ip) in
+        let of = about_station s ip in
+        let l = sound.sources (update_of r v) in' in
+        let w = m.agree.arrived l.0 l.1 (update_of r v) l.2 of in' in
+        let same = neither_newer v w.0 w.2
+        (ap (λ z. is_news z w.0) (sym there)
+        ∙ (know x (update_of r w.0) (station_from s sound m.agree l.0 l.1 r w.0 l.2 of w.1) of a at)) in
+        sym l.3 ∙ ap (λ (e : Edge). address_of e)
+        (sym (one_edge old.edges (station_one s sound m.agree l.0 i l.1 m.from l.2 m.at_from (
+          ip,
+          y,
+          ap advert_of (ap (λ q. value_at (table_of l.1) (register_of q (Mac s.vni s.mac ip))) l.3 ∙ w.1)
+              ∙ ap (λ (z : Value). advert_in z.content) (sym same) ∙ says,
+        ) m.had) l.2 m.at_from))
 
     -- an advert of another edge in an edge's table is of the old place or of the new one
-    of_two : (x : ℕ) (a : Edge) → IsEdge new x a → (o : ℕ) → o ≢ address_of a → (ip : Option Ip) (y : Advert)
+    of_two : (x : ℕ) {a : Edge} → IsEdge new x a → (o : ℕ) → o ≢ address_of a → (ip : Option Ip) (y : Advert)
         → advert_at (table_of a) o (Mac s.vni s.mac ip) ≡ Some y → (o ≡ address_of m.from) ⊎ (o ≡ address_of m.to)
-    of_two x a at o other ip y is = go (value_at (table_of a) r) refl is
+    of_two x {a} at o other ip y is = go (value_at (table_of a) r) refl is
       where
         r : Register
         r = register_of o (Mac s.vni s.mac ip)
 
-        old_one : (v : Value) → value_at (table_of a) r ≡ Some v → advert_in v.content ≡ Some y
-            → Contains before (update_of r v) → (o ≡ address_of m.from) ⊎ (o ≡ address_of m.to)
-        old_one v there says in' = inl (old_advert x a at o ip v there y says
-            (filter_from (λ (z : Fields). is_of s z.register) old.pool (update_of r v) in').0)
-
-        one : (v w : Fields) → Contains (w ∷ []) v → v ≡ w
-        one v w (zero, lt, is) = sym is
-        one v w (suc n, lt, is) = absurd (omega (arith, lt))
-
-        two : (v w z : Fields) → Contains (w ∷ z ∷ []) v → (v ≡ w) ⊎ (v ≡ z)
-        two v w z (zero, lt, is) = inl (sym is)
-        two v w z (suc zero, lt, is) = inr (sym is)
-        two v w z (suc (suc n), lt, is) = absurd (omega (arith, lt))
-
-        new_one : (v : Value) → update_of r v ≡ advert → (o ≡ address_of m.from) ⊎ (o ≡ address_of m.to)
-        new_one v same = inr (ap (λ (z : Fields). z.register.originator) same)
-
         among : (v : Value) → value_at (table_of a) r ≡ Some v → advert_in v.content ≡ Some y
-            → Contains (updates_on s new.pool) (update_of r v) → {extra : List Fields} {here there : List Register}
-            {says : Bool} → Phase false s (address_of m.from) advert extra here there says
-            → StageOf before extra i j s (address_of m.from) advert here there says new.pool new.edges
-            → (o ≡ address_of m.from) ⊎ (o ≡ address_of m.to)
-        among v there says in' AtFirst g = elim (Contains-append_cases before [] (update_of r v)
-            (subst (λ l. Contains l (update_of r v)) g.grown in')) [
-              | inl earlier ↦ old_one v there says earlier
-              | inr never ↦ absurd (let lt = never.1 in omega (arith, lt))
-            ]
-        among v there says in' AtTold g = elim (Contains-append_cases before (advert ∷ []) (update_of r v)
-            (subst (λ l. Contains l (update_of r v)) g.grown in')) [
-              | inl earlier ↦ old_one v there says earlier
-              | inr now ↦ new_one v (one (update_of r v) advert now)
-            ]
-        among v there says in' AtLost g = elim (Contains-append_cases before (advert ∷ []) (update_of r v)
-            (subst (λ l. Contains l (update_of r v)) g.grown in')) [
-              | inl earlier ↦ old_one v there says earlier
-              | inr now ↦ new_one v (one (update_of r v) advert now)
-            ]
-        among v there says in' (AtOver w named none) g = elim (Contains-append_cases before (advert ∷ w ∷ [])
-            (update_of r v) (subst (λ l. Contains l (update_of r v)) g.grown in')) [
-              | inl earlier ↦ old_one v there says earlier
-              | inr now ↦ elim (two (update_of r v) advert w now) [
-                | inl same ↦ new_one v same
-                | inr same ↦ inl (ap (λ (z : Fields). z.register.originator) same
-                    ∙ ap (λ (q : Register). q.originator) named)
+            → Contains (updates_on s new.pool) (update_of r v) → (o ≡ address_of m.from) ⊎ (o ≡ address_of m.to)
+        among v there says in' = elim (Contains-append_cases p.base stage.n.extra (update_of r v)
+            (rw stage.of.grown at in')) [
+              | inl earlier ↦ inl (old_advert x at o ip v there y says
+                  (filter_from (on s) old.pool (update_of r v) earlier).0)
+              | inr now ↦ elim (phase_news p stage.phase (update_of r v) now) [
+                | inl same ↦ inr (ap (λ (f : Fields). f.register.originator) same)
+                | inr none ↦ cc
               ]
             ]
-        among v there says in' (AtAged yes') g = cc
-        among v there says in' (AtLeft yes' w named none) g = cc
-        among v there says in' (AtBack yes' w named none) g = cc
 
         go : (v : Option Value) → value_at (table_of a) r ≡ v → advert_of v ≡ Some y
             → (o ≡ address_of m.from) ⊎ (o ≡ address_of m.to)
         go None there says = cc
         go (Some v) there says = among v there says
-            (filter_has (λ (z : Fields). is_of s z.register) new.pool (update_of r v) (about_station s ip)
-            ((still_sound.told x a at).foreign r v other there)) stage.phase stage.of
+            (filter_has (on s) new.pool (update_of r v) (about_station s ip)
+            ((still_sound.told x a at).foreign r v other there))
 
     -- an edge that advertises the station is one of the two
-    at_two : (x : ℕ) (a : Edge) → IsEdge new x a → Advertises a s → (x ≡ i) ⊎ (x ≡ j)
-    at_two x a at says = elim (cases_eq x i) [
-      | inl p ↦ inl p
-      | inr ne_i ↦ elim (cases_eq x j) [
-        | inl p ↦ inr p
-        | inr ne_j ↦ absurd (none (stage.of.asides x a ne_i ne_j at))
-      ]
+    at_two : (x : ℕ) {a : Edge} → IsEdge new x a → Advertises a s → (x ≡ i) ⊎ (x ≡ j)
+    at_two x {a} at says = elim (stage.of.roles x a at) [
+      | Old is t ↦ inl is
+      | New is t ↦ inr is
+      | Other ne ne' t ↦ cc (aside_quiet s t, (advert_bare s (still_sound.good x a at) says).1)
     ]
-      where
-        none : IsAside new.pool s a.routes.speaker → ⊥
-        none h =
-            let z = advert_bare a s (still_sound.good x a at) says in
-            let bad : None ≡ Some z.0 = sym (aside_quiet new.pool s a.routes.speaker h) ∙ z.1 in
-            cc
 
 -- ---- frames
 
--- a station that isn't learnt and has no other owner is unknown
-unknown_local : (away : List ℕ) (t : Table) (vni m own members passing port : ℕ) (entry : Option ℕ)
-    → is_group m ≡ false → entry ≡ None → (x : Option ℕ) → up_owner away (owner t vni m) ≡ x
-    → ((o : ℕ) → x ≡ Some o → (o == own) ≡ true)
-    → local_up away t vni m entry own (Port port) members passing
-    ≡ open_ports (Port port) (record { members = members; passing = passing })
-unknown_local away t vni m own members passing port entry group none None is mine = rw (group, none, is) refl
-unknown_local away t vni m own members passing port entry group none (Some o) is mine = let same = mine o refl in
-    rw (group, none, is, same) refl
-
-unknown_remote : (away : List ℕ) (t : Table) (vni m own port : ℕ) (entry : Option ℕ) → is_group m ≡ false
-    → entry ≡ None → (x : Option ℕ) → up_owner away (owner t vni m) ≡ x
-    → ((o : ℕ) → x ≡ Some o → (o == own) ≡ true)
-    → remote_up away t vni m entry own (Port port) ≡ others_of own (up_edges away (flood_of t vni))
-unknown_remote away t vni m own port entry group none None is mine = rw (group, none, is) refl
-unknown_remote away t vni m own port entry group none (Some o) is mine = let same = mine o refl in
-    rw (group, none, is, same) refl
-
 -- a frame of which this is known
-module _ (i j : ℕ) (s : Station) (old mid new : Fabric) (steps : List Step) (sound : IsSound old)
+module _ {i j : ℕ} {s : Station} {old mid : Fabric} (new : Fabric) (steps : List Step) (sound : IsSound old)
     (m : StationComes old i j s mid) (runs : RunsBeside i j s mid steps new) (none : NoneRestarts steps) (x : ℕ)
     (a b : Edge) (at : IsEdge new x a) (event : Event) (port : ℕ) (reply : Reply) (frame : IsFrameFor a event port s)
     (does : Steps a event (Ok reply) b) where
@@ -216,97 +130,87 @@ module _ (i j : ℕ) (s : Station) (old mid new : Fabric) (steps : List Step) (s
   Goes = (((x ≡ i) ⊎ (x ≡ j)) × GoesHome a s port reply) ⊎ GoesTo (address_of m.from) reply
       ⊎ GoesTo (address_of m.to) reply ⊎ IsFlooded b s port reply
 
-  sound_mid : IsSound mid
-  sound_mid = step_sound old mid (Local (suc j) m.event) m.result m.step sound
+  end : Stage (plan sound m false) new.pool new.edges × IsSound new
+  end = runs_stage (plan sound m false) steps new (mid_sound sound m) runs (first_stage sound m false)
 
-  abbrev begun' : Begins old i j s m.from m.to mid
-  begun' = begins old i j s mid sound m
-
-  end : Stage false (updates_on s old.pool) i j s (address_of m.from) (u old i j s mid sound m) new.pool new.edges
-      × IsSound new
-  end = runs_stage false (updates_on s old.pool) i j s (address_of m.from) (u old i j s mid sound m) begun'.apart
-      begun'.learns.advert steps mid new sound_mid runs (first_stage old i j s mid sound m false)
-
-  know : AllKnow old i j s mid sound m new
-  know y w in' of = runs_has steps mid new y w sound_mid (beside_runs i j s steps mid new runs) none
-      (know_mid old i j s mid sound m y w in' of)
+  know : AllKnow sound m new
+  know y w in' of = runs_has steps new y w (mid_sound sound m) (beside_runs i j s steps mid new runs) none
+      (know_mid sound m y w in' of)
 
   single : is_group s.mac ≡ false
-  single = individual m.from s (sound.good i m.from m.at_from) m.had
+  single = individual s (sound.good i m.from m.at_from) m.had
 
   sent : IsSent a b s (Port port) reply
-  sent = frame_sent a b event port s reply frame does
+  sent = frame_sent b reply frame does
 
   away : (Advertises a s → ⊥) → Goes
   away quiet = owned (owner (table_of b) s.vni s.mac) refl (owner_is (table_of b) s.vni s.mac)
     where
       unlearnt : port_of b s.vni s.mac ≡ None
-      unlearnt = ap (option_map (λ (y : Entry). y.port)) (sent.leaves.entry
-          ∙ no_entry a s (end.1.good x a at) quiet)
+      unlearnt = rw (sent.leaves.entry, no_entry s (end.1.good x a at) quiet)
 
-      flooded : (o : Option ℕ) → up_owner b.away (owner (table_of b) s.vni s.mac) ≡ o
-          → ((p : ℕ) → o ≡ Some p → (p == address_of b) ≡ true) → Goes
-      flooded o is mine = inr (inr (inr (record {
+      unknown : sent.decision.local ≡ open_ports (Port port) (record {
+        members = sent.is.members;
+        passing = sent.is.passing;
+      }) → sent.decision.remote.items ≡ others_of (address_of b)
+          (up_edges b.away (flood_of (table_of b) s.vni)) → Goes
+      unknown local remote = inr (inr (inr (record {
         decision = sent.decision;
         there = sent.there;
         members = sent.is.members;
         are_members = sent.is.are_members;
         passing = sent.is.passing;
         are_passing = sent.is.are_passing;
-        local = sent.is.local ∙ unknown_local b.away (table_of b) s.vni s.mac (address_of b) sent.is.members
-            sent.is.passing port (port_of b s.vni s.mac) single unlearnt o is mine;
-        remote = sent.is.remote ∙ unknown_remote b.away (table_of b) s.vni s.mac (address_of b) port
-            (port_of b s.vni s.mac) single unlearnt o is mine;
+        local = local;
+        remote = remote;
       })))
+
+      nobody : up_owner b.away (owner (table_of b) s.vni s.mac) ≡ None → Goes
+      nobody is = unknown (rw (sent.is.local, single, unlearnt, is)) (rw (sent.is.remote, single, unlearnt, is))
 
       to_one : (o : ℕ) → up_owner b.away (owner (table_of b) s.vni s.mac) ≡ Some o → (o == address_of b) ≡ false
           → GoesTo o reply
       to_one o is far = record {
         decision = sent.decision;
         there = sent.there;
-        local = sent.is.local ∙ elsewhere_local b.away (table_of b) s.vni s.mac (address_of b) o
-            sent.is.members sent.is.passing port (port_of b s.vni s.mac) single unlearnt is far;
-        remote = sent.is.remote ∙ elsewhere_remote b.away (table_of b) s.vni s.mac (address_of b) o port
-            (port_of b s.vni s.mac) single unlearnt is far;
+        local = rw (sent.is.local, single, unlearnt, is, far);
+        remote = rw (sent.is.remote, single, unlearnt, is, far);
       }
 
+      -- the owner, unless it is away
       owned : (o : Option ℕ) → owner (table_of b) s.vni s.mac ≡ o
-          → MatchOption (owner (table_of b) s.vni s.mac) (IsUnowned (table_of b) s.vni s.mac)
-          (IsOwner (table_of b) s.vni s.mac) → Goes
-      owned None is h = flooded None (ap (up_owner b.away) is) (λ p never. cc)
-      owned (Some o) is h = reached (is_up b.away o) refl
-          (subst (λ z. MatchOption z (IsUnowned (table_of b) s.vni s.mac) (IsOwner (table_of b) s.vni s.mac)) is h)
-        where
-          pick : up_owner b.away (owner (table_of b) s.vni s.mac) ≡ Some o → (q : Bool) → (o == address_of b) ≡ q
-              → IsOwner (table_of b) s.vni s.mac o → Goes
-          pick there true mine h = flooded (Some o) there (λ p same. let equal : o ≡ p = cc in
-              ap (λ n. n == address_of b) (sym equal) ∙ mine)
-          pick there false far h =
-              let other : o ≢ address_of a = (λ same. let mine : o ≡ address_of b = same ∙ sym sent.leaves.address in
-              grind (arith, nat_tests)) in
-              elim (of_two old i j s mid sound m new end.1 know end.0 x a at o other h.ip h.advert
-              (sym (sent.leaves.adverts o h.ip) ∙ h.own)) [
-                | inl from ↦ inr (inl (subst (λ n. GoesTo n reply) from (to_one o there far)))
-                | inr to ↦ inr (inr (inl (subst (λ n. GoesTo n reply) to (to_one o there far))))
-              ]
-
-          -- the owner, unless it is away
-          reached : (up : Bool) → is_up b.away o ≡ up → IsOwner (table_of b) s.vni s.mac o → Goes
-          reached true up h = pick (owner_up b.away (owner (table_of b) s.vni s.mac) o is up) (o == address_of b) refl h
-          reached false gone h = flooded None (owner_away b.away (owner (table_of b) s.vni s.mac) o is gone)
-              (λ p never. cc)
+          → MatchOption o (IsUnowned (table_of b) s.vni s.mac) (IsOwner (table_of b) s.vni s.mac) → Goes
+      owned None is h = nobody (ap (up_owner b.away) is)
+      owned (Some o) is h = elim (cases_Bool (is_up b.away o)) [
+        | inl up ↦
+            let there = owner_up b.away (owner (table_of b) s.vni s.mac) o is up in
+            elim (cases_Bool (o == address_of b)) [
+              | inl mine ↦ unknown (rw (sent.is.local, single, unlearnt, there, mine))
+                  (rw (sent.is.remote, single, unlearnt, there, mine))
+              | inr far ↦
+                  let other : o ≢ address_of a = (λ same. let mine : o ≡ address_of b = same
+                  ∙ sym sent.leaves.address in
+                  grind (arith, nat_tests)) in
+                  elim (of_two sound m end.1 know end.0 x at o other h.ip h.advert
+                  (sym (sent.leaves.adverts o h.ip) ∙ h.own)) [
+                    | inl from ↦ inr (inl (rw from at (to_one o there far)))
+                    | inr to ↦ inr (inr (inl (rw to at (to_one o there far))))
+                  ]
+            ]
+        | inr gone ↦ nobody (owner_away b.away (owner (table_of b) s.vni s.mac) o is gone)
+      ]
 
   goes : (y : Option Advert) → own_advert a.routes.speaker (key_of s) ≡ y → Goes
   goes (Some y) is =
       let says : Advertises a s = (None, y, is) in
       inl (
-        at_two old i j s mid sound m new end.1 know end.0 x a at says,
+        at_two sound m end.1 know end.0 x at says,
         frames_come_out a b s (end.1.good x a at) says event port reply frame does,
       )
-  goes None is = away (λ says. let z = advert_bare a s (end.1.good x a at) says in
-      let bad : None ≡ Some z.0 = sym is ∙ z.1 in cc)
+  goes None is = away (λ says. let z = advert_bare s (end.1.good x a at) says in
+      cc (z.1))
 
 pub frames_meanwhile : FramesMeanwhile
 frames_meanwhile i j s old mid new steps sound m runs none x a b at event port reply frame does =
-    goes i j s old mid new steps sound m runs none x a b at event port reply frame does
+    goes new steps sound m runs none x a b at event port reply frame does
     (own_advert a.routes.speaker (key_of s)) refl

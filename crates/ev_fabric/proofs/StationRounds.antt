@@ -1,39 +1,51 @@
 -- Rounds of a station end in agreement on it.
-use Rattle.std.proofs.Common.{◌≡◌, ◌⊎◌, inl, inr, ℕ, zero, suc, ◌+◌, ◌≤◌, Bool, true, false}
-use Rattle.std.proofs.Common.{None, List, [], ◌∷◌, ◌++◌, length, refl, sym, ap, subst, ◌∙◌, arith}
-use Rattle.std.proofs.lemmas.Bool.{cases_eq, cases_lt}
-use Rattle.std.proofs.lemmas.List.{append-nil, length-append}
-use Rattle.std.proofs.lemmas.List.Elements.{filter-append, Contains-append_cases}
-use Rattle.std.specs.Prelude.{Contains}
+use Rattle.std.proofs.Common.{◌≡◌, ◌⊎◌, inl, inr, ℕ, zero, suc, ◌+◌, ◌≤◌, Bool, true, false, None, Some, List, [], ◌∷◌}
+use Rattle.std.proofs.Common.{◌++◌, length, refl, ap, ◌∙◌, arith, ◌≢◌, ◌<◌, Result}
+use Rattle.std.proofs.lemmas.Bool.{cases_lt}
+use Rattle.std.proofs.lemmas.List.{length-append}
+use Rattle.std.proofs.lemmas.List.Elements.{filter-append, Contains-append_cases, Contains-append_right}
+use Rattle.std.specs.Prelude.{Contains, slice_get}
 use Rattle.route_wire.specs.declared.update.Register.{Register}
 use Rattle.route_wire.specs.Fields.{Fields}
-use Rattle.route_join.specs.Table.{register_of}
 use Rattle.mac_arena.specs.declared.station.Station.{Station}
-use Rattle.ev_claims.specs.Speaker.{own_advert}
-use Rattle.ev_claims.specs.LocalRoutes.{key_of}
-use Rattle.ev_edge.specs.Edge.{Edge, address_of}
+use Rattle.ev_edge.specs.Edge.{Edge, table_of}
 use Rattle.ev_fabric.specs.declared.step.Step.{Step}
-use Rattle.ev_fabric.specs.declared.step.Step.TheVariants.{Local}
 use Rattle.ev_fabric.specs.Fabric.{Fabric, IsEdge}
 use Rattle.ev_fabric.specs.Sound.{update_of, IsSound}
 use Rattle.ev_fabric.specs.Runs.{Runs}
 use Rattle.ev_fabric.specs.Later.{IsLaterFabric}
 use Rattle.ev_fabric.specs.Station.{is_of, AgreesOn, updates_on, unannounced_on, to_come_on, RunsAlone, StationComes}
-use Rattle.ev_fabric.specs.Station.{RunsBeside}
+use Rattle.ev_fabric.specs.Station.{RunsBeside, all_take, StationArrives}
 use Rattle.ev_fabric.specs.Rounds.{WasAnnounced, AllAnnounced, AllTaken, Rounds, StationAgrees, StationAgreesStill}
 use Rattle.ev_fabric.specs.Rounds.{AgreesInFour, IsOrderly, AgreesInTwo}
-use Rattle.ev_fabric.proofs.Agreements.{none_pending}
-use Rattle.ev_fabric.proofs.Stations.{about_station, station_one}
-use Rattle.ev_fabric.proofs.Fabrics.{step_sound, runs_sound}
+use Rattle.ev_fabric.proofs.ConvergingRounds.{no_length, IsReady, rests_ready, rests_before, each_brings, Has}
+use Rattle.ev_fabric.proofs.ConvergingRounds.{rests_has, rests_pool, given, announcing_else, Few, announcing_none}
+use Rattle.ev_fabric.proofs.ConvergingRounds.{arrived_value}
+use Rattle.ev_fabric.proofs.Stations.{about_station}
+use Rattle.ev_fabric.proofs.Fabrics.{runs_sound}
 use Rattle.ev_fabric.proofs.Goings.{runs_lead}
-use Rattle.ev_fabric.proofs.ConvergingSums.{sum_has}
-use Rattle.ev_fabric.proofs.StationStages.{filter_none, filter_has, filter_from, waiting, whole_station}
-use Rattle.ev_fabric.proofs.StationMotion.{At, one_edge, StageOf, Phase, AtFirst, AtTold, AtLost, AtOver, AtAged}
-use Rattle.ev_fabric.proofs.StationMotion.{AtLeft}
-use Rattle.ev_fabric.proofs.StationMotion.{AtBack, Stage, runs_stage}
-use Rattle.ev_fabric.proofs.StationMotion.{begins, u, base, first_stage, some_is, to_advertises, Begins}
-use Rattle.ev_fabric.proofs.StationRest.{station_settles}
-use Rattle.ev_fabric.proofs.StationAlone.{CalmOn, IsOld, same_old, calm_waits, agreed_calm, calm_runs, alone_runs}
+use Rattle.ev_fabric.proofs.ConvergingSums.{sum_has, place_of}
+use Rattle.ev_fabric.proofs.StationStages.{on, filter_none, filter_has, filter_from, waiting}
+use Rattle.ev_fabric.proofs.StationMotion.{Plan, Now, now, StageOf, Old, New, Other, Phase, AtFirst, AtTold, AtLost}
+use Rattle.ev_fabric.proofs.StationMotion.{AtOver, AtAged, AtLeft, AtBack, Stage, u, r, from_of, to_of, runs_stage}
+use Rattle.ev_fabric.proofs.StationMotion.{plan, mid_sound, first_stage, never_both, one_edge, begins, rests_beside}
+use Rattle.ev_fabric.proofs.StationMotion.{known_still}
+use Rattle.ev_fabric.proofs.StationAlone.{station_settles, CalmOn, IsOld, taken_agrees, same_old, calm_waits}
+use Rattle.ev_fabric.proofs.StationAlone.{agreed_calm, calm_runs, alone_runs, agreed_known}
+use Rattle.std.proofs.lemmas.Option.{slice_get_within}
+use Rattle.std.specs.List.{filter}
+use Rattle.route_join.specs.Table.{value_at}
+use Rattle.ev_claims.specs.Speaker.{own_register}
+use Rattle.ev_claims.specs.LocalRoutes.{LocalRoutes, key_of}
+use Rattle.ev_edge.specs.declared.reply.Reply.{Reply}
+use Rattle.ev_fabric.specs.declared.refusal.FabricRefusal.{FabricRefusal}
+use Rattle.ev_fabric.specs.declared.step.Step.TheVariants.{Deliver}
+use Rattle.ev_fabric.specs.Steps.{FabricSteps}
+use Rattle.ev_fabric.specs.Convergence.{Rests, HasNumbers, announcing}
+use Rattle.ev_fabric.proofs.Places.{minus, set_cases}
+use Rattle.ev_fabric.proofs.Cases.{at_delivery}
+use Rattle.ev_fabric.proofs.ConvergingEdge.{heard, heard_by, marked_length}
+use Rattle.ev_fabric.proofs.ConvergingMoves.{Move, Stays, Tells, Takes, moved}
 
 -- ---- runs
 pub beside_runs : (i j : ℕ) (s : Station) (steps : List Step) (old new : Fabric) → RunsBeside i j s old steps new
@@ -43,57 +55,48 @@ beside_runs i j s (step ∷ steps) old new h = (h.0, h.1, h.2, beside_runs i j s
 
 -- ---- the pool's updates of a station
 one_at_least : {X : Type 0} (xs : List X) (x : X) → Contains xs x → 1 ≤ length xs
-one_at_least [] x (k, lt, is) = absurd (omega (arith, lt))
+one_at_least [] x (k, lt, is) = absurd (omega arith)
 one_at_least (y ∷ ys) x in' = omega arith
-
-no_length : {X : Type 0} (xs : List X) → length xs ≤ 0 → xs ≡ []
-no_length [] le = refl
-no_length (x ∷ xs) le = absurd (omega (arith, le))
 
 abbrev pub count : Station → Fabric → ℕ
 count s f = length (updates_on s f.pool)
 
 counted : (s : Station) (old new : Fabric) (more : List Fields) → new.pool ≡ old.pool ++ more
     → count s new ≡ count s old + length (updates_on s more)
-counted s old new more pool = ap (λ l. length (updates_on s l)) pool
-    ∙ ap length (filter-append (λ (y : Fields). is_of s y.register) old.pool more)
-    ∙ length-append (updates_on s old.pool) (updates_on s more)
+counted s old new more pool = rw pool (ap length (filter-append (on s) old.pool more) ∙
+    length-append (updates_on s old.pool) (updates_on s more))
 
-pub grows : (s : Station) (old new : Fabric) → IsLaterFabric old new → count s old ≤ count s new
-grows s old new h = let sum = counted s old new h.more h.pool in omega (arith, sum)
+grows : (s : Station) {old new : Fabric} → IsLaterFabric old new → count s old ≤ count s new
+grows s {old} {new} h = omega (arith, counted s old new h.more h.pool)
 
-announced_grows : (s : Station) (old new : Fabric) (r : Register) → is_of s r ≡ true → WasAnnounced old new r
+announced_grows : (s : Station) {old new : Fabric} {r : Register} → is_of s r ≡ true → WasAnnounced old new r
     → count s old + 1 ≤ count s new
-announced_grows s old new r of h =
-    let sum = counted s old new h.more h.pool in
-    let some = one_at_least (updates_on s h.more) (update_of r h.value)
-    (filter_has (λ (y : Fields). is_of s y.register) h.more (update_of r h.value) of h.there) in
-    omega (arith, sum, some)
+announced_grows s {old} {new} {r} of h =
+    omega (
+      arith,
+      counted s old new h.more h.pool,
+      one_at_least (updates_on s h.more) (update_of r h.value)
+          (filter_has (on s) h.more (update_of r h.value) of h.there),
+    )
 
-no_more : (s : Station) (old new : Fabric) → IsLaterFabric old new → count s new ≤ count s old → IsOld s old new
-no_more s old new h few w of in' =
-    elim (Contains-append_cases old.pool h.more w (subst (λ l. Contains l w) h.pool in')) [
+no_more : (s : Station) {old new : Fabric} → IsLaterFabric old new → count s new ≤ count s old → IsOld s old new
+no_more s {old} {new} h few w of in' =
+    elim (Contains-append_cases old.pool h.more w (rw h.pool at in')) [
       | inl there ↦ there
       | inr later ↦
-          let sum = counted s old new h.more h.pool in
-          let some = one_at_least (updates_on s h.more) w
-          (filter_has (λ (y : Fields). is_of s y.register) h.more w of later) in
-          absurd (omega (arith, sum, some, few))
+          absurd (omega (
+            arith,
+            counted s old new h.more h.pool,
+            one_at_least (updates_on s h.more) w
+                (filter_has (on s) h.more w of later),
+            few,
+          ))
     ]
-
--- if all updates were taken, nothing is pending, and nothing came meanwhile, the edges agree
-taken_agrees : (s : Station) (old new : Fabric) → AllTaken s old new → IsOld s old new
-    → ((y : ℕ) (c : Edge) → IsEdge new y c → waiting s c.routes.speaker ≡ []) → AgreesOn new s
-taken_agrees s old new taken pool waits = record {
-  quiet = λ y c r at of in'. none_pending (subst (λ l. Contains l r) (waits y c at)
-      (filter_has (is_of s) c.routes.speaker.pending r of in'));
-  arrived = λ y c w at of in'. taken y c w at of (pool w of in');
-}
 
 -- ---- from anywhere
 
 -- a run that leaves a station undisturbed
-module _ (s : Station) (steps : List Step) (old new : Fabric) (sound : IsSound old)
+module _ (s : Station) (steps : List Step) {old : Fabric} (new : Fabric) (sound : IsSound old)
     (runs : RunsAlone s old steps new) where
   alone_later : IsLaterFabric old new
   alone_later = runs_lead steps old new sound (alone_runs s steps old new runs)
@@ -105,246 +108,176 @@ module _ (s : Station) (steps : List Step) (old new : Fabric) (sound : IsSound o
   alone_less : count s new + to_come_on s new ≤ count s old + to_come_on s old
   alone_less = station_settles s steps old new sound runs
 
-calm_rounds : (s : Station) (n : ℕ) (old new : Fabric) → IsSound old → CalmOn s old
+calm_rounds : (s : Station) (n : ℕ) {old : Fabric} (new : Fabric) → IsSound old → CalmOn s old
     → Rounds (RunsAlone s) s (suc n) old new → AgreesOn new s
-calm_rounds s zero old new sound calm h =
-    let after = calm_runs s h.1 old h.0 sound h.2 calm in
-    subst (λ f. AgreesOn f s) (sym h.4) (taken_agrees s old h.0 h.3.taken (same_old s old h.0 after.1)
-    (λ y c at. calm_waits h.0.pool (is_of s) c.routes.speaker (after.0 y c at)))
-calm_rounds s (suc n) old new sound calm h =
-    let after = calm_runs s h.1 old h.0 sound h.2 calm in
-    calm_rounds s n h.0 new (alone_sound s h.1 old h.0 sound h.2) after.0 h.4
+calm_rounds s zero {old} new sound calm h =
+    let after = calm_runs s h.1 h.0 sound h.2 calm in
+    rw h.4 (taken_agrees s old h.0 h.3.taken (same_old s old h.0 after.1) (λ y c at. calm_waits (after.0 y c at)))
+calm_rounds s (suc n) new sound calm h =
+    let after = calm_runs s h.1 h.0 sound h.2 calm in
+    calm_rounds s n new (alone_sound s h.1 h.0 sound h.2) after.0 h.4
 
 pub station_agrees_still : StationAgreesStill
-station_agrees_still s zero old new sound agree h = subst (λ f. AgreesOn f s) (sym h) agree
-station_agrees_still s (suc n) old new sound agree h = calm_rounds s n old new sound
-    (agreed_calm (is_of s) (whole_station s) old agree) h
+station_agrees_still s zero old new sound agree h = rw h agree
+station_agrees_still s (suc n) old new sound agree h = calm_rounds s n new sound
+    (agreed_calm (is_of s) agree) h
 
 -- if an edge has something pending, something may come
-waits_come : (s : Station) (f : Fabric) (y : ℕ) (c : Edge) → IsEdge f y c
+waits_come : (s : Station) (f : Fabric) (y : ℕ) {c : Edge} → IsEdge f y c
     → length (waiting s c.routes.speaker) ≤ to_come_on s f
-waits_come s f y c at = let has = sum_has (λ (a : Edge). unannounced_on s f.pool a.routes.speaker) f.edges y c at in
-    omega (arith, has)
+waits_come s f y at = omega (arith, sum_has (λ (a : Edge). unannounced_on s f.pool a.routes.speaker) f.edges y at)
 
 pub station_agrees : StationAgrees
-station_agrees s zero old new sound h enough = absurd (omega (arith, enough))
-station_agrees s (suc zero) old new sound h enough = subst (λ f. AgreesOn f s) (sym h.4)
-    (taken_agrees s old h.0 h.3.taken (no_more s old h.0 later few) (λ y c at. let less = alone_less s h.1 old h.0
-    sound h.2 in let more = grows s old h.0 later in let bound = waits_come s h.0 y c at in
-    no_length (waiting s c.routes.speaker) (omega (arith, less, more, bound, enough))))
+station_agrees s zero old new sound h enough = absurd (omega arith)
+station_agrees s (suc zero) old new sound h enough = rw h.4 (taken_agrees s old h.0 h.3.taken (no_more s later few)
+    (λ y c at. no_length (waiting s c.routes.speaker)
+    (omega (arith, alone_less s h.1 h.0 sound h.2, grows s later, waits_come s h.0 y at))))
   where
     later : IsLaterFabric old h.0
-    later = alone_later s h.1 old h.0 sound h.2
+    later = alone_later s h.1 h.0 sound h.2
 
     few : count s h.0 ≤ count s old
-    few = let less = alone_less s h.1 old h.0 sound h.2 in omega (arith, less, enough)
+    few = omega (arith, alone_less s h.1 h.0 sound h.2)
 station_agrees s (suc (suc n)) old new sound h enough =
-    elim (cases_lt (to_come_on s next) (to_come_on s old)) [
-      | inl drop ↦ station_agrees s n next new (alone_sound s h.4.1 h.0 next sound_mid h.4.2) h.4.4
-          (omega (arith, drop, enough))
-      | inr keeps ↦ calm_rounds s n h.0 new sound_mid (agreed_calm (is_of s) (whole_station s) h.0 (agree keeps)) h.4
+    let mid = alone_sound s h.1 h.0 sound h.2 in
+    let later = alone_later s h.1 h.0 sound h.2 in
+    let first = alone_less s h.1 h.0 sound h.2 in
+    let second = alone_less s h.4.1 h.4.0 mid h.4.2 in
+    let before = grows s later in
+    let after = grows s (alone_later s h.4.1 h.4.0 mid h.4.2) in
+    elim (cases_lt (to_come_on s h.4.0) (to_come_on s old)) [
+      | inl drop ↦ station_agrees s n h.4.0 new (alone_sound s h.4.1 h.4.0 mid h.4.2) h.4.4 (omega arith)
+      | inr keeps ↦ calm_rounds s n new mid (agreed_calm (is_of s)
+          (taken_agrees s old h.0 h.3.taken (no_more s later (omega arith)) (λ y c at.
+          filter_none (is_of s) c.routes.speaker.pending (λ r in' of.
+          omega (arith, announced_grows s of (h.4.3.announced y c r at of in')))))) h.4
     ]
-  where
-    next : Fabric
-    next = h.4.0
-
-    sound_mid : IsSound h.0
-    sound_mid = alone_sound s h.1 old h.0 sound h.2
-
-    agree : to_come_on s old ≤ to_come_on s next → AgreesOn h.0 s
-    agree keeps = taken_agrees s old h.0 h.3.taken (no_more s old h.0 (alone_later s h.1 old h.0 sound h.2) few)
-        quiet
-      where
-        first : count s h.0 + to_come_on s h.0 ≤ count s old + to_come_on s old
-        first = alone_less s h.1 old h.0 sound h.2
-
-        second : count s next + to_come_on s next ≤ count s h.0 + to_come_on s h.0
-        second = alone_less s h.4.1 h.0 next sound_mid h.4.2
-
-        before : count s old ≤ count s h.0
-        before = grows s old h.0 (alone_later s h.1 old h.0 sound h.2)
-
-        after : count s h.0 ≤ count s next
-        after = grows s h.0 next (alone_later s h.4.1 h.0 next sound_mid h.4.2)
-
-        few : count s h.0 ≤ count s old
-        few = let a = first in let b = second in let d = after in let e = keeps in omega (arith, a, b, d, e)
-
-        quiet : (y : ℕ) (c : Edge) → IsEdge h.0 y c → waiting s c.routes.speaker ≡ []
-        quiet y c at = filter_none (is_of s) c.routes.speaker.pending (λ r in' of.
-            let more = announced_grows s h.0 next r of (h.4.3.announced y c r at of in') in
-            let a = first in let b = second in let d = before in let e = keeps in
-            omega (arith, more, a, b, d, e))
 
 -- ---- after a move
 
 -- at a stage at which nothing is pending
-stage_waits : {base extra : List Fields} {i j : ℕ} {s : Station} {o : ℕ} {w : Fields} {says : Bool}
-    {pool : List Fields} {edges : List Edge} → StageOf base extra i j s o w [] [] says pool edges → (y : ℕ) (c : Edge)
-    → At edges y c
-    → waiting s c.routes.speaker ≡ []
-stage_waits {base} {extra} {i} {j} {s} {o} {w} {says} {pool} {edges} g y c at =
-    elim (cases_eq y i) [
-      | inl p ↦ subst (λ (e : Edge). waiting s e.routes.speaker ≡ []) (one_edge edges y i c g.from p at g.at_from)
-          g.is_from.waits
-      | inr ne_i ↦ elim (cases_eq y j) [
-        | inl p ↦ subst (λ (e : Edge). waiting s e.routes.speaker ≡ []) (one_edge edges y j c g.to p at g.at_to)
-            g.is_to.waits
-        | inr ne_j ↦ (g.asides y c ne_i ne_j at).waits
-      ]
-    ]
+stage_waits : (p : Plan) {extra : List Fields} {says : Bool} {pool : List Fields} {edges : List Edge}
+    → StageOf p (now extra [] [] says) pool edges → (y : ℕ) (c : Edge) → slice_get edges y ≡ Some c
+    → waiting p.s c.routes.speaker ≡ []
+stage_waits p g y c at = elim (g.roles y c at) [
+  | Old is t ↦ t.waits
+  | New is t ↦ t.waits
+  | Other ne ne' t ↦ t.waits
+]
 
-module _ (old : Fabric) (i j : ℕ) (s : Station) (mid : Fabric) (sound : IsSound old)
+stage_long : (p : Plan) {n : Now} {pool : List Fields} {edges : List Edge} → StageOf p n pool edges
+    → length (updates_on p.s pool) ≡ length p.base + length n.extra
+stage_long p {n} g = ap length g.grown ∙ length-append p.base n.extra
+
+module _ {old : Fabric} {i j : ℕ} {s : Station} {mid : Fabric} (sound : IsSound old)
     (m : StationComes old i j s mid) where
-  abbrev pub before : List Fields
-  before = base old i j s mid sound m
+  abbrev pub p : Plan
+  p = plan sound m false
 
-  abbrev pub advert : Fields
-  advert = u old i j s mid sound m
-
-  abbrev pub begun : Begins old i j s m.from m.to mid
-  begun = begins old i j s mid sound m
-
-  abbrev pub Staged : Fabric → Type 0
-  Staged f = Stage false before i j s (address_of m.from) advert f.pool f.edges
+  abbrev At : Fabric → Now → Type 0
+  At f n = StageOf p n f.pool f.edges
 
   -- a fabric on the way
   pub record Point (f : Fabric) : Type 0 where
-    pub stage : Staged f
+    pub stage : Stage p f.pool f.edges
     pub sound_still : IsSound f
 
-  pub point_mid : Point mid
-  point_mid = record {
-    stage = first_stage old i j s mid sound m false;
-    sound_still = step_sound old mid (Local (suc j) m.event) m.result m.step sound;
-  }
+  point_mid : Point mid
+  point_mid = assumption (first_stage sound m false, mid_sound sound m)
 
-  module _ (steps : List Step) (f g : Fabric) (runs : RunsBeside i j s f steps g) (p : Point f) where
-    pub point_runs : Point g
-    point_runs = let after = runs_stage false before i j s (address_of m.from) advert begun.apart begun.learns.advert
-        steps f g p.sound_still runs p.stage in record { stage = after.0; sound_still = after.1 }
+  module _ (steps : List Step) {f : Fabric} (g : Fabric) (runs : RunsBeside i j s f steps g) (point : Point f) where
+    point_runs : Point g
+    point_runs = let after = runs_stage p steps g point.sound_still runs point.stage in
+        assumption
 
-    pub point_later : IsLaterFabric f g
-    point_later = runs_lead steps f g p.sound_still (beside_runs i j s steps f g runs)
-
-  one_more : (w : Fields) → length (before ++ w ∷ []) ≡ length before + 1
-  one_more w = length-append before (w ∷ [])
-
-  two_more : (w z : Fields) → length (before ++ w ∷ z ∷ []) ≡ length before + 2
-  two_more w z = length-append before (w ∷ z ∷ [])
+    point_later : IsLaterFabric f g
+    point_later = runs_lead steps f g point.sound_still (beside_runs i j s steps f g runs)
 
   -- once all pending updates are announced, the pool has the advert
-  advert_out : (f g : Fabric) → IsLaterFabric f g → {extra : List Fields} {here there : List Register} {says : Bool}
-      → Phase false s (address_of m.from) advert extra here there says
-      → StageOf before extra i j s (address_of m.from) advert here there says f.pool f.edges → AllAnnounced s f g
-      → length before + 1 ≤ count s g
-  advert_out f g later AtFirst k all =
-      let same = ap length (k.grown ∙ append-nil before) in
-      let more = announced_grows s f g advert.register (about_station s None)
-      (all j k.to advert.register k.at_to (about_station s None) (filter_from (is_of s) k.to.routes.speaker.pending
-      advert.register (subst (λ l. Contains l advert.register) (sym k.is_to.waits) (0, omega arith, refl))).0) in
-      omega (arith, same, more)
-  advert_out f g later AtTold k all =
-      let same = ap length k.grown ∙ one_more advert in let more = grows s f g later in omega (arith, same, more)
-  advert_out f g later AtLost k all =
-      let same = ap length k.grown ∙ one_more advert in let more = grows s f g later in omega (arith, same, more)
-  advert_out f g later (AtOver w named none) k all =
-      let same = ap length k.grown ∙ two_more advert w in let more = grows s f g later in omega (arith, same, more)
-  advert_out f g later (AtAged yes') k all = cc
-  advert_out f g later (AtLeft yes' v named' none') k all = cc
-  advert_out f g later (AtBack yes' v named' none') k all = cc
+  advert_out : {f g : Fabric} → IsLaterFabric f g → {n : Now} → Phase p n → At f n → AllAnnounced s f g
+      → length p.base + 1 ≤ count s g
+  advert_out later AtFirst k all = omega (
+    arith,
+    stage_long p k,
+    announced_grows s (about_station s None)
+        (all j k.to.0 (u p).register k.to.1 (about_station s None)
+        (filter_from (is_of s) k.to.0.routes.speaker.pending (u p).register
+        (rw (to_of p k).waits (0, omega arith, refl))).0),
+  )
+  advert_out later (AtAged yes') k all = cc
+  advert_out later other k all = omega (arith, stage_long p k, grows s later)
 
   -- the old place has lost the station, or has withdrawn it
   abbrev Lost : Fabric → Type 0
-  Lost f = StageOf before (advert ∷ []) i j s (address_of m.from) advert
-      (register_of (address_of m.from) (key_of s) ∷ []) [] false f.pool f.edges ⊎ (length before + 2 ≤ count s f)
+  Lost f = At f (now (u p ∷ []) (r p ∷ []) [] false) ⊎ (length p.base + 2 ≤ count s f)
 
-  -- an old place that still advertises it hasn't taken the advert: both places would agree and advertise it
-  pub never_told : (g : Fabric) → Point g → AllTaken s g g
-      → StageOf before (advert ∷ []) i j s (address_of m.from) advert [] [] true g.pool g.edges → ⊥
-  never_told g p taken k =
-      let agree = taken_agrees s g g taken (λ w of in'. in') (stage_waits k) in
-      let y = some_is (own_advert k.from.routes.speaker (key_of s)) k.is_from.said in
-      begun.apart (station_one g s p.sound_still agree i j k.from k.to k.at_from k.at_to (
-        None,
-        y.0,
-        y.1,
-      ) (to_advertises g.pool (advert ∷ []) s advert [] k.to begun.learns.advert k.is_to))
+  -- an old place that still advertises it hasn't taken the advert
+  never_told : {g : Fabric} → Point g → AllTaken s g g → At g (now (u p ∷ []) [] [] true) → ⊥
+  never_told {g} point taken k = never_both p point.sound_still
+      (taken_agrees s g g taken (λ w of in'. in') (stage_waits p k)) k refl
 
   -- once all updates of the pool are taken, it has lost it
-  station_lost : (f g : Fabric) → IsLaterFabric f g → length before + 1 ≤ count s f → Point g → AllTaken s f g → Lost g
-  station_lost f g later out p taken = go p.stage.phase p.stage.of
+  station_lost : {f g : Fabric} → IsLaterFabric f g → length p.base + 1 ≤ count s f → Point g → AllTaken s f g → Lost g
+  station_lost {g = g} later out point taken = go point.stage.phase point.stage.of
     where
-      go : {extra : List Fields} {here there : List Register} {says : Bool}
-          → Phase false s (address_of m.from) advert extra here there says
-          → StageOf before extra i j s (address_of m.from) advert here there says g.pool g.edges → Lost g
-      go AtFirst k = let same = ap length (k.grown ∙ append-nil before) in let more = grows s f g later in
-          absurd (omega (arith, same, more, out))
-      go AtTold k =
-          let same = ap length k.grown ∙ one_more advert in
-          absurd (never_told g p (λ y c w at of in'. taken y c w at of
-          (no_more s f g later (omega (arith, same, out)) w of in')) k)
+      go : {n : Now} → Phase p n → At g n → Lost g
+      go AtTold k = absurd (never_told point (λ y c w at of in'. taken y c w at of
+          (no_more s later (omega (arith, stage_long p k)) w of in')) k)
       go AtLost k = inl k
-      go (AtOver w named none) k = let same = ap length k.grown ∙ two_more advert w in inr (omega (arith, same))
       go (AtAged yes') k = cc
-      go (AtLeft yes' v named' none') k = cc
-      go (AtBack yes' v named' none') k = cc
+      go (AtLeft yes' v named none) k = cc
+      go other k = inr (omega (arith, stage_long p k, grows s later))
 
   -- once all pending updates are announced, the pool has the withdrawal
-  withdrawal_out : (f g : Fabric) → IsLaterFabric f g → Lost f → AllAnnounced s f g → length before + 2 ≤ count s g
-  withdrawal_out f g later (inr out) all = let more = grows s f g later in omega (arith, out, more)
-  withdrawal_out f g later (inl k) all =
-      let r : Register = register_of (address_of m.from) (key_of s) in
-      let same = ap length k.grown ∙ one_more advert in
-      let more = announced_grows s f g r (about_station s None)
-      (all i k.from r k.at_from (about_station s None) (filter_from (is_of s) k.from.routes.speaker.pending r
-      (subst (λ l. Contains l r) (sym k.is_from.waits) (0, omega arith, refl))).0) in
-      omega (arith, same, more)
+  withdrawal_out : {f g : Fabric} → IsLaterFabric f g → Lost f → AllAnnounced s f g → length p.base + 2 ≤ count s g
+  withdrawal_out later (inr out) all = omega (arith, grows s later)
+  withdrawal_out later (inl k) all = omega (
+    arith,
+    stage_long p k,
+    announced_grows s (about_station s None)
+        (all i k.from.0 (r p) k.from.1 (about_station s None)
+        (filter_from (is_of s) k.from.0.routes.speaker.pending (r p)
+        (rw (from_of p k).waits (0, omega arith, refl))).0),
+  )
 
   -- and once that is taken the edges agree
-  pub over_agrees : (f g : Fabric) → IsLaterFabric f g → length before + 2 ≤ count s f → Point g → AllTaken s f g
+  over_agrees : {f g : Fabric} → IsLaterFabric f g → length p.base + 2 ≤ count s f → Point g → AllTaken s f g
       → AgreesOn g s
-  over_agrees f g later out p taken = go p.stage.phase p.stage.of
+  over_agrees {f} {g} later out point taken = go point.stage.phase point.stage.of
     where
-      go : {extra : List Fields} {here there : List Register} {says : Bool}
-          → Phase false s (address_of m.from) advert extra here there says
-          → StageOf before extra i j s (address_of m.from) advert here there says g.pool g.edges → AgreesOn g s
-      go AtFirst k = let same = ap length (k.grown ∙ append-nil before) in let more = grows s f g later in
-          absurd (omega (arith, same, more, out))
-      go AtTold k = let same = ap length k.grown ∙ one_more advert in let more = grows s f g later in
-          absurd (omega (arith, same, more, out))
-      go AtLost k = let same = ap length k.grown ∙ one_more advert in let more = grows s f g later in
-          absurd (omega (arith, same, more, out))
-      go (AtOver w named none) k = let same = ap length k.grown ∙ two_more advert w in
-          taken_agrees s f g taken (no_more s f g later (omega (arith, same, out))) (stage_waits k)
-      go (AtAged yes') k = cc
-      go (AtLeft yes' v named' none') k = cc
-      go (AtBack yes' v named' none') k = cc
+      over : {extra : List Fields} → At g (now extra [] [] false) → length extra ≡ 2 → AgreesOn g s
+      over k two = taken_agrees s f g taken (no_more s later (omega (arith, stage_long p k)))
+          (stage_waits p k)
 
-  two_orderly : (next new : Fabric) → IsOrderly i j s mid next → IsOrderly i j s next new → AgreesOn new s
-  two_orderly next new x y = over_agrees y.told new (point_later y.after y.told new y.goes_on left)
-      (withdrawal_out next y.told (point_later y.before next y.told y.goes heard)
-      (station_lost x.told next (point_later x.after x.told next x.goes_on told)
-      (advert_out mid x.told (point_later x.before mid x.told x.goes point_mid) point_mid.stage.phase
+      go : {n : Now} → Phase p n → At g n → AgreesOn g s
+      go (AtOver w named none) k = over k refl
+      go (AtBack yes' w named none) k = over k refl
+      go other k = absurd (omega (arith, stage_long p k, grows s later))
+
+  two_orderly : {next new : Fabric} → IsOrderly i j s mid next → IsOrderly i j s next new → AgreesOn new s
+  two_orderly {next} {new} x y = over_agrees (point_later y.after new y.goes_on left)
+      (withdrawal_out (point_later y.before y.told y.goes heard)
+      (station_lost (point_later x.after next x.goes_on told)
+      (advert_out (point_later x.before x.told x.goes point_mid) point_mid.stage.phase
       point_mid.stage.of x.announced) heard x.taken)
       y.announced)
-      (point_runs y.after y.told new y.goes_on left) y.taken
+      (point_runs y.after new y.goes_on left) y.taken
     where
       told : Point x.told
-      told = point_runs x.before mid x.told x.goes point_mid
+      told = point_runs x.before x.told x.goes point_mid
 
       heard : Point next
-      heard = point_runs x.after x.told next x.goes_on told
+      heard = point_runs x.after next x.goes_on told
 
       left : Point y.told
-      left = point_runs y.before next y.told y.goes heard
+      left = point_runs y.before y.told y.goes heard
 
 pub agrees_in_two : AgreesInTwo
-agrees_in_two i j s old mid next new sound m x y = two_orderly old i j s mid sound m next new x y
+agrees_in_two i j s old mid next new sound m x y = two_orderly sound m x y
 
 -- the announcements of one round and the deliveries of the next are an orderly round
 pub agrees_in_four : AgreesInFour
-agrees_in_four i j s old mid new sound m h = subst (λ f. AgreesOn f s) (sym h.4.4.4.4) (agrees_in_two i j s old mid
+agrees_in_four i j s old mid new sound m h = rw h.4.4.4.4 (agrees_in_two i j s old mid
     h.4.0 h.4.4.4.0 sound m (record {
       told = h.0;
       before = h.1;
@@ -362,3 +295,232 @@ agrees_in_four i j s old mid new sound m h = subst (λ f. AgreesOn f s) (sym h.4
       goes_on = h.4.4.4.2;
       taken = h.4.4.4.3.taken;
     }))
+
+-- ---- the distance from a move to agreement: pending registers of two edges, and two deliveries to each edge
+
+-- a step makes one register more pending at an edge, at most
+heard_pending : (c : LocalRoutes) (w : Fields)
+    → length (heard c w).speaker.pending ≤ length c.speaker.pending + 1
+heard_pending c w = heard_by (λ d. length d.speaker.pending ≤ length c.speaker.pending + 1) c w
+    (λ back. marked_length c.speaker.pending (own_register c.speaker w.register.key))
+    (λ s other lost. marked_length c.speaker.pending (own_register c.speaker (key_of s))) (λ never. omega arith)
+
+move_few : {old new : Fabric} → Move old new → (i n : ℕ) → Few old i n → Few new i (suc n)
+move_few Stays i n few c at = omega (arith, few c at)
+move_few {old} (Tells t) i n few c at = elim (set_cases old.edges t.place _ i c at) [
+  | inl p ↦ rw p.1 (omega (arith, few t.edge (rw p.0 t.at), ap length t.pending))
+  | inr p ↦ omega (arith, few c p.1)
+]
+move_few {old} (Takes t) i n few c at = elim (set_cases old.edges t.place _ i c at) [
+  | inl p ↦ rw p.1 (omega (arith, few t.edge (rw p.0 t.at), heard_pending t.edge.routes t.update))
+  | inr p ↦ omega (arith, few c p.1)
+]
+
+-- a delivery to another edge leaves this one
+deliver_else : (old new : Fabric) (e k : ℕ) (result : Result Reply FabricRefusal)
+    → FabricSteps old (Deliver e k) result new → (i : ℕ) → e ≢ suc i → {c : Edge} → IsEdge new i c → IsEdge old i c
+deliver_else old new e k result h i ne {c} at_c =
+    at_delivery (IsEdge old i c) old new result e k h (λ why is. rw is.1 at at_c)
+    (λ y a n u edge update at there s. elim (set_cases old.edges y s.after i c (rw (s.new_is, minus y) at at_c)) [
+      | inl p ↦ absurd (ne (omega (arith, p.0)))
+      | inr p ↦ p.1
+    ])
+
+-- one delivery to each edge
+abbrev one_to : ℕ → ℕ → List Step
+one_to k e = Deliver e k ∷ []
+
+all_few : (m k i n : ℕ) → i < m → {old : Fabric} (new : Fabric) → IsReady old → Rests old (all_take m k) new
+    → Few old i n → Few new i (suc n)
+all_few m k i n lt new ready h few = each_brings (one_to k) i (λ f. Few f i n) (λ f. Few f i (suc n))
+    (λ e old new ne ready h. (
+      (λ few c at. few c (deliver_else old h.0 e k h.1 h.4 i ne (rw h.5 at at))),
+      (λ few c at. few c (deliver_else old h.0 e k h.1 h.4 i ne (rw h.5 at at))),
+    )) (λ old new ready h few. rw h.5 (move_few (moved h.0 (Deliver (suc i) k) h.1 ready.sound h.2 h.4) i n few)) m lt
+    new
+    ready h few
+
+all_have : (m k i : ℕ) {w : Fields} → i < m → {old : Fabric} (new : Fabric) → IsReady old
+    → Rests old (all_take m (suc k)) new → slice_get old.pool k ≡ Some w → Has new i w
+all_have m k i {w} lt new ready h at = each_brings (one_to (suc k)) i (λ f. slice_get f.pool k ≡ Some w)
+    (λ f. Has f i w)
+    (λ e _ new _ ready h. (
+      rests_pool (one_to (suc k) e) new ready.sound h k,
+      rests_has (one_to (suc k) e) new ready.sound h i w,
+    )) (λ old new ready h at. rw h.5 (given h.0 i k h.1 ready h.3 h.4 at)) m lt new ready h at
+
+module _ {old : Fabric} {i j : ℕ} {s : Station} {mid : Fabric} (sound : IsSound old) (numbers : HasNumbers mid)
+    (m : StationComes old i j s mid) where
+  abbrev known : List Fields
+  known = updates_on s old.pool
+
+  abbrev new_one : Fields
+  new_one = u (p sound m)
+
+  abbrev Here : Fabric → Now → Type 0
+  Here f n = StageOf (p sound m) n f.pool f.edges
+
+  -- the announcements of the two places, and the deliveries of an update to each edge
+  abbrev by_to : List Step
+  by_to = announcing (suc j) (length m.to.routes.speaker.pending + 1)
+
+  abbrev by_from : List Step
+  by_from = announcing (suc i) (length m.from.routes.speaker.pending + 1)
+
+  abbrev to_all : ℕ → List Step
+  to_all k = all_take (length mid.edges) (suc k)
+
+  -- the known state of a fabric on the way
+  record OnWay (f : Fabric) : Type 0 where
+    point : Point sound m f
+    ready : IsReady f
+    has : (y : ℕ) (w : Fields) → Contains known w → Has f y w
+    places : (y : ℕ) (c : Edge) → IsEdge f y c → y < length mid.edges
+
+  way_rests : (steps : List Step) {f : Fabric} (g : Fabric) → Rests f steps g → OnWay f → OnWay g
+  way_rests steps {f} g h way = record {
+    point = point_runs sound m steps g (rests_beside i j s steps f g h) way.point;
+    ready = rests_ready steps g h way.ready;
+    has = λ y w in'. rests_has steps g way.ready.sound h y w (way.has y w in');
+    places = λ y c at. let x = rests_before steps g way.ready.sound h y at in way.places y x.was x.at;
+  }
+
+  way_mid : OnWay mid
+  way_mid = record {
+    point = point_mid sound m;
+    ready = assumption (mid_sound sound m);
+    has = λ y w in'. let x = filter_from (on s) old.pool w in' in
+        known_still sound m w (λ z. agreed_known old s m.agree z x.0 x.1) y;
+    places = λ y c at. slice_get_within mid.edges y c at;
+  }
+
+  way_later : (steps : List Step) {f : Fabric} (g : Fabric) → Rests f steps g → OnWay f → IsLaterFabric f g
+  way_later steps {f} g h way = point_later sound m steps g (rests_beside i j s steps f g h) way.point
+
+  no_pending : (rs : List Register) → length rs ≤ 0 → (r : Register) → filter (is_of s) rs ≡ r ∷ [] → ⊥
+  no_pending [] le r is = cc
+  no_pending (x ∷ xs) le r is = omega arith
+
+  -- an update of the station in the pool, and its place
+  placed : {pool : List Fields} {edges : List Edge} {n : Now} {w : Fields} → StageOf (p sound m) n pool edges
+      → Contains n.extra w → (k : ℕ) × (slice_get pool k ≡ Some w)
+  placed {pool} {n = n} {w = w} g in' = place_of pool w (filter_from (on s) pool w
+      (rw g.grown (Contains-append_right known n.extra w in'))).0
+
+  -- if nothing is pending at the new place, the advert is announced
+  is_told : {f : Fabric} → Few f j 0 → OnWay f
+      → ((k : ℕ) × (slice_get f.pool k ≡ Some new_one)) × (length known + 1 ≤ count s f)
+  is_told {f} few way = go way.point.stage.phase way.point.stage.of
+    where
+      there : {n : Now} → Here f n → Contains n.extra new_one
+          → ((k : ℕ) × (slice_get f.pool k ≡ Some new_one)) × (length known + 1 ≤ count s f)
+      there g in' = (placed g in', omega (arith, stage_long (p sound m) g, in'.1))
+
+      go : {n : Now} → Phase (p sound m) n → Here f n
+          → ((k : ℕ) × (slice_get f.pool k ≡ Some new_one)) × (length known + 1 ≤ count s f)
+      go AtTold g = there g (0, omega arith, refl)
+      go AtLost g = there g (0, omega arith, refl)
+      go (AtOver w named none) g = there g (0, omega arith, refl)
+      go (AtBack yes' w named none) g = there g (1, omega arith, refl)
+      go other g = absurd (no_pending g.to.0.routes.speaker.pending (few g.to.0 g.to.1) _ (to_of (p sound m) g).waits)
+
+  -- all updates of the station are taken, if the new ones are
+  all_taken : (f : Fabric) {g : Fabric} {n : Now} → OnWay g → Here f n
+      → ((y : ℕ) (w : Fields) → Contains n.extra w → Has g y w) → AllTaken s f g
+  all_taken f {g} {n} way k has y c w at of in' = arrived_value (value_at (table_of c) w.register) w.value
+      (elim (Contains-append_cases known n.extra w (rw k.grown at (filter_has (on s)
+      f.pool w of in'))) [
+        | inl earlier ↦ way.has y w earlier c at
+        | inr new ↦ has y w new c at
+      ])
+
+  all_advert : {f g : Fabric} (k : ℕ) {w : Fields} → OnWay f → OnWay g → slice_get f.pool k ≡ Some w
+      → Rests f (to_all k) g → (y : ℕ) → Has g y w
+  all_advert {g = g} k way after at h y c at_c =
+      all_have (length mid.edges) k y (after.places y c at_c) g way.ready h at c at_c
+
+  -- ---- the way
+  told_few : (told : Fabric) → Rests mid by_to told → Few told j 0
+  told_few told h = announcing_none (length m.to.routes.speaker.pending + 1) j told (mid_sound sound m) h
+      (λ c at. elim (set_cases old.edges j (begins sound m).after j c (rw (begins sound m).is at at)) [
+        | inl p ↦ rw (p.1, (begins sound m).learns.speaker)
+            (marked_length m.to.routes.speaker.pending (own_register m.to.routes.speaker (key_of s)))
+        | inr p ↦ absurd (p.0 refl)
+      ])
+
+  from_few : Few mid i (length m.from.routes.speaker.pending)
+  from_few c at = elim (set_cases old.edges j (begins sound m).after i c (rw (begins sound m).is at at)) [
+    | inl p ↦ absurd ((begins sound m).apart p.0)
+    | inr p ↦ rw (one_edge old.edges {i = i} refl m.at_from p.1) (omega arith)
+  ]
+
+  module _ (told : Fabric) (runs : Rests mid by_to told) where
+    way_told : OnWay told
+    way_told = way_rests by_to told runs way_mid
+
+    is : ((k : ℕ) × (slice_get told.pool k ≡ Some new_one)) × (length known + 1 ≤ count s told)
+    is = is_told (told_few told runs) way_told
+
+    module _ (heard left : Fabric) (taken : Rests told (to_all is.0.0) heard) (said : Rests heard by_from left) where
+      way_heard : OnWay heard
+      way_heard = way_rests (to_all is.0.0) heard taken way_told
+
+      way_left : OnWay left
+      way_left = way_rests by_from left said way_heard
+
+      has : (y : ℕ) → Has left y new_one
+      has y = rests_has by_from left way_heard.ready.sound said y new_one
+          (all_advert is.0.0 way_told way_heard is.0.1 taken y)
+
+      few : Few left i 0
+      few = announcing_none (length m.from.routes.speaker.pending + 1) i left way_heard.ready.sound said
+          (λ c at. omega (
+            arith,
+            all_few (length mid.edges) (suc is.0.0) i (length m.from.routes.speaker.pending)
+                (way_heard.places i c at) heard way_told.ready taken
+                (λ c at. from_few c (announcing_else (length m.to.routes.speaker.pending + 1) (suc j) mid told runs i
+                (λ same. (begins sound m).apart (omega arith)) at)) c at,
+          ))
+
+      finish : {n : Now} → Phase (p sound m) n → Here left n
+          → (l : ℕ) × ((new : Fabric) → Rests left (to_all l) new → AgreesOn new s)
+      finish AtFirst g = absurd (omega (
+        arith,
+        stage_long (p sound m) g,
+        is.1,
+        grows s (way_later (to_all is.0.0) heard taken way_told),
+        grows s (way_later by_from left said way_heard),
+      ))
+      finish AtTold g = absurd (never_told sound m way_left.point (all_taken left way_left g one) g)
+        where
+          one : (y : ℕ) (w : Fields) → Contains (new_one ∷ []) w → Has left y w
+          one y w (zero, lt, is) = rw (← is) (has y)
+          one y w (suc n, lt, is) = absurd (omega arith)
+      finish (AtLeft yes' v named none) g = cc
+      finish (AtBack yes' v named none) g = cc
+      finish (AtOver w named none) g = (there.0, last)
+        where
+          there : (l : ℕ) × (slice_get left.pool l ≡ Some w)
+          there = placed g (1, omega arith, refl)
+
+          last : (new : Fabric) → Rests left (to_all there.0) new → AgreesOn new s
+          last new h = over_agrees sound m (way_later (to_all there.0) new h way_left)
+              (omega (arith, stage_long (p sound m) g)) way.point (all_taken left way g two)
+            where
+              way : OnWay new
+              way = way_rests (to_all there.0) new h way_left
+
+              two : (y : ℕ) (z : Fields) → Contains (new_one ∷ w ∷ []) z → Has new y z
+              two y z (zero, lt, is) = rw (← is)
+                  (rests_has (to_all there.0) new way_left.ready.sound h y new_one (has y))
+              two y z (suc zero, lt, is) = rw (← is) (all_advert there.0 way_left way there.1 h y)
+              two y z (suc (suc n), lt, is) = absurd (omega arith)
+      finish other g = absurd (no_pending g.from.0.routes.speaker.pending (few g.from.0 g.from.1) _
+          (from_of (p sound m) g).waits)
+
+pub station_arrives : StationArrives
+station_arrives i j s old mid told sound numbers m runs = (
+  (is sound numbers m told runs).0.0,
+  λ heard left taken said. let way = way_left sound numbers m told runs heard left taken said in
+      finish sound numbers m told runs heard left taken said way.point.stage.phase way.point.stage.of,
+)

@@ -1,12 +1,12 @@
 -- The effect of each step on a set of registers at an edge: the registers of a station, or all others.
 use Rattle.std.proofs.Common.{◌≡◌, ◌≢◌, ◌⊎◌, inl, inr, ℕ, zero, suc, ◌<◌, ◌≤◌, Bool, true, false, cond, Option, Some}
-use Rattle.std.proofs.Common.{None, List, [], ◌∷◌, ◌++◌, refl, sym, ap, subst, ◌∙◌, arith}
-use Rattle.std.proofs.lemmas.Bool.{cases_eq, and_parts}
+use Rattle.std.proofs.Common.{None, List, [], ◌∷◌, ◌++◌, refl, sym, ap, ◌∙◌, arith}
+use Rattle.std.proofs.lemmas.Bool.{cases_Bool, cases_eq, and_parts, false_from_ne_true}
 use Rattle.std.proofs.lemmas.List.{append-nil}
-use Rattle.std.proofs.lemmas.List.Elements.{filter-append, Contains-push_cases}
-use Rattle.std.specs.Prelude.{Contains, IsSome, is_some, not, ◌||◌}
-use Rattle.std.specs.List.{filter, list_any}
-use Rattle.std.specs.Ordering.{eq_by_cmp}
+use Rattle.std.proofs.lemmas.List.Elements.{filter-append, Contains-push_cases, All-contains, All-filter}
+use Rattle.std.proofs.lemmas.List.Elements.{All-contains_itself, filter_passes}
+use Rattle.std.specs.Prelude.{Contains, IsSome, is_some, not}
+use Rattle.std.specs.List.{filter}
 use Rattle.route_wire.specs.declared.update.Ip.{Ip}
 use Rattle.route_wire.specs.declared.update.Key.{Key}
 use Rattle.route_wire.specs.declared.update.Key.TheVariants.{Flood, Mac}
@@ -16,10 +16,9 @@ use Rattle.route_wire.specs.declared.update.Content.{Content}
 use Rattle.route_wire.specs.declared.update.Content.TheVariants.{Withdrawn, Advert as Advertised}
 use Rattle.route_wire.specs.declared.update.Value.{Value}
 use Rattle.route_wire.specs.Fields.{Fields, flood_advert}
-use Rattle.route_wire.specs.Order.{register_cmp}
 use Rattle.route_join.specs.Table.{value_at, is_news, register_of}
 use Rattle.route_join.specs.Owner.{is_about, advert_in, advert_of, owner}
-use Rattle.route_join.proofs.Tables.{at_other, itself_register}
+use Rattle.route_join.proofs.Tables.{at_other}
 use Rattle.route_join.proofs.Joins.{update_other}
 use Rattle.mac_arena.specs.declared.station.Station.{Station}
 use Rattle.ev_claims.specs.Pending.{marked}
@@ -29,52 +28,51 @@ use Rattle.ev_claims.specs.LocalRoutes.{LocalRoutes, key_of, after_update, after
 use Rattle.ev_claims.specs.Opening.{after_floods}
 use Rattle.ev_claims.proofs.Numbers.{own_same, own_other, said_joins}
 use Rattle.ev_edge.specs.Edge.{OwnsAt}
+use Rattle.ev_fabric.specs.Fabric.{Fabric}
+use Rattle.ev_fabric.specs.Sound.{IsSound}
 use Rattle.ev_fabric.specs.ConvergenceEdge.{comes_back}
 use Rattle.ev_fabric.specs.Station.{is_of}
-use Rattle.ev_fabric.proofs.Voices.{Talks, Quiet, Says, talks_numbers, talks_one, is_bare, found}
+use Rattle.ev_fabric.proofs.Voices.{Talks, Quiet, Says, talks_numbers, talks_one, is_bare, marked_cases}
 use Rattle.ev_fabric.proofs.Stations.{about_station, station_key}
 use Rattle.ev_fabric.proofs.Agreements.{none_pending}
-use Rattle.ev_fabric.proofs.ConvergingEdge.{Accepts, Heard, Back, Lost, Kept, heard, hears, heard_later, stays_away}
-use Rattle.ev_fabric.proofs.ConvergingEdge.{others_stay_away, known_stays_away, news_stay, comes}
-use Rattle.ev_fabric.proofs.ConvergingSums.{later_one}
+use Rattle.ev_fabric.proofs.ConvergingEdge.{Accepts, heard, heard_by, heard_later}
+use Rattle.ev_fabric.proofs.ConvergingEdge.{others_stay_away, news_stay, comes, quieter}
+use Rattle.ev_fabric.proofs.ConvergingMoves.{Taking}
 use Rattle.ev_fabric.proofs.ConvergingIdle.{idle_hearing}
-use Rattle.ev_fabric.proofs.ConvergingHearing.{Loses, hear_cases, advert_kept, advert_stays}
+use Rattle.ev_fabric.proofs.ConvergingEdge.{Loses, hear_cases, advert_kept, advert_stays, idle_away}
 use Rattle.route_wire.proofs.Feeding.{never as not_both}
+
+pub some_in : (c : Option Advert) → IsSome c → (x : Advert) × (c ≡ Some x)
+some_in (Some x) is = (x, refl)
+some_in None is = cc
 
 -- ---- the elements of a list that pass a test
 
 pub filter_none : {X : Type 0} (p : X → Bool) (xs : List X) → ((x : X) → Contains xs x → p x ≡ true → ⊥)
     → filter p xs ≡ []
 filter_none p [] none = refl
-filter_none p (x ∷ xs) none = go (p x) refl (filter_none p xs
-    (λ y in'. none y (suc in'.0, (let lt = in'.1 in omega (arith, lt)), in'.2)))
-  where
-    go : (b : Bool) → p x ≡ b → filter p xs ≡ [] → cond b (x ∷ filter p xs) (filter p xs) ≡ []
-    go true e rest = absurd (none x (0, omega arith, refl) e)
-    go false e rest = rest
+filter_none p (x ∷ xs) none = rw (
+  false_from_ne_true (p x) (none x (0, omega arith, refl)),
+  filter_none p xs (λ y in'. none y (suc in'.0, omega (arith, in'.1), in'.2)),
+)
 
 pub filter_has : {X : Type 0} (p : X → Bool) (xs : List X) (x : X) → p x ≡ true → Contains xs x
     → Contains (filter p xs) x
-filter_has p [] x yes' (k, lt, is) = absurd (omega (arith, lt))
-filter_has p (y ∷ ys) x yes' (zero, lt, is) = subst (λ b. Contains (cond b (y ∷ filter p ys) (filter p ys)) x)
-    (sym (ap p is ∙ yes')) (0, omega arith, is)
-filter_has p (y ∷ ys) x yes' (suc k, lt, is) = go (p y) (filter_has p ys x yes' (k, omega (arith, lt), is))
-  where
-    go : (b : Bool) → Contains (filter p ys) x → Contains (cond b (y ∷ filter p ys) (filter p ys)) x
-    go true rest = (suc rest.0, (let more = rest.1 in omega (arith, more)), rest.2)
-    go false rest = rest
+filter_has p [] x yes' (k, lt, is) = absurd (omega arith)
+filter_has p (y ∷ ys) x yes' (zero, lt, is) = rw (ap p is ∙ yes') (0, omega arith, is)
+filter_has p (y ∷ ys) x yes' (suc k, lt, is) = let rest = filter_has p ys x yes' (k, omega arith, is) in
+    elim (p y) as (λ b. Contains (cond b (y ∷ filter p ys) (filter p ys)) x) [
+      | true ↦ (suc rest.0, omega (arith, rest.1), rest.2)
+      | false ↦ rest
+    ]
 
 -- which is one of the list, and passes
 pub filter_from : {X : Type 0} (p : X → Bool) (xs : List X) (x : X) → Contains (filter p xs) x
     → Contains xs x × (p x ≡ true)
-filter_from p [] x (k, lt, is) = absurd (omega (arith, lt))
-filter_from p (y ∷ ys) x in' = go (p y) refl in' (filter_from p ys x)
-  where
-    go : (b : Bool) → p y ≡ b → Contains (cond b (y ∷ filter p ys) (filter p ys)) x
-        → (Contains (filter p ys) x → Contains ys x × (p x ≡ true)) → Contains (y ∷ ys) x × (p x ≡ true)
-    go true e (zero, lt, is) rest = ((0, omega arith, is), ap p (sym is) ∙ e)
-    go true e (suc k, lt, is) rest = let r = rest (k, omega (arith, lt), is) in (later_one y ys x r.0, r.1)
-    go false e in' rest = let r = rest in' in (later_one y ys x r.0, r.1)
+filter_from p xs x in' = (
+  All-contains (Contains xs) (filter p xs) x (All-filter p (Contains xs) xs (All-contains_itself xs)) in',
+  All-contains (λ y. p y ≡ true) (filter p xs) x (filter_passes p xs) in',
+)
 
 pub filter_push : {X : Type 0} (p : X → Bool) (xs : List X) (x : X) → p x ≡ true
     → filter p (xs ++ x ∷ []) ≡ filter p xs ++ x ∷ []
@@ -84,6 +82,10 @@ pub filter_past : {X : Type 0} (p : X → Bool) (xs : List X) (x : X) → p x �
     → filter p (xs ++ x ∷ []) ≡ filter p xs
 filter_past p xs x e = filter-append p xs (x ∷ []) ∙ ap (λ b. filter p xs ++ cond b (x ∷ []) []) e
     ∙ append-nil (filter p xs)
+
+-- the update is of a register of the station
+abbrev pub on : Station → Fields → Bool
+on s u = is_of s u.register
 
 -- ---- pending registers of a set
 
@@ -95,31 +97,17 @@ waiting s e = waits_of (is_of s) e
 
 marked_other : (these : Register → Bool) (rs : List Register) (r : Register) → these r ≡ false
     → filter these (marked rs r) ≡ filter these rs
-marked_other these rs r other = go (list_any (eq_by_cmp register_cmp r) rs)
-  where
-    go : (b : Bool) → filter these (cond b rs (rs ++ r ∷ [])) ≡ filter these rs
-    go true = refl
-    go false = filter_past these rs r other
-
--- a register of the list is found
-has_any : (rs : List Register) (r : Register) → Contains rs r → list_any (eq_by_cmp register_cmp r) rs ≡ true
-has_any [] r (k, lt, is) = absurd (omega (arith, lt))
-has_any (x ∷ rs) r (zero, lt, is) = ap (λ y. eq_by_cmp register_cmp r y || list_any (eq_by_cmp register_cmp r) rs) is
-    ∙ ap (λ b. b || list_any (eq_by_cmp register_cmp r) rs) (itself_register r)
-has_any (x ∷ rs) r (suc k, lt, is) = either (eq_by_cmp register_cmp r x) (has_any rs r (k, omega (arith, lt), is))
-  where
-    either : (b : Bool) → list_any (eq_by_cmp register_cmp r) rs ≡ true
-        → (b || list_any (eq_by_cmp register_cmp r) rs) ≡ true
-    either true e = refl
-    either false e = e
+marked_other these rs r other = elim (marked_cases rs r) [
+  | inl h ↦ ap (filter these) h.1
+  | inr h ↦ rw h.1 (filter_past these rs r other)
+]
 
 pub marked_first : (s : Station) (rs : List Register) (r : Register) → filter (is_of s) rs ≡ [] → is_of s r ≡ true
     → filter (is_of s) (marked rs r) ≡ r ∷ []
-marked_first s rs r none mine = go (list_any (eq_by_cmp register_cmp r) rs) refl
-  where
-    go : (b : Bool) → list_any (eq_by_cmp register_cmp r) rs ≡ b → filter (is_of s) (cond b rs (rs ++ r ∷ [])) ≡ r ∷ []
-    go true e = absurd (none_pending (subst (λ l. Contains l r) none (filter_has (is_of s) rs r mine (found rs r e))))
-    go false e = filter_push (is_of s) rs r mine ∙ ap (λ l. l ++ r ∷ []) none
+marked_first s rs r none mine = elim (marked_cases rs r) [
+  | inl h ↦ absurd (none_pending (rw none at (filter_has (is_of s) rs r mine h.0)))
+  | inr h ↦ rw h.1 (filter_push (is_of s) rs r mine ∙ ap (λ l. l ++ r ∷ []) none)
+]
 
 -- ---- unchanged: all that an edge has of a set, and has to announce of it
 
@@ -132,24 +120,23 @@ pub record SameOn (these : Register → Bool) (e v : Speaker) : Type 0 where
 abbrev pub SameOf : Station → Speaker → Speaker → Type 0
 SameOf s e v = SameOn (is_of s) e v
 
-pub same_itself : (these : Register → Bool) (e : Speaker) → SameOn these e e
-same_itself these e = record { address = refl; incarnation = refl; values = λ r of. refl; waits = refl }
+same_itself : (these : Register → Bool) (e : Speaker) → SameOn these e e
+same_itself these e = assumption
 
-pub same_trans : (these : Register → Bool) (e v w : Speaker) → SameOn these e v → SameOn these v w → SameOn these e w
-same_trans these e v w h g = record {
+same_trans : {these : Register → Bool} {e v w : Speaker} → SameOn these e v → SameOn these v w → SameOn these e w
+same_trans h g = record {
   address = g.address ∙ h.address;
   incarnation = g.incarnation ∙ h.incarnation;
   values = λ r of. g.values r of ∙ h.values r of;
   waits = g.waits ∙ h.waits;
 }
 
-pub same_own : (s : Station) (e v : Speaker) → SameOf s e v → own v (key_of s) ≡ own e (key_of s)
-same_own s e v h = (λ n. value_at v.table (register_of (h.address n) (key_of s)))
-    ∙ h.values (own_register e (key_of s)) (about_station s None)
+pub same_own : (s : Station) {e v : Speaker} → SameOf s e v → own v (key_of s) ≡ own e (key_of s)
+same_own s {e} h = rw h.address (h.values (own_register e (key_of s)) (about_station s None))
 
-pub same_newest : (these : Register → Bool) (e v : Speaker) (w : Fields) → SameOn these e v → these w.register ≡ true
+pub same_newest : {these : Register → Bool} {e v : Speaker} (w : Fields) → SameOn these e v → these w.register ≡ true
     → is_newest v w ≡ is_newest e w
-same_newest these e v w h of = ap (λ o. is_news o w.value) (h.values w.register of)
+same_newest w h of = rw (h.values w.register of)
 
 -- an own update of something else
 pub says_other : (these : Register → Bool) (e : Speaker) (k : Key) (c : Content) → these (own_register e k) ≡ false
@@ -158,122 +145,96 @@ says_other these e k c other = record {
   address = refl;
   incarnation = refl;
   values = λ r of. at_other e.table (own_register e k) (next_value e c) r
-      (λ same. not_both (ap these (sym same) ∙ of) other);
+      (λ same. not_both (rw (← same) of) other);
   waits = marked_other these e.pending (own_register e k) other;
 }
 
 pub floods_same : (s : Station) (e : Speaker) (vs : List ℕ) → SameOf s e (after_floods e vs)
 floods_same s e [] = same_itself (is_of s) e
 floods_same s e (v ∷ vs) =
-    same_trans (is_of s) e (after_originating e (Flood v) (Advertised flood_advert))
-    (after_floods (after_originating e (Flood v) (Advertised flood_advert)) vs)
+    same_trans
     (says_other (is_of s) e (Flood v) (Advertised flood_advert) refl)
     (floods_same s (after_originating e (Flood v) (Advertised flood_advert)) vs)
 
 -- ---- own updates of an edge
 
--- there was an own update of the station, under a number above all earlier ones
-record Changed (s : Station) (e v : Speaker) : Type 0 where
-  ip : Option Ip
-  value : Value
-  there : own v (Mac s.vni s.mac ip) ≡ Some value
-  present : value.incarnation ≡ e.incarnation
-  more : e.counter < value.counter
-
-talk_counter : (e v : Speaker) → Talks e v → e.counter ≤ v.counter
-talk_counter e _ Quiet = omega arith
-talk_counter e _ (Says v k c bare t) = let h = talk_counter e v t in omega (arith, h)
-
-talks_of : (s : Station) (e v : Speaker) → Talks e v → SameOf s e v ⊎ Changed s e v
-talks_of s e _ Quiet = inl (same_itself (is_of s) e)
-talks_of s e _ (Says v k c bare t) = go (is_about s.vni s.mac k) refl (talks_of s e v t)
-  where
-    go : (b : Bool) → is_about s.vni s.mac k ≡ b → SameOf s e v ⊎ Changed s e v
-        → SameOf s e (after_originating v k c) ⊎ Changed s e (after_originating v k c)
-    go true mine before =
-        let ip = station_key s k mine in
-        let low = talk_counter e v t in
-        inr (record {
-          ip = ip.0;
-          value = next_value v c;
-          there = ap (own (after_originating v k c)) (sym ip.1) ∙ own_same v k c;
-          present = (talks_one e v t).incarnation;
-          more = omega (arith, low);
-        })
-    go false other (inl h) = inl (same_trans (is_of s) e v (after_originating v k c) h
-        (says_other (is_of s) v k c other))
-    go false other (inr h) = inr (record {
-      ip = h.ip;
-      value = h.value;
-      there = own_other v k c (Mac s.vni s.mac h.ip) (λ same. not_both (ap (is_about s.vni s.mac) (sym same)
-          ∙ about_station s h.ip) other) ∙ h.there;
-      present = h.present;
-      more = h.more;
-    })
-
--- own updates that keep the edge's own registers of the station keep all it has of the station
-pub left_same : (s : Station) (e v : Speaker) → Talks e v → KeepsNumbers e
-    → ((ip : Option Ip) → own v (Mac s.vni s.mac ip) ≡ own e (Mac s.vni s.mac ip)) → SameOf s e v
-left_same s e v t n same = elim (talks_of s e v t) [
-  | inl h ↦ h
-  | inr h ↦ let most = n.counted (Mac s.vni s.mac h.ip) h.value (sym (same h.ip) ∙ h.there) h.present in
-      let more = h.more in absurd (omega (arith, most, more))
-]
+talk_counter : {e v : Speaker} → Talks e v → e.counter ≤ v.counter
+talk_counter Quiet = omega arith
+talk_counter (Says v k c bare t) = omega (arith, talk_counter t)
 
 -- a value that was no news is still no news after an own update
-pub said_news : (e : Speaker) (k : Key) (c : Content) → KeepsNumbers e → (u : Fields) → is_newest e u ≡ false
+pub said_news : {e : Speaker} (k : Key) (c : Content) → KeepsNumbers e → (u : Fields) → is_newest e u ≡ false
     → is_newest (after_originating e k c) u ≡ false
-said_news e k c h u old = ap (λ t. is_news (value_at t u.register) u.value) (sym (said_joins e k c h))
+said_news {e} k c h u old = ap (λ t. is_news (value_at t u.register) u.value) (sym (said_joins e k c h))
     ∙ news_stay e.table (record { register = own_register e k; value = next_value e c }) u.register u.value old
 
-pub talks_news : (e v : Speaker) → Talks e v → KeepsNumbers e → (u : Fields) → is_newest e u ≡ false
+pub talks_news : {e v : Speaker} → Talks e v → KeepsNumbers e → (u : Fields) → is_newest e u ≡ false
     → is_newest v u ≡ false
-talks_news e _ Quiet h u old = old
-talks_news e _ (Says v k c bare t) h u old = said_news v k c (talks_numbers e v t h) u (talks_news e v t h u old)
+talks_news Quiet h u old = old
+talks_news (Says v k c bare t) h u old = said_news k c (talks_numbers t h) u (talks_news t h u old)
 
--- Own updates about a station of which nothing was pending: its register is pending then, and a value that was no news
--- still isn't.
+-- Own updates about a station: its register has a value under a number above all earlier ones, and is pending if
+-- nothing of the station was.
 pub record Spoke (s : Station) (e v : Speaker) : Type 0 where
   pub address : v.address ≡ e.address
-  pub waits : waiting s v ≡ own_register e (key_of s) ∷ []
+  pub value : Value
+  pub there : own v (key_of s) ≡ Some value
+  pub present : value.incarnation ≡ e.incarnation
+  pub more : e.counter < value.counter
+  pub waits : waiting s e ≡ [] → waiting s v ≡ own_register e (key_of s) ∷ []
 
 bare_key : (s : Station) (k : Key) → is_bare k ≡ true → is_about s.vni s.mac k ≡ true → k ≡ key_of s
 bare_key s k bare mine = let ip = station_key s k mine in go ip.0 ip.1
   where
     go : (ip : Option Ip) → k ≡ Mac s.vni s.mac ip → k ≡ key_of s
     go None is = is
-    go (Some ip) is = absurd (let bad : false ≡ true = ap is_bare (sym is) ∙ bare in cc)
+    go (Some ip) is = cc (ap is_bare (sym is))
 
 marked_again : (s : Station) (rs : List Register) (r : Register) → filter (is_of s) rs ≡ r ∷ []
     → filter (is_of s) (marked rs r) ≡ r ∷ []
-marked_again s rs r waits = ap (λ b. filter (is_of s) (cond b rs (rs ++ r ∷ [])))
-    (has_any rs r (filter_from (is_of s) rs r (subst (λ l. Contains l r) (sym waits) (0, omega arith, refl))).0) ∙ waits
+marked_again s rs r waits = elim (marked_cases rs r) [
+  | inl h ↦ ap (filter (is_of s)) h.1 ∙ waits
+  | inr h ↦ absurd (h.0 (filter_from (is_of s) rs r (rw waits (0, omega arith, refl))).0)
+]
 
-pub speaks : (s : Station) (e v : Speaker) → Talks e v → waiting s e ≡ [] → SameOf s e v ⊎ Spoke s e v
-speaks s e _ Quiet none = inl (same_itself (is_of s) e)
-speaks s e _ (Says v k c bare t) none = go (is_about s.vni s.mac k) refl (speaks s e v t none)
-  where
-    own_is : v.address ≡ e.address → is_about s.vni s.mac k ≡ true → own_register v k ≡ own_register e (key_of s)
-    own_is name mine = (λ n. register_of (name n) (bare_key s k bare mine n))
+pub speaks : (s : Station) {e v : Speaker} → Talks e v → SameOf s e v ⊎ Spoke s e v
+speaks s {e} Quiet = inl (same_itself (is_of s) e)
+speaks s {e} (Says v k c bare t) = elim (cases_Bool (is_about s.vni s.mac k)) [
+  | inl mine ↦
+      let one = talks_one t in
+      let key = bare_key s k bare mine in
+      let register : own_register v k ≡ own_register e (key_of s) = λ n. register_of (one.address n) (key n) in
+      inr (record {
+        address = one.address;
+        value = next_value v c;
+        there = rw (← key) (own_same v k c);
+        present = one.incarnation;
+        more = omega (arith, talk_counter t);
+        waits = λ none. rw register (elim (speaks s t) [
+          | inl h ↦ marked_first s v.pending (own_register e (key_of s)) (h.waits ∙ none) (about_station s None)
+          | inr h ↦ marked_again s v.pending (own_register e (key_of s)) (h.waits none)
+        ]);
+      })
+  | inr other ↦ elim (speaks s t) [
+    | inl h ↦ inl (same_trans h (says_other (is_of s) v k c other))
+    | inr h ↦ inr (record {
+      address = h.address;
+      value = h.value;
+      there = own_other v k c (key_of s) (λ same. not_both (rw (← same) (about_station s None)) other) ∙ h.there;
+      present = h.present;
+      more = h.more;
+      waits = λ none. marked_other (is_of s) v.pending (own_register v k) other ∙ h.waits none;
+    })
+  ]
+]
 
-    go : (b : Bool) → is_about s.vni s.mac k ≡ b → SameOf s e v ⊎ Spoke s e v
-        → SameOf s e (after_originating v k c) ⊎ Spoke s e (after_originating v k c)
-    go true mine (inl h) = inr (record {
-      address = h.address;
-      waits = ap (λ r. filter (is_of s) (marked v.pending r)) (own_is h.address mine)
-          ∙ marked_first s v.pending (own_register e (key_of s)) (h.waits ∙ none) (about_station s None);
-    })
-    go true mine (inr h) = inr (record {
-      address = h.address;
-      waits = ap (λ r. filter (is_of s) (marked v.pending r)) (own_is h.address mine)
-          ∙ marked_again s v.pending (own_register e (key_of s)) h.waits;
-    })
-    go false other (inl h) = inl (same_trans (is_of s) e v (after_originating v k c) h
-        (says_other (is_of s) v k c other))
-    go false other (inr h) = inr (record {
-      address = h.address;
-      waits = marked_other (is_of s) v.pending (own_register v k) other ∙ h.waits;
-    })
+-- own updates that keep the edge's own registers of the station keep all it has of the station
+pub left_same : (s : Station) {e v : Speaker} → Talks e v → KeepsNumbers e
+    → ((ip : Option Ip) → own v (Mac s.vni s.mac ip) ≡ own e (Mac s.vni s.mac ip)) → SameOf s e v
+left_same s t n same = elim (speaks s t) [
+  | inl h ↦ h
+  | inr h ↦ absurd (omega (arith, n.counted (key_of s) h.value (sym (same None) ∙ h.there) h.present, h.more))
+]
 
 -- ---- an update of something else
 
@@ -287,35 +248,26 @@ whole_station s r o v m ip key = ap (is_about s.vni s.mac) key
 
 pub heard_other : (these : Register → Bool) → AreWhole these → (c : LocalRoutes) (w : Fields)
     → these w.register ≡ false → SameOn these c.speaker (heard c w).speaker
-heard_other these whole c w other = go (comes_back c.speaker w) refl
+heard_other these whole c w other = elim (cases_Bool (comes_back c.speaker w)) [
+  | inl is ↦ heard_by (λ d. SameOn these c.speaker d.speaker) c w
+      (λ b. says_other these c.speaker w.register.key Withdrawn
+      (ap these (λ n. register_of (sym (comes c.speaker w is).mine n) w.register.key) ∙ other))
+      (λ st foreign lost. absurd (not_both is (others_stay_away c.speaker w foreign)))
+      (λ never. absurd (not_both is never))
+  | inr is ↦ elim (hear_cases c w is) [
+    | inl h ↦ rw h hearing
+    | inr h ↦ rw h.is (same_trans hearing (says_other these (after_importing c.speaker w) (key_of h.station) Withdrawn
+        (sym (whole w.register c.speaker.address h.station.vni h.station.mac h.ip h.key) ∙ other)))
+  ]
+]
   where
     hearing : SameOn these c.speaker (after_importing c.speaker w)
     hearing = record {
       address = refl;
       incarnation = refl;
-      values = λ r of. update_other c.speaker.table w.register w.value r
-          (λ same. not_both (ap these (sym same) ∙ of) other);
+      values = λ r of. update_other c.speaker.table w.register w.value r (λ same. not_both (rw (← same) of) other);
       waits = refl;
     }
-
-    back : (d : LocalRoutes) → Heard c w d → comes_back c.speaker w ≡ true → SameOn these c.speaker d.speaker
-    back _ (Back b) is =
-        let mine = (comes c.speaker w is).mine in
-        says_other these c.speaker w.register.key Withdrawn
-        (ap these (λ n. register_of (sym mine n) w.register.key) ∙ other)
-    back _ (Lost st foreign lost) is = absurd (not_both is (others_stay_away c.speaker w foreign))
-    back _ (Kept never) is = absurd (not_both is never)
-
-    go : (b : Bool) → comes_back c.speaker w ≡ b → SameOn these c.speaker (heard c w).speaker
-    go true is = back (heard c w) (hears c w) is
-    go false is = elim (hear_cases c w is) [
-      | inl h ↦ subst (λ (d : LocalRoutes). SameOn these c.speaker d.speaker) (sym h) hearing
-      | inr h ↦ subst (λ (d : LocalRoutes). SameOn these c.speaker d.speaker) (sym h.is)
-          (same_trans these c.speaker (after_importing c.speaker w)
-          (after_originating (after_importing c.speaker w) (key_of h.station) Withdrawn) hearing
-          (says_other these (after_importing c.speaker w) (key_of h.station) Withdrawn
-          (sym (whole w.register c.speaker.address h.station.vni h.station.mac h.ip h.key) ∙ other)))
-    ]
 
 -- ---- the edges of a move
 
@@ -324,21 +276,21 @@ abbrev Known : List Fields → List Fields → Station → Speaker → Type 0
 Known pool extra s e = (w : Fields) → Contains pool w → is_of s w.register ≡ true
     → (is_newest e w ≡ false) ⊎ Contains extra w
 
--- the edge to which the station came has the own value u of it
-pub record IsTo (pool extra : List Fields) (s : Station) (u : Fields) (there : List Register) (e : Speaker) : Type 0
-  where
-    pub register : own_register e (key_of s) ≡ u.register
-    pub says : own e (key_of s) ≡ Some u.value
-    pub waits : waiting s e ≡ there
-    pub known : Known pool extra s e
-
--- the edge of the address o, from which it came
-pub record IsFrom (pool extra : List Fields) (s : Station) (o : ℕ) (here : List Register) (says : Bool) (e : Speaker) :
-    Type 0 where
+-- One of the two edges of a move, of the address o: these of its registers of the station are pending, and this holds
+-- of its own value of the station.
+pub record HasPart (pool extra : List Fields) (s : Station) (o : ℕ) (rs : List Register) (Own : Option Value → Type 0)
+    (e : Speaker) : Type 0 where
   pub name : e.address ≡ o
-  pub said : is_some (own_advert e (key_of s)) ≡ says
-  pub waits : waiting s e ≡ here
+  pub own_is : Own (own e (key_of s))
+  pub waits : waiting s e ≡ rs
   pub known : Known pool extra s e
+
+-- it has the own value v, or it advertises the station or not
+abbrev pub HasOwn : Value → Option Value → Type 0
+HasOwn v o = o ≡ Some v
+
+abbrev pub Speaks : Bool → Option Value → Type 0
+Speaks says o = is_some (advert_of o) ≡ says
 
 -- any other edge: it advertises none of these registers, and no own advert of them comes back
 pub record HasNone (pool : List Fields) (these : Register → Bool) (e : Speaker) : Type 0 where
@@ -350,100 +302,44 @@ pub record HasNone (pool : List Fields) (these : Register → Bool) (e : Speaker
 abbrev pub IsAside : List Fields → Station → Speaker → Type 0
 IsAside pool s e = HasNone pool (is_of s) e
 
-pub aside_quiet : (pool : List Fields) (s : Station) (e : Speaker) → IsAside pool s e → own_advert e (key_of s) ≡ None
-aside_quiet pool s e h = h.quiet (own_register e (key_of s)) (about_station s None) refl
+pub aside_quiet : {pool : List Fields} (s : Station) {e : Speaker} → IsAside pool s e → own_advert e (key_of s) ≡ None
+aside_quiet s {e} h = h.quiet (own_register e (key_of s)) (about_station s None) refl
 
--- unchanged parts
-known_same : (pool extra : List Fields) (s : Station) (e v : Speaker) → SameOf s e v → Known pool extra s e
-    → Known pool extra s v
-known_same pool extra s e v h known w in' of = elim (known w in' of) [
-  | inl old ↦ inl (same_newest (is_of s) e v w h of ∙ old)
-  | inr new ↦ inr new
-]
-
-pub to_same : (pool extra : List Fields) (s : Station) (u : Fields) (there : List Register) (e v : Speaker)
-    → SameOf s e v
-    → IsTo pool extra s u there e → IsTo pool extra s u there v
-to_same pool extra s u there e v h t = record {
-  register = (λ n. register_of (h.address n) (key_of s)) ∙ t.register;
-  says = same_own s e v h ∙ t.says;
-  waits = h.waits ∙ t.waits;
-  known = known_same pool extra s e v h t.known;
-}
-
-pub from_same : (pool extra : List Fields) (s : Station) (o : ℕ) (here : List Register) (says : Bool) (e v : Speaker)
-    → SameOf s e v → IsFrom pool extra s o here says e → IsFrom pool extra s o here says v
-from_same pool extra s o here says e v h t = record {
-  name = h.address ∙ t.name;
-  said = ap (λ x. is_some (advert_of x)) (same_own s e v h) ∙ t.said;
-  waits = h.waits ∙ t.waits;
-  known = known_same pool extra s e v h t.known;
-}
-
-pub aside_same : (pool : List Fields) (these : Register → Bool) (e v : Speaker) → SameOn these e v
+pub aside_same : {pool : List Fields} {these : Register → Bool} {e v : Speaker} → SameOn these e v
     → HasNone pool these e → HasNone pool these v
-aside_same pool these e v h t = record {
-  quiet = λ r of mine. ap advert_of (h.values r of) ∙ t.quiet r of (mine ∙ h.address);
+aside_same h t = record {
+  quiet = λ r of mine. rw (h.values r of) (t.quiet r of (mine ∙ h.address));
   waits = h.waits ∙ t.waits;
   away = λ w in' of mine. elim (t.away w in' of (mine ∙ h.address)) [
-    | inl old ↦ inl (same_newest these e v w h of ∙ old)
+    | inl old ↦ inl (same_newest w h of ∙ old)
     | inr none ↦ inr none
   ];
 }
 
--- the pool gets an update, which is new if it is of the station
-known_push : (pool extra extra' : List Fields) (s : Station) (e : Speaker) (w : Fields)
-    → (is_of s w.register ≡ true → Contains extra' w) → ((z : Fields) → Contains extra z → Contains extra' z)
-    → Known pool extra s e → Known (pool ++ w ∷ []) extra' s e
-known_push pool extra extra' s e w new more known z in' of = elim (Contains-push_cases pool w z in') [
-  | inl earlier ↦ elim (known z earlier of) [ inl old ↦ inl old | inr here ↦ inr (more z here) ]
-  | inr now ↦ inr (subst (Contains extra') now (new (ap (λ (y : Fields). is_of s y.register) now ∙ of)))
-]
-
-pub to_push : (pool extra extra' : List Fields) (s : Station) (u : Fields) (there : List Register) (e : Speaker)
-    (w : Fields) → (is_of s w.register ≡ true → Contains extra' w)
-    → ((z : Fields) → Contains extra z → Contains extra' z) → IsTo pool extra s u there e
-    → IsTo (pool ++ w ∷ []) extra' s u there e
-to_push pool extra extra' s u there e w new more t = record {
-  register = t.register;
-  says = t.says;
-  waits = t.waits;
-  known = known_push pool extra extra' s e w new more t.known;
+-- an announcement of something else
+pub quieter_same : (these : Register → Bool) (c : LocalRoutes) {r : Register} {rs : List Register}
+    → c.speaker.pending ≡ r ∷ rs → these r ≡ false → SameOn these c.speaker (quieter c rs).speaker
+quieter_same these c {r} {rs} pend other = record {
+  address = refl;
+  incarnation = refl;
+  values = λ q of. refl;
+  waits = sym (ap (filter these) pend ∙ ap (λ b. cond b (r ∷ filter these rs) (filter these rs)) other);
 }
 
-pub from_push : (pool extra extra' : List Fields) (s : Station) (o : ℕ) (here : List Register) (says : Bool)
-    (e : Speaker)
-    (w : Fields) → (is_of s w.register ≡ true → Contains extra' w)
-    → ((z : Fields) → Contains extra z → Contains extra' z) → IsFrom pool extra s o here says e
-    → IsFrom (pool ++ w ∷ []) extra' s o here says e
-from_push pool extra extra' s o here says e w new more t = record {
-  name = t.name;
-  said = t.said;
-  waits = t.waits;
-  known = known_push pool extra extra' s e w new more t.known;
-}
-
-pub aside_push : (pool : List Fields) (these : Register → Bool) (e : Speaker) (w : Fields)
+pub aside_push : {pool : List Fields} {these : Register → Bool} {e : Speaker} (w : Fields)
     → (these w.register ≡ true → w.register.originator ≢ e.address) → HasNone pool these e
     → HasNone (pool ++ w ∷ []) these e
-aside_push pool these e w other t = record {
+aside_push {pool} w other t = record {
   quiet = t.quiet;
   waits = t.waits;
   away = λ z in' of mine. elim (Contains-push_cases pool w z in') [
     | inl earlier ↦ t.away z earlier of mine
-    | inr now ↦ absurd (other (ap (λ (y : Fields). these y.register) now ∙ of)
-        (ap (λ (y : Fields). y.register.originator) now ∙ mine))
+    | inr now ↦ absurd (other (rw now of)
+        (rw now mine))
   ];
 }
 
 -- ---- an update of the set is taken
-
-pub idle_away : (e : Speaker) (w : Fields) → (is_newest e w ≡ false) ⊎ (advert_in w.value.content ≡ None)
-    → comes_back e w ≡ false
-idle_away e w h = elim h [
-  | inl old ↦ known_stays_away e w old
-  | inr none ↦ stays_away e w (λ b. not_both b.advert (ap (λ (c : Option Advert). is_some c) none))
-]
 
 -- the known state of an edge that takes an update
 pub record Hears (c : LocalRoutes) (w : Fields) : Type 0 where
@@ -451,76 +347,50 @@ pub record Hears (c : LocalRoutes) (w : Fields) : Type 0 where
   pub owns : (s : Station) → OwnsAt c s
   pub accepts : Accepts c.speaker w
 
+pub hears_sound : {old : Fabric} → IsSound old → (t : Taking old) → Hears t.edge.routes t.update
+hears_sound sound t = let good = sound.good t.place t.edge t.at in assumption
+
 -- only the table grows
 abbrev pub Grows : LocalRoutes → Fields → Type 0
 Grows c w = (comes_back c.speaker w ≡ false) × (heard c w ≡ after_update c w)
 
-pub idle_grows : (c : LocalRoutes) (w : Fields) → Hears c w → (is_newest c.speaker w ≡ false)
+pub idle_grows : {c : LocalRoutes} {w : Fields} → Hears c w → (is_newest c.speaker w ≡ false)
     ⊎ (advert_in w.value.content ≡ None) → Grows c w
-idle_grows c w h idle = (idle_away c.speaker w idle, idle_hearing c w h.owns idle)
+idle_grows {c} {w} h idle = (idle_away c.speaker w idle, idle_hearing c w h.owns idle)
 
-still_known : (c : LocalRoutes) (w z : Fields) → Hears c w → is_newest c.speaker z ≡ false
+still_known : {c : LocalRoutes} {w : Fields} (z : Fields) → Hears c w → is_newest c.speaker z ≡ false
     → is_newest (heard c w).speaker z ≡ false
-still_known c w z h old = (heard_later c w h.numbers h.accepts).news z.register z.value old
+still_known {c} z h old = (heard_later c h.numbers h.accepts).news z.register z.value old
 
-known_hears : (pool extra : List Fields) (s : Station) (c : LocalRoutes) (w : Fields) → Hears c w
+known_hears : (pool extra : List Fields) (s : Station) {c : LocalRoutes} {w : Fields} → Hears c w
     → Known pool extra s c.speaker → Known pool extra s (heard c w).speaker
-known_hears pool extra s c w h known z in' of = elim (known z in' of) [
-  | inl old ↦ inl (still_known c w z h old)
+known_hears pool extra s h known z in' of = elim (known z in' of) [
+  | inl old ↦ inl (still_known z h old)
   | inr new ↦ inr new
 ]
 
-pub to_grows : (pool extra : List Fields) (s : Station) (u : Fields) (there : List Register) (c : LocalRoutes)
-    (w : Fields)
-    → IsSome (advert_in u.value.content) → Hears c w → Grows c w → IsTo pool extra s u there c.speaker
-    → IsTo pool extra s u there (heard c w).speaker
-to_grows pool extra s u there c w some h g t = record {
-  register = ap (λ (d : LocalRoutes). own_register d.speaker (key_of s)) g.1 ∙ t.register;
-  says = ap (λ (d : LocalRoutes). own d.speaker (key_of s)) g.1 ∙ stays (advert_in u.value.content) refl some;
-  waits = ap (λ (d : LocalRoutes). waiting s d.speaker) g.1 ∙ t.waits;
-  known = known_hears pool extra s c w h t.known;
-}
-  where
-    stays : (x : Option Advert) → advert_in u.value.content ≡ x → IsSome x
-        → own (after_importing c.speaker w) (key_of s) ≡ Some u.value
-    stays (Some y) p yes' = advert_stays c.speaker w (key_of s) y h.numbers h.accepts (ap advert_of t.says ∙ p) ∙ t.says
-    stays None p yes' = absurd (let no' : IsSome {T = Advert} None = yes' in cc)
-
-pub from_grows : (pool extra : List Fields) (s : Station) (o : ℕ) (here : List Register) (says : Bool) (c : LocalRoutes)
-    (w : Fields) → Hears c w → Grows c w → IsFrom pool extra s o here says c.speaker
-    → IsFrom pool extra s o here says (heard c w).speaker
-from_grows pool extra s o here says c w h g t = record {
-  name = ap (λ (d : LocalRoutes). d.speaker.address) g.1 ∙ t.name;
-  said = ap (λ (d : LocalRoutes). is_some (own_advert d.speaker (key_of s))) g.1
-      ∙ ap is_some (advert_kept c.speaker w (key_of s) h.numbers h.accepts g.0) ∙ t.said;
-  waits = ap (λ (d : LocalRoutes). waiting s d.speaker) g.1 ∙ t.waits;
-  known = known_hears pool extra s c w h t.known;
-}
-
-aside_grows : (pool : List Fields) (these : Register → Bool) (c : LocalRoutes) (w : Fields) → Hears c w → Grows c w
+aside_grows : {pool : List Fields} {these : Register → Bool} {c : LocalRoutes} {w : Fields} → Hears c w → Grows c w
     → HasNone pool these c.speaker → HasNone pool these (heard c w).speaker
-aside_grows pool these c w h g t = record {
+aside_grows {c} {w} h g t = record {
   quiet = λ r of mine.
       let named : r ≡ own_register c.speaker r.key = (λ n. register_of ((mine ∙ name) n) r.key) in
-      ap (λ (d : LocalRoutes). advert_of (value_at d.speaker.table r)) g.1
-      ∙ ap (λ q. advert_of (value_at (after_importing c.speaker w).table q)) named
-      ∙ advert_kept c.speaker w r.key h.numbers h.accepts g.0
-      ∙ t.quiet (own_register c.speaker r.key) (ap these (sym named) ∙ of) refl;
-  waits = ap (λ (d : LocalRoutes). waits_of these d.speaker) g.1 ∙ t.waits;
+      rw (g.1, named) (advert_kept r.key h.numbers h.accepts g.0 ∙ t.quiet (own_register c.speaker r.key)
+      (rw (← named) of) refl);
+  waits = rw g.1 t.waits;
   away = λ z in' of mine. elim (t.away z in' of (mine ∙ name)) [
-    | inl old ↦ inl (still_known c w z h old)
+    | inl old ↦ inl (still_known z h old)
     | inr none ↦ inr none
   ];
 }
   where
     name : (heard c w).speaker.address ≡ c.speaker.address
-    name = ap (λ (d : LocalRoutes). d.speaker.address) g.1
+    name = rw g.1
 
 -- an edge that loses a station to another originator's update has advertised it
-loses_said : (c : LocalRoutes) (w : Fields) → Hears c w → comes_back c.speaker w ≡ false → (l : Loses c w)
+loses_said : {c : LocalRoutes} {w : Fields} → Hears c w → comes_back c.speaker w ≡ false → (l : Loses c w)
     → is_some (own_advert c.speaker (key_of l.station)) ≡ true
-loses_said c w h never l =
-    ap is_some (sym (advert_kept c.speaker w (key_of l.station) h.numbers h.accepts never))
+loses_said {c} {w} h never l =
+    ap is_some (sym (advert_kept (key_of l.station) h.numbers h.accepts never))
     ∙ (and_parts (is_some (own_advert (after_importing c.speaker w) (key_of l.station)))
     (not (is_at (owner (after_importing c.speaker w).table l.station.vni l.station.mac) c.speaker.address)) l.lost).0
 
@@ -529,10 +399,10 @@ pub record LosesIt (s : Station) (c : LocalRoutes) (w : Fields) : Type 0 where
   pub said : is_some (own_advert c.speaker (key_of s)) ≡ true
   pub is : heard c w ≡ after_removal (after_update c w) s
 
-pub loses_it : (s : Station) (c : LocalRoutes) (w : Fields) → Hears c w → is_of s w.register ≡ true
+pub loses_it : (s : Station) {c : LocalRoutes} {w : Fields} → Hears c w → is_of s w.register ≡ true
     → comes_back c.speaker w ≡ false → Loses c w → LosesIt s c w
-loses_it s c w h of never l = record {
-  said = subst (λ r. is_some (own_advert c.speaker (key_of r)) ≡ true) station (loses_said c w h never l);
+loses_it s {c} {w} h of never l = record {
+  said = rw station at (loses_said h never l);
   is = l.is ∙ ap (after_removal (after_update c w)) station;
 }
   where
@@ -541,54 +411,93 @@ loses_it s c w h of never l = record {
 
     station : l.station ≡ s
     station =
-        let keys : Mac s.vni s.mac ip.0 ≡ Mac l.station.vni l.station.mac l.ip = sym ip.1 ∙ l.key in
-        let vnis : l.station.vni ≡ s.vni = cc in
-        let macs : l.station.mac ≡ s.mac = cc in
+        let vnis : l.station.vni ≡ s.vni = cc (ip.1, l.key) in
+        let macs : l.station.mac ≡ s.mac = cc (ip.1, l.key) in
         λ n. record { vni = vnis n; mac = macs n }
 
 -- an edge that advertises nothing of the set and takes an update of it still advertises nothing of it
-pub aside_hears : (pool : List Fields) (these : Register → Bool) → AreWhole these → (c : LocalRoutes) (w : Fields)
+pub aside_hears : {pool : List Fields} {these : Register → Bool} → AreWhole these → {c : LocalRoutes} {w : Fields}
     → Contains pool w → these w.register ≡ true → Hears c w → HasNone pool these c.speaker
     → HasNone pool these (heard c w).speaker
-aside_hears pool these whole c w in' of h t = aside_grows pool these c w h grows t
+aside_hears whole {c} {w} in' of h t = aside_grows h grows t
   where
     grows : Grows c w
     grows = elim (cases_eq w.register.originator c.speaker.address) [
-      | inl mine ↦ idle_grows c w h (t.away w in' of mine)
+      | inl mine ↦ idle_grows h (t.away w in' of mine)
       | inr other ↦ foreign (others_stay_away c.speaker w other)
     ]
       where
         foreign : comes_back c.speaker w ≡ false → Grows c w
         foreign never = elim (hear_cases c w never) [
           | inl is ↦ (never, is)
-          | inr l ↦ absurd (not_both (loses_said c w h never l) (ap is_some
+          | inr l ↦ absurd (not_both (loses_said h never l) (ap is_some
               (t.quiet (own_register c.speaker (key_of l.station))
               (sym (whole w.register c.speaker.address l.station.vni l.station.mac l.ip l.key) ∙ of) refl)))
         ]
 
--- the effect of the new advert on the edge from which the station came: it stays, or withdraws the station
-pub from_hears : (pool extra : List Fields) (s : Station) (o : ℕ) (here : List Register) (says : Bool) (c : LocalRoutes)
-    (w : Fields) → is_of s w.register ≡ true → w.register.originator ≢ c.speaker.address → Hears c w
-    → IsFrom pool extra s o here says c.speaker
-    → IsFrom pool extra s o here says (heard c w).speaker
-    ⊎ ((says ≡ true) × (here ≡ [] → IsFrom pool extra s o (register_of o (key_of s) ∷ []) false (heard c w).speaker))
-from_hears pool extra s o here says c w of other h t =
-    elim (hear_cases c w never) [
-      | inl is ↦ inl (from_grows pool extra s o here says c w h (never, is) t)
-      | inr l ↦ let it = loses_it s c w h of never l in inr (sym t.said ∙ it.said, lost it.is)
-    ]
-  where
-    never : comes_back c.speaker w ≡ false
-    never = others_stay_away c.speaker w other
+-- ---- the two edges of a move
+module _ {pool extra : List Fields} {s : Station} {o : ℕ} {rs : List Register} where
+  pub part_same : {Own : Option Value → Type 0} {e v : Speaker} → SameOf s e v → HasPart pool extra s o rs Own e
+      → HasPart pool extra s o rs Own v
+  part_same h t = record {
+    name = h.address ∙ t.name;
+    own_is = rw (same_own s h) t.own_is;
+    waits = h.waits ∙ t.waits;
+    known = λ w in' of. elim (t.known w in' of) [ inl old ↦ inl (same_newest w h of ∙ old) | inr new ↦ inr new ];
+  }
 
-    lost : heard c w ≡ after_removal (after_update c w) s → here ≡ []
-        → IsFrom pool extra s o (register_of o (key_of s) ∷ []) false (heard c w).speaker
-    lost is none = record {
-      name = ap (λ (d : LocalRoutes). d.speaker.address) is ∙ t.name;
-      said = ap (λ (d : LocalRoutes). is_some (own_advert d.speaker (key_of s))) is
-          ∙ ap (λ x. is_some (advert_of x)) (own_same (after_importing c.speaker w) (key_of s) Withdrawn);
-      waits = ap (λ (d : LocalRoutes). waiting s d.speaker) is
-          ∙ marked_first s c.speaker.pending (own_register c.speaker (key_of s)) (t.waits ∙ none) (about_station s None)
-          ∙ ap (λ p. register_of p (key_of s) ∷ []) t.name;
-      known = known_hears pool extra s c w h t.known;
-    }
+  -- the pool gets an update, which is new if it is of the station
+  pub part_push : {Own : Option Value → Type 0} {e : Speaker} (extra' : List Fields) (w : Fields)
+      → (is_of s w.register ≡ true → Contains extra' w) → ((z : Fields) → Contains extra z → Contains extra' z)
+      → HasPart pool extra s o rs Own e → HasPart (pool ++ w ∷ []) extra' s o rs Own e
+  part_push extra' w new more t = record {
+    name = t.name;
+    own_is = t.own_is;
+    waits = t.waits;
+    known = λ z in' of. elim (Contains-push_cases pool w z in') [
+      | inl earlier ↦ elim (t.known z earlier of) [ inl old ↦ inl old | inr here ↦ inr (more z here) ]
+      | inr now ↦ inr (rw now at (new (rw now of)))
+    ];
+  }
+
+  part_grows : {Own : Option Value → Type 0} {c : LocalRoutes} {w : Fields} → Hears c w → Grows c w
+      → (Own (own c.speaker (key_of s)) → Own (own (after_importing c.speaker w) (key_of s)))
+      → HasPart pool extra s o rs Own c.speaker
+      → HasPart pool extra s o rs Own (heard c w).speaker
+  part_grows h g kept t = record {
+    name = rw g.1 t.name;
+    own_is = rw g.1 (kept t.own_is);
+    waits = rw g.1 t.waits;
+    known = known_hears pool extra s h t.known;
+  }
+
+  pub to_grows : {v : Value} {c : LocalRoutes} {w : Fields} → IsSome (advert_in v.content) → Hears c w → Grows c w
+      → HasPart pool extra s o rs (HasOwn v) c.speaker → HasPart pool extra s o rs (HasOwn v) (heard c w).speaker
+  to_grows {v} some h g t = part_grows h g (λ is. advert_stays (key_of s) h.numbers h.accepts
+      (ap advert_of is ∙ (some_in (advert_in v.content) some).1) ∙ is) t
+
+  pub from_grows : {says : Bool} {c : LocalRoutes} {w : Fields} → Hears c w → Grows c w
+      → HasPart pool extra s o rs (Speaks says) c.speaker
+      → HasPart pool extra s o rs (Speaks says) (heard c w).speaker
+  from_grows h g t = part_grows h g (λ is. rw (advert_kept (key_of s) h.numbers h.accepts g.0) is) t
+
+  -- the effect of the new advert on the edge from which the station came: it stays, or withdraws the station
+  pub from_hears : {says : Bool} {c : LocalRoutes} {w : Fields} → is_of s w.register ≡ true
+      → w.register.originator ≢ c.speaker.address → Hears c w → HasPart pool extra s o rs (Speaks says) c.speaker
+      → HasPart pool extra s o rs (Speaks says) (heard c w).speaker ⊎ ((says ≡ true)
+      × (rs ≡ [] → HasPart pool extra s o (register_of o (key_of s) ∷ []) (Speaks false) (heard c w).speaker))
+  from_hears {c = c} {w = w} of other h t =
+      let never = others_stay_away c.speaker w other in
+      elim (hear_cases c w never) [
+        | inl is ↦ inl (from_grows h (never, is) t)
+        | inr l ↦ let it = loses_it s h of never l in let is = it.is in inr (
+          sym t.own_is ∙ it.said,
+          λ none. record {
+            name = rw is t.name;
+            own_is = rw (is, own_same (after_importing c.speaker w) (key_of s) Withdrawn);
+            waits = rw is (marked_first s c.speaker.pending (own_register c.speaker (key_of s)) (t.waits ∙ none)
+                (about_station s None) ∙ ap (λ p. register_of p (key_of s) ∷ []) t.name);
+            known = known_hears pool extra s h t.known;
+          },
+        )
+      ]

@@ -1,8 +1,9 @@
 -- The pool still accounts for an edge's table when the edge makes, takes or announces an update.
-use Rattle.std.proofs.Common.{◌≡◌, ◌≢◌, ◌⊎◌, inl, inr, zero, suc, ◌+◌, ◌<◌, Bool, true, false, cond, Some, None}
+use Rattle.std.proofs.Common.{◌≡◌, ◌≢◌, ◌⊎◌, inl, inr, ℕ, zero, suc, ◌+◌, ◌<◌, Bool, true, false, cond, Some, None}
 use Rattle.std.proofs.Common.{List, [], ◌∷◌, ◌++◌, refl, sym, ap, subst, ◌∙◌, arith}
+use Rattle.std.proofs.lemmas.Bool.{cases_Bool, or_cases, or_right}
 use Rattle.std.proofs.lemmas.List.Elements.{Contains-append_left, Contains-push, Contains-push_cases}
-use Rattle.std.specs.Prelude.{Contains, ◌||◌}
+use Rattle.std.specs.Prelude.{Contains}
 use Rattle.std.specs.List.{list_any}
 use Rattle.std.specs.Ordering.{eq_by_cmp}
 use Rattle.route_wire.specs.declared.update.Key.{Key}
@@ -12,11 +13,11 @@ use Rattle.route_wire.specs.declared.update.Content.{Content}
 use Rattle.route_wire.specs.declared.update.Content.TheVariants.{Withdrawn}
 use Rattle.route_wire.specs.declared.update.Value.{Value}
 use Rattle.route_wire.specs.Fields.{Fields}
-use Rattle.route_wire.specs.Order.{register_cmp}
+use Rattle.route_wire.specs.Order.{register_cmp, is_newer}
+use Rattle.route_wire.proofs.Newer.{not_newer_lower, not_newer_itself}
 use Rattle.route_join.specs.Table.{Table, value_at, is_news, with_value, with_update}
-use Rattle.route_join.proofs.Tables.{same_or_other, same_register, at_same, at_other}
+use Rattle.route_join.proofs.Tables.{same_or_other, same_register, itself_register, at_same, at_other}
 use Rattle.route_join.proofs.Joins.{update_other}
-use Rattle.route_join.proofs.Merging.{same_listeners}
 use Rattle.ev_claims.specs.Pending.{marked}
 use Rattle.ev_claims.specs.Speaker.{Speaker, KeepsNumbers, own_register, next_value, after_originating, after_importing}
 use Rattle.ev_claims.specs.Speaker.{after_importing_own, is_newest, is_ahead, is_returning}
@@ -25,38 +26,50 @@ use Rattle.ev_claims.proofs.Hearing.{not_present, past_if_newest, refuted_is}
 use Rattle.ev_fabric.specs.Sound.{update_of, IsBehind, IsTold}
 
 -- ---- the pending registers
-pub marked_keeps : (rs : List Register) (r q : Register) → Contains rs q → Contains (marked rs r) q
-marked_keeps rs r q in' = go (list_any (eq_by_cmp register_cmp r) rs)
-  where
-    go : (b : Bool) → Contains (cond b rs (rs ++ r ∷ [])) q
-    go true = in'
-    go false = Contains-append_left rs (r ∷ []) q in'
-
-pub found : (rs : List Register) (r : Register) → list_any (eq_by_cmp register_cmp r) rs ≡ true → Contains rs r
+-- a register of the list is found, and no other
+found : (rs : List Register) (r : Register) → list_any (eq_by_cmp register_cmp r) rs ≡ true → Contains rs r
 found [] r e = cc
-found (x ∷ rs) r e = go (eq_by_cmp register_cmp r x) refl e (found rs r)
-  where
-    go : (b : Bool) → eq_by_cmp register_cmp r x ≡ b → (b || list_any (eq_by_cmp register_cmp r) rs) ≡ true
-        → (list_any (eq_by_cmp register_cmp r) rs ≡ true → Contains rs r) → Contains (x ∷ rs) r
-    go true t e later = (0, omega arith, sym (same_register r x t))
-    go false t e later = let h = later e in (suc h.0, omega (arith, h.1), h.2)
+found (x ∷ rs) r e = elim (or_cases _ _ e) [
+  | inl here ↦ (0, omega arith, sym (same_register r x here))
+  | inr later ↦ let h = found rs r later in (suc h.0, omega (arith, h.1), h.2)
+]
 
-pub marked_has : (rs : List Register) (r : Register) → Contains (marked rs r) r
-marked_has rs r = go (list_any (eq_by_cmp register_cmp r) rs) refl
-  where
-    go : (b : Bool) → list_any (eq_by_cmp register_cmp r) rs ≡ b → Contains (cond b rs (rs ++ r ∷ [])) r
-    go true e = found rs r e
-    go false e = Contains-push rs r
+has_any : (rs : List Register) (r : Register) → Contains rs r → list_any (eq_by_cmp register_cmp r) rs ≡ true
+has_any [] r (k, lt, is) = absurd (omega arith)
+has_any (x ∷ rs) r (zero, lt, is) = rw (is, itself_register r)
+has_any (x ∷ rs) r (suc k, lt, is) = or_right _ _ (has_any rs r (k, omega arith, is))
+
+-- it is marked already, or comes last
+pub marked_cases : (rs : List Register) (r : Register) → (Contains rs r × (marked rs r ≡ rs))
+    ⊎ ((Contains rs r → ⊥) × (marked rs r ≡ rs ++ r ∷ []))
+marked_cases rs r = elim (cases_Bool (list_any (eq_by_cmp register_cmp r) rs)) [
+  | inl e ↦ inl (found rs r e, rw e)
+  | inr e ↦ inr (λ in'. cc (has_any rs r in'), rw e)
+]
+
+marked_keeps : (rs : List Register) (r q : Register) → Contains rs q → Contains (marked rs r) q
+marked_keeps rs r q in' = elim (marked_cases rs r) [
+  | inl h ↦ rw h.1 in'
+  | inr h ↦ rw h.1 (Contains-append_left rs (r ∷ []) q in')
+]
+
+marked_has : (rs : List Register) (r : Register) → Contains (marked rs r) r
+marked_has rs r = elim (marked_cases rs r) [ inl h ↦ rw h.1 h.0 | inr h ↦ rw h.1 (Contains-push rs r) ]
+
+pub behind_not_newer : {n : ℕ} {t : Table} {u : Fields} (b : IsBehind n t u) → is_newer u.value b.says ≡ false
+behind_not_newer {u = u} b = elim b.order [
+  | inl equal ↦ rw (← equal) (not_newer_itself u.value)
+  | inr less ↦ not_newer_lower u.value b.says (b.present ∙ sym b.alive) less
+]
 
 -- ---- an own register changes
-said_behind : (e : Speaker) (k : Key) (c : Content) → KeepsNumbers e → (u : Fields) → u.register.originator ≡ e.address
+said_behind : {e : Speaker} (k : Key) (c : Content) → KeepsNumbers e → {u : Fields} → u.register.originator ≡ e.address
     → IsBehind e.incarnation e.table u → IsBehind e.incarnation (after_originating e k c).table u
-said_behind e k c h u mine b = elim (same_or_other u.register (own_register e k)) [
+said_behind {e} k c h {u} mine b = elim (same_or_other u.register (own_register e k)) [
   | inl same ↦ record {
     present = b.present;
     says = next_value e c;
-    there = ap (value_at (after_originating e k c).table) same
-        ∙ at_same e.table (own_register e k) (next_value e c);
+    there = rw same (at_same e.table (own_register e k) (next_value e c));
     alive = refl;
     order = inr (lower b.order);
   }
@@ -73,35 +86,33 @@ said_behind e k c h u mine b = elim (same_or_other u.register (own_register e k)
     named = λ i. let q : Register = record { originator = mine i; key = u.register.key } in q
 
     bound : b.says.counter < e.counter + 1
-    bound = let less = h.counted u.register.key b.says (ap (value_at e.table) (sym named) ∙ b.there) b.alive in
-        omega (arith, less)
+    bound = omega (arith, h.counted u.register.key b.says (rw (← named) b.there) b.alive)
 
     lower : (u.value ≡ b.says) ⊎ (u.value.counter < b.says.counter) → u.value.counter < e.counter + 1
-    lower (inl same) = let equal = ap (λ (w : Value). w.counter) same in let less = bound in omega (arith, less, equal)
-    lower (inr less) = let more = bound in omega (arith, more, less)
+    lower (inl same) = omega (arith, ap (λ (w : Value). w.counter) same, bound)
+    lower (inr less) = omega (arith, bound)
 
-pub said_told : (pool : List Fields) (e : Speaker) (k : Key) (c : Content) → KeepsNumbers e → IsTold pool e
+said_told : {pool : List Fields} {e : Speaker} (k : Key) (c : Content) → KeepsNumbers e → IsTold pool e
     → IsTold pool (after_originating e k c)
-said_told pool e k c h told = record {
+said_told {e} k c h told = record {
   foreign = λ r v other is. told.foreign r v other (sym
       (at_other e.table (own_register e k) (next_value e c) r
-      (λ same. other (ap (λ (q : Register). q.originator) same))) ∙ is);
+      (λ same. other (rw same))) ∙ is);
   own = λ r v mine is quiet. elim (same_or_other r (own_register e k)) [
-    | inl same ↦ absurd (quiet (subst (Contains (marked e.pending (own_register e k))) (sym same)
-        (marked_has e.pending (own_register e k))))
+    | inl same ↦ absurd (quiet (rw same (marked_has e.pending (own_register e k))))
     | inr ne ↦ told.own r v mine (sym (at_other e.table (own_register e k) (next_value e c) r ne) ∙ is)
         (λ in'. quiet (marked_keeps e.pending (own_register e k) r in'))
   ];
   behind = λ u in' mine. elim (told.behind u in' mine) [
     | inl earlier ↦ inl earlier
-    | inr b ↦ inr (said_behind e k c h u mine b)
+    | inr b ↦ inr (said_behind k c h mine b)
   ];
 }
 
 -- ---- an update of the pool is taken
-heard_cases : (t : Table) (u : Fields) (r : Register) (v : Value) → value_at (with_update t u) r ≡ Some v
+heard_cases : (t : Table) (u : Fields) (r : Register) {v : Value} → value_at (with_update t u) r ≡ Some v
     → (value_at t r ≡ Some v) ⊎ ((r ≡ u.register) × (v ≡ u.value))
-heard_cases t u r v is = elim (same_or_other r u.register) [
+heard_cases t u r {v} is = elim (same_or_other r u.register) [
   | inl same ↦ here same (is_news (value_at t u.register) u.value) is
   | inr ne ↦ inl (sym (update_other t u.register u.value r ne) ∙ is)
 ]
@@ -112,23 +123,23 @@ heard_cases t u r v is = elim (same_or_other r u.register) [
     here same true is =
         let both : Some u.value ≡ Some v = sym (at_same t u.register u.value)
         ∙ ap (value_at (with_value t u.register u.value)) (sym same) ∙ is in
-        inr (same, (let equal : u.value ≡ v = cc in sym equal))
+        inr (same, cc)
 
 was_announced : (pool : List Fields) (u : Fields) (r : Register) (v : Value) → Contains pool u → r ≡ u.register
     → v ≡ u.value → Contains pool (update_of r v)
 was_announced pool u r v in' same equal = subst (Contains pool) (λ i. update_of (sym same i) (sym equal i)) in'
 
 -- it replaces none of the edge's own values of this incarnation
-taken_told : (pool : List Fields) (e : Speaker) (u : Fields) → Contains pool u
+taken_told : {pool : List Fields} {e : Speaker} {u : Fields} → Contains pool u
     → ((r : Register) (v : Value) → r.originator ≡ e.address → value_at e.table r ≡ Some v
     → v.incarnation ≡ e.incarnation → r ≢ u.register)
     → IsTold pool e → IsTold pool (after_importing e u)
-taken_told pool e u in' other told = record {
-  foreign = λ r v ne is. elim (heard_cases e.table u r v is) [
+taken_told {pool} {e} {u} in' other told = record {
+  foreign = λ r v ne is. elim (heard_cases e.table u r is) [
     | inl before ↦ told.foreign r v ne before
     | inr new ↦ was_announced pool u r v in' new.0 new.1
   ];
-  own = λ r v mine is quiet. elim (heard_cases e.table u r v is) [
+  own = λ r v mine is quiet. elim (heard_cases e.table u r is) [
     | inl before ↦ told.own r v mine before quiet
     | inr new ↦ was_announced pool u r v in' new.0 new.1
   ];
@@ -146,60 +157,45 @@ taken_told pool e u in' other told = record {
 }
 
 -- another's
-pub heard_told : (pool : List Fields) (e : Speaker) (u : Fields) → Contains pool u → u.register.originator ≢ e.address
+pub heard_told : {pool : List Fields} {e : Speaker} {u : Fields} → Contains pool u → u.register.originator ≢ e.address
     → IsTold pool e → IsTold pool (after_importing e u)
-heard_told pool e u in' other = taken_told pool e u in'
-    (λ r v mine is alive same. other (ap (λ (q : Register). q.originator) (sym same) ∙ mine))
+heard_told in' other = taken_told in'
+    (λ r v mine is alive same. other (rw (← same) mine))
 
--- one under the edge's own address, of an earlier incarnation
-pub earlier_told : (pool : List Fields) (e : Speaker) (u : Fields) → Contains pool u → is_newest e u ≡ true
-    → u.value.incarnation < e.incarnation → IsTold pool e → IsTold pool (after_importing e u)
-earlier_told pool e u in' newest past = taken_told pool e u in'
-    (λ r v mine is alive same. not_present e u v newest past (ap (value_at e.table) (sym same) ∙ is) alive)
-
--- if the update isn't news, nothing changes
-pub known_told : (pool : List Fields) (e : Speaker) (u : Fields) → is_newest e u ≡ false → IsTold pool e
-    → IsTold pool (after_importing e u)
-known_told pool e u known told = subst (λ t. IsTold pool (record e { table = t }))
-    (ap (λ b. cond b (with_value e.table u.register u.value) e.table) (sym known)) told
-
-pub own_told : (pool : List Fields) (e : Speaker) (u : Fields) → Contains pool u → KeepsNumbers e
+pub own_told : {pool : List Fields} {e : Speaker} {u : Fields} → Contains pool u → KeepsNumbers e
     → u.register.originator ≡ e.address → is_ahead e u ≡ false → IsTold pool e → IsTold pool (after_importing_own e u)
-own_told pool e u in' h mine ahead told = go (is_returning e u)
-  where
-    heard : (b : Bool) → is_newest e u ≡ b → IsTold pool (after_importing e u)
-    heard true newest = earlier_told pool e u in' newest (past_if_newest e u ahead newest) told
-    heard false known = known_told pool e u known told
-
-    go : (b : Bool) → IsTold pool (cond b (after_originating (after_importing e u) u.register.key Withdrawn)
-        (after_importing e u))
-    go true = subst (IsTold pool) (sym (refuted_is e u Withdrawn mine))
-        (said_told pool e u.register.key Withdrawn h told)
-    go false = heard (is_newest e u) refl
+own_told {e = e} {u = u} in' h mine ahead told = elim (cases_Bool (is_returning e u)) [
+  | inl back ↦ rw (back, refuted_is e u Withdrawn mine) (said_told u.register.key Withdrawn h told)
+  | inr stays ↦ rw stays (elim (cases_Bool (is_newest e u)) [
+    | inl newest ↦ taken_told in'
+        (λ r v _ is alive same. not_present e u v newest (past_if_newest e u ahead newest) (rw (← same) is) alive) told
+    | inr known ↦ rw known told
+  ])
+]
 
 -- ---- announcing
 
 -- the pool grows by another's update
-pub grown_told : (pool : List Fields) (u : Fields) (e : Speaker) → u.register.originator ≢ e.address → IsTold pool e
+pub grown_told : {pool : List Fields} (u : Fields) {e : Speaker} → u.register.originator ≢ e.address → IsTold pool e
     → IsTold (pool ++ u ∷ []) e
-grown_told pool u e other told = record {
+grown_told {pool} u other told = record {
   foreign = λ r v ne is. Contains-append_left pool (u ∷ []) _ (told.foreign r v ne is);
   own = λ r v mine is quiet. Contains-append_left pool (u ∷ []) _ (told.own r v mine is quiet);
   behind = λ w in' mine. elim (Contains-push_cases pool u w in') [
     | inl before ↦ told.behind w before mine
-    | inr same ↦ absurd (other (ap (λ (x : Fields). x.register.originator) same ∙ mine))
+    | inr same ↦ absurd (other (rw same mine))
   ];
 }
 
 -- the edge itself announces: its first pending register, with its own value
-pub announced_told : (pool : List Fields) (e : Speaker) (r : Register) (rs : List Register) (v : Value)
+pub announced_told : {pool : List Fields} {e : Speaker} (r : Register) (rs : List Register) {v : Value}
     → e.pending ≡ r ∷ rs → value_at e.table r ≡ Some v → v.incarnation ≡ e.incarnation → IsTold pool e
     → IsTold (pool ++ update_of r v ∷ []) (record e { pending = rs })
-announced_told pool e r rs v at is present told = record {
+announced_told {pool} {e} r rs {v} at is present told = record {
   foreign = λ q w ne here. Contains-append_left pool _ _ (told.foreign q w ne here);
   own = λ q w mine here quiet. elim (same_or_other q r) [
     | inl same ↦
-        let at_r : value_at e.table r ≡ Some w = subst (λ x. value_at e.table x ≡ Some w) same here in
+        let at_r : value_at e.table r ≡ Some w = rw same at here in
         let equal : v ≡ w = cc in
         subst (Contains (pool ++ update_of r v ∷ [])) (λ i. update_of (sym same i) (equal i))
         (Contains-push pool (update_of r v))
@@ -209,18 +205,18 @@ announced_told pool e r rs v at is present told = record {
   behind = λ w in' mine. elim (Contains-push_cases pool (update_of r v) w in') [
     | inl before ↦ told.behind w before mine
     | inr same ↦ inr (record {
-      present = ap (λ (x : Fields). x.value.incarnation) (sym same) ∙ present;
+      present = rw (← same) present;
       says = v;
-      there = ap (λ (x : Fields). value_at e.table x.register) (sym same) ∙ is;
+      there = rw (← same) is;
       alive = present;
-      order = inl (ap (λ (x : Fields). x.value) (sym same));
+      order = inl (rw (← same));
     })
   ];
 }
   where
     first_gone : (q : Register) → q ≢ r → Contains (r ∷ rs) q → Contains rs q
     first_gone q ne (zero, lt, is) = absurd (ne (sym is))
-    first_gone q ne (suc i, lt, is) = (i, omega (arith, lt), is)
+    first_gone q ne (suc i, lt, is) = (i, omega arith, is)
 
 -- ---- own values change only by own updates
 
@@ -234,18 +230,18 @@ pub data Talks (e : Speaker) : Speaker → Type 0 where
   Quiet : Talks e e
   Says : (v : Speaker) (k : Key) (c : Content) → is_bare k ≡ true → Talks e v → Talks e (after_originating v k c)
 
-pub talks_numbers : (e v : Speaker) → Talks e v → KeepsNumbers e → KeepsNumbers v
-talks_numbers e _ Quiet h = h
-talks_numbers e _ (Says v k c bare t) h = said_numbers v k c (talks_numbers e v t h)
+pub talks_numbers : {e v : Speaker} → Talks e v → KeepsNumbers e → KeepsNumbers v
+talks_numbers Quiet h = h
+talks_numbers (Says v k c bare t) h = said_numbers v k c (talks_numbers t h)
 
-pub talks_told : (pool : List Fields) (e v : Speaker) → Talks e v → KeepsNumbers e → IsTold pool e → IsTold pool v
-talks_told pool e _ Quiet h told = told
-talks_told pool e _ (Says v k c bare t) h told = said_told pool v k c (talks_numbers e v t h)
-    (talks_told pool e v t h told)
+pub talks_told : {pool : List Fields} {e v : Speaker} → Talks e v → KeepsNumbers e → IsTold pool e → IsTold pool v
+talks_told Quiet h told = told
+talks_told (Says v k c bare t) h told = said_told k c (talks_numbers t h)
+    (talks_told t h told)
 
-pub talks_further : (e v w : Speaker) → Talks e v → Talks v w → Talks e w
-talks_further e v _ t Quiet = t
-talks_further e v _ t (Says w k c bare s) = Says w k c bare (talks_further e v w t s)
+pub talks_further : {e v w : Speaker} → Talks e v → Talks v w → Talks e w
+talks_further t Quiet = t
+talks_further t (Says w k c bare s) = Says w k c bare (talks_further t s)
 
 -- the edge's address and incarnation, and the originators that it lists
 pub record AreOne (e v : Speaker) : Type 0 where
@@ -253,28 +249,6 @@ pub record AreOne (e v : Speaker) : Type 0 where
   pub incarnation : v.incarnation ≡ e.incarnation
   pub originators : v.table.originators ≡ e.table.originators
 
-pub one_itself : (e : Speaker) → AreOne e e
-one_itself e = record { address = refl; incarnation = refl; originators = refl }
-
-pub talks_one : (e v : Speaker) → Talks e v → AreOne e v
-talks_one e _ Quiet = one_itself e
-talks_one e _ (Says v k c bare t) = let h = talks_one e v t in
-    record { address = h.address; incarnation = h.incarnation; originators = h.originators }
-
-pub heard_one : (e : Speaker) (u : Fields) → AreOne e (after_importing e u)
-heard_one e u = record { address = refl; incarnation = refl; originators = same_listeners e.table u }
-
-pub own_one : (e : Speaker) (u : Fields) → AreOne e (after_importing_own e u)
-own_one e u = go (is_returning e u)
-  where
-    go : (b : Bool) → AreOne e (cond b (after_originating (after_importing e u) u.register.key Withdrawn)
-        (after_importing e u))
-    go true = record { address = refl; incarnation = refl; originators = same_listeners e.table u }
-    go false = heard_one e u
-
-pub one_further : (e v w : Speaker) → AreOne e v → AreOne v w → AreOne e w
-one_further e v w h g = record {
-  address = g.address ∙ h.address;
-  incarnation = g.incarnation ∙ h.incarnation;
-  originators = g.originators ∙ h.originators;
-}
+pub talks_one : {e v : Speaker} → Talks e v → AreOne e v
+talks_one Quiet = assumption
+talks_one (Says v k c bare t) = let h = talks_one t in assumption

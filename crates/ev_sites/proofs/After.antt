@@ -1,7 +1,7 @@
 -- A way through a network after a rest, by ports that were in the tree, is a way through the network at rest.
 use Rattle.std.proofs.Common.{◌≡◌, ℕ, ◌+◌, ◌-◌, ◌⊎◌, inl, inr, ◌||◌, false, true, List, [], ◌∷◌, Option, Some, None}
 use Rattle.std.proofs.Common.{slice_get, refl}
-use Rattle.std.proofs.Common.{sym, ap, subst, ◌∙◌, arith}
+use Rattle.std.proofs.Common.{sym, ap, ◌∙◌, arith}
 use Rattle.std.proofs.lemmas.Bool.{false≢true}
 use Rattle.std.specs.Option.{option_map_or}
 use Rattle.rstp_state.specs.declared.port.PortState.{PortState}
@@ -52,8 +52,8 @@ same_in_tree : (s t : Tree) (p : ℕ) → ((b : PortState) → IsAtPlace t p b �
     × (b.role ≡ a.role)) → IsInTree t (p + 1) → IsInTree s (p + 1)
 same_in_tree s t p same tree =
     let zeroth : p + 1 - 1 ≡ p = omega arith in
-    let here : test_at p is_in_tree t.ports ≡ true = sym (ap (λ q. test_at q is_in_tree t.ports) zeroth) ∙ tree in
-    ap (λ q. test_at q is_in_tree s.ports) zeroth ∙ from (slice_get t.ports p) refl here
+    ap (λ q. test_at q is_in_tree s.ports) zeroth ∙ from (slice_get t.ports p) refl (sym (ap
+    (λ q. test_at q is_in_tree t.ports) zeroth) ∙ tree)
   where
     from : (o : Option PortState) → slice_get t.ports p ≡ o → option_map_or is_in_tree o false ≡ true
         → test_at p is_in_tree s.ports ≡ true
@@ -71,7 +71,7 @@ kept_reached reach s t is (inr loses) =
     (is.0, is.1, (events.PortDown loses.0 ∷ is.2.0, (s, loses.1, loses.2, loses.3, is.2.1, loses.6)))
 
 on_reached : LastingIsReached → (through : List Tree) (s t : Tree) → IsReached s → KeepsOn through s t → IsReached t
-on_reached reach [] s t is same = subst IsReached (sym same) is
+on_reached reach [] s t is same = rw same is
 on_reached reach (mid ∷ earlier) s t is kept =
     kept_reached reach mid t (on_reached reach earlier s mid is kept.0) kept.2
 
@@ -79,7 +79,7 @@ module _ (last : RolesLast) (reach : LastingIsReached) (loss : LosingKeepsTree) 
   in_tree_on : (through : List Tree) (s t : Tree) (p : ℕ) → IsReached s → KeepsOn through s t → IsSettled t
       → IsInTree t (p + 1) → IsInTree s (p + 1)
   in_tree_on [] s t p is same settled tree =
-      let P : Tree → Type 0 = λ u. IsInTree u (p + 1) in subst P same tree
+      let P : Tree → Type 0 = λ u. IsInTree u (p + 1) in (rw same at tree)
   in_tree_on (mid ∷ earlier) s t p is kept settled tree =
       let reached = on_reached reach earlier s mid is kept.0 in
       in_tree_on earlier s mid p is kept.0 kept.1 (elim kept.2 [
@@ -92,23 +92,26 @@ module _ (last : RolesLast) (reach : LastingIsReached) (loss : LosingKeepsTree) 
     segment = kept.segment;
     in_tree = λ x passes.
         let was = kept.bridge x.bridge passes.0 passes.1 in
-        let reached = is.reached x.bridge was.0 was.2 in
-        let tree = in_tree passes.0 (on_reached reach was.1 was.0 passes.0 reached was.3) (x.place + 1) passes.2 in
-        (was.0, was.2, in_tree_on was.1 was.0 passes.0 x.place reached was.3 passes.2.0 tree);
+        let reached = is.reached x.bridge was.0 was.2 in (
+          was.0,
+          was.2,
+          in_tree_on was.1 was.0 passes.0 x.place reached was.3 passes.2.0 (in_tree passes.0
+              (on_reached reach was.1 was.0 passes.0 reached was.3) (x.place + 1) passes.2),
+        );
   }
 
 -- ---- the two ways by themselves
 
-pub until_selection : (rest now : Network) → IsAtRest rest → IsLater rest now → IsKept rest now
-until_selection rest now at_rest later = record {
+pub until_selection : {rest now : Network} → IsAtRest rest → IsLater rest now → IsKept rest now
+until_selection at_rest later = record {
   segment = later.segment;
   bridge = λ b t at.
       let was = later.bridge b t at in
       (was.0, was.0 ∷ [], was.2, (refl, at_rest.settled b was.0 was.2, inl (was.1, was.3)));
 }
 
-pub after_losses : (rest now : Network) → IsAtRest rest → IsAfterLosses rest now → IsKept rest now
-after_losses rest now at_rest later = record {
+pub after_losses : {rest now : Network} → IsAtRest rest → IsAfterLosses rest now → IsKept rest now
+after_losses at_rest later = record {
   segment = later.segment;
   bridge = λ b t at.
       let was = later.bridge b t at in elim was.2 [

@@ -1,6 +1,6 @@
 -- The two edges agree, the first one advertises the guest, and a frame for the guest that comes in at the second one
 -- comes out at the first.
-use Rattle.std.proofs.Common.{◌≡◌, ℕ, zero, suc, false, Some, None, List, [], ◌∷◌, ◌++◌, refl, sym, ap, subst, ◌∙◌}
+use Rattle.std.proofs.Common.{◌≡◌, ℕ, zero, suc, false, Some, None, List, [], ◌∷◌, ◌++◌, refl, sym, subst, ◌∙◌}
 use Rattle.std.proofs.Common.{inl, arith, lit<, lit≤}
 use Rattle.std.specs.Prelude.{Ok, Contains, slice_get}
 use Rattle.std.specs.FinMap.{empty, get-insert}
@@ -11,7 +11,6 @@ use Rattle.route_wire.specs.declared.update.Value.{Value}
 use Rattle.route_wire.specs.Fields.{Fields}
 use Rattle.route_wire.specs.Order.{is_newer}
 use Rattle.route_join.specs.Table.{value_at}
-use Rattle.route_join.specs.Owner.{advert_of}
 use Rattle.mac_arena.specs.declared.station.Entry.{Entry}
 use Rattle.mac_arena.specs.declared.table.Learnt.TheVariants.{New}
 use Rattle.mac_arena.specs.Entry.{heard_at}
@@ -28,7 +27,7 @@ use Rattle.ev_edge.specs.declared.event.Event.TheVariants as events
 use Rattle.ev_edge.specs.declared.reply.Reply.{Reply}
 use Rattle.ev_edge.specs.Arrival.{frame_arrival, tunnel_arrival}
 use Rattle.ev_edge.specs.Edge.{Edge, table_of}
-use Rattle.ev_edge.specs.Steps.{FrameSteps, TunnelSteps, Steps}
+use Rattle.ev_edge.specs.Steps.{Steps}
 use Rattle.ev_fabric.specs.declared.step.LocalEvent.TheVariants.{Frame}
 use Rattle.ev_fabric.specs.declared.step.Step.{Step}
 use Rattle.ev_fabric.specs.declared.step.Step.TheVariants.{Local, Announce, Deliver}
@@ -42,7 +41,7 @@ use Rattle.ev_fabric.proofs.Example.{fabric_of, configs_of, nobody_learnt, are_c
 use Rattle.ev_sites.specs.Witnesses.{HasRun}
 use Rattle.ev_sites.proofs.Tables.{Said, found, HasAll, arrived}
 use Rattle.ev_sites.proofs.Guest.{guest, here, there, flood_register, guest_register, said_first, said_guest}
-use Rattle.ev_sites.proofs.Guest.{speaker_with, routes_with, keeps, hears, first_said, first_agreed, second_heard}
+use Rattle.ev_sites.proofs.Guest.{speaker_with, keeps, hears, first_said, first_agreed, second_heard}
 use Rattle.ev_sites.proofs.Guest.{second_agreed}
 use Rattle.ev_sites.proofs.Risen.{everyone, nobody, Windows, root_settings, fabric_with, risen_edge, risen, steps_up}
 use Rattle.ev_sites.proofs.Risen.{runs_on, comes_up, decided, sending, decides, sends, passes_one}
@@ -110,11 +109,11 @@ more_steps =
 -- ---- all agree
 
 -- the edge at each place has nothing pending, and each update of the pool or a newer one
-pub all_agree : (v w : List Said) (n m : ℕ) (l k : Learning) (x y : Windows) (pool : List Fields) → HasAll v pool
+pub all_agree : (v w : List Said) (n m : ℕ) (l k : Learning) (x y : Windows) {pool : List Fields} → HasAll v pool
     → HasAll w pool
     → AllAgree (fabric_with (risen_edge (speaker_with here v n []) l x) (risen_edge (speaker_with there w m []) k y)
     pool)
-all_agree v w n m l k x y pool at_v at_w = record { quiet = quiet; arrived = arrives }
+all_agree v w n m l k x y {pool} at_v at_w = record { quiet = quiet; arrived = arrives }
   where
     quiet : (i : ℕ) (a : Edge)
         → slice_get (risen_edge (speaker_with here v n []) l x ∷ risen_edge (speaker_with there w m []) k y ∷ []) i
@@ -140,7 +139,7 @@ all_agree v w n m l k x y pool at_v at_w = record { quiet = quiet; arrived = arr
     arrives (suc (suc i)) a at u inside = let no : ⊥ = cc in absurd no
 
 pub agrees : AllAgree agreed
-agrees = all_agree first_agreed second_agreed 2 1 guest_learnt nobody_learnt empty empty agreed_pool
+agrees = all_agree first_agreed second_agreed 2 1 guest_learnt nobody_learnt empty empty
     ((said_first, refl, refl), ((said_guest 0, refl, refl), ((said_first, refl, refl), tt)))
     ((said_first, refl, refl), ((said_guest 0, refl, refl), ((said_first, refl, refl), tt)))
 
@@ -161,8 +160,7 @@ pub advertised : Advertises first_edge guest
 advertised = (
   None,
   record { is_static = false; sequence = 0; label2 = None },
-  ap advert_of
-      (found first_agreed (guest_register here)),
+  rw (found first_agreed (guest_register here)),
 )
 
 abbrev pub given : Reply
@@ -195,20 +193,17 @@ module _ (lists : SettledByLists) (happens : RunsHappen) where
           (
             fabric_with (first_with first_said 2 []) (second_with second_heard []) agreed_pool,
             Ok (taking second_quiet flood_here),
-            second_takes (first_with first_said 2 []) second_quiet agreed_pool 1 flood_here
-                (routes_with (speaker_with there second_heard 1 []) nobody_learnt) refl refl refl
+            second_takes (first_with first_said 2 []) second_quiet agreed_pool 1 refl refl refl
                 (hears 0 there here ((flood_register there, said_first) ∷ []) 1 [] nobody_learnt said_first refl),
             (
               fabric_with (first_with first_said 2 []) second_edge agreed_pool,
               Ok (taking (second_with second_heard []) guest_here),
-              second_takes (first_with first_said 2 []) (second_with second_heard []) agreed_pool 2 guest_here
-                  (routes_with (speaker_with there second_agreed 1 []) nobody_learnt) refl refl refl
+              second_takes (first_with first_said 2 []) (second_with second_heard []) agreed_pool 2 refl refl refl
                   (keeps 0 there here second_heard 1 [] nobody_learnt (said_guest 0) refl refl),
               (
                 agreed,
                 Ok (taking (first_with first_said 2 []) flood_there),
-                first_takes (first_with first_said 2 []) second_edge agreed_pool 3 flood_there
-                    (routes_with (speaker_with here first_agreed 2 []) guest_learnt) refl refl refl
+                first_takes (first_with first_said 2 []) second_edge agreed_pool 3 refl refl refl
                     (hears 0 here there first_said 2 [] guest_learnt said_first refl),
                 refl,
               ),
@@ -226,14 +221,8 @@ module _ (lists : SettledByLists) (happens : RunsHappen) where
       heard =
           first_steps _ second_opened (first_with first_said 2 (flood_register here ∷ guest_register here ∷ [])) []
           (Frame 1 (lent hello)) _
-          (subst (λ r. FrameSteps r
-          (risen_edge (speaker_with here ((flood_register here, said_first) ∷ []) 1 (flood_register here ∷ []))
-          nobody_learnt empty) 1
-          (Ok (sending (decided (first_with first_said 2 (flood_register here ∷ guest_register here ∷ [])) everyone
-          (Port 1)))) (first_with first_said 2 (flood_register here ∷ guest_register here ∷ [])))
-          (sym (hello_arrives (speaker_with here ((flood_register here, said_first) ∷ []) 1 (flood_register here ∷ []))
-          nobody_learnt empty))
-          (sends lists happens _ _ _ _ _ _ everyone guest.mac
+          (rw (hello_arrives (speaker_with here ((flood_register here, said_first) ∷ []) 1
+          (flood_register here ∷ [])) nobody_learnt empty) (sends lists happens _ _ _ _ _ _ everyone guest.mac
           (learns here ((flood_register here, said_first) ∷ []) (flood_register here ∷ []) 0 _ refl
           (inl (refl, refl)))))
 
@@ -261,13 +250,11 @@ module _ (lists : SettledByLists) (happens : RunsHappen) where
 
   pub goes : Steps second_edge (events.Frame 1 (lent letter)) (Ok given) second_edge
   goes =
-      subst (λ r. FrameSteps r second_edge 1 (Ok given) second_edge) (sym letter_arrives)
-      (sends lists happens _ _ _ _ _ _ guest.mac nobody (refl, refl))
+      rw letter_arrives (sends lists happens _ _ _ _ _ _ guest.mac nobody (refl, refl))
 
   pub comes : Steps first_edge (events.TunnelFrame there (lent (datagram_of 5001 letter))) (Ok answered) first_edge
   comes =
-      subst (λ r. TunnelSteps r first_edge (Ok answered) first_edge) (sym letter_enters)
-      (decides lists happens _ _ _ guest.mac Tunnel, refl, refl)
+      rw letter_enters (decides lists happens _ _ _ guest.mac Tunnel, refl, refl)
 
   -- the law for these edges and this frame
   pub carried : Starts → EveryRun → FromPortToPort
@@ -286,7 +273,7 @@ module _ (lists : SettledByLists) (happens : RunsHappen) where
   given_out x =
       let out = x.out (events.TunnelFrame there (lent (datagram_of 5001 letter))) (Ok answered) first_edge refl comes in
       let is : answered ≡ out.0 = cc in
-      subst (λ r. GoesOut x.entry.port (Passes first_edge.tree x.entry.port) r) (sym is) out.2
+      rw is out.2
 
   pub port_passes : (x : Entry) → entry_at guest_learnt guest ≡ Some x → Passes first_edge.tree x.port
   port_passes x is =

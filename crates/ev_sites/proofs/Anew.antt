@@ -10,7 +10,7 @@ use Rattle.route_wire.specs.declared.update.Register.{Register}
 use Rattle.route_wire.specs.declared.update.Value.{Value}
 use Rattle.route_wire.specs.declared.update.Content.TheVariants.{Advert as Advertised, Withdrawn}
 use Rattle.route_wire.specs.Fields.{Fields, flood_advert}
-use Rattle.route_join.specs.Table.{Table, register_of, is_news}
+use Rattle.route_join.specs.Table.{register_of, is_news}
 use Rattle.route_join.specs.Taken.{taken_of}
 use Rattle.route_join.specs.Owner.{advert_in}
 use Rattle.mac_arena.specs.Learning.{Learning}
@@ -29,7 +29,7 @@ use Rattle.ev_edge.specs.declared.reply.Reply.{Reply}
 use Rattle.ev_edge.specs.Config.{settings_of}
 use Rattle.ev_edge.specs.Edge.{Edge, IsGoodEdge, table_of, address_of}
 use Rattle.ev_edge.specs.Opening.{IsOpening, start_of}
-use Rattle.ev_edge.specs.Steps.{Takes, nothing}
+use Rattle.ev_edge.specs.Steps.{nothing}
 use Rattle.ev_edge.proofs.Opened as edge
 use Rattle.ev_edge.proofs.Quotas.{opened_kept}
 use Rattle.ev_fabric.specs.declared.refusal.FabricRefusal.TheVariants.{NoSuchEdge}
@@ -80,8 +80,8 @@ is_opening address = record {
   storms = refl;
 }
 
-is_good : (address : ℕ) → Contains listeners address → IsGoodEdge (opened_anew address)
-is_good address listed = record {
+is_good : {address : ℕ} → Contains listeners address → IsGoodEdge (opened_anew address)
+is_good {address} listed = record {
   routes = record {
     routes = opened_routes address 1 listeners (5001 ∷ []) (5001 ∷ 5001 ∷ []) 1 1 0 (lit≤ tt) (lit≤ tt) (lit≤ tt);
     numbers = said_numbers (silent address 1 listeners) (Flood 5001) (Advertised flood_advert)
@@ -94,10 +94,10 @@ is_good address listed = record {
       (opened_kept (port_of ∷ port_of ∷ []))).keeps;
 }
 
-pub reopens : (f : Fabric) (e : ℕ) (a : Edge) (address : ℕ) → Contains listeners address → nth f.edges e ≡ Some a
+pub reopens : {f : Fabric} {e : ℕ} (a : Edge) (address : ℕ) → Contains listeners address → nth f.edges e ≡ Some a
     → incarnation_of a < 1 → nth f.configs e ≡ Some (config_of root_settings address)
     → Going f (Restart e 1) (with_opened f e (opened_anew address) (config_anew address))
-reopens f e a address listed at less config = record {
+reopens {f} {e} a address listed at less config = record {
   reply = nothing;
   goes = subst (λ o. MatchOption o (IsRefused NoSuchEdge f (Ok nothing) new)
       (λ c. RestartsAt f e c 1 (Ok nothing) new)) (sym at)
@@ -107,7 +107,7 @@ reopens f e a address listed at less config = record {
         config_is = config;
         after = opened_anew address;
         opened = is_opening address;
-        good = is_good address listed;
+        good = is_good listed;
         reply_is = refl;
         new_is = refl;
       });
@@ -124,13 +124,12 @@ pub record IsBack (c : LocalRoutes) (u : Fields) (d : LocalRoutes) : Type 0 wher
   pub spent : is_spent c.speaker u ≡ false
   pub after : after_own c u ≡ d
 
-pub returns : (f : Fabric) (e k : ℕ) (a : Edge) (u : Fields) (c : LocalRoutes) → nth f.edges e ≡ Some a
+pub returns : {f : Fabric} {e k : ℕ} (a : Edge) (u : Fields) {c : LocalRoutes} → nth f.edges e ≡ Some a
     → nth f.pool k ≡ Some u → (u.register.originator == address_of a) ≡ true → IsBack a.routes u c
     → Going f (Deliver e k) (with_edge f e (record a { routes = c }))
-returns f e k a u c at there own back =
-    delivers f e k a (record a { routes = c }) u reply at there
-    (subst (λ b. Takes b a u (Ok reply) (record a { routes = c })) (sym own)
-    (back.ahead, back.spent, refl, ap (λ d. record a { routes = d }) (sym back.after)))
+returns {f} {e} {k} a u {c} at there own back =
+    delivers (record a { routes = c }) reply at there
+    (rw own (back.ahead, back.spent, refl, rw back.after))
   where
     reply : Reply
     reply = record nothing { taken = Some (taken_of (table_of a) u) }
@@ -144,30 +143,30 @@ module _ (life address : ℕ) (said : List Said) (counter : ℕ) (pending : List
   imported = after_importing own (update r v)
 
   newest : (b : Bool) → is_news (looked_up said r) v ≡ b → is_newest own (update r v) ≡ b
-  newest b is = ap (λ o. is_news o v) (found said r) ∙ is
+  newest b is = (rw (found said r)) ∙ is
 
   abbrev past_advert : Bool
   past_advert = nat_lt v.incarnation life && is_some (advert_in v.content)
 
   after_back : (b : Bool) → is_returning own (update r v) ≡ b → after_own (routes_with own l) (update r v)
       ≡ routes_with (cond b (after_originating imported r.key Withdrawn) imported) l
-  after_back b is = ap (λ c. routes_with (cond c (after_originating imported r.key Withdrawn) imported) l) is
+  after_back b is = rw is
 
   -- one that is no news changes nothing
   pub no_news : is_news (looked_up said r) v ≡ false
       → IsBack (routes_with own l) (update r v) (routes_with own l)
   no_news old = record {
-    ahead = ap (λ b. b && nat_le life v.incarnation) (newest false old);
-    spent = ap (λ b. b && nat_le (2 ^ 63) counter) back;
+    ahead = rw (newest false old);
+    spent = rw back;
     after = after_back false back
-        ∙ ap (λ (t : Table). routes_with (record own { table = t }) l) (unchanged said r v old);
+        ∙ rw (unchanged said r v old);
   }
     where
       back : is_returning own (update r v) ≡ false
-      back = ap (λ b. b && past_advert) (newest false old)
+      back = rw (newest false old)
 
   taken_in : is_news (looked_up said r) v ≡ true → imported ≡ speaker_in life address ((r, v) ∷ said) counter pending
-  taken_in new = ap (λ (t : Table). record own { table = t }) (taken said r v new)
+  taken_in new = rw (taken said r v new)
 
   -- an advert of an earlier life is withdrawn
   pub withdrawn : is_news (looked_up said r) v ≡ true → nat_le life v.incarnation ≡ false
@@ -190,10 +189,10 @@ module _ (life address : ℕ) (said : List Said) (counter : ℕ) (pending : List
       → IsBack (routes_with own l) (update r v)
       (routes_with (speaker_in life address ((r, v) ∷ said) counter pending) l)
   kept new past none = record {
-    ahead = ap (λ b. b && nat_le life v.incarnation) (newest true new) ∙ past;
-    spent = ap (λ b. b && nat_le (2 ^ 63) counter) back;
-    after = after_back false back ∙ ap (λ s. routes_with s l) (taken_in new);
+    ahead = (rw (newest true new)) ∙ past;
+    spent = rw back;
+    after = after_back false back ∙ rw (taken_in new);
   }
     where
       back : is_returning own (update r v) ≡ false
-      back = ap (λ b. b && past_advert) (newest true new) ∙ none
+      back = (rw (newest true new)) ∙ none

@@ -1,6 +1,6 @@
 -- A frame that left a bridge never comes in at it again: otherwise it would run in a circle, forwards or backwards.
 use Rattle.std.proofs.Common.{◌≡◌, ◌≢◌, ℕ, zero, suc, ◌<◌, ◌≤◌, ◌⊎◌, inl, inr, Bool, true, false, eqb, List, [], ◌∷◌}
-use Rattle.std.proofs.Common.{length, refl, sym, ap, subst, ◌∙◌, arith}
+use Rattle.std.proofs.Common.{length, refl, sym, ap, ◌∙◌, arith}
 use Rattle.std.proofs.lemmas.Bool.{eq-eqb, eqb-true}
 use Rattle.ev_sites.specs.Network.{Spot, Network, IsNetwork, IsAtRest, PassesAt, Crosses, Travels, NoCircle}
 use Rattle.ev_sites.proofs.Ways.{spot_same}
@@ -10,14 +10,14 @@ same_spot : (x y : Spot) → (x ≡ y) ⊎ (x ≢ y)
 same_spot x y = bridges (eqb x.bridge y.bridge) refl
   where
     places : (b : Bool) → x.bridge ≡ y.bridge → eqb x.place y.place ≡ b → (x ≡ y) ⊎ (x ≢ y)
-    places true bridge e = inl (spot_same x y bridge (eqb-true x.place y.place e))
+    places true bridge e = inl (spot_same bridge (eqb-true x.place y.place e))
     places false bridge e =
-        inr (λ same. let yes = eq-eqb x.place y.place (ap (λ (z : Spot). z.place) same) in let no : ⊥ = cc in no)
+        inr (λ same. (cc (eq-eqb x.place y.place (ap (λ (z : Spot). z.place) same))))
 
     bridges : (b : Bool) → eqb x.bridge y.bridge ≡ b → (x ≡ y) ⊎ (x ≢ y)
     bridges true e = places (eqb x.place y.place) (eqb-true x.bridge y.bridge e) refl
     bridges false e =
-        inr (λ same. let yes = eq-eqb x.bridge y.bridge (ap (λ (z : Spot). z.bridge) same) in let no : ⊥ = cc in no)
+        inr (λ same. (cc (eq-eqb x.bridge y.bridge (ap (λ (z : Spot). z.bridge) same))))
 
 -- a way of one crossing or more
 pub record IsWay (net : Network) (x y : Spot) : Type 0 where
@@ -28,7 +28,7 @@ pub record IsWay (net : Network) (x y : Spot) : Type 0 where
 -- a way and one more crossing
 pub longer : (net : Network) (ports : List Spot) (x u w : Spot) → Travels net ports x u → Crosses net u w
     → IsWay net x w
-longer net [] x u w way hop = record { first = w; later = []; way = (subst (λ z. Crosses net z w) (sym way) hop, refl) }
+longer net [] x u w way hop = record { first = w; later = []; way = (rw way hop, refl) }
 longer net (z ∷ later) x u w way hop =
     let rest = longer net later z u w way.1 hop in
     record { first = z; later = rest.first ∷ rest.later; way = (way.0, rest.way) }
@@ -44,7 +44,7 @@ record EndsBy (net : Network) (ports : List Spot) (x w : Spot) : Type 0 where
 ends_by : (net : Network) (z : Spot) (later : List Spot) (x w : Spot) → Travels net (z ∷ later) x w
     → EndsBy net (z ∷ later) x w
 ends_by net z [] x w way =
-    record { before = x; first = []; way = refl; hop = subst (λ v. Crosses net x v) way.1 way.0; long = refl }
+    record { before = x; first = []; way = refl; hop = rw way.1 at way.0; long = refl }
 ends_by net z (v ∷ later) x w way =
     let rest = ends_by net v later z w way.1 in
     record {
@@ -53,13 +53,13 @@ ends_by net z (v ∷ later) x w way =
           ∷ rest.first;
       way = (way.0, rest.way);
       hop = rest.hop;
-      long = ap suc rest.long;
+      long = rw rest.long;
     }
 
 -- frames pass at the end of a way
 pub passes_at_end : (net : Network) (ports : List Spot) (x w : Spot) → PassesAt net x → Travels net ports x w
     → PassesAt net w
-passes_at_end net [] x w passes way = subst (λ z. PassesAt net z) way passes
+passes_at_end net [] x w passes way = (rw way at passes)
 passes_at_end net (z ∷ later) x w passes way = passes_at_end net later z w way.0.arrives way.1
 
 -- a frame left its bridge by o, crossed the segment, and came in at y
@@ -71,8 +71,7 @@ record Left (net : Network) (o y : Spot) : Type 0 where
 
 module _ (law : NoCircle) (net : Network) (is : IsNetwork net) (rest : IsAtRest net) where
   no_way : (x : Spot) → IsWay net x x → ⊥
-  no_way x way = let none : way.first ∷ way.later ≡ [] = law net is rest x (way.first ∷ way.later) way.way in
-      let no : ⊥ = cc in no
+  no_way x way = (cc (law net is rest x (way.first ∷ way.later) way.way))
 
   -- no way of less than n crossings leads back
   abbrev NoneBelow : ℕ → Type 0
@@ -85,9 +84,12 @@ module _ (law : NoCircle) (net : Network) (is : IsNetwork net) (rest : IsAtRest 
       → (hop : Crosses net u w) → hop.out ≡ y → ⊥
   inner n none [] y u w few way hop was = hop.other (was ∙ way)
   inner n none (v ∷ between) y u w few way hop was =
-      let ahead : Left net way.0.out v =
-      record { leaves = way.0.leaves; arrives = way.0.arrives; segment = way.0.segment; apart = way.0.apart } in
-      none between way.0.out v u (omega (arith, few)) ahead way.1
+      none between way.0.out v u (omega (arith, few)) (record {
+        leaves = way.0.leaves;
+        arrives = way.0.arrives;
+        segment = way.0.segment;
+        apart = way.0.apart;
+      }) way.1
       (sym hop.bridge ∙ ap (λ (x : Spot). x.bridge) was ∙ sym way.0.bridge)
 
   -- back by o itself: the last crossing was over the same segment

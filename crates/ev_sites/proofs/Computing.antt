@@ -27,7 +27,7 @@ try_rules (rule ∷ rules) p limit g = try_rules rules p limit (try_rule rule p 
 try_rules-is : (rules : List Rule) (p limit : ℕ) (g : Going) → try_rules rules p limit g ≡ tries_all rules p limit g
 try_rules-is [] p limit g = refl
 try_rules-is (rule ∷ rules) p limit g =
-    ap (try_rules rules p limit) (try_rule-is rule p limit g) ∙ try_rules-is rules p limit (tries rule p limit g)
+    (rw (try_rule-is rule p limit g)) ∙ try_rules-is rules p limit (tries rule p limit g)
 
 abbrev try_ports : List Rule → ℕ → Walk
 try_ports rules zero limit g = g
@@ -36,7 +36,7 @@ try_ports rules (suc n) limit g = try_rules rules n limit (try_ports rules n lim
 try_ports-is : (rules : List Rule) (n limit : ℕ) (g : Going) → try_ports rules n limit g ≡ tries_below rules n limit g
 try_ports-is rules zero limit g = refl
 try_ports-is rules (suc n) limit g =
-    ap (try_rules rules n limit) (try_ports-is rules n limit g)
+    (rw (try_ports-is rules n limit g))
     ∙ try_rules-is rules n limit (tries_below rules n limit g)
 
 abbrev one_pass : List Rule → Walk
@@ -52,12 +52,12 @@ repeat_from (suc n) f g next =
     elim (length next.firings == length g.firings) as (λ c. Going)
     [ true ↦ next | false ↦ repeat_from n f next (f next) ]
 
-repeat_from-is : (n : ℕ) (f f' : Going → Going) → ((g : Going) → f g ≡ f' g) → (g : Going)
+repeat_from-is : (n : ℕ) {f f' : Going → Going} → ((g : Going) → f g ≡ f' g) → (g : Going)
     → repeat_from n f g (f g) ≡ until_idle n f' g
-repeat_from-is zero f f' same g = refl
-repeat_from-is (suc n) f f' same g =
+repeat_from-is zero same g = refl
+repeat_from-is (suc n) {f} {f'} same g =
     choice (length (f g).firings == length g.firings) (f g) (repeat_from n f (f g) (f (f g)))
-    ∙ ap (λ r. if length (f g).firings == length g.firings then f g else r) (repeat_from-is n f f' same (f g))
+    ∙ (rw (repeat_from-is n same (f g)))
     ∙ ap (λ (next : Going). if length next.firings == length g.firings then next else until_idle n f' next) (same g)
 
 abbrev some_passes : List Rule → Walk
@@ -65,14 +65,14 @@ some_passes rules limit g = repeat_from limit (one_pass rules limit) g (one_pass
 
 some_passes-is : (rules : List Rule) (limit : ℕ) (g : Going) → some_passes rules limit g ≡ passes rules limit g
 some_passes-is rules limit g =
-    repeat_from-is limit (one_pass rules limit) (pass rules limit) (one_pass-is rules limit) g
+    repeat_from-is limit (one_pass-is rules limit) g
 
 abbrev one_round : Walk
 one_round limit g = some_passes sending_order limit (some_passes main_order limit g)
 
 one_round-is : (limit : ℕ) (g : Going) → one_round limit g ≡ round limit g
 one_round-is limit g =
-    ap (some_passes sending_order limit) (some_passes-is main_order limit g)
+    (rw (some_passes-is main_order limit g))
     ∙ some_passes-is sending_order limit (passes main_order limit g)
 
 -- the whole sweep
@@ -82,4 +82,4 @@ sweep limit s =
 
 pub sweep-is : (limit : ℕ) (s : Tree) → sweep limit s ≡ swept limit s
 sweep-is limit s =
-    repeat_from-is limit (one_round limit) (round limit) (one_round-is limit) (record { tree = s; firings = [] })
+    repeat_from-is limit (one_round-is limit) (record { tree = s; firings = [] })

@@ -9,18 +9,17 @@ use Rattle.route_wire.specs.Fields.{Fields}
 use Rattle.rstp_state.specs.Selection.{selected_ports, selected_root, best_path}
 use Rattle.rstp_run.specs.Events.{RunsHappen}
 use Rattle.rstp_run.specs.Settled.{SettledByLists}
-use Rattle.ev_sites.specs.Network.{Spot, Network, IsBridgeAt, IsNetwork, IsAtRest, PassesAt}
+use Rattle.ev_sites.specs.Network.{Spot, Network, IsNetwork, IsAtRest, PassesAt}
 use Rattle.ev_sites.proofs.Ring.{root_bridge, second_bridge, third_bridge, AreRing, a_ring, network, at_rest, passing}
 use Rattle.ev_sites.proofs.Round.{ring_of}
 use Rattle.ev_tunnel.specs.declared.decision.Decision.{Decision}
 use Rattle.ev_tunnel.specs.declared.decision.Source.TheVariants.{Port, Tunnel}
-use Rattle.ev_tunnel.specs.Decision.{open_ports, others_of, up_edges, remote_up}
+use Rattle.ev_tunnel.specs.Decision.{open_ports, remote_up}
 use Rattle.ev_tunnel.specs.Datagram.{datagram_of}
 use Rattle.ev_edge.specs.declared.arrival.Arrival.TheVariants.{Data}
 use Rattle.ev_edge.specs.Arrival.{frame_arrival, tunnel_arrival}
 use Rattle.ev_edge.specs.Edge.{Edge, table_of, address_of}
 use Rattle.ev_edge.specs.Sending.{port_of}
-use Rattle.ev_edge.specs.Steps.{FrameSteps, TunnelSteps}
 use Rattle.ev_fabric.specs.declared.step.Step.{Step}
 use Rattle.ev_fabric.specs.declared.step.Step.TheVariants.{Announce, Deliver}
 use Rattle.ev_fabric.specs.Fabric.{Fabric}
@@ -30,7 +29,7 @@ use Rattle.ev_sites.specs.Sites.{Site, IsSiteAt, Point, IsEdgeOf, DecidesAt, Dec
 use Rattle.ev_sites.specs.Fabrics.{AreSitesOf, SitesRest}
 use Rattle.ev_sites.specs.Witnesses.{SitesOfAFabric}
 use Rattle.ev_sites.proofs.Tables.{Said, floods}
-use Rattle.ev_sites.proofs.Guest.{here, there, flood_register, said_first, speaker_with, routes_with, hears}
+use Rattle.ev_sites.proofs.Guest.{here, there, flood_register, said_first, speaker_with, hears}
 use Rattle.ev_sites.proofs.Risen.{everyone, nobody, both_ports, root_settings, fabric_with, opened_with, risen_edge}
 use Rattle.ev_sites.proofs.Risen.{risen, steps_up, runs_on, comes_up, decided, sending, decides, sends}
 use Rattle.ev_sites.proofs.Telling.{update, announcing, taking, second_announces, first_takes}
@@ -83,8 +82,7 @@ more = (
   (
     last_fabric,
     Ok (taking first flood_of_second),
-    first_takes first second_told (flood_of_second ∷ []) 1 flood_of_second
-        (routes_with (speaker_with here heard_both 1 (flood_register here ∷ [])) nobody_learnt) refl refl refl
+    first_takes first second_told (flood_of_second ∷ []) 1 refl refl refl
         (hears 0 here there ((flood_register here, said_first) ∷ []) 1 (flood_register here ∷ []) nobody_learnt
         said_first refl),
     refl,
@@ -121,13 +119,13 @@ module _ (lists : SettledByLists) (happens : RunsHappen) where
   they_rest = record {
     others =
         λ i s at b t other there. ring_is.reached b t
-        (subst (λ (n : Network). IsBridgeAt n b t) (site_is i s at) there);
-    few = λ i s at b t other there. ring_is.few b t (subst (λ (n : Network). IsBridgeAt n b t) (site_is i s at) there);
+        (rw (site_is i s at) at there);
+    few = λ i s at b t other there. ring_is.few b t (rw (site_is i s at) at there);
     distinct =
         λ i s at b d t u at_b at_d same. ring_is.distinct b d t u
-        (subst (λ (n : Network). IsBridgeAt n b t) (site_is i s at) at_b)
-        (subst (λ (n : Network). IsBridgeAt n d u) (site_is i s at) at_d) same;
-    rest = λ i s at. subst IsAtRest (sym (site_is i s at)) ring_rests;
+        (rw (site_is i s at) at at_b)
+        (rw (site_is i s at) at at_d) same;
+    rest = λ i s at. rw (site_is i s at) ring_rests;
   }
 
   are_sites : AreSitesOf last_fabric both_sites
@@ -152,8 +150,7 @@ module _ (lists : SettledByLists) (happens : RunsHappen) where
     after = first_told;
     edge = record { bridge = refl; address = refl };
     step =
-        subst (λ r. FrameSteps r first_told 1 (Ok (sending (decided first_told everyone (Port 1)))) first_told)
-        (sym arrives) (sends lists happens _ _ _ _ _ _ everyone nobody (refl, refl));
+        rw arrives (sends lists happens _ _ _ _ _ _ everyone nobody (refl, refl));
     decision = refl;
   }
 
@@ -169,8 +166,7 @@ module _ (lists : SettledByLists) (happens : RunsHappen) where
     after = second_told;
     edge = record { bridge = refl; address = refl };
     step =
-        subst (λ r. TunnelSteps r second_told (Ok (sending (decided second_told everyone Tunnel))) second_told)
-        (sym datagram_arrives) (decides lists happens _ _ _ everyone Tunnel, refl, refl);
+        rw datagram_arrives (decides lists happens _ _ _ everyone Tunnel, refl, refl);
     decision = refl;
   }
 
@@ -184,7 +180,7 @@ module _ (lists : SettledByLists) (happens : RunsHappen) where
     bridge = refl;
     among = (record { least = lit≤ tt; most = lit≤ tt }, among);
     segment = refl;
-    apart = λ e. (let f : 0 ≡ 2 = ap (λ (s : Spot). s.bridge) e in omega arith);
+    apart = λ e. (omega (arith, ap (λ (s : Spot). s.bridge) e));
     arrives = arrives_third;
   }
 
@@ -194,8 +190,7 @@ module _ (lists : SettledByLists) (happens : RunsHappen) where
   goes_there : Contains
       (remote_up [] (table_of first_told) 5001 everyone (port_of first_told 5001 everyone) (address_of first_told)
       (Port 1)) there
-  goes_there = subst (λ l. Contains (others_of here (up_edges [] l)) there) (sym (floods heard_both 5001))
-      (zero, lit< tt, refl)
+  goes_there = rw (floods heard_both 5001) (zero, lit< tt, refl)
 
   pub sites_of_a_fabric : SitesOfAFabric
   sites_of_a_fabric = record {

@@ -1,18 +1,18 @@
 -- A station of VNI 5001, the two edges' updates about it, and the effect of each of these updates on the other edge.
-use Rattle.std.proofs.Common.{◌≡◌, ◌+◌, ◌&&◌, ℕ, Bool, true, false, not, cond, List, [], ◌∷◌, ap, ◌∙◌}
+use Rattle.std.proofs.Common.{◌≡◌, ◌+◌, ◌&&◌, ℕ, Bool, true, false, not, cond, List, [], ◌∷◌, ◌∙◌}
 use Rattle.std.specs.Prelude.{is_some}
 use Rattle.route_wire.specs.declared.update.Key.TheVariants.{Flood}
 use Rattle.route_wire.specs.declared.update.Register.{Register}
 use Rattle.route_wire.specs.declared.update.Value.{Value}
 use Rattle.route_wire.specs.declared.update.Content.TheVariants.{Advert as Advertised, Withdrawn}
 use Rattle.route_wire.specs.Fields.{flood_advert}
-use Rattle.route_join.specs.Table.{Table, is_news}
-use Rattle.route_join.specs.Owner.{advert_of, owner, owner_among}
+use Rattle.route_join.specs.Table.{is_news}
+use Rattle.route_join.specs.Owner.{advert_of, owner_among}
 use Rattle.mac_arena.specs.declared.station.Station.{Station}
 use Rattle.mac_arena.specs.Learning.{Learning, after_removal as gone}
 use Rattle.ev_claims.specs.Pending.{marked}
 use Rattle.ev_claims.specs.Speaker.{Speaker, is_at, is_beaten}
-use Rattle.ev_claims.specs.LocalRoutes.{LocalRoutes, key_of, moving, after_removal, after_losing_at, after_take}
+use Rattle.ev_claims.specs.LocalRoutes.{LocalRoutes, key_of, moving, after_removal, after_take}
 use Rattle.ev_sites.proofs.Tables.{Said, table_with, looked_up, found, taken, in_order, owned}
 
 -- ---- updates
@@ -69,10 +69,7 @@ loses address said =
 beaten : (life address : ℕ) (said : List Said) (counter : ℕ) (pending : List Register)
     → is_beaten (speaker_in life address said counter pending) 5001 guest.mac ≡ loses address said
 beaten life address said counter pending =
-    ap (λ o. is_some (advert_of o) && not (is_at (owner (table_with said) 5001 guest.mac) address))
-    (found said (guest_register address))
-    ∙ ap (λ o. is_some (advert_of (looked_up said (guest_register address))) && not (is_at o address))
-    (owned said 5001 guest.mac)
+    rw (found said (guest_register address), owned said 5001 guest.mac)
 
 -- the edge's local routes once it has taken the update, whether it loses the guest or not
 heard : (life address other : ℕ) (said : List Said) (counter : ℕ) (pending : List Register) (learned : Learning)
@@ -85,13 +82,11 @@ heard : (life address other : ℕ) (said : List Said) (counter : ℕ) (pending :
     (routes_with (speaker_in life address ((guest_register other, v) ∷ said) counter pending) learned) guest)
     (routes_with (speaker_in life address ((guest_register other, v) ∷ said) counter pending) learned)
 heard life address other said counter pending learned v news b is =
-    ap (λ (t : Table). after_losing_at
-    (routes_with (record { address = address; incarnation = life; table = t; counter = counter; pending = pending })
-    learned) guest) (taken said (guest_register other) v news)
-    ∙ ap (λ c. cond c (after_removal
-    (routes_with (speaker_in life address ((guest_register other, v) ∷ said) counter pending) learned) guest)
-    (routes_with (speaker_in life address ((guest_register other, v) ∷ said) counter pending) learned))
-    (beaten life address ((guest_register other, v) ∷ said) counter pending ∙ is)
+    rw (
+      taken said (guest_register other) v news,
+      (beaten life address ((guest_register other, v) ∷ said) counter
+          pending ∙ is),
+    )
 
 pub keeps : (life address other : ℕ) (said : List Said) (counter : ℕ) (pending : List Register) (learned : Learning)
     (v : Value)
@@ -123,9 +118,7 @@ pub hears : (life address other : ℕ) (said : List Said) (counter : ℕ) (pendi
     (record { register = flood_register other; value = v })
     ≡ routes_with (speaker_in life address ((flood_register other, v) ∷ said) counter pending) learned
 hears life address other said counter pending learned v news =
-    ap (λ (t : Table). routes_with
-    (record { address = address; incarnation = life; table = t; counter = counter; pending = pending }) learned)
-    (taken said (flood_register other) v news)
+    rw (taken said (flood_register other) v news)
 
 -- ---- the two edges' tables
 

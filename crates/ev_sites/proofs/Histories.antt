@@ -31,20 +31,20 @@ runs (f ∷ earlier) s = after f.rule (runs earlier s) f.place
 run-is : (firings : List Firing) (s t : Tree) → Run firings s t → t ≡ runs firings s
 run-is [] s t run = run
 run-is (f ∷ earlier) s t (mid, run, fires) =
-    fires.1 ∙ ap (λ v. after f.rule v f.place) (run-is earlier s mid run)
+    fires.1 ∙ rw (run-is earlier s mid run)
 
 -- these are the firings of the sweep with this limit
 abbrev pub AreSwept : ℕ → List Firing → Tree → Type 0
 AreSwept limit firings s = (sweep limit s).firings ≡ firings
 
 -- so the sweep leads to the bridge after them
-pub swept-is : (limit : ℕ) (firings : List Firing) (s : Tree) → AreSwept limit firings s
+pub swept-is : (limit : ℕ) {firings : List Firing} (s : Tree) → AreSwept limit firings s
     → swept limit s ≡ record { tree = runs firings s; firings = firings }
-swept-is limit firings s are =
-    let same : (swept limit s).firings ≡ firings = sym (ap (λ (g : Going). g.firings) (sweep-is limit s)) ∙ are in
+swept-is limit {firings} s are =
     let tree = run-is (swept limit s).firings s (swept limit s).tree (swept-run limit s).0 in
     ap (λ t. record { tree = t; firings = (swept limit s).firings }) tree
-    ∙ ap (λ fs. record { tree = runs fs s; firings = fs }) same
+    ∙ ap (λ fs. record { tree = runs fs s; firings = fs }) (sym (ap (λ (g : Going). g.firings) (sweep-is limit s))
+    ∙ are)
 
 -- ---- histories
 
@@ -70,7 +70,7 @@ pub happens_so : RunsHappen → (h : Happening) (s : Tree) → AreSwept (length 
     (flushed h.firings 0)
 happens_so law h s are =
     law h.event (length h.firings) s (runs h.firings (direct h.event s)) h.firings
-    (swept-is (length h.firings) h.firings (direct h.event s) are)
+    (swept-is (length h.firings) (direct h.event s) are)
 
 comes : RunsHappen → (history : List Happening) (s : Tree) → AllHappen history s
     → Comes (map (λ h. h.event) history) s (come_to history s)
@@ -96,16 +96,15 @@ pub lasts : RunsHappen → (history : List Happening) (s : Tree) → AllHappen h
 lasts law [] s all none = refl
 lasts law (h ∷ earlier) s all none =
     let mid = come_to earlier s in
-    let (settled, happens) = happens_so law h mid all.1 in
-    let same : happens.firings ≡ h.firings = ap (λ (g : Going). g.firings)
-    (sym happens.order ∙ swept-is (length h.firings) h.firings (direct h.event mid) all.1) in (
+    let (settled, happens) = happens_so law h mid all.1 in (
       mid,
       length h.firings,
       settled,
       flushed h.firings 0,
       lasts law earlier s all.0 none.0,
       happens,
-      ap selects same ∙ none.1,
+      (rw (ap (λ (g : Going). g.firings) (sym happens.order ∙ swept-is (length h.firings)
+          (direct h.event mid) all.1))) ∙ none.1,
     )
 
 -- so a bridge with these settings may reach this state

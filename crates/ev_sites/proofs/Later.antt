@@ -1,7 +1,7 @@
 -- The ring after its rest: two seconds pass at the root and its Hello messages arrive, or the second bridge loses the
 -- port that joins it to the third.
 use Rattle.std.proofs.Common.{◌≡◌, ◌≢◌, ℕ, zero, suc, ◌+◌, ◌-◌, ◌⊎◌, inl, inr, Bool, true, false, not, List, [], ◌∷◌}
-use Rattle.std.proofs.Common.{length, map, Some, is_none, refl, sym, ap, subst, ◌∙◌}
+use Rattle.std.proofs.Common.{length, map, Some, is_none, refl, sym, ap, ◌∙◌}
 use Rattle.std.proofs.lemmas.Bool.{false≢true}
 use Rattle.rstp_state.specs.Port.{is_root, test_at}
 use Rattle.rstp_state.specs.Selection.{selected_ports, selected_root, best_path}
@@ -33,8 +33,8 @@ Remains s t = (events : List Event) × Lasts events s t
 abbrev Differs : Tree → Tree → Type 0
 Differs s t = (test : Tree → Bool) × (test s ≡ false) × (test t ≡ true)
 
-differs : (x y s t : Tree) → Some x ≡ Some s → Some y ≡ Some t → Differs x y → s ≢ t
-differs x y s t at now (test, off, on) same = let e : x ≡ y = cc in absurd (false≢true (sym off ∙ ap test e ∙ on))
+differs : {x y s t : Tree} → Some x ≡ Some s → Some y ≡ Some t → Differs x y → s ≢ t
+differs at now (test, off, on) same = absurd (false≢true (sym off ∙ ap test (cc) ∙ on))
 
 module _ (a b c a' b' c' : Tree) where
   all_remain : Remains a a' → Remains b b' → Remains c c' → IsLater (ring_of a b c) (ring_of a' b' c')
@@ -42,40 +42,41 @@ module _ (a b c a' b' c' : Tree) where
     where
       each : (n : ℕ) (t : Tree) → IsBridgeAt (ring_of a' b' c') n t
           → (s : Tree) × (events : List Event) × IsBridgeAt (ring_of a b c) n s × Lasts events s t
-      each zero t at = (a, ra.0, refl, subst (Lasts ra.0 a) (let e : a' ≡ t = cc in e) ra.1)
-      each (suc zero) t at = (b, rb.0, refl, subst (Lasts rb.0 b) (let e : b' ≡ t = cc in e) rb.1)
-      each (suc (suc zero)) t at = (c, rc.0, refl, subst (Lasts rc.0 c) (let e : c' ≡ t = cc in e) rc.1)
-      each (suc (suc (suc n))) t at = let e : ⊥ = cc in absurd e
+      each zero t at = (a, ra.0, refl, rw (let e : a' ≡ t = cc in e) at ra.1)
+      each (suc zero) t at = (b, rb.0, refl, rw (let e : b' ≡ t = cc in e) at rb.1)
+      each (suc (suc zero)) t at = (c, rc.0, refl, rw (let e : c' ≡ t = cc in e) at rc.1)
+      each (suc (suc (suc n))) t at = absurd (cc)
 
   all_differ : Differs a a' → Differs b b' → Differs c c' → (n : ℕ) (s t : Tree) → IsBridgeAt (ring_of a b c) n s
       → IsBridgeAt (ring_of a' b' c') n t → s ≢ t
-  all_differ da db dc zero s t at now = differs a a' s t at now da
-  all_differ da db dc (suc zero) s t at now = differs b b' s t at now db
-  all_differ da db dc (suc (suc zero)) s t at now = differs c c' s t at now dc
-  all_differ da db dc (suc (suc (suc n))) s t at now = let e : ⊥ = cc in absurd e
+  all_differ da db dc zero s t at now = differs at now da
+  all_differ da db dc (suc zero) s t at now = differs at now db
+  all_differ da db dc (suc (suc zero)) s t at now = differs at now dc
+  all_differ da db dc (suc (suc (suc n))) s t at now = absurd (cc)
 
-second_loses : (a b c b' : Tree) → LosesPort b b' → IsAfterLosses (ring_of a b c) (ring_of a b' c)
-second_loses a b c b' loses = record { segment = λ x. refl; bridge = each }
+second_loses : (a : Tree) {b : Tree} (c : Tree) {b' : Tree} → LosesPort b b' → IsAfterLosses (ring_of a b c)
+    (ring_of a b' c)
+second_loses a {b} c {b'} loses = record { segment = λ x. refl; bridge = each }
   where
     each : (n : ℕ) (t : Tree) → IsBridgeAt (ring_of a b' c) n t
         → (s : Tree) × IsBridgeAt (ring_of a b c) n s × ((t ≡ s) ⊎ LosesPort s t)
-    each zero t at = (a, refl, inl (let e : t ≡ a = cc in e))
-    each (suc zero) t at = (b, refl, inr (subst (LosesPort b) (let e : b' ≡ t = cc in e) loses))
-    each (suc (suc zero)) t at = (c, refl, inl (let e : t ≡ c = cc in e))
-    each (suc (suc (suc n))) t at = let e : ⊥ = cc in absurd e
+    each zero t at = (a, refl, inl ((cc)))
+    each (suc zero) t at = (b, refl, inr (rw (let e : b' ≡ t = cc in e) at loses))
+    each (suc (suc zero)) t at = (c, refl, inl ((cc)))
+    each (suc (suc (suc n))) t at = absurd (cc)
 
 abbrev Opens : ℕ → Tree → Type 0
 Opens p s = test_at (p + 1 - 1) passes_frames s.ports ≡ true
 
-all_open : (a b c : Tree) → IsSettled a → IsSettled b → IsSettled c → Opens 0 a → Opens 1 a → Opens 0 b → Opens 1 b
+all_open : {a b c : Tree} → IsSettled a → IsSettled b → IsSettled c → Opens 0 a → Opens 1 a → Opens 0 b → Opens 1 b
     → Opens 0 c → test_at 1 passes_frames c.ports ≡ false → IsOpen a b c
-all_open a b c sa sb sc a0 a1 b0 b1 c0 c1 = record {
+all_open {a} {b} {c} sa sb sc a0 a1 b0 b1 c0 c1 = record {
   a0 = passes_at (ring_of a b c) 0 0 a refl sa a0;
   a1 = passes_at (ring_of a b c) 0 1 a refl sa a1;
   b0 = passes_at (ring_of a b c) 1 0 b refl sb b0;
   b1 = passes_at (ring_of a b c) 1 1 b refl sb b1;
   c0 = passes_at (ring_of a b c) 2 0 c refl sc c0;
-  c1 = closed_at (ring_of a b c) 2 1 c refl c1;
+  c1 = closed_at (ring_of a b c) 2 1 refl c1;
 }
 
 -- ---- Hello messages
@@ -125,7 +126,7 @@ third_rests law = law third_later (off_at_two third_later MAIN refl refl refl)
 
 now_open : SettledByLists → IsOpen root_later second_later third_later
 unfolding selected_ports selected_root best_path
-now_open law = all_open root_later second_later third_later (root_rests law) (second_rests law) (third_rests law) refl
+now_open law = all_open (root_rests law) (second_rests law) (third_rests law) refl
     refl refl refl refl refl
 
 -- the port has sent a message at the last event
@@ -186,7 +187,7 @@ module _ (laws : Laws) where
   pub ring_lasts : RingCanLast
   ring_lasts =
       let now = ring_of root_later second_later third_later in
-      let later : IsLater at_first now = all_remain root_bridge second_bridge third_bridge root_later second_later
+      let later = all_remain root_bridge second_bridge third_bridge root_later second_later
       third_later root_remains (remains laws.happens (hears_again 32769) second_bridge second_hears (tt, refl))
       third_remains in (
         at_first,
@@ -195,7 +196,7 @@ module _ (laws : Laws) where
           network = is_network;
           at_rest = rests;
           later = later;
-          within = is_within now (until_selection at_first now rests later);
+          within = is_within now (until_selection rests later);
           changed = all_differ root_bridge second_bridge third_bridge root_later second_later third_later root_differs
               second_differs third_differs;
           ring = round root_later second_later third_later (now_open laws.lists);
@@ -258,10 +259,10 @@ module _ (a b c a' b' c' : Tree) where
     where
       each : (n : ℕ) (t : Tree) → IsBridgeAt (ring_of a' b' c') n t
           → (s : Tree) × (through : List Tree) × IsBridgeAt (ring_of a b c) n s × KeepsOn through s t
-      each zero t at = let e : a' ≡ t = cc in (a, a ∷ [], refl, (refl, sa, inl (subst (Remains a) e ra)))
-      each (suc zero) t at = let e : b' ≡ t = cc in (b, through, refl, subst (KeepsOn through b) e kept)
-      each (suc (suc zero)) t at = let e : c' ≡ t = cc in (c, c ∷ [], refl, (refl, sc, inl (subst (Remains c) e rc)))
-      each (suc (suc (suc n))) t at = let e : ⊥ = cc in absurd e
+      each zero t at = let e : a' ≡ t = cc in (a, a ∷ [], refl, (refl, sa, inl (rw e at ra)))
+      each (suc zero) t at = let e : b' ≡ t = cc in (b, through, refl, rw e at kept)
+      each (suc (suc zero)) t at = let e : c' ≡ t = cc in (c, c ∷ [], refl, (refl, sc, inl (rw e at rc)))
+      each (suc (suc (suc n))) t at = absurd (cc)
 
 module _ (laws : Laws) where
   cut : (a b c : Tree) → IsKept at_first (ring_of a b c) → test_at 1 passes_frames b.ports ≡ false
@@ -272,7 +273,7 @@ module _ (laws : Laws) where
     within = is_within laws (ring_of a b c) kept;
     lost = spot 1 1;
     passed = (opened laws).b1;
-    closed = closed_at (ring_of a b c) 1 1 b refl off;
+    closed = closed_at (ring_of a b c) 1 1 refl off;
     x = spot 0 0;
     y = spot 2 0;
     crosses = crosses;
@@ -280,32 +281,36 @@ module _ (laws : Laws) where
 
   pub ring_is_cut : RingCanBeCut
   ring_is_cut =
-      let now = ring_of root_bridge second_cut third_bridge in
-      let later : IsAfterLosses at_first now = second_loses root_bridge second_bridge third_bridge second_cut
+      let later = second_loses root_bridge third_bridge
       (cut_loses laws.happens) in
       let was = opened laws in (
         at_first,
-        now,
+        (ring_of root_bridge second_cut third_bridge),
         later,
-        cut root_bridge second_cut third_bridge (after_losses at_first now (rests laws) later) cut_closed
+        cut root_bridge second_cut third_bridge (after_losses (rests laws) later) cut_closed
             (over_first root_bridge second_cut third_bridge was.a0 was.a1 was.c0),
       )
 
   pub ring_is_kept : RingCanBeKept
   ring_is_kept =
-      let now = ring_of root_later cut_later third_later in
       let of_rest = (rests laws).settled in
-      let second : KeepsOn (second_cut ∷ second_bridge ∷ []) second_bridge cut_later = (
-        (refl, of_rest 1 second_bridge refl, inr (cut_loses laws.happens)),
+      let kept = all_keep root_bridge second_bridge third_bridge root_later cut_later third_later
+      (second_cut ∷ second_bridge ∷ []) (
+        (
+          refl,
+          of_rest 1 second_bridge refl,
+          inr
+              (cut_loses laws.happens),
+        ),
         cut_rests laws.lists,
-        inl (remains laws.happens (hears_again 32769) second_cut cut_hears (tt, refl)),
-      ) in
-      let kept : IsKept at_first now = all_keep root_bridge second_bridge third_bridge root_later cut_later third_later
-      (second_cut ∷ second_bridge ∷ []) second (of_rest 0 root_bridge refl) (of_rest 2 third_bridge refl)
+        inl (remains laws.happens
+            (hears_again 32769) second_cut cut_hears (tt, refl)),
+      ) (of_rest 0 root_bridge refl)
+      (of_rest 2 third_bridge refl)
       (root_remains laws) (third_remains laws) in
       let was = now_open laws.lists in (
         at_first,
-        now,
+        (ring_of root_later cut_later third_later),
         kept,
         all_differ root_bridge second_bridge third_bridge root_later cut_later third_later root_differs cut_differs
             third_differs,

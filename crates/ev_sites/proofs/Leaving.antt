@@ -1,6 +1,6 @@
 -- The ports by which a frame leaves an edge's bridge, determined only by the edge's step.
-use Rattle.std.proofs.Common.{◌≡◌, ◌≢◌, ℕ, ◌-◌, ◌<◌, ◌≤◌, ◌^◌, Bool, true, false, not, cond, eqb, ◌&&◌}
-use Rattle.std.proofs.Common.{Option, Some, None, Result, Ok, Err, List, length, slice_get, refl, sym, ap, subst, ◌∙◌}
+use Rattle.std.proofs.Common.{◌≡◌, ◌≢◌, ℕ, ◌-◌, ◌<◌, ◌≤◌, ◌^◌, Bool, true, false, not, cond, ◌&&◌}
+use Rattle.std.proofs.Common.{Option, Some, None, Result, Ok, Err, List, length, slice_get, refl, sym, ◌∙◌}
 use Rattle.std.proofs.Common.{arith}
 use Rattle.std.specs.Option.{option_map_or}
 use Rattle.std.proofs.lemmas.Bool.{eq-eqb, true≢false, and_parts}
@@ -14,7 +14,7 @@ use Rattle.rstp_run.specs.Rules.{Tree}
 use Rattle.route_join.specs.Owner.{owner}
 use Rattle.ev_tunnel.specs.declared.decision.Decision.{Decision}
 use Rattle.ev_tunnel.specs.declared.decision.Source.{Source}
-use Rattle.ev_tunnel.specs.declared.decision.Source.TheVariants.{Port, Tunnel}
+use Rattle.ev_tunnel.specs.declared.decision.Source.TheVariants.{Port}
 use Rattle.ev_tunnel.specs.Decision.{is_from, local_of, port_alone, up_owner}
 use Rattle.ev_tunnel.specs.Place.{place_of, learnt_place, owned_place}
 use Rattle.ev_tunnel.proofs.DecisionLemmas.{at_port, local_passes, member_is, never_back}
@@ -49,14 +49,14 @@ alone_passes port from members passing q there = go (has_port passing port) ther
     go false there = absurd (true≢false (sym there ∙ has_port-none q))
 
 -- each of them passes
-passes_in : (destination : ℕ) (entry owner : Option ℕ) (own : ℕ) (from : Source) (members passing q : ℕ)
+passes_in : (destination : ℕ) (entry owner : Option ℕ) (own : ℕ) (from : Source) (members : ℕ) {passing q : ℕ}
     → passing < 2 ^ 64 → IsPort q
     → has_port (local_of (place_of destination entry owner own) from (record { members = members; passing = passing }))
     q ≡ true → has_port passing q ≡ true
-passes_in destination None owner own from members passing q small port there =
+passes_in destination None owner own from members {passing} {q} small port there =
     (local_passes (place_of destination None owner own) from (record { members = members; passing = passing }) small
-    (member_is destination None owner own members (λ p at. absurd (let no : ⊥ = cc in no))) q port there).1
-passes_in destination (Some p) owner own from members passing q small port there = go (is_group destination) there
+    (member_is destination None owner own members (λ p at. absurd ((cc)))) q port there).1
+passes_in destination (Some p) owner own from members {passing} {q} small port there = go (is_group destination) there
   where
     go : (b : Bool) → has_port
         (local_of (cond b (owned_place None own) (learnt_place (Some p) owner own)) from
@@ -65,20 +65,18 @@ passes_in destination (Some p) owner own from members passing q small port there
         (local_passes (owned_place None own) from (record { members = members; passing = passing }) small tt q port
         there).1
     go false there =
-        let same : Some p ≡ Some q =
-        at_port (Some p) None (learnt_place (Some p) owner own) from
-        (record { members = members; passing = passing }) q small refl (λ e. let no : ⊥ = cc in no) there in
+        let same = at_port (Some p) None (learnt_place (Some p) owner own) from
+        (record { members = members; passing = passing }) q small refl (λ e. (cc)) there in
         let one : p ≡ q = cc in
-        ap (has_port passing) (sym one) ∙ alone_passes p from members passing q there
+        (rw one) ∙ alone_passes p from members passing q there
 
-decided : (e : Edge) (vni destination : ℕ) (from : Source) (d : Decision) → IsDecision e vni destination from d
+decided : {e : Edge} {vni destination : ℕ} {from : Source} {d : Decision} → IsDecision e vni destination from d
     → (q : ℕ) → IsPort q → has_port d.local q ≡ true → Passes e.tree q
-decided e vni destination from d i q port there =
+decided {e} {vni} {destination} {from} i q port there =
     ((i.are_passing q).0
     (passes_in destination (port_of e vni destination) (up_owner e.away (owner (table_of e) vni destination))
-    (address_of e) from
-    i.members i.passing q i.passing_fit port
-    (ap (λ n. has_port n q) (sym i.local) ∙ there))).1
+    (address_of e) from i.members i.passing_fit port
+    ((rw i.local) ∙ there))).1
 
 -- a port that passes is one of the bridge
 is_there : (s : Tree) (p : ℕ) → Passes s p → p - 1 < length s.ports
@@ -90,17 +88,21 @@ is_there s p passes = go (slice_get s.ports (p - 1)) refl passes.1
     go (Some port) is h = slice_get_within s.ports (p - 1) port is
 
 -- none of them is the frame's own
-not_own : (e : Edge) (vni destination port : ℕ) (d : Decision) → 1 ≤ port → Passes e.tree port
+not_own : {e : Edge} {vni destination port : ℕ} {d : Decision} → 1 ≤ port → Passes e.tree port
     → IsDecision e vni destination (Port port) d → has_port d.local port ≡ false
-not_own e vni destination port d some passes i =
-    let within = is_there e.tree port passes in
-    let in_set : has_port i.passing port ≡ true =
-    (i.are_passing port).1 ((some, omega (arith, within, some)), passes) in
-    ap (λ n. has_port n port) i.local
+not_own {e} {vni} {destination} {port} some passes i =
+    (rw i.local)
     ∙ never_back (place_of destination (port_of e vni destination)
     (up_owner e.away (owner (table_of e) vni destination)) (address_of e))
     port (record { members = i.members; passing = i.passing }) i.members_fit i.passing_fit
-    (is_port i.passing port i.passing_fit in_set)
+    (is_port i.passing port i.passing_fit ((i.are_passing port).1 (
+      (
+        some,
+        omega
+            (arith, is_there e.tree port passes, some),
+      ),
+      passes,
+    )))
 
 -- ---- frames from an access port
 
@@ -117,21 +119,21 @@ pub record Sent (e : Edge) (port q : ℕ) : Type 0 where
 
 none_decided : {P : Type 0} (result : Result Reply Refusal) (d : Decision) → decision_in result ≡ None
     → decision_in result ≡ Some d → P
-none_decided result d none is = absurd (let no : ⊥ = cc in no)
+none_decided result d none is = absurd ((cc))
 
 module _ (e : Edge) (port : ℕ) (e' : Edge) (some : 1 ≤ port) where
   sent : (vni destination : ℕ) (d : Decision) → e'.tree ≡ e.tree → (b : Bool) → (b ≡ true → Passes e.tree port)
       → SendsIf b e' vni destination (Port port) (Some d) → (q : ℕ) → IsPort q → has_port d.local q ≡ true
       → Sent e port q
   sent vni destination d stays false passes h q port_q there =
-      absurd (true≢false (sym there ∙ ap (λ n. has_port n q) h.0 ∙ has_port-none q))
+      absurd (true≢false (sym there ∙ (rw h.0) ∙ has_port-none q))
   sent vni destination d stays true passes h q port_q there =
       let own = passes refl in
-      let back = not_own e' vni destination port d some (subst (λ t. Passes t port) (sym stays) own) h in
       record {
         enters = own;
-        leaves = subst (λ t. Passes t q) stays (decided e' vni destination (Port port) d h q port_q there);
-        other = λ same. true≢false (sym there ∙ ap (has_port d.local) same ∙ back);
+        leaves = rw stays at (decided h q port_q there);
+        other = λ same. true≢false (sym there ∙ (rw same)
+            ∙ (not_own some (rw stays own) h));
       }
 
   data_sent : (vni destination source : ℕ) (reply : Reply) (d : Decision)
@@ -142,13 +144,13 @@ module _ (e : Edge) (port : ℕ) (e' : Edge) (some : 1 ≤ port) where
       sent vni destination d
       (learnt_stays (taking_on e port vni destination) (record { vni = vni; mac = source }) port reply.alert e' _
       h.learning.learning) h.passes
-      h.are_passed.0 (subst (SendsIf h.passes e' vni destination (Port port)) is h.sending) q port_q there
+      h.are_passed.0 (rw is at h.sending) q port_q there
 
   pub frame_sent : (arrival : Result Arrival Refusal) (result : Result Reply Refusal) (d : Decision)
       → FrameSteps arrival e port result e' → decision_in result ≡ Some d → (q : ℕ) → IsPort q
       → has_port d.local q ≡ true → Sent e port q
-  frame_sent (Err r) result d h is q port_q there = none_decided result d (ap decision_in h.0) is
-  frame_sent (Ok Dropped) result d h is q port_q there = none_decided result d (ap decision_in h.0) is
+  frame_sent (Err r) result d h is q port_q there = none_decided result d (rw h.0) is
+  frame_sent (Ok Dropped) result d h is q port_q there = none_decided result d (rw h.0) is
   frame_sent (Ok (Message b)) result d h is q port_q there = none_decided result d (bridged _ e result e' h) is
   frame_sent (Ok (Data vni destination source)) (Ok reply) d h is q port_q there =
       data_sent vni destination source reply d h is q port_q there
@@ -156,28 +158,27 @@ module _ (e : Edge) (port : ℕ) (e' : Edge) (some : 1 ≤ port) where
 
 -- ---- frames from a tunnel
 
-pub tunnel_passes : (e : Edge) (arrival : Result Arrival Refusal) (result : Result Reply Refusal) (e' : Edge)
-    (d : Decision) → TunnelSteps arrival e result e' → decision_in result ≡ Some d → (q : ℕ) → IsPort q
+pub tunnel_passes : (e : Edge) (arrival : Result Arrival Refusal) (result : Result Reply Refusal)
+    (e' : Edge) {d : Decision} → TunnelSteps arrival e result e' → decision_in result ≡ Some d → (q : ℕ) → IsPort q
     → has_port d.local q ≡ true → Passes e.tree q
-tunnel_passes e (Err r) result e' d h is q port_q there = none_decided result d (ap decision_in h.0) is
-tunnel_passes e (Ok Dropped) result e' d h is q port_q there = none_decided result d (ap decision_in h.0) is
-tunnel_passes e (Ok (Message b)) result e' d h is q port_q there = absurd h
-tunnel_passes e (Ok (Data vni destination source)) (Ok reply) e' d h is q port_q there =
-    let i : IsDecision e vni destination Tunnel d = subst (SendsIf true e vni destination Tunnel) is h.0 in
-    decided e vni destination Tunnel d i q port_q there
-tunnel_passes e (Ok (Data vni destination source)) (Err r) e' d h is q port_q there = absurd h
+tunnel_passes e (Err r) result e' {d} h is q port_q there = none_decided result d (rw h.0) is
+tunnel_passes e (Ok Dropped) result e' {d} h is q port_q there = none_decided result d (rw h.0) is
+tunnel_passes e (Ok (Message b)) result e' h is q port_q there = absurd h
+tunnel_passes e (Ok (Data vni destination source)) (Ok reply) e' {d} h is q port_q there =
+    decided (rw is at h.0) q port_q there
+tunnel_passes e (Ok (Data vni destination source)) (Err r) e' h is q port_q there = absurd h
 
-right_of : (a b : Bool) → (a && not b) ≡ true → b ≡ false
-right_of a true h = absurd (true≢false (sym (and_parts a false h).1))
-right_of a false h = refl
+right_of : (a : Bool) {b : Bool} → (a && not b) ≡ true → b ≡ false
+right_of a {b = true} h = absurd (true≢false (sym (and_parts a false h).1))
+right_of a h = refl
 
 -- an edge takes no datagram from itself
-pub tunnel_other : (e : Edge) (from : ℕ) (octets : List ℕ) (result : Result Reply Refusal) (e' : Edge) (d : Decision)
+pub tunnel_other : (e : Edge) {from : ℕ} (octets : List ℕ) (result : Result Reply Refusal) (e' : Edge) {d : Decision}
     → TunnelSteps (tunnel_arrival e from octets) e result e' → decision_in result ≡ Some d → from ≢ address_of e
-tunnel_other e from octets result e' d h is same = go (is_other e from) refl h
+tunnel_other e {from} octets result e' {d} h is same = go (is_other e from) refl h
   where
     go : (b : Bool) → is_other e from ≡ b
         → TunnelSteps (cond b (datagram_arrival e (instance_of octets)) (Err (OfEdge UnknownOriginator))) e result e'
         → ⊥
-    go true other h = true≢false (sym (eq-eqb from (address_of e) same) ∙ right_of _ (eqb from (address_of e)) other)
-    go false other h = none_decided result d (ap decision_in h.0) is
+    go true other h = true≢false (sym (eq-eqb from (address_of e) same) ∙ right_of _ other)
+    go false other h = none_decided result d (rw h.0) is

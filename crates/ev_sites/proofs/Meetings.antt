@@ -4,7 +4,7 @@ use Rattle.std.proofs.Common.{Result, Ok, Err, List, [], ◌∷◌, refl, sym, a
 use Rattle.std.proofs.lemmas.Bool.{cases_eq}
 use Rattle.std.proofs.lemmas.List.Elements.{Contains-append_left, Contains-append_right, Contains-append_cases}
 use Rattle.std.proofs.lemmas.Option.{slice_get_within}
-use Rattle.std.specs.Prelude.{Contains, slice_get, slice_set}
+use Rattle.std.specs.Prelude.{Contains, slice_set}
 use Rattle.route_wire.specs.declared.update.Key.{Key}
 use Rattle.route_wire.specs.declared.update.Key.TheVariants.{Mac}
 use Rattle.route_wire.specs.declared.update.Register.{Register}
@@ -12,7 +12,6 @@ use Rattle.route_wire.specs.declared.update.Content.{Content}
 use Rattle.route_wire.specs.declared.update.Content.TheVariants.{Withdrawn}
 use Rattle.route_wire.specs.declared.update.Value.{Value}
 use Rattle.route_wire.specs.Fields.{Fields}
-use Rattle.route_wire.specs.Order.{is_newer}
 use Rattle.route_wire.specs.Inner.Totals.{neither_newer}
 use Rattle.route_wire.proofs.Newer.{not_newer_lower, not_newer_itself}
 use Rattle.route_join.specs.Table.{value_at, is_news, register_of}
@@ -54,14 +53,14 @@ record HasPast (e : Speaker) (u : Fields) : Type 0 where
   past : u.register.originator ≡ e.address → u.value.incarnation < e.incarnation
   there : value_at e.table u.register ≡ Some u.value
 
-said_past : (e : Speaker) (k : Key) (c : Content) (u : Fields) → HasPast (after_originating e k c) u → HasPast e u
-said_past e k c u h = elim (same_or_other u.register (own_register e k)) [
+said_past : {e : Speaker} (k : Key) (c : Content) {u : Fields} → HasPast (after_originating e k c) u → HasPast e u
+said_past {e} k c {u} h = elim (same_or_other u.register (own_register e k)) [
   | inl same ↦
-      let less : u.value.incarnation < e.incarnation = h.past (ap (λ (r : Register). r.originator) same) in
-      let both : Some (next_value e c) ≡ Some u.value = sym (at_same e.table (own_register e k) (next_value e c))
-      ∙ ap (value_at (after_originating e k c).table) (sym same) ∙ h.there in
+      let less = h.past (ap (λ (r : Register). r.originator) same) in
+      let both = sym (at_same e.table (own_register e k) (next_value e c))
+      ∙ (rw same) ∙ h.there in
       let equal : next_value e c ≡ u.value = cc in
-      let life : e.incarnation ≡ u.value.incarnation = ap (λ (v : Value). v.incarnation) equal in
+      let life = ap (λ (v : Value). v.incarnation) equal in
       absurd (omega (arith, less, life))
   | inr ne ↦ record {
     past = h.past;
@@ -69,37 +68,36 @@ said_past e k c u h = elim (same_or_other u.register (own_register e k)) [
   }
 ]
 
-talks_past : (e v : Speaker) → Talks e v → (u : Fields) → HasPast v u → HasPast e u
-talks_past e _ Quiet u h = h
-talks_past e _ (Says v k c bare t) u h = talks_past e v t u (said_past v k c u h)
+talks_past : {e : Speaker} (v : Speaker) → Talks e v → (u : Fields) → HasPast v u → HasPast e u
+talks_past _ Quiet u h = h
+talks_past {e} _ (Says v k c bare t) u h = talks_past v t u (said_past k c h)
 
-updated_past : (e : Speaker) (w u : Fields) → HasPast (after_importing e w) u → HasPast e u ⊎ (u ≡ w)
-updated_past e w u h = elim (update_cases e.table w u.register) [
+updated_past : {e : Speaker} {w u : Fields} → HasPast (after_importing e w) u → HasPast e u ⊎ (u ≡ w)
+updated_past {e} {w} {u} h = elim (update_cases e.table w u.register) [
   | inl c ↦
-      let both : Some w.value ≡ Some u.value = sym c.2 ∙ h.there in
+      let both = sym c.2 ∙ h.there in
       let same : w.value ≡ u.value = cc in
       inr (λ n. update_of (c.0 n) (sym same n))
   | inr kept ↦ inl (record { past = h.past; there = sym kept ∙ h.there })
 ]
 
-heard_past : (c : LocalRoutes) (w u : Fields) (d : LocalRoutes) → Heard c w d → HasPast d.speaker u
+heard_past : {c : LocalRoutes} {w u : Fields} (d : LocalRoutes) → Heard c w d → HasPast d.speaker u
     → HasPast c.speaker u ⊎ (u ≡ w)
-heard_past c w u _ (Back back) h = inl (said_past c.speaker w.register.key Withdrawn u h)
-heard_past c w u _ (Lost s other lost) h =
-    updated_past c.speaker w u (said_past (after_importing c.speaker w) (key_of s) Withdrawn u h)
-heard_past c w u _ (Kept not) h = updated_past c.speaker w u h
+heard_past {c} {w} {u} _ (Back back) h = inl (said_past w.register.key Withdrawn h)
+heard_past {c} {w} {u} _ (Lost s other lost) h =
+    updated_past (said_past (key_of s) Withdrawn h)
+heard_past {c} {w} {u} _ (Kept not) h = updated_past h
 
-takes_past : (a b : Edge) (w u : Fields) (answer : Result Reply edge.Refusal) → Steps a (events.Take w) answer b
+takes_past : (a b : Edge) {w u : Fields} (answer : Result Reply edge.Refusal) → Steps a (events.Take w) answer b
     → HasPast b.routes.speaker u
     → HasPast a.routes.speaker u ⊎ ((u ≡ w) × (reply : Reply) × (answer ≡ Ok reply))
-takes_past a b w u (Ok reply) h now =
-    elim (heard_past a.routes w u (heard a.routes w) (hears a.routes w)
-    (subst (λ (e : Edge). HasPast e.routes.speaker u) (answered a b w reply h) now)) [
+takes_past a b {w} {u} (Ok reply) h now =
+    elim (heard_past (heard a.routes w) (hears a.routes w)
+    (rw (answered a b w reply h) at now)) [
       | inl was ↦ inl was
       | inr same ↦ inr (same, reply, refl)
     ]
-takes_past a b w u (Err r) h now = inl (subst (λ (e : Edge). HasPast e.routes.speaker u)
-    (refused (w.register.originator == address_of a) h) now)
+takes_past a b {w} (Err r) h now = inl (rw (refused (w.register.originator == address_of a) h) at now)
   where
     refused : (x : Bool) → TakesBy x a w (Err r) b → b ≡ a
     refused true s = s.1
@@ -117,38 +115,37 @@ Came i u old step result = PastAt old i u ⊎ Gives i u old step result
 module _ (old new : Fabric) (step : Step) (result : Result Reply FabricRefusal) (i : ℕ) (u : Fields)
     (now : PastAt new i u) where
   still_past : new ≡ old → Came i u old step result
-  still_past is = inl (subst (λ f. PastAt f i u) is now)
+  still_past is = inl (rw is at now)
 
   one_past : (x : ℕ) (a c : Edge) → IsEdge old x a → new.edges ≡ slice_set old.edges (suc x - 1) c
       → (i ≡ x → HasPast c.routes.speaker u → HasPast a.routes.speaker u ⊎ Gives i u old step result)
       → Came i u old step result
   one_past x a c at edges goes =
-      elim (set_cases old.edges x c i now.0 (subst (λ l. slice_get l i ≡ Some now.0)
-      (edges ∙ ap (λ n. slice_set old.edges n c) (minus x)) now.1)) [
-        | inl p ↦ elim (goes p.0 (subst (λ (e : Edge). HasPast e.routes.speaker u) p.1 now.2)) [
+      elim (set_cases old.edges x c i now.0 (rw (edges ∙ ap (λ n. slice_set old.edges n c) (minus x)) at now.1)) [
+        | inl p ↦ elim (goes p.0 (rw p.1 at now.2)) [
           | inl was ↦ inl (a, subst (λ n. IsEdge old n a) (sym p.0) at, was)
           | inr given ↦ inr given
         ]
         | inr p ↦ inl (now.0, p.1, now.2)
       ]
 
-step_past : (old new : Fabric) (step : Step) (result : Result Reply FabricRefusal) (i : ℕ) (u : Fields)
+step_past : (old new : Fabric) (step : Step) {result : Result Reply FabricRefusal} {i : ℕ} {u : Fields}
     → FabricSteps old step result new → ((n : ℕ) → step ≡ Restart (suc i) n → ⊥) → PastAt new i u
     → Came i u old step result
-step_past old new (Local e event) result i u h stays now =
+step_past old new (Local e event) {result} {i} {u} h stays now =
     at_edge (Came i u old (Local e event) result) old new result (λ e a. StepsAt old e a (event_of event) result new)
     e h (λ is. still_past old new (Local e event) result i u now is.1)
     (λ x a _ at s. one_past old new (Local e event) result i u now x a s.after at
     (ap (λ (f : Fabric). f.edges) s.new_is)
-    (λ same after. inl (talks_past a.routes.speaker s.after.routes.speaker
+    (λ same after. inl (talks_past s.after.routes.speaker
     (local_talks a event s.answer s.after s.steps) u after)))
-step_past old new (Announce e) result i u h stays now =
+step_past old new (Announce e) {result} {i} {u} h stays now =
     at_edge (Came i u old (Announce e) result) old new result (λ e a. AnnouncesAt old e a result new) e h
     (λ is. still_past old new (Announce e) result i u now is.1) (λ x a _ at s. announces x a at result s)
   where
     silent : (a b : Edge) → b ≡ record a { routes = after_announcement a.routes } → HasPast b.routes.speaker u
         → HasPast a.routes.speaker u
-    silent a b is after = let p = subst (λ (e : Edge). HasPast e.routes.speaker u) is after in
+    silent a b is after = let p = rw is at after in
         record { past = p.past; there = p.there }
 
     announces : (x : ℕ) (a : Edge) → IsEdge old x a → (answer : Result Reply FabricRefusal)
@@ -156,12 +153,12 @@ step_past old new (Announce e) result i u h stays now =
     announces x a at (Ok reply) s = one_past old new (Announce e) result i u now x a s.0 at
         (ap (λ (f : Fabric). f.edges) s.2) (λ same after. inl (silent a s.0 s.1.1 after))
     announces x a at (Err why) s = still_past old new (Announce e) result i u now s.1
-step_past old new (Deliver e k) result i u h stays now =
+step_past old new (Deliver e k) {result} {i} {u} h stays now =
     at_delivery (Came i u old (Deliver e k) result) old new result e k h
     (λ why is. still_past old new (Deliver e k) result i u now is.1)
     (λ x a n w named placed at there s. one_past old new (Deliver e k) result i u now x a s.after at
     (ap (λ (f : Fabric). f.edges) s.new_is)
-    (λ same after. elim (takes_past a s.after w u s.answer s.steps after) [
+    (λ same after. elim (takes_past a s.after s.answer s.steps after) [
       | inl was ↦ inl was
       | inr t ↦ inr (
         n,
@@ -171,7 +168,7 @@ step_past old new (Deliver e k) result i u h stays now =
         s.result_is ∙ ap of_edge t.2,
       )
     ]))
-step_past old new (Restart e n) result i u h stays now =
+step_past old new (Restart e n) {result} {i} {u} h stays now =
     at_edge (Came i u old (Restart e n) result) old new result (λ e a. RestartsAt old e a n result new) e h
     (λ is. still_past old new (Restart e n) result i u now is.1) (λ x a named at s. restarts x a named at result s)
   where
@@ -182,21 +179,21 @@ step_past old new (Restart e n) result i u h stays now =
         (λ same after. absurd (stays n (λ m. Restart ((named ∙ ap suc (sym same)) m) n)))
     restarts x a named at (Err why) s = still_past old new (Restart e n) result i u now s.1
 
-gives_has : (old new : Fabric) (step : Step) (result : Result Reply FabricRefusal) (i : ℕ) (u : Fields) → IsSound old
+gives_has : {old : Fabric} (new : Fabric) {step : Step} {result : Result Reply FabricRefusal} {i : ℕ} {u : Fields} →
+    IsSound old
     → FabricSteps old step result new → Gives i u old step result → Has new i u
-gives_has old new step result i u sound h (k, reply, is, there, ok) =
+gives_has {old} new {i} {u} sound h (k, reply, is, there, ok) =
     given_ok old new i k reply u (sound_kept old sound)
-    (subst (λ r. FabricSteps old (Deliver (suc i) (suc k)) r new) ok
-    (subst (λ s. FabricSteps old s result new) is h)) there
+    (rw ok at (rw is at h)) there
 
 -- ---- runs
 
 runs_past : (steps : List Step) (old new : Fabric) (run : Runs old steps new) (i : ℕ) (u : Fields)
     → StaysOpen i steps → PastAt new i u → PastAt old i u ⊎ Took i u steps old new run
-runs_past [] old new run i u stays now = inl (subst (λ f. PastAt f i u) run now)
+runs_past [] old new run i u stays now = inl (rw run at now)
 runs_past (step ∷ steps) old new run i u stays now =
     elim (runs_past steps run.0 new run.3 i u (rest_open i step steps stays) now) [
-      | inl mid ↦ elim (step_past old run.0 step run.1 i u run.2 (first_open i step steps stays) mid) [
+      | inl mid ↦ elim (step_past old run.0 step run.2 (first_open i step steps stays) mid) [
         | inl was ↦ inl was
         | inr given ↦ inr (inl given)
       ]
@@ -209,14 +206,14 @@ took_has : (steps : List Step) (old new : Fabric) (run : Runs old steps new) (i 
 took_has [] old new run i u sound stays took = absurd took
 took_has (step ∷ steps) old new run i u sound stays (inl given) =
     open_has steps run.0 new i u (step_sound old run.0 step run.1 run.2 sound) run.3 (rest_open i step steps stays)
-    (gives_has old run.0 step run.1 i u sound run.2 given)
+    (gives_has run.0 sound run.2 given)
 took_has (step ∷ steps) old new run i u sound stays (inr took) =
     took_has steps run.0 new run.3 i u (step_sound old run.0 step run.1 run.2 sound) (rest_open i step steps stays) took
 
 holds_has : (f : Fabric) (i : ℕ) (u : Fields) → Holds f i u → Has f i u
 holds_has f i u (a, at, is) b at_b =
     ap (λ (e : Edge). is_newest e.routes.speaker u) (one_there f i b a at_b at)
-    ∙ ap (λ o. is_news o u.value) is ∙ not_newer_itself u.value
+    ∙ (rw is) ∙ not_newer_itself u.value
 
 -- ---- one register after a session
 
@@ -233,12 +230,12 @@ module _ (i j : ℕ) (old : Fabric) (steps : List Step) (new : Fabric) (parts : 
       (runs_lead parts.second parts.held new held_sound parts.ends)
 
   open_first : (x : ℕ) → StaysOpen x steps → StaysOpen x parts.first
-  open_first x stays n in' = stays n (subst (λ l. Contains l (Restart (suc x) n)) (sym parts.is)
-      (Contains-append_left parts.first parts.second (Restart (suc x) n) in'))
+  open_first x stays n in' = stays n (rw parts.is (Contains-append_left parts.first parts.second (Restart
+      (suc x) n) in'))
 
   open_second : (x : ℕ) → StaysOpen x steps → StaysOpen x parts.second
-  open_second x stays n in' = stays n (subst (λ l. Contains l (Restart (suc x) n)) (sym parts.is)
-      (Contains-append_right parts.first parts.second (Restart (suc x) n) in'))
+  open_second x stays n in' = stays n (rw parts.is (Contains-append_right parts.first parts.second (Restart
+      (suc x) n) in'))
 
   -- an edge knows an update at the end if it knew it between the parts, or took it
   kept : (x : ℕ) (u : Fields) → StaysOpen x steps → Has parts.held x u → Has new x u
@@ -280,12 +277,9 @@ module _ (i j : ℕ) (old : Fabric) (steps : List Step) (new : Fabric) (parts : 
         → (x : Edge) → IsEdge old i x → is_newest b.routes.speaker (update_of r v) ≡ false
     before v is in' x at_x =
         let y = parts_lead.edges i x at_x in
-        let same : y.0 ≡ a = one_there new i y.0 a y.1 at_a in
-        let name : address_of a ≡ address_of x = ap address_of (sym same) ∙ y.2.address in
-        let lives = y.2.life in
-        let life : incarnation_of y.0 ≡ incarnation_of a = ap incarnation_of same in
-        elim ((h.told i x at_x).behind (update_of r v) in' (mine ∙ name)) [
-          | inl less ↦ earlier v is (omega (arith, less, lives, life)) in'
+        let same = one_there new i y.0 a y.1 at_a in
+        elim ((h.told i x at_x).behind (update_of r v) in' (mine ∙ ((rw same) ∙ y.2.address))) [
+          | inl less ↦ earlier v is (omega (arith, less, y.2.life, ap incarnation_of same)) in'
           | inr told ↦ says told told.order
         ]
       where
@@ -293,22 +287,25 @@ module _ (i j : ℕ) (old : Fabric) (steps : List Step) (new : Fabric) (parts : 
             → (v ≡ told.says) ⊎ (v.counter < told.says.counter)
             → is_newest b.routes.speaker (update_of r v) ≡ false
         says told (inl equal) = taken j (update_of r v) open_j
-            (s.delivered.own v (x, at_x, told.there ∙ ap Some (sym equal)) in') b at_b
+            (s.delivered.own v (x, at_x, told.there ∙ rw equal) in') b at_b
         says told (inr less) =
-            let high : is_newer told.says v ≡ false = ap (λ o. is_news o told.says) (sym is)
-            ∙ began (update_of r told.says) (x, at_x, told.there) a at_a in
-            let low : is_newer v told.says ≡ false = not_newer_lower v told.says (told.present ∙ sym told.alive) less in
-            let counters : v.counter ≡ told.says.counter =
-            ap (λ (w : Value). w.counter) (neither_newer v told.says low high) in
-            absurd (omega (arith, less, counters))
+            absurd (omega (
+              arith,
+              less,
+              (ap (λ (w : Value). w.counter) (neither_newer v told.says
+                  (not_newer_lower v told.says (told.present ∙ sym told.alive) less) ((rw is)
+                  ∙ began (update_of r told.says) (x, at_x, told.there) a at_a))),
+            ))
 
     -- the edge at j knows each value of the edge at i
     there : (v : Value) → value_at (table_of a) r ≡ Some v → is_newest b.routes.speaker (update_of r v) ≡ false
     there v is = elim (Contains-append_cases old.pool parts_lead.more (update_of r v)
-        (subst (λ l. Contains l (update_of r v)) parts_lead.pool
-        ((parts_sound.told i a at_a).own r v mine is s.delivered.quiet))) [
-          | inl in' ↦ let x = there_at old.edges i (let low = slice_get_within new.edges i a at_a in
-              let count = parts_lead.count in omega (arith, low, count)) in
+        (rw parts_lead.pool at ((parts_sound.told i a at_a).own r v mine is s.delivered.quiet))) [
+          | inl in' ↦ let x = there_at old.edges i (omega (
+            arith,
+            slice_get_within new.edges i a at_a,
+            parts_lead.count,
+          )) in
               before v is in' x.0 x.1
           | inr in' ↦ taken j (update_of r v) open_j (s.delivered.since parts_lead.more v parts_lead.pool in') b at_b
         ]
@@ -336,7 +333,7 @@ module _ (i j : ℕ) (old : Fabric) (steps : List Step) (new : Fabric) (parts : 
     equal : value_at (table_of b) r ≡ value_at (table_of a) r
     equal = elim (cases_eq i j) [
       | inl same ↦ ap (λ (e : Edge). value_at (table_of e) r)
-          (one_there new j b a at_b (subst (λ n. IsEdge new n a) same at_a))
+          (one_there new j b a at_b (rw same at at_a))
       | inr ne ↦ go ne (value_at (table_of b) r) refl (value_at (table_of a) r) refl
     ]
       where
@@ -344,22 +341,22 @@ module _ (i j : ℕ) (old : Fabric) (steps : List Step) (new : Fabric) (parts : 
             → value_at (table_of a) r ≡ y → value_at (table_of b) r ≡ value_at (table_of a) r
         go ne None p None q = p ∙ sym q
         go ne None p (Some v) q =
-            let none : is_news None v ≡ false = ap (λ o. is_news o v) (sym p) ∙ there v q in cc
+            cc (ap (λ o. is_news o v) (sym p) ∙ there v q)
         go ne (Some w) p None q =
-            let none : is_news None w ≡ false = ap (λ o. is_news o w) (sym q) ∙ back ne w p in cc
+            cc (ap (λ o. is_news o w) (sym q) ∙ back ne w p)
         go ne (Some w) p (Some v) q =
-            p ∙ ap Some (neither_newer w v (ap (λ o. is_news o w) (sym q) ∙ back ne w p)
-            (ap (λ o. is_news o v) (sym p) ∙ there v q)) ∙ sym q
+            p ∙ (rw (neither_newer w v (ap (λ o. is_news o w) (sym q) ∙ back ne w p) (ap (λ o. is_news o v) (sym p)
+            ∙ there v q))) ∙ sym q
 
 -- ---- the laws
 
-knows : (p q : List ℕ) (old : Fabric) (steps : List Step) (new : Fabric) → IsSound old → Sends p q old steps new
+knows : {p q : List ℕ} {old : Fabric} {steps : List Step} {new : Fabric} → IsSound old → Sends p q old steps new
     → (i j : ℕ) (a b : Edge) → Contains p i → Contains q j → IsEdge new i a → IsEdge new j b → Knows b a
-knows p q old steps new h x i j a b in_p in_q at_a at_b = record {
+knows {old} {steps} {new} h x i j a b in_p in_q at_a at_b = record {
   equal = same;
   present = λ r v mine is some.
-      let named : r ≡ register_of (address_of a) r.key = λ n. register_of (mine n) r.key in
-      good.routes.numbers.alive r.key v (ap (value_at (table_of a)) (sym named) ∙ sym (same r mine) ∙ is) some;
+      good.routes.numbers.alive r.key v (ap (value_at (table_of a)) (sym (λ n. register_of (mine n) r.key))
+      ∙ sym (same r mine) ∙ is) some;
   learnt = λ s ip y is. learnt a s good (
     ip,
     y,
@@ -376,8 +373,8 @@ knows p q old steps new h x i j a b in_p in_q at_a at_b = record {
 
 pub sessions_agree : SessionsAgree
 sessions_agree p q old steps new h s i j a b in_p in_q at_a at_b = (
-  knows p q old steps new h s.there i j a b in_p in_q at_a at_b,
-  knows q p old steps new h s.back j i b a in_q in_p at_b at_a,
+  knows h s.there i j a b in_p in_q at_a at_b,
+  knows h s.back j i b a in_q in_p at_b at_a,
 )
 
 pub all_sessions_agree : AllSessionsAgree
@@ -390,13 +387,13 @@ begun_anew p q before began old new i j n reply meanwhile steps h restart run s 
     some =
     let x = opened_there before began (suc i) n reply h restart in
     let y = lead.edges i x.0 x.1 in
-    let same : y.0 ≡ a = one_there new i y.0 a y.1 at_a in
-    let lives = y.2.life in
-    let life : incarnation_of y.0 ≡ incarnation_of a = ap incarnation_of same in
-    let opened : incarnation_of x.0 ≡ n = x.2 in
-    let present : v.incarnation ≡ incarnation_of a =
-    (knows p q old steps new sound s.there i j a b in_p in_q at_a at_b).present r v mine is some in
-    omega (arith, lives, life, opened, present)
+    omega (
+      arith,
+      y.2.life,
+      ap incarnation_of (one_there new i y.0 a y.1 at_a),
+      x.2,
+      (knows sound s.there i j a b in_p in_q at_a at_b).present r v mine is some,
+    )
   where
     sound_began : IsSound began
     sound_began = step_sound before began (Restart (suc i) n) (Ok reply) restart h

@@ -1,13 +1,12 @@
 -- The guest moves: the second edge learns it and announces it, the first one withdraws it, and the two agree again.
-use Rattle.std.proofs.Common.{◌≡◌, inl, zero, suc, false, Some, None, List, [], ◌∷◌, ◌++◌, refl, sym, ap, subst, arith}
-use Rattle.std.specs.Prelude.{Ok, IsSome, Contains}
+use Rattle.std.proofs.Common.{◌≡◌, inl, zero, suc, false, Some, None, List, [], ◌∷◌, ◌++◌, refl, sym, subst, arith}
+use Rattle.std.specs.Prelude.{Ok, Contains}
 use Rattle.std.specs.FinMap.{empty, get, insert, get-empty}
 use Rattle.route_wire.specs.declared.update.Register.{Register}
 use Rattle.route_wire.specs.declared.update.Value.{Value}
 use Rattle.route_wire.specs.Fields.{Fields}
 use Rattle.route_wire.specs.Order.{is_newer}
 use Rattle.route_join.specs.Table.{value_at}
-use Rattle.route_join.specs.Owner.{advert_of}
 use Rattle.mac_arena.specs.declared.station.Entry.{Entry}
 use Rattle.mac_arena.specs.Station.{station_cmp}
 use Rattle.mac_arena.specs.Learning.{after_removal as gone}
@@ -18,7 +17,6 @@ use Rattle.ev_mobility.specs.declared.window.Window.{Window}
 use Rattle.ev_mobility.specs.Window.{after_move}
 use Rattle.ev_edge.specs.declared.reply.Reply.{Reply}
 use Rattle.ev_edge.specs.Edge.{Edge, table_of}
-use Rattle.ev_edge.specs.Steps.{FrameSteps}
 use Rattle.ev_fabric.specs.declared.step.LocalEvent.TheVariants.{Frame}
 use Rattle.ev_fabric.specs.declared.step.Step.{Step}
 use Rattle.ev_fabric.specs.declared.step.Step.TheVariants.{Local, Announce, Deliver}
@@ -32,7 +30,7 @@ use Rattle.ev_fabric.proofs.Example.{nobody_learnt}
 use Rattle.ev_fabric.proofs.Agreements.{none_pending}
 use Rattle.ev_sites.proofs.Tables.{Said, found}
 use Rattle.ev_sites.proofs.Guest.{guest, here, there, guest_register, said_first, said_guest, said_gone, speaker_with}
-use Rattle.ev_sites.proofs.Guest.{routes_with, keeps, withdraws, first_agreed, second_agreed, second_said, first_moved}
+use Rattle.ev_sites.proofs.Guest.{keeps, withdraws, first_agreed, second_agreed, second_said, first_moved}
 use Rattle.ev_sites.proofs.Guest.{second_moved}
 use Rattle.ev_sites.proofs.Risen.{everyone, Windows, fabric_with, risen_edge, decided, sending, sends}
 use Rattle.ev_sites.proofs.Telling.{lent, update, announcing, taking, second_steps, first_announces, first_takes}
@@ -89,8 +87,7 @@ tells =
 
 loses : FabricSteps heard (Deliver 1 4) (Ok (taking first_edge guest_there)) left
 loses =
-    first_takes first_edge (second_with second_said []) (agreed_pool ++ guest_there ∷ []) 4 guest_there
-    (routes_with (speaker_with here first_moved 3 (guest_register here ∷ [])) (gone guest_learnt guest)) refl refl refl
+    first_takes first_edge (second_with second_said []) (agreed_pool ++ guest_there ∷ []) 4 refl refl refl
     (withdraws here there first_agreed 2 [] guest_learnt (said_guest 1) refl refl)
 
 tells_it : FabricSteps left (Announce 1) (Ok (announcing guest_gone)) withdrawn
@@ -100,8 +97,7 @@ tells_it =
 
 hears_it : FabricSteps withdrawn (Deliver 2 5) (Ok (taking (second_with second_said []) guest_gone)) moved
 hears_it =
-    second_takes (first_with []) (second_with second_said []) moved_pool 5 guest_gone
-    (routes_with (speaker_with there second_moved 2 []) guest_learnt) refl refl refl
+    second_takes (first_with []) (second_with second_said []) moved_pool 5 refl refl refl
     (keeps 0 there here second_said 2 [] guest_learnt said_gone refl refl)
 
 pub rests : Rests come move_steps moved
@@ -152,7 +148,7 @@ beside = (
 -- ---- all agree again
 
 pub agree_again : AllAgree moved
-agree_again = all_agree first_moved second_moved 3 2 (gone guest_learnt guest) guest_learnt empty one_move moved_pool (
+agree_again = all_agree first_moved second_moved 3 2 (gone guest_learnt guest) guest_learnt empty one_move (
   (said_first, refl, refl),
   (
     (said_gone, refl, refl),
@@ -171,8 +167,7 @@ agree_again = all_agree first_moved second_moved 3 2 (gone guest_learnt guest) g
 -- the state at the end of the first round, except that the withdrawal is pending no more
 told_once : AllAgree (fabric_with (first_with []) (second_with second_said []) (agreed_pool ++ guest_there ∷ []))
 told_once =
-    all_agree first_moved second_said 3 2 (gone guest_learnt guest) guest_learnt empty one_move
-    (agreed_pool ++ guest_there ∷ []) (
+    all_agree first_moved second_said 3 2 (gone guest_learnt guest) guest_learnt empty one_move (
       (said_first, refl, refl),
       ((said_gone, refl, refl), ((said_first, refl, refl), ((said_guest 1, refl, refl), tt))),
     ) (
@@ -190,14 +185,18 @@ advert_told zero a r at of waits =
     absurd (none_pending (subst (λ (e : Edge). Contains e.routes.speaker.pending r) (sym is) waits))
 advert_told (suc zero) a r at of waits =
     let is : second_with second_said (guest_register there ∷ []) ≡ a = cc in
-    let one = one_waits (subst (λ (e : Edge). Contains e.routes.speaker.pending r) (sym is) waits) in
     record {
       more = guest_there ∷ [];
       pool = refl;
       value = said_guest 1;
-      there = (0, omega arith, λ n. update (one n) (said_guest 1));
+      there = (
+        0,
+        omega arith,
+        λ n. update ((one_waits (subst (λ (e : Edge). Contains e.routes.speaker.pending r)
+            (sym is) waits)) n) (said_guest 1),
+      );
     }
-advert_told (suc (suc i)) a r at of waits = let no : ⊥ = cc in absurd no
+advert_told (suc (suc i)) a r at of waits = absurd (cc)
 
 advert_taken : AllTaken guest heard left
 advert_taken zero b u at of inside =
@@ -221,17 +220,21 @@ first_round = record {
 withdrawal_told : AllAnnounced guest left withdrawn
 withdrawal_told zero a r at of waits =
     let is : first_with (guest_register here ∷ []) ≡ a = cc in
-    let one = one_waits (subst (λ (e : Edge). Contains e.routes.speaker.pending r) (sym is) waits) in
     record {
       more = guest_gone ∷ [];
       pool = refl;
       value = said_gone;
-      there = (0, omega arith, λ n. update (one n) said_gone);
+      there = (
+        0,
+        omega arith,
+        λ n. update ((one_waits (subst (λ (e : Edge). Contains e.routes.speaker.pending r)
+            (sym is) waits)) n) said_gone,
+      );
     }
 withdrawal_told (suc zero) a r at of waits =
     let is : second_with second_said [] ≡ a = cc in
     absurd (none_pending (subst (λ (e : Edge). Contains e.routes.speaker.pending r) (sym is) waits))
-withdrawal_told (suc (suc i)) a r at of waits = let no : ⊥ = cc in absurd no
+withdrawal_told (suc (suc i)) a r at of waits = absurd (cc)
 
 pub second_round : IsOrderly 0 1 guest left moved
 second_round = record {
@@ -248,8 +251,7 @@ pub advertised_there : Advertises (second_with second_moved []) guest
 advertised_there = (
   None,
   record { is_static = false; sequence = 1; label2 = None },
-  ap advert_of
-      (found second_moved (guest_register there)),
+  rw (found second_moved (guest_register there)),
 )
 
 module _ (lists : SettledByLists) (happens : RunsHappen) where
@@ -258,10 +260,8 @@ module _ (lists : SettledByLists) (happens : RunsHappen) where
 
   hears : FabricSteps agreed (Local 2 (Frame 1 (lent hello))) (Ok sent) come
   hears =
-      second_steps first_edge second_edge (second_with second_said (guest_register there ∷ [])) agreed_pool
-      (Frame 1 (lent hello)) sent
-      (subst (λ r. FrameSteps r second_edge 1 (Ok sent) (second_with second_said (guest_register there ∷ [])))
-      (sym (hello_arrives (speaker_with there second_agreed 1 []) nobody_learnt empty))
+      second_steps first_edge agreed_pool (Frame 1 (lent hello))
+      (rw (hello_arrives (speaker_with there second_agreed 1 []) nobody_learnt empty)
       (sends lists happens _ _ _ _ _ _ everyone guest.mac (learns there second_agreed [] 1 _ refl
       (inl (refl, refl)))))
 
@@ -279,5 +279,5 @@ module _ (lists : SettledByLists) (happens : RunsHappen) where
     step = hears;
     after = second_with second_said (guest_register there ∷ []);
     at_after = refl;
-    learnt = subst IsSome (sym guest_entry) refl;
+    learnt = rw guest_entry;
   }

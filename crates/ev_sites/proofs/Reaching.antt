@@ -1,6 +1,6 @@
 -- The bridges of a fabric's edges came from their starts by events, each with the limit of `Bridge::event`.
 use Rattle.std.proofs.Common.{◌≡◌, inl, inr, ℕ, suc, ◌-◌, ◌<◌, ◌^◌, Bool, true, false, cond, not, ◌&&◌, Option}
-use Rattle.std.proofs.Common.{Some, None, Result, Ok, Err, List, [], ◌∷◌, length, refl, sym, ap, subst, ◌∙◌, arith}
+use Rattle.std.proofs.Common.{Some, None, Result, Ok, Err, List, [], ◌∷◌, length, refl, ap, ◌∙◌, arith}
 use Rattle.std.specs.Prelude.{slice_get, slice_set, ◌==◌}
 use Rattle.std.proofs.lemmas.Bool.{cases_eq}
 use Rattle.std.proofs.lemmas.Option.{slice_get_within}
@@ -70,14 +70,14 @@ Goes a b =
     → CameByEvents settings ports b.tree
 
 same_tree : (a b : Edge) → b.tree ≡ a.tree → Goes a b
-same_tree a b is settings ports h = subst (CameByEvents settings ports) (sym is) h
+same_tree a b is settings ports h = rw is h
 
 pub stays : (a b : Edge) → b ≡ a → Goes a b
 stays a b is = same_tree a b (ap (λ (x : Edge). x.tree) is)
 
-bridge_goes : (a b : Edge) (event : tree.Event) (flush : ℕ) (sent : _) → BridgeGoes event a.tree b.tree flush sent
+bridge_goes : (a b : Edge) {event : tree.Event} {flush : ℕ} {sent : _} → BridgeGoes event a.tree b.tree flush sent
     → Goes a b
-bridge_goes a b event flush sent goes settings ports h = (event ∷ h.0, (a.tree, goes.settled, flush, h.1, goes.happens))
+bridge_goes a b {event} {flush} goes settings ports h = (event ∷ h.0, (a.tree, goes.settled, flush, h.1, goes.happens))
 
 learns_go : (x : Bool) (a : Edge) (s : Station) (port : ℕ) (told : Option Alert) (b : Edge) → LearnsIf x a s port told b
     → Goes a b
@@ -87,7 +87,7 @@ learns_go x a s port told b h = learnt_by (Goes a) a s port told b (stays a a re
 bridges_go : (event : tree.Event) (a : Edge) (result : Result Reply edge.Refusal) (b : Edge)
     → Bridges event a result b
     → Goes a b
-bridges_go event a (Ok reply) b h = bridge_goes a b event h.flush reply.bpdus.items h.goes
+bridges_go event a (Ok reply) b h = bridge_goes a b h.goes
 bridges_go event a (Err r) b h = absurd h
 
 bridges_at_go : (vni : Option ℕ) (event : tree.Event) (a : Edge) (result : Result Reply edge.Refusal) (b : Edge)
@@ -96,7 +96,7 @@ bridges_at_go None event a result b h = stays a b h.1
 bridges_at_go (Some vni) event a result b h = bridges_go event a result b h
 
 seconds_go : (a : Edge) (result : Result Reply edge.Refusal) (b : Edge) → Seconds a result b → Goes a b
-seconds_go a (Ok reply) b h = bridge_goes a b tree_events.Second h.flush reply.bpdus.items h.goes
+seconds_go a (Ok reply) b h = bridge_goes a b h.goes
 seconds_go a (Err r) b h = absurd h
 
 frame_goes : (arrival : Result Arrival edge.Refusal) (a : Edge) (port : ℕ)
@@ -178,84 +178,80 @@ BridgesCame f =
     (i : ℕ) (c : EdgeConfig) (a : Edge) → slice_get f.configs i ≡ Some c → IsEdge f i a
     → Came c a
 
-pub opening_came : (c : EdgeConfig) (a : Edge) → IsOpening c a → Came c a
-opening_came c a h = ([], h.tree)
+pub opening_came : {c : EdgeConfig} {a : Edge} → IsOpening c a → Came c a
+opening_came h = ([], h.tree)
 
 -- one edge becomes another one, which was opened as the one before
-one_goes : (old new : Fabric) (i : ℕ) (a b : Edge) → IsEdge old i a → new.edges ≡ slice_set old.edges i b
+one_goes : (old new : Fabric) (i : ℕ) {a : Edge} (b : Edge) → IsEdge old i a → new.edges ≡ slice_set old.edges i b
     → new.configs ≡ old.configs → Goes a b → BridgesCame old → BridgesCame new
-one_goes old new i a b at edges configs goes h j c x at_c at_x =
-    elim (set_cases old.edges i b j x (subst (λ l. slice_get l j ≡ Some x) edges at_x)) as (λ _. Came c x) [
-      | inl p ↦ subst (λ (y : Edge). Came c y) (sym p.1)
-          (goes c.tree (settings_of c.ports.items) (h i c a (subst (λ n. slice_get old.configs n ≡ Some c) p.0 was) at))
+one_goes old new i {a} b at edges configs goes h j c x at_c at_x =
+    elim (set_cases old.edges i b j x (rw edges at at_x)) [
+      | inl p ↦ rw p.1 (goes c.tree (settings_of c.ports.items) (h i c a (rw p.0 at was) at))
       | inr p ↦ h j c x was p.1
     ]
   where
     was : slice_get old.configs j ≡ Some c
-    was = subst (λ l. slice_get l j ≡ Some c) configs at_c
+    was = rw configs at at_c
 
 back : (i : ℕ) → suc i - 1 ≡ i
 back i = omega arith
 
 unchanged : (old new : Fabric) → new ≡ old → BridgesCame old → BridgesCame new
-unchanged old new is h = subst BridgesCame (sym is) h
+unchanged old new is h = rw is h
 
-steps_at : (old new : Fabric) (i : ℕ) (a : Edge) (event : Event) (result : Result Reply FabricRefusal) → IsEdge old i a
+steps_at : {old new : Fabric} {i : ℕ} {a : Edge} {event : Event} {result : Result Reply FabricRefusal} → IsEdge old i a
     → StepsAt old (suc i) a event result new → BridgesCame old → BridgesCame new
-steps_at old new i a event result at s h =
-    one_goes old new i a s.after at
-    (ap (λ (f : Fabric). f.edges) s.new_is ∙ ap (λ n. slice_set old.edges n s.after) (back i))
+steps_at {old} {new} {i} {a} {event} at s h =
+    one_goes old new i s.after at
+    (ap (λ (f : Fabric). f.edges) s.new_is ∙ rw (back i))
     (ap (λ (f : Fabric). f.configs) s.new_is) (steps_go a event s.answer s.after s.steps) h
 
-announces_at : (old new : Fabric) (i : ℕ) (a : Edge) (result : Result Reply FabricRefusal) → IsEdge old i a
+announces_at : (old new : Fabric) (i : ℕ) {a : Edge} (result : Result Reply FabricRefusal) → IsEdge old i a
     → AnnouncesAt old (suc i) a result new → BridgesCame old → BridgesCame new
-announces_at old new i a (Err why) at s h = unchanged old new s.1 h
-announces_at old new i a (Ok reply) at s h =
-    one_goes old new i a s.0 at (ap (λ (f : Fabric). f.edges) s.2 ∙ ap (λ n. slice_set old.edges n s.0) (back i))
+announces_at old new i (Err why) at s h = unchanged old new s.1 h
+announces_at old new i {a} (Ok reply) at s h =
+    one_goes old new i s.0 at (ap (λ (f : Fabric). f.edges) s.2 ∙ rw (back i))
     (ap (λ (f : Fabric). f.configs) s.2) (steps_go a events.Announce (Ok reply) s.0 s.1) h
 
-reopened : (old new : Fabric) (i : ℕ) (a : Edge) (n : ℕ) (reply : Reply) → OpensAnew old (suc i) a n reply new
+reopened : {old new : Fabric} {i : ℕ} {a : Edge} {n : ℕ} {reply : Reply} → OpensAnew old (suc i) a n reply new
     → BridgesCame old → BridgesCame new
-reopened old new i a n reply s h j c x at_c at_x =
-    elim (set_cases old.edges i s.after j x (subst (λ l. slice_get l j ≡ Some x) edges at_x)) as (λ _. Came c x) [
+reopened {old} {new} {i} {n} s h j c x at_c at_x =
+    elim (set_cases old.edges i s.after j x (rw edges at at_x)) [
       | inl p ↦ elim (set_cases old.configs i (in_incarnation s.config n) j c
-          (subst (λ l. slice_get l j ≡ Some c) configs at_c)) as (λ _. Came c x) [
+          (rw configs at at_c)) [
             | inl q ↦
-                subst (λ (d : EdgeConfig). Came d x) (sym q.1)
-                (subst (λ (y : Edge). Came s.config y) (sym p.1)
-                (opening_came (in_incarnation s.config n) s.after s.opened))
+                rw q.1 (rw p.1 (opening_came s.opened))
             | inr q ↦ absurd (q.0 p.0)
           ]
       | inr p ↦ elim (set_cases old.configs i (in_incarnation s.config n) j c
-          (subst (λ l. slice_get l j ≡ Some c) configs at_c)) as (λ _. Came c x) [
+          (rw configs at at_c)) [
             | inl q ↦ absurd (p.0 q.0)
             | inr q ↦ h j c x q.1 p.1
           ]
     ]
   where
     edges : new.edges ≡ slice_set old.edges i s.after
-    edges = ap (λ (f : Fabric). f.edges) s.new_is ∙ ap (λ m. slice_set old.edges m s.after) (back i)
+    edges = ap (λ (f : Fabric). f.edges) s.new_is ∙ rw (back i)
 
     configs : new.configs ≡ slice_set old.configs i (in_incarnation s.config n)
-    configs = ap (λ (f : Fabric). f.configs) s.new_is ∙ ap (λ m. slice_set old.configs m (in_incarnation s.config n))
-        (back i)
+    configs = ap (λ (f : Fabric). f.configs) s.new_is ∙ rw (back i)
 
 restarts_at : (old new : Fabric) (i : ℕ) (a : Edge) (n : ℕ) (result : Result Reply FabricRefusal)
     → RestartsAt old (suc i) a n result new → BridgesCame old → BridgesCame new
 restarts_at old new i a n (Err why) s h = unchanged old new s.1 h
-restarts_at old new i a n (Ok reply) s h = reopened old new i a n reply s h
+restarts_at old new i a n (Ok reply) s h = reopened s h
 
 step_came : (old new : Fabric) (step : Step) (result : Result Reply FabricRefusal) → FabricSteps old step result new
     → BridgesCame old → BridgesCame new
 step_came old new (Local e event) result s h =
     at_edge (BridgesCame new) old new result (λ e a. StepsAt old e a (event_of event) result new) e s
-    (λ is. unchanged old new is.1 h) (λ i a _ at s. steps_at old new i a (event_of event) result at s h)
+    (λ is. unchanged old new is.1 h) (λ i a _ at s. steps_at at s h)
 step_came old new (Announce e) result s h =
     at_edge (BridgesCame new) old new result (λ e a. AnnouncesAt old e a result new) e s
-    (λ is. unchanged old new is.1 h) (λ i a _ at s. announces_at old new i a result at s h)
+    (λ is. unchanged old new is.1 h) (λ i a _ at s. announces_at old new i result at s h)
 step_came old new (Deliver e k) result s h =
     at_delivery (BridgesCame new) old new result e k s (λ why is. unchanged old new is.1 h)
-    (λ i a n u _ _ at there s. steps_at old new i a (events.Take u) result at s h)
+    (λ i a n u _ _ at there s. steps_at at s h)
 step_came old new (Restart e n) result s h =
     at_edge (BridgesCame new) old new result (λ e a. RestartsAt old e a n result new) e s
     (λ is. unchanged old new is.1 h) (λ i a _ at s. restarts_at old new i a n result s h)
@@ -264,13 +260,13 @@ runs_came : (steps : List Step) (old new : Fabric) → Runs old steps new → Br
 runs_came [] old new s h = unchanged old new s h
 runs_came (step ∷ steps) old new s h = runs_came steps s.0 new s.3 (step_came old s.0 step s.1 s.2 h)
 
-start_came : (cs : List EdgeConfig) (f : Fabric) → IsStart cs f → BridgesCame f
-start_came cs f h i c a at_c at_a =
-    opening_came c a (h.opened.opened i c a (subst (λ l. slice_get l i ≡ Some c) h.configs at_c) at_a)
+start_came : {cs : List EdgeConfig} {f : Fabric} → IsStart cs f → BridgesCame f
+start_came h i c a at_c at_a =
+    opening_came (h.opened.opened i c a (rw h.configs at at_c) at_a)
 
-pub every_run_came : (cs : List EdgeConfig) (old new : Fabric) (steps : List Step) → IsStart cs old
+pub every_run_came : {cs : List EdgeConfig} {old : Fabric} (new : Fabric) (steps : List Step) → IsStart cs old
     → Runs old steps new → BridgesCame new
-every_run_came cs old new steps start runs = runs_came steps old new runs (start_came cs old start)
+every_run_came {cs} {old} new steps start runs = runs_came steps old new runs (start_came start)
 
 -- the limit of each event may be any
 comes_at_all : (events : List tree.Event) (s t : Tree) → ComesByEvents events s t → Comes events s t
@@ -280,28 +276,28 @@ comes_at_all (event ∷ earlier) s t (mid, settled, mask, before, happens) =
 
 pub every_run_can_be : EveryRunCanBe
 every_run_can_be cs old new steps opened runs i c a at_c at_a =
-    let came = every_run_came cs old new steps opened runs i c a at_c at_a in
+    let came = every_run_came new steps opened runs i c a at_c at_a in
     (came.0, comes_at_all came.0 (start c.tree (settings_of c.ports.items)) a.tree came.1)
 
 -- ---- the sites of its edges
 
 -- an edge has the configuration with which it was opened last
-pub opened_with : (f : Fabric) → IsSound f → (i : ℕ) (a : Edge) → IsEdge f i a
+pub opened_with : {f : Fabric} → IsSound f → (i : ℕ) (a : Edge) → IsEdge f i a
     → (c : EdgeConfig) × (slice_get f.configs i ≡ Some c)
-opened_with f h i a at =
-    there_at f.configs i (let low = slice_get_within f.edges i a at in let same = h.count in omega (arith, low, same))
+opened_with {f} h i a at =
+    there_at f.configs i (omega (arith, slice_get_within f.edges i a at, h.count))
 
 -- an edge's bridge came from its start by events
 reached : (f : Fabric) → IsSound f → BridgesCanBe f → (i : ℕ) (a : Edge) → IsEdge f i a → IsReached a.tree
 reached f h can i a at =
-    let c = opened_with f h i a at in
+    let c = opened_with h i a at in
     (c.0.tree, settings_of c.0.ports.items, can i c.0 a c.1 at)
 
 module _ (f : Fabric) (sites : List Site) (h : IsSound f) (can : BridgesCanBe f) (of : AreSitesOf f sites)
     (rest : SitesRest sites) (i : ℕ) (s : Site) (at : IsSiteAt sites i s) where
   -- the edge's own bridge
   mine : (b : ℕ) (t : Tree) → b ≡ s.attached → IsBridgeAt s.net b t → t ≡ (of i s at).0.tree
-  mine b t same is = one_bridge (subst (λ n. IsBridgeAt s.net n t) same is) (of i s at).2.bridge
+  mine b t same is = one_bridge (rw same at is) (of i s at).2.bridge
     where
       one_bridge : {t u : Tree} → IsBridgeAt s.net s.attached t → IsBridgeAt s.net s.attached u → t ≡ u
       one_bridge p q = cc
@@ -309,18 +305,15 @@ module _ (f : Fabric) (sites : List Site) (h : IsSound f) (can : BridgesCanBe f)
   fits : (t : Tree) → t ≡ (of i s at).0.tree → length t.ports < 2 ^ 12
   fits t is =
       let good = h.good i (of i s at).0 (of i s at).1 in
-      let size = ap (λ (x : Tree). length x.ports) is in
-      let ports = good.keeps.ports in
-      let most = good.routes.routes.few in
-      omega (arith, size, ports, most)
+      omega (arith, (ap (λ (x : Tree). length x.ports) is), good.keeps.ports, good.routes.routes.few)
 
   network : IsNetwork s.net
   network = record {
-    reached = λ b t is. elim (cases_eq b s.attached) as (λ _. IsReached t) [
-      | inl same ↦ subst IsReached (sym (mine b t same is)) (reached f h can i (of i s at).0 (of i s at).1)
+    reached = λ b t is. elim (cases_eq b s.attached) [
+      | inl same ↦ rw (mine b t same is) (reached f h can i (of i s at).0 (of i s at).1)
       | inr other ↦ rest.others i s at b t other is
     ];
-    few = λ b t is. elim (cases_eq b s.attached) as (λ _. length t.ports < 2 ^ 12) [
+    few = λ b t is. elim (cases_eq b s.attached) [
       | inl same ↦ fits t (mine b t same is)
       | inr other ↦ rest.few i s at b t other is
     ];

@@ -1,12 +1,11 @@
 -- A process of two edges restarts, and has a session with the process of the edge between them.
 use Rattle.std.proofs.Common.{◌≡◌, ◌≢◌, ◌<◌, inl, inr, ℕ, zero, suc, Some, None, List, [], ◌∷◌, ◌++◌, drop, take, refl}
 use Rattle.std.proofs.Common.{sym, ap, subst, ◌∙◌, arith, lit<}
-use Rattle.std.specs.Prelude.{IsSome, Contains, slice_get}
+use Rattle.std.specs.Prelude.{Contains, slice_get}
 use Rattle.std.specs.FinMap.{empty, get-empty}
 use Rattle.route_wire.specs.declared.update.Register.{Register}
 use Rattle.route_wire.specs.declared.update.Content.TheVariants.{Withdrawn}
 use Rattle.route_wire.specs.Fields.{Fields}
-use Rattle.route_join.specs.Owner.{advert_of}
 use Rattle.mac_arena.specs.declared.station.Entry.{Entry}
 use Rattle.mac_arena.specs.Station.{station_cmp}
 use Rattle.rstp_run.specs.Events.{RunsHappen, start}
@@ -208,116 +207,114 @@ new = among first_last (second_with b6) (third_with c5) 10
 -- ---- the steps before the session
 
 pub says_gone : Going agreed (Announce 3) told
-says_gone = announces agreed 3 third_0 third_1 lodger_gone
+says_gone = announces third_0 lodger_gone
     (found third_said lodger_gone.register) refl refl refl
 
 hears_gone : Going told (Deliver 2 6) before
-hears_gone = takes told 2 6 second_0 lodger_gone (second_with b2).routes refl refl refl refl
+hears_gone = takes second_0 lodger_gone refl refl refl refl
     (hears_of 0 there far b1 1 [] nobody_learnt lodger_gone.value refl refl)
 
 first_opens : Going before (Restart 1 1) began
-first_opens = reopens before 1 first_0 here (0, lit< tt, refl) refl (lit< tt) refl
+first_opens = reopens first_0 here (0, lit< tt, refl) refl (lit< tt) refl
 
 third_opens : Going began (Restart 3 1) opened
-third_opens = reopens began 3 third_1 far (2, lit< tt, refl) refl (lit< tt) refl
+third_opens = reopens third_1 far (2, lit< tt, refl) refl (lit< tt) refl
 
 -- the third edge takes the withdrawal of its earlier life
 third_hears : Going opened (Deliver 3 6) old
-third_hears = returns opened 3 6 (opened_anew far) lodger_gone third_heard.routes refl refl refl
+third_hears = returns (opened_anew far) lodger_gone refl refl refl
     (kept 1 far c0 1 (flood_register far ∷ []) nobody_learnt (lodger_register far) (said_free 3) refl refl refl)
 
 -- ---- the steps of the session
 
 s1 : Going old (Announce 1) f1
-s1 = announces old 1 (opened_anew here) (first_with a0) flood_here (found a0 flood_here.register) refl refl refl
+s1 = announces (opened_anew here) flood_here (found a0 flood_here.register) refl refl refl
 
 s2 : Going f1 (Announce 3) f2
-s2 = announces f1 3 third_heard (third_with c1) flood_far (found c1 flood_far.register) refl refl refl
+s2 = announces third_heard flood_far (found c1 flood_far.register) refl refl refl
 
 s3 : Going f2 (Deliver 2 7) f3
-s3 = takes f2 2 7 (second_with b2) flood_here (second_with b3).routes refl refl refl refl
+s3 = takes (second_with b2) flood_here refl refl refl refl
     (hears 0 there here b2 1 [] nobody_learnt flood_anew refl)
 
 s4 : Going f3 (Deliver 2 8) f4
-s4 = takes f3 2 8 (second_with b3) flood_far (second_with b4).routes refl refl refl refl
+s4 = takes (second_with b3) flood_far refl refl refl refl
     (hears 0 there far b3 1 [] nobody_learnt flood_anew refl)
 
 s5 : Going f4 (Deliver 1 3) f5
-s5 = takes f4 1 3 (first_with a0) flood_two (first_with a1).routes refl refl refl refl
+s5 = takes (first_with a0) flood_two refl refl refl refl
     (hears 1 here there a0 1 [] nobody_learnt said_first refl)
 
 s6 : Going f5 (Deliver 3 3) f6
-s6 = takes f5 3 3 (third_with c1) flood_two (third_with c2).routes refl refl refl refl
+s6 = takes (third_with c1) flood_two refl refl refl refl
     (hears 1 far there c1 1 [] nobody_learnt said_first refl)
 
 s7 : Going f6 (Deliver 1 8) f7
-s7 = takes f6 1 8 (first_with a1) flood_far (first_with a2).routes refl refl refl refl
+s7 = takes (first_with a1) flood_far refl refl refl refl
     (hears 1 here far a1 1 [] nobody_learnt flood_anew refl)
 
 s8 : Going f7 (Deliver 1 6) f8
-s8 = takes f7 1 6 (first_with a2) lodger_gone (first_with a3).routes refl refl refl refl
+s8 = takes (first_with a2) lodger_gone refl refl refl refl
     (hears_of 1 here far a2 1 [] nobody_learnt lodger_gone.value refl refl)
 
 s9 : Going f8 (Deliver 3 7) f9
-s9 = takes f8 3 7 (third_with c2) flood_here (third_with c3).routes refl refl refl refl
+s9 = takes (third_with c2) flood_here refl refl refl refl
     (hears 1 far here c2 1 [] nobody_learnt flood_anew refl)
 
 s10 : Going f9 (Local 1 (Pin lodger 1)) held
-s10 = does f9 1 (first_with a3) (first_pinned a4 2 (lodger_register here ∷ [])) (Pin lodger 1) (alone None) refl
+s10 = does (first_pinned a4 2 (lodger_register here ∷ [])) (alone None) refl
     (pins 1 (start root_settings two_ports) here a3 1 [] nobody_learnt empty 0 free_first refl refl)
 
 -- the second edge takes the withdrawal from the third edge
 t1 : Going held (Deliver 2 6) held
-t1 = takes held 2 6 (second_with b4) lodger_gone (second_with b4).routes refl refl refl refl
+t1 = takes (second_with b4) lodger_gone refl refl refl refl
     (hears_again 0 there far b4 1 [] nobody_learnt lodger_gone.value refl refl)
 
 -- the first and the third edge take back the values that the others have of their registers
 t2 : Going held (Deliver 1 7) held
-t2 = returns held 1 7 (first_pinned a4 2 (lodger_register here ∷ [])) flood_here
-    (first_pinned a4 2 (lodger_register here ∷ [])).routes refl refl refl
+t2 = returns (first_pinned a4 2 (lodger_register here ∷ [])) flood_here refl refl refl
     (no_news 1 here a4 2 (lodger_register here ∷ []) lodged (flood_register here) flood_anew refl)
 
 t3 : Going held (Deliver 1 2) f11
-t3 = returns held 1 2 (first_pinned a4 2 (lodger_register here ∷ [])) guest_here
-    (first_pinned a5 3 (lodger_register here ∷ guest_register here ∷ [])).routes refl refl refl
+t3 = returns (first_pinned a4 2 (lodger_register here ∷ [])) guest_here refl refl refl
     (withdrawn 1 here a4 2 (lodger_register here ∷ []) lodged (guest_register here) (said_guest 0) refl refl refl refl)
 
 t4 : Going f11 (Deliver 3 8) f11
-t4 = returns f11 3 8 (third_with c3) flood_far (third_with c3).routes refl refl refl
+t4 = returns (third_with c3) flood_far refl refl refl
     (no_news 1 far c3 1 [] nobody_learnt (flood_register far) flood_anew refl)
 
 t5 : Going f11 (Deliver 3 6) f11
-t5 = returns f11 3 6 (third_with c3) lodger_gone (third_with c3).routes refl refl refl
+t5 = returns (third_with c3) lodger_gone refl refl refl
     (no_news 1 far c3 1 [] nobody_learnt (lodger_register far) (said_free 3) refl)
 
 -- and to the second one
 t6 : Going f11 (Deliver 2 3) f11
-t6 = returns f11 2 3 (second_with b4) flood_two (second_with b4).routes refl refl refl
+t6 = returns (second_with b4) flood_two refl refl refl
     (no_news 0 there b4 1 [] nobody_learnt (flood_register there) said_first refl)
 
 -- the new updates
 t7 : Going f11 (Announce 1) f12
-t7 = announces f11 1 (first_pinned a5 3 (lodger_register here ∷ guest_register here ∷ []))
-    (first_pinned a5 3 (guest_register here ∷ [])) lodger_here (found a5 lodger_here.register) refl refl refl
+t7 = announces (first_pinned a5 3 (lodger_register here ∷ guest_register here ∷ [])) lodger_here
+    (found a5 lodger_here.register) refl refl refl
 
 t8 : Going f12 (Announce 1) f13
-t8 = announces f12 1 (first_pinned a5 3 (guest_register here ∷ [])) first_last guest_left
+t8 = announces (first_pinned a5 3 (guest_register here ∷ [])) guest_left
     (found a5 guest_left.register) refl refl refl
 
 t9 : Going f13 (Deliver 2 9) f14
-t9 = takes f13 2 9 (second_with b4) lodger_here (second_with b5).routes refl refl refl refl
+t9 = takes (second_with b4) lodger_here refl refl refl refl
     (hears_of 0 there here b4 1 [] nobody_learnt lodger_here.value refl refl)
 
 t10 : Going f14 (Deliver 2 10) f15
-t10 = takes f14 2 10 (second_with b5) guest_left (second_with b6).routes refl refl refl refl
+t10 = takes (second_with b5) guest_left refl refl refl refl
     (keeps 0 there here b5 1 [] nobody_learnt guest_left.value refl refl)
 
 t11 : Going f15 (Deliver 3 9) f16
-t11 = takes f15 3 9 (third_with c3) lodger_here (third_with c4).routes refl refl refl refl
+t11 = takes (third_with c3) lodger_here refl refl refl refl
     (hears_of 1 far here c3 1 [] nobody_learnt lodger_here.value refl refl)
 
 t12 : Going f16 (Deliver 3 10) new
-t12 = takes f16 3 10 (third_with c4) guest_left (third_with c5).routes refl refl refl refl
+t12 = takes (third_with c4) guest_left refl refl refl refl
     (keeps 1 far here c4 1 [] nobody_learnt guest_left.value refl refl)
 
 -- ---- the session
@@ -489,7 +486,7 @@ third_to_second = record {
   back = (third_back, (tt, (third_gone, (tt, (tt, tt)))));
   late = 6;
   later = refl;
-  had = λ u is. let same : lodger_gone ≡ u = cc in subst (Holds old 2) same gone_known;
+  had = λ u is. subst (Holds old 2) (cc) gone_known;
 }
 
 third_to_first : Sending 2 0 far 1 old steps new parts
@@ -565,32 +562,32 @@ Sent i j = (a : Edge) (r : Register) → IsEdge new i a → r.originator ≡ add
 module _ (sound : IsSound old) where
   sent_first_to_second : Sent 0 1
   unfolding first_to_second
-  sent_first_to_second = is_sent 0 1 here 1 old steps new parts sound first_to_second
+  sent_first_to_second = is_sent sound first_to_second
       (tt, (tt, (tt, (tt, (tt, (tt, (tt, tt)))))))
 
   sent_first_to_third : Sent 0 2
   unfolding first_to_third
-  sent_first_to_third = is_sent 0 2 here 1 old steps new parts sound first_to_third
+  sent_first_to_third = is_sent sound first_to_third
       (tt, (tt, (tt, (tt, (tt, (tt, (tt, tt)))))))
 
   sent_third_to_second : Sent 2 1
   unfolding third_to_second
-  sent_third_to_second = is_sent 2 1 far 1 old steps new parts sound third_to_second
+  sent_third_to_second = is_sent sound third_to_second
       (tt, (tt, (tt, (tt, (gone_there, (tt, tt))))))
 
   sent_third_to_first : Sent 2 0
   unfolding third_to_first
-  sent_third_to_first = is_sent 2 0 far 1 old steps new parts sound third_to_first
+  sent_third_to_first = is_sent sound third_to_first
       (tt, (tt, (tt, (tt, (gone_here, (tt, tt))))))
 
   sent_second_to_first : Sent 1 0
   unfolding second_to_first
-  sent_second_to_first = is_sent 1 0 there 0 old steps new parts sound second_to_first
+  sent_second_to_first = is_sent sound second_to_first
       (tt, (tt, (tt, (tt, (tt, (tt, (tt, tt)))))))
 
   sent_second_to_third : Sent 1 2
   unfolding second_to_third
-  sent_second_to_third = is_sent 1 2 there 0 old steps new parts sound second_to_third
+  sent_second_to_third = is_sent sound second_to_third
       (tt, (tt, (tt, (tt, (tt, (tt, (tt, tt)))))))
 
   all_sent : (i j : ℕ) → i ≢ j → i < 3 → j < 3 → Sent i j
@@ -622,22 +619,22 @@ module _ (sound : IsSound old) where
   }
 
   session : Session (0 ∷ 2 ∷ []) (1 ∷ []) old steps new
-  session = session_of (0 ∷ 2 ∷ []) (1 ∷ []) (two_places (λ i. i < 3) 0 2 (lit< tt) (lit< tt))
-      (one_place (λ j. j < 3) 1 (lit< tt)) (λ i j in_p in_q. two_places (λ x. x ≢ j) 0 2
-      (one_place (λ y. 0 ≢ y) 1 (λ same. omega (arith, same)) j in_q)
-      (one_place (λ y. 2 ≢ y) 1 (λ same. omega (arith, same)) j in_q) i in_p)
+  session = session_of (0 ∷ 2 ∷ []) (1 ∷ []) (two_places (λ i. i < 3) (lit< tt) (lit< tt))
+      (one_place (λ j. j < 3) (lit< tt)) (λ i j in_p in_q. two_places (λ x. x ≢ j)
+      (one_place (λ y. 0 ≢ y) (λ same. omega (arith, same)) j in_q)
+      (one_place (λ y. 2 ≢ y) (λ same. omega (arith, same)) j in_q) i in_p)
 
   -- each edge as a process of its own
   one_alone : (m : ℕ) (p : Process) → slice_get each_alone m ≡ Some p → (i : ℕ) → Contains p i → (i ≡ m) × (i < 3)
   one_alone zero p at = let same : 0 ∷ [] ≡ p = cc in
       subst (λ l. (i : ℕ) → Contains l i → (i ≡ 0) × (i < 3)) same
-      (one_place (λ i. (i ≡ 0) × (i < 3)) 0 (refl, lit< tt))
+      (one_place (λ i. (i ≡ 0) × (i < 3)) (refl, lit< tt))
   one_alone (suc zero) p at = let same : 1 ∷ [] ≡ p = cc in
       subst (λ l. (i : ℕ) → Contains l i → (i ≡ 1) × (i < 3)) same
-      (one_place (λ i. (i ≡ 1) × (i < 3)) 1 (refl, lit< tt))
+      (one_place (λ i. (i ≡ 1) × (i < 3)) (refl, lit< tt))
   one_alone (suc (suc zero)) p at = let same : 2 ∷ [] ≡ p = cc in
       subst (λ l. (i : ℕ) → Contains l i → (i ≡ 2) × (i < 3)) same
-      (one_place (λ i. (i ≡ 2) × (i < 3)) 2 (refl, lit< tt))
+      (one_place (λ i. (i ≡ 2) × (i < 3)) (refl, lit< tt))
   one_alone (suc (suc (suc m))) p at = cc
 
   met : (m n : ℕ) (p q : Process) → m ≢ n → slice_get each_alone m ≡ Some p → slice_get each_alone n ≡ Some q
@@ -698,7 +695,7 @@ module _ (lists : SettledByLists) (happens : RunsHappen) where
     was_advert = refl;
     is_earlier = lit< tt;
     not_learnt = get-empty {X = Entry} station_cmp guest;
-    gone = ap advert_of (found b6 guest_here.register);
+    gone = rw (found b6 guest_here.register);
     withdrawal = guest_left.value;
     is_withdrawn = refl;
     of_life = refl;
@@ -718,7 +715,7 @@ module _ (lists : SettledByLists) (happens : RunsHappen) where
     is_advert = refl;
     is_present = refl;
     learnt_since = get-empty {X = Entry} station_cmp lodger;
-    learnt = subst IsSome (sym (pinned_entry nobody_learnt free_first)) refl;
+    learnt = rw (pinned_entry free_first);
     first_has = (first_last, refl, found a5 lodger_here.register);
     second_has = (second_with b6, refl, found b6 lodger_here.register);
     kept = lodger_gone;

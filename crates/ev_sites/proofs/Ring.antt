@@ -1,7 +1,7 @@
 -- A ring of three bridges at rest, with one blocked port: it meets the laws' premises, and without the blocked port it
 -- would be a circle.
 use Rattle.std.proofs.Common.{◌≡◌, ℕ, zero, suc, ◌+◌, ◌-◌, Bool, true, false, ◌&&◌, List, [], ◌∷◌}
-use Rattle.std.proofs.Common.{length, Some, slice_get, ◌⊎◌, inl, inr, refl, sym, ap, subst, ◌∙◌, arith}
+use Rattle.std.proofs.Common.{length, Some, slice_get, ◌⊎◌, inl, inr, refl, sym, ap, ◌∙◌, arith}
 use Rattle.std.proofs.lemmas.Bool.{false≢true}
 use Rattle.bpdu_wire.specs.declared.bpdu.Bpdu.{Bpdu}
 use Rattle.bpdu_wire.specs.declared.bpdu.Bpdu.TheVariants.{Rst}
@@ -70,15 +70,15 @@ record IsSpot (b p : ℕ) (known : PortState) (x : Spot) (port : PortState) : Ty
   pub place : x.place ≡ p
   pub same : known ≡ port
 
-on_segment : (b p : ℕ) (known : PortState) (x : Spot) (port : PortState) → IsSpot b p known x port
+on_segment : {b p : ℕ} {known : PortState} {x : Spot} {port : PortState} → IsSpot b p known x port
     → segment_of x.bridge x.place ≡ segment_of b p
-on_segment b p known x port h = ap (λ n. segment_of n x.place) h.bridge ∙ ap (λ n. segment_of b n) h.place
+on_segment h = rw (h.bridge, h.place)
 
 in_two : (x y : PortState) (p : ℕ) (port : PortState) → slice_get (x ∷ y ∷ []) p ≡ Some port
     → ((p ≡ 0) × (x ≡ port)) ⊎ ((p ≡ 1) × (y ≡ port))
 in_two x y zero port at = inl (refl, cc)
 in_two x y (suc zero) port at = inr (refl, cc)
-in_two x y (suc (suc p)) port at = let e : ⊥ = cc in absurd e
+in_two x y (suc (suc p)) port at = absurd (cc)
 
 module _ (a b c : Tree) (a0 a1 b0 b1 c0 c1 : PortState) (is : IsRing a b c a0 a1 b0 b1 c0 c1) where
   which : (n : ℕ) (s : Tree) → IsBridgeAt (ring_of a b c) n s
@@ -86,13 +86,13 @@ module _ (a b c : Tree) (a0 a1 b0 b1 c0 c1 : PortState) (is : IsRing a b c a0 a1
   which zero s at = inl (refl, cc)
   which (suc zero) s at = inr (inl (refl, cc))
   which (suc (suc zero)) s at = inr (inr (refl, cc))
-  which (suc (suc (suc n))) s at = let e : ⊥ = cc in absurd e
+  which (suc (suc (suc n))) s at = absurd (cc)
 
   of_bridge : (n : ℕ) (t : Tree) (x y : PortState) (z : Spot) (s : Tree) (port : PortState) → t.ports ≡ x ∷ y ∷ []
       → z.bridge ≡ n → t ≡ s
       → IsPortAt (ring_of a b c) z s port → IsSpot n 0 x z port ⊎ IsSpot n 1 y z port
   of_bridge n t x y z s port ports here same at =
-      elim (in_two x y z.place port (ap (λ l. slice_get l z.place) (sym ports)
+      elim (in_two x y z.place port ((rw ports)
       ∙ ap (λ (u : Tree). slice_get u.ports z.place) same ∙ at.in_bridge)) [
         | inl k ↦ inl (record { bridge = here; place = k.0; same = k.1 })
         | inr k ↦ inr (record { bridge = here; place = k.0; same = k.1 })
@@ -141,19 +141,19 @@ module _ (a b c : Tree) (a0 a1 b0 b1 c0 c1 : PortState) (is : IsRing a b c a0 a1
       → is_less d.designated_priority p.port_priority ≡ false
   unfolding AreDesignated
   hears x y p d (inl h) (inl k) same = both_at a0 p d h.same k.same is.a0_heard
-  hears x y p d (inl h) (inr (inl k)) same = absurd (apart 0 1 x y (on_segment 0 0 a0 x p h) (on_segment 0 1 a1 y d k)
+  hears x y p d (inl h) (inr (inl k)) same = absurd (apart 0 1 x y (on_segment h) (on_segment k)
       same (λ e. omega arith))
-  hears x y p d (inl h) (inr (inr k)) same = absurd (apart 0 2 x y (on_segment 0 0 a0 x p h) (on_segment 1 1 b1 y d k)
+  hears x y p d (inl h) (inr (inr k)) same = absurd (apart 0 2 x y (on_segment h) (on_segment k)
       same (λ e. omega arith))
-  hears x y p d (inr (inl h)) (inl k) same = absurd (apart 1 0 x y (on_segment 0 1 a1 x p h) (on_segment 0 0 a0 y d k)
+  hears x y p d (inr (inl h)) (inl k) same = absurd (apart 1 0 x y (on_segment h) (on_segment k)
       same (λ e. omega arith))
   hears x y p d (inr (inl h)) (inr (inl k)) same = both_at a1 p d h.same k.same is.a1_heard
   hears x y p d (inr (inl h)) (inr (inr k)) same = absurd
-      (apart 1 2 x y (on_segment 0 1 a1 x p h) (on_segment 1 1 b1 y d k) same (λ e. omega arith))
-  hears x y p d (inr (inr h)) (inl k) same = absurd (apart 2 0 x y (on_segment 1 1 b1 x p h) (on_segment 0 0 a0 y d k)
+      (apart 1 2 x y (on_segment h) (on_segment k) same (λ e. omega arith))
+  hears x y p d (inr (inr h)) (inl k) same = absurd (apart 2 0 x y (on_segment h) (on_segment k)
       same (λ e. omega arith))
   hears x y p d (inr (inr h)) (inr (inl k)) same = absurd
-      (apart 2 1 x y (on_segment 1 1 b1 x p h) (on_segment 0 1 a1 y d k) same (λ e. omega arith))
+      (apart 2 1 x y (on_segment h) (on_segment k) same (λ e. omega arith))
   hears x y p d (inr (inr h)) (inr (inr k)) same = both_at b1 p d h.same k.same is.b1_heard
 
   not_root : {A : Type 0} (known port : PortState) → is_root known.role ≡ false → known ≡ port
@@ -173,7 +173,7 @@ module _ (a b c : Tree) (a0 a1 b0 b1 c0 c1 : PortState) (is : IsRing a b c a0 a1
     port = teller;
     at = record { in_net = refl; in_bridge = there };
     settled = is.a_settled;
-    segment = joined ∙ sym (on_segment n 0 known x port at);
+    segment = joined ∙ sym (on_segment at);
     designated = on;
     times = sym (ap (λ (v : PortState). v.port_times) at.same) ∙ times;
   }
@@ -186,11 +186,11 @@ module _ (a b c : Tree) (a0 a1 b0 b1 c0 c1 : PortState) (is : IsRing a b c a0 a1
       | inr k ↦ not_root a1 p is.a1_root k.same on
     ]
     | inr (inl h) ↦ elim (of_bridge 1 b b0 b1 x s p is.b_ports h.0 h.1 at) [
-      | inl k ↦ told_by 1 0 a0 b0 x p k (ap (λ l. slice_get l 0) is.a_ports) refl is.a0_designated is.b0_times
+      | inl k ↦ told_by 1 0 a0 b0 x p k (rw is.a_ports) refl is.a0_designated is.b0_times
       | inr k ↦ not_root b1 p is.b1_root k.same on
     ]
     | inr (inr h) ↦ elim (of_bridge 2 c c0 c1 x s p is.c_ports h.0 h.1 at) [
-      | inl k ↦ told_by 2 1 a1 c0 x p k (ap (λ l. slice_get l 1) is.a_ports) refl is.a1_designated is.c0_times
+      | inl k ↦ told_by 2 1 a1 c0 x p k (rw is.a_ports) refl is.a1_designated is.c0_times
       | inr k ↦ not_root c1 p is.c1_root k.same on
     ]
   ]
@@ -199,38 +199,40 @@ module _ (a b c : Tree) (a0 a1 b0 b1 c0 c1 : PortState) (is : IsRing a b c a0 a1
 
   of_each : (P : Tree → Type 0) → P a → P b → P c → (n : ℕ) (s : Tree) → IsBridgeAt (ring_of a b c) n s → P s
   of_each P of_a of_b of_c n s at = elim (which n s at) [
-    | inl h ↦ subst P h.1 of_a
-    | inr (inl h) ↦ subst P h.1 of_b
-    | inr (inr h) ↦ subst P h.1 of_c
+    | inl h ↦ rw h.1 at of_a
+    | inr (inl h) ↦ rw h.1 at of_b
+    | inr (inr h) ↦ rw h.1 at of_c
   ]
 
   abbrev id_of : Tree → ℕ
   id_of t = t.settings.identifier
 
   has_two : (t : Tree) (x y : PortState) → t.ports ≡ x ∷ y ∷ [] → length t.ports ≡ 2
-  has_two t x y h = ap length h
+  has_two t x y h = rw h
 
   pub network : IsNetwork (ring_of a b c)
   network = record {
     reached = of_each IsReached is.a_reached is.b_reached is.c_reached;
     few = λ n s at. (
-        let two : length s.ports ≡ 2 = of_each (λ t. length t.ports ≡ 2) (has_two a a0 a1 is.a_ports)
-        (has_two b b0 b1 is.b_ports) (has_two c c0 c1 is.c_ports) n s at in
-        omega arith);
+        omega (
+          arith,
+          of_each (λ t. length t.ports ≡ 2) (has_two a a0 a1 is.a_ports) (has_two b b0 b1 is.b_ports)
+              (has_two c c0 c1 is.c_ports) n s at,
+        ));
     distinct = λ n m s t at_n at_m same. elim (which n s at_n) [
       | inl h ↦ elim (which m t at_m) [
         | inl k ↦ h.0 ∙ sym k.0
-        | inr (inl k) ↦ absurd (is.a_not_b (ap id_of h.1 ∙ same ∙ sym (ap id_of k.1)))
-        | inr (inr k) ↦ absurd (is.c_not_a (ap id_of k.1 ∙ sym same ∙ sym (ap id_of h.1)))
+        | inr (inl k) ↦ absurd (is.a_not_b ((rw h.1) ∙ same ∙ rw k.1))
+        | inr (inr k) ↦ absurd (is.c_not_a ((rw k.1) ∙ sym same ∙ rw h.1))
       ]
       | inr (inl h) ↦ elim (which m t at_m) [
-        | inl k ↦ absurd (is.a_not_b (ap id_of k.1 ∙ sym same ∙ sym (ap id_of h.1)))
+        | inl k ↦ absurd (is.a_not_b ((rw k.1) ∙ sym same ∙ rw h.1))
         | inr (inl k) ↦ h.0 ∙ sym k.0
-        | inr (inr k) ↦ absurd (is.b_not_c (ap id_of h.1 ∙ same ∙ sym (ap id_of k.1)))
+        | inr (inr k) ↦ absurd (is.b_not_c ((rw h.1) ∙ same ∙ rw k.1))
       ]
       | inr (inr h) ↦ elim (which m t at_m) [
-        | inl k ↦ absurd (is.c_not_a (ap id_of h.1 ∙ same ∙ sym (ap id_of k.1)))
-        | inr (inl k) ↦ absurd (is.b_not_c (ap id_of k.1 ∙ sym same ∙ sym (ap id_of h.1)))
+        | inl k ↦ absurd (is.c_not_a ((rw h.1) ∙ same ∙ rw k.1))
+        | inr (inl k) ↦ absurd (is.b_not_c ((rw k.1) ∙ sym same ∙ rw h.1))
         | inr (inr k) ↦ h.0 ∙ sym k.0
       ]
     ];
@@ -250,7 +252,7 @@ module _ (a b c : Tree) (a0 a1 b0 b1 c0 c1 : PortState) (is : IsRing a b c a0 a1
 
   opens_at : (p : ℕ) (s : Tree) (x y : PortState) → s.ports ≡ x ∷ y ∷ [] → (passes : Bool)
       → test_at (p + 1 - 1) passes_frames (x ∷ y ∷ []) ≡ passes → test_at (p + 1 - 1) passes_frames s.ports ≡ passes
-  opens_at p s x y same passes h = ap (test_at (p + 1 - 1) passes_frames) same ∙ h
+  opens_at p s x y same passes h = (rw same) ∙ h
 
   pub passing : IsOpen a b c
   passing = record {
@@ -259,7 +261,7 @@ module _ (a b c : Tree) (a0 a1 b0 b1 c0 c1 : PortState) (is : IsRing a b c a0 a1
     b0 = passes_at (ring_of a b c) 1 0 b refl is.b_settled (opens_at 0 b b0 b1 is.b_ports true is.b0_passes);
     b1 = passes_at (ring_of a b c) 1 1 b refl is.b_settled (opens_at 1 b b0 b1 is.b_ports true is.b1_passes);
     c0 = passes_at (ring_of a b c) 2 0 c refl is.c_settled (opens_at 0 c c0 c1 is.c_ports true is.c0_passes);
-    c1 = closed_at (ring_of a b c) 2 1 c refl (opens_at 1 c c0 c1 is.c_ports false is.c1_passes);
+    c1 = closed_at (ring_of a b c) 2 1 refl (opens_at 1 c c0 c1 is.c_ports false is.c1_passes);
   }
 
   pub ring_rests : RingCanBeAtRest

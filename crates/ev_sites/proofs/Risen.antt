@@ -1,6 +1,6 @@
 -- Two edges of one VNI whose ports have come up: their bridges are roots that are settled, and both ports pass.
 use Rattle.std.proofs.Common.{◌≡◌, ◌≤◌, ◌<◌, ◌^◌, ◌==◌, ◌||◌, ◌⊎◌, ◌↔◌, ℕ, zero, suc, true, false, not, ◌&&◌, Some}
-use Rattle.std.proofs.Common.{None, List, [], ◌∷◌, ◌++◌, length, inl, inr, refl, sym, ap, subst, ◌∙◌, arith, lit≤, lit<}
+use Rattle.std.proofs.Common.{None, List, [], ◌∷◌, ◌++◌, length, inl, inr, refl, sym, ap, ◌∙◌, arith, lit≤, lit<}
 use Rattle.std.specs.Prelude.{Ok, IsTrue}
 use Rattle.std.specs.FinMap.{FinMap, empty}
 use Rattle.std.proofs.lemmas.Bool.Decides.{nat_tests}
@@ -14,7 +14,7 @@ use Rattle.rstp_state.specs.Selection.{selected_ports, selected_root, best_path}
 use Rattle.rstp_state.specs.declared.start.Settings.{Settings}
 use Rattle.rstp_run.specs.declared.event.Event.{Event}
 use Rattle.rstp_run.specs.declared.event.Event.TheVariants as tree_events
-use Rattle.rstp_run.specs.Events.{direct, start, sent_from, firings_at, Happens, RunsHappen, Passes, Learns, IsPort}
+use Rattle.rstp_run.specs.Events.{direct, start, sent_from, firings_at, RunsHappen, Passes, Learns, IsPort}
 use Rattle.rstp_run.specs.Rules.{Tree}
 use Rattle.rstp_run.specs.Settled.{SettledByLists}
 use Rattle.ev_sites.proofs.Histories.{AreSwept, runs, coming_up, swept-is}
@@ -25,8 +25,8 @@ use Rattle.ev_tunnel.specs.declared.decision.Source.TheVariants.{Port}
 use Rattle.ev_tunnel.specs.Decision.{local_up, remote_up}
 use Rattle.ev_mobility.specs.declared.window.Window.{Window}
 use Rattle.ev_claims.specs.Speaker.{Speaker}
-use Rattle.ev_claims.specs.LocalRoutes.{LocalRoutes, after_removals, is_member}
-use Rattle.ev_claims.specs.Leaving.{after_flush, flushed_at}
+use Rattle.ev_claims.specs.LocalRoutes.{LocalRoutes, is_member}
+use Rattle.ev_claims.specs.Leaving.{after_flush}
 use Rattle.ev_edge.specs.declared.event.Event.TheVariants as edge_events
 use Rattle.ev_edge.specs.declared.reply.Reply.{Reply}
 use Rattle.ev_edge.specs.Bridging.{BridgeGoes}
@@ -60,15 +60,14 @@ both_ports = with_port (with_port no_ports 1) 2
 has_both : (p : ℕ) → has_port both_ports p ≡ ((2 == p) || ((1 == p) || false))
 has_both p =
     has_port-with (with_port no_ports 1) 2 (record { least = lit≤ tt; most = lit≤ tt }) p
-    ∙ ap (λ b. (2 == p) || b)
-    (has_port-with no_ports 1 (record { least = lit≤ tt; most = lit≤ tt }) p
+    ∙ rw (has_port-with no_ports 1 (record { least = lit≤ tt; most = lit≤ tt }) p
     ∙ ap (λ b. (1 == p) || b) (has_port-none p))
 
 past_two : (p : ℕ) → ((2 == suc (suc (suc p))) || ((1 == suc (suc (suc p))) || false)) ≡ false
 past_two p =
     let two : (2 == suc (suc (suc p))) ≡ false = grind (arith, nat_tests) in
     let one : (1 == suc (suc (suc p))) ≡ false = grind (arith, nat_tests) in
-    ap (λ b. b || ((1 == suc (suc (suc p))) || false)) two ∙ ap (λ b. b || false) one
+    rw (two, one)
 
 are_both : (p : ℕ) → has_port both_ports p ≡ is_member (5001 ∷ 5001 ∷ []) 5001 p
 are_both zero = has_both zero
@@ -77,11 +76,10 @@ are_both (suc (suc zero)) = has_both 2
 are_both (suc (suc (suc p))) = has_both (suc (suc (suc p))) ∙ past_two p
 
 of_both : (p : ℕ) → has_port both_ports p ≡ true → (p ≡ 1) ⊎ (p ≡ 2)
-of_both zero h = let e : false ≡ true = sym (has_both zero) ∙ h in let no : ⊥ = cc in absurd no
+of_both zero h = absurd (cc (sym (has_both zero) ∙ h))
 of_both (suc zero) h = inl refl
 of_both (suc (suc zero)) h = inr refl
-of_both (suc (suc (suc p))) h = let e : false ≡ true = sym (has_both (suc (suc (suc p))) ∙ past_two p) ∙ h in
-    let no : ⊥ = cc in absurd no
+of_both (suc (suc (suc p))) h = absurd (cc (sym (has_both (suc (suc (suc p))) ∙ past_two p) ∙ h))
 
 in_both : (p : ℕ) → 1 ≤ p → p ≤ 2 → has_port both_ports p ≡ true
 in_both zero some low = absurd (omega (arith, some))
@@ -117,17 +115,17 @@ unfolding selected_ports selected_root best_path
 half_limit = refl
 
 no_flush : (c : LocalRoutes) → after_flush c 0 ≡ c
-no_flush c = ap (λ ports. after_removals c (flushed_at c.learned ports)) (none_after 0 0 (lit< tt) refl)
+no_flush c = rw (none_after 0 0 (lit< tt) refl)
 
 abbrev told : Tree → Reply
 told tree = record nothing { bpdus = record { items = sent_from 1 tree.ports } }
 
-goes_up : (e : Edge) (event : Event) (tree : Tree) → BridgeGoes event e.tree tree 0 (sent_from 1 tree.ports)
+goes_up : {e : Edge} {event : Event} {tree : Tree} → BridgeGoes event e.tree tree 0 (sent_from 1 tree.ports)
     → BridgeSteps event e (told tree) (record e { tree = tree })
-goes_up e event tree goes = record {
+goes_up {e} goes = record {
   flush = 0;
   goes = goes;
-  after = ap (λ c. record e { tree = tree; routes = c }) (sym (no_flush e.routes));
+  after = rw (no_flush e.routes);
   reply_is = refl;
 }
 
@@ -191,24 +189,23 @@ sending d = record nothing { decision = Some d }
 -- one run after another
 pub runs_on : (steps more : List Step) (old mid new : Fabric) → Runs old steps mid → Runs mid more new
     → Runs old (steps ++ more) new
-runs_on [] more old mid new h k = subst (λ f. Runs f more new) h k
+runs_on [] more old mid new h k = (rw h at k)
 runs_on (step ∷ steps) more old mid new h k = (h.0, h.1, h.2, runs_on steps more h.0 mid new h.3 k)
 
 module _ (lists : SettledByLists) (happens : RunsHappen) where
   half_goes : BridgeGoes (tree_events.PortUp 1) down half 0 (sent_from 1 half.ports)
   half_goes =
       let (settled, does) = happens (tree_events.PortUp 1) 192 down half (coming_up 0)
-      (swept-is 192 (coming_up 0) (direct (tree_events.PortUp 1) down) half_swept) in
+      (swept-is 192 (direct (tree_events.PortUp 1) down) half_swept) in
       record { settled = settled; happens = does; slots = refl }
 
   root_goes : BridgeGoes (tree_events.PortUp 2) half root_bridge 0 (sent_from 1 root_bridge.ports)
   root_goes =
       let (settled, does) = happens (tree_events.PortUp 2) 192 half root_bridge (coming_up 1)
-      (swept-is 192 (coming_up 1) (direct (tree_events.PortUp 2) half) both_swept) in
+      (swept-is 192 (direct (tree_events.PortUp 2) half) both_swept) in
       record {
         settled = settled;
-        happens = subst (λ n. Happens (tree_events.PortUp 2) n half root_bridge settled 0)
-            (sym half_limit) does;
+        happens = rw half_limit does;
         slots = refl;
       }
 
@@ -230,8 +227,7 @@ module _ (lists : SettledByLists) (happens : RunsHappen) where
           record {
             after = opened_with here half;
             answer = Ok (told half);
-            steps = goes_up (opened_with here down)
-                (tree_events.PortUp 1) half half_goes;
+            steps = goes_up half_goes;
             result_is = refl;
             new_is = refl;
           }
@@ -242,8 +238,7 @@ module _ (lists : SettledByLists) (happens : RunsHappen) where
           record {
             after = opened_with here root_bridge;
             answer = Ok (told root_bridge);
-            steps = goes_up
-                (opened_with here half) (tree_events.PortUp 2) root_bridge root_goes;
+            steps = goes_up root_goes;
             result_is = refl;
             new_is = refl;
           }
@@ -254,8 +249,7 @@ module _ (lists : SettledByLists) (happens : RunsHappen) where
           record {
             after = opened_with there half;
             answer = Ok (told half);
-            steps = goes_up (opened_with there down)
-                (tree_events.PortUp 1) half half_goes;
+            steps = goes_up half_goes;
             result_is = refl;
             new_is = refl;
           }
@@ -265,8 +259,7 @@ module _ (lists : SettledByLists) (happens : RunsHappen) where
           record {
             after = opened_with there root_bridge;
             answer = Ok (told root_bridge);
-            steps = goes_up
-                (opened_with there half) (tree_events.PortUp 2) root_bridge root_goes;
+            steps = goes_up root_goes;
             result_is = refl;
             new_is = refl;
           }
@@ -279,8 +272,8 @@ module _ (lists : SettledByLists) (happens : RunsHappen) where
     edge_with (routes_with v l) half w,
     told half,
     told root_bridge,
-    goes_up (edge_with (routes_with v l) down w) (tree_events.PortUp 1) half half_goes,
-    goes_up (edge_with (routes_with v l) half w) (tree_events.PortUp 2) root_bridge root_goes,
+    goes_up half_goes,
+    goes_up root_goes,
   )
 
   -- ---- its ports
@@ -305,18 +298,16 @@ module _ (lists : SettledByLists) (happens : RunsHappen) where
   both_pass p = (
     λ h. elim (of_both p h) [ inl one ↦ (at_one p one) | inr two ↦ (at_two p two) ],
     λ h. in_both p h.0.0
-        (let most = h.0.1 in omega (arith, most, two_there)),
+        (omega (arith, h.0.1, two_there)),
   )
     where
       at_one : (p : ℕ) → p ≡ 1 → IsPort p (length root_bridge.ports) × Passes root_bridge p
       at_one p one =
-          subst (λ q. IsPort q (length root_bridge.ports) × Passes root_bridge q) (sym one)
-          (((lit≤ tt), omega (arith, two_there)), passes_one)
+          rw one (((lit≤ tt), omega (arith, two_there)), passes_one)
 
       at_two : (p : ℕ) → p ≡ 2 → IsPort p (length root_bridge.ports) × Passes root_bridge p
       at_two p two =
-          subst (λ q. IsPort q (length root_bridge.ports) × Passes root_bridge q) (sym two)
-          (((lit≤ tt), omega (arith, two_there)), passes_two)
+          rw two (((lit≤ tt), omega (arith, two_there)), passes_two)
 
   -- ---- frames
 

@@ -29,11 +29,11 @@ pub passes_at : (net : Network) (n p : ℕ) (s : Tree) → IsBridgeAt net n s �
     → test_at (p + 1 - 1) passes_frames s.ports ≡ true → PassesAt net (spot n p)
 passes_at net n p s at settled h = (s, at, (settled, h))
 
-pub closed_at : (net : Network) (n p : ℕ) (s : Tree) → IsBridgeAt net n s
+pub closed_at : (net : Network) (n p : ℕ) {s : Tree} → IsBridgeAt net n s
     → test_at (p + 1 - 1) passes_frames s.ports ≡ false → PassesAt net (spot n p) → ⊥
-closed_at net n p s at off (t, there, passes) =
+closed_at net n p {s} at off (t, there, passes) =
     let same : s ≡ t = cc in
-    let e : false ≡ true = sym off ∙ ap (λ (u : Tree). test_at (p + 1 - 1) passes_frames u.ports) same ∙ passes.1 in
+    let e = sym off ∙ ap (λ (u : Tree). test_at (p + 1 - 1) passes_frames u.ports) same ∙ passes.1 in
     let no : ⊥ = cc in no
 
 -- each port of the ring passes frames, except the second one of the third bridge
@@ -45,11 +45,11 @@ pub record IsOpen (a b c : Tree) : Type 0 where
   pub c0 : PassesAt (ring_of a b c) (spot 2 0)
   pub c1 : PassesAt (ring_of a b c) (spot 2 1) → ⊥
 
-other_bridge : (m n p q : ℕ) → (m ≡ n → ⊥) → spot m p ≡ spot n q → ⊥
-other_bridge m n p q differ same = differ (ap (λ (x : Spot). x.bridge) same)
+other_bridge : {m n p q : ℕ} → (m ≡ n → ⊥) → spot m p ≡ spot n q → ⊥
+other_bridge differ same = differ (ap (λ (x : Spot). x.bridge) same)
 
-other_place : (m n p q : ℕ) → (p ≡ q → ⊥) → spot m p ≡ spot n q → ⊥
-other_place m n p q differ same = differ (ap (λ (x : Spot). x.place) same)
+other_place : {m n p q : ℕ} → (p ≡ q → ⊥) → spot m p ≡ spot n q → ⊥
+other_place differ same = differ (ap (λ (x : Spot). x.place) same)
 
 module _ (a b c : Tree) where
   -- by the first bridge
@@ -58,9 +58,9 @@ module _ (a b c : Tree) where
   over_first enters leaves arrives = record {
     out = spot 0 1;
     bridge = refl;
-    other = other_place 0 0 1 0 (λ e. omega arith);
+    other = other_place (λ e. omega arith);
     segment = refl;
-    apart = other_bridge 0 2 1 0 (λ e. omega arith);
+    apart = other_bridge (λ e. omega arith);
     enters = enters;
     leaves = leaves;
     arrives = arrives;
@@ -71,9 +71,9 @@ module _ (a b c : Tree) where
   over_second opened = record {
     out = spot 1 0;
     bridge = refl;
-    other = other_place 1 1 0 1 (λ e. omega arith);
+    other = other_place (λ e. omega arith);
     segment = refl;
-    apart = other_bridge 1 0 0 0 (λ e. omega arith);
+    apart = other_bridge (λ e. omega arith);
     enters = opened.b1;
     leaves = opened.b0;
     arrives = opened.a0;
@@ -88,8 +88,8 @@ module _ (a b c : Tree) where
     three = refl;
     goes = (over_second opened, (over_first opened.a0 opened.a1 opened.c0, refl));
     bridge = refl;
-    other = other_place 2 2 1 0 (λ e. omega arith);
+    other = other_place (λ e. omega arith);
     segment = refl;
-    apart = other_bridge 2 1 1 1 (λ e. omega arith);
+    apart = other_bridge (λ e. omega arith);
     blocked = opened.c1;
   }

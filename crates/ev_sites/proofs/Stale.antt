@@ -1,6 +1,5 @@
 -- An edge restarts. A withdrawal of its earlier life comes to it before an older advert, which another edge then keeps.
 use Rattle.std.proofs.Common.{◌≡◌, inl, inr, ℕ, List, [], ◌∷◌, ◌++◌, drop, take, refl, sym, ap, ◌∙◌, arith, lit<}
-use Rattle.std.specs.Prelude.{Some}
 use Rattle.std.specs.FinMap.{empty, get-empty}
 use Rattle.route_wire.specs.declared.update.Register.{Register}
 use Rattle.route_wire.specs.declared.update.Value.{Value}
@@ -78,41 +77,41 @@ held = among (second_with b3) (third_with c2) 7
 -- ---- the steps
 
 g1_goes : Going told (Deliver 1 6) g1
-g1_goes = takes told 1 6 first_0 lodger_gone first_told.routes refl refl refl refl
+g1_goes = takes first_0 lodger_gone refl refl refl refl
     (hears_of 0 here far a1 2 [] guest_learnt lodger_gone.value refl refl)
 
 g2_goes : Going g1 (Deliver 2 5) g2
-g2_goes = takes g1 2 5 second_0 lodger_first (second_with b2).routes refl refl refl refl
+g2_goes = takes second_0 lodger_first refl refl refl refl
     (hears_of 0 there far b1 1 [] nobody_learnt lodger_first.value refl refl)
 
 third_opens : Going g2 (Restart 3 1) old
-third_opens = reopens g2 3 third_1 far (2, lit< tt, refl) refl (lit< tt) refl
+third_opens = reopens third_1 far (2, lit< tt, refl) refl (lit< tt) refl
 
 s1 : Going old (Announce 3) h1
-s1 = announces old 3 (opened_anew far) (third_with c0) flood_far (found c0 flood_far.register) refl refl refl
+s1 = announces (opened_anew far) flood_far (found c0 flood_far.register) refl refl refl
 
 s2 : Going h1 (Deliver 2 7) h2
-s2 = takes h1 2 7 (second_with b2) flood_far (second_with b3).routes refl refl refl refl
+s2 = takes (second_with b2) flood_far refl refl refl refl
     (hears 0 there far b2 1 [] nobody_learnt flood_anew refl)
 
 s3 : Going h2 (Deliver 3 3) h3
-s3 = takes h2 3 3 (third_with c0) flood_two (third_with c1).routes refl refl refl refl
+s3 = takes (third_with c0) flood_two refl refl refl refl
     (hears 1 far there c0 1 [] nobody_learnt said_first refl)
 
 s4 : Going h3 (Deliver 3 6) held
-s4 = returns h3 3 6 (third_with c1) lodger_gone (third_with c2).routes refl refl refl
+s4 = returns (third_with c1) lodger_gone refl refl refl
     (kept 1 far c1 1 [] nobody_learnt (lodger_register far) (said_free 3) refl refl refl)
 
 t1 : Going held (Deliver 3 5) held
-t1 = returns held 3 5 (third_with c2) lodger_first (third_with c2).routes refl refl refl
+t1 = returns (third_with c2) lodger_first refl refl refl
     (no_news 1 far c2 1 [] nobody_learnt (lodger_register far) (said_fixed 2) refl)
 
 t2 : Going held (Deliver 3 7) held
-t2 = returns held 3 7 (third_with c2) flood_far (third_with c2).routes refl refl refl
+t2 = returns (third_with c2) flood_far refl refl refl
     (no_news 1 far c2 1 [] nobody_learnt (flood_register far) flood_anew refl)
 
 t3 : Going held (Deliver 2 3) held
-t3 = returns held 2 3 (second_with b3) flood_two (second_with b3).routes refl refl refl
+t3 = returns (second_with b3) flood_two refl refl refl
     (no_news 0 there b3 1 [] nobody_learnt (flood_register there) said_first refl)
 
 abbrev first_part : List Step
@@ -210,7 +209,7 @@ to_third = record {
 sent_third : IsSound old → (r : Register) → r.originator ≡ address_of (second_with b3)
     → IsSent 1 2 (second_with b3) r old steps held parts
 unfolding to_third
-sent_third sound r mine = is_sent 1 2 there 0 old steps held parts sound to_third (tt, (tt, (tt, (tt, tt))))
+sent_third sound r mine = is_sent sound to_third (tt, (tt, (tt, (tt, tt))))
     (second_with b3) r refl mine
 
 module _ (lists : SettledByLists) (happens : RunsHappen) where
@@ -255,7 +254,7 @@ module _ (lists : SettledByLists) (happens : RunsHappen) where
       differ session =
           let knows = (agree (2 ∷ []) (1 ∷ []) old steps held sound session 2 1 (third_with c2) (second_with b3)
           (0, omega arith, refl) (0, omega arith, refl) refl refl).0 in
-          let both : Some (said_fixed 2) ≡ Some (said_free 3) = sym (found b3 (lodger_register far))
+          let both = sym (found b3 (lodger_register far))
           ∙ knows.equal (lodger_register far) refl ∙ found c2 (lodger_register far) in
           let same : said_fixed 2 ≡ said_free 3 = cc in
           let counters = ap (λ (v : Value). v.counter) same in omega (arith, counters)

@@ -43,11 +43,11 @@ run_goes (x ∷ run) a b (mid, steps, rest) =
 pub edges_stay_settled : EveryEventSettles → laws.StaysSettled → EdgesStaySettled
 edges_stay_settled every begins c opened e run some opening runs =
     stays_settled every begins c.tree (settings_of c.ports.items) e some
-    (run_goes run opened e runs c.tree (settings_of c.ports.items) (opening_came c opened opening))
+    (run_goes run opened e runs c.tree (settings_of c.ports.items) (opening_came opening))
 
 pub fabrics_stay_settled : EveryEventSettles → laws.StaysSettled → FabricsStaySettled
 fabrics_stay_settled every begins cs old new steps fit begun runs i e at =
     let sound = runs_sound steps old new runs (start_sound cs old fit begun) in
-    let c = opened_with new sound i e at in
-    let came = every_run_came cs old new steps begun runs i c.0 e c.1 at in
-    stays_settled every begins c.0.tree (settings_of c.0.ports.items) e (sound.configs i c.0 e c.1 at).config.hello came
+    let c = opened_with sound i e at in
+    stays_settled every begins c.0.tree (settings_of c.0.ports.items) e (sound.configs i c.0 e c.1 at).config.hello
+    (every_run_came new steps begun runs i c.0 e c.1 at)

@@ -1,11 +1,11 @@
 -- Steps of the two edges' fabric: the announcements of one of them, the deliveries to the other, and the learning of
 -- the guest.
-use Rattle.std.proofs.Common.{◌≡◌, ◌==◌, ℕ, true, false, cond, Some, None, List, [], ◌∷◌, ◌++◌, refl, sym, ap}
+use Rattle.std.proofs.Common.{◌≡◌, ◌==◌, ℕ, true, false, Some, None, List, [], ◌∷◌, ◌++◌, refl, sym}
 use Rattle.std.proofs.Common.{subst, ◌∙◌}
 use Rattle.std.specs.Prelude.{Ok}
 use Rattle.std.specs.Borrow.{Bor}
 use Rattle.std.specs.FinMap.{empty, get-empty, len-empty}
-use Rattle.std.specs.Option.{option_map, MatchOption}
+use Rattle.std.specs.Option.{MatchOption}
 use Rattle.route_wire.specs.declared.update.Register.{Register}
 use Rattle.route_wire.specs.declared.update.Value.{Value}
 use Rattle.route_wire.specs.Fields.{Fields}
@@ -14,17 +14,15 @@ use Rattle.route_join.specs.Taken.{taken_of}
 use Rattle.mac_arena.specs.declared.station.Entry.{Entry}
 use Rattle.mac_arena.specs.Station.{station_cmp}
 use Rattle.mac_arena.specs.Learning.{Learning, is_full}
-use Rattle.ev_mobility.specs.declared.alert.Alert.TheVariants.{TableFull}
 use Rattle.ev_mobility.specs.declared.seq.Seq.TheVariants.{Next}
 use Rattle.ev_mobility.specs.declared.window.Window.{Window}
 use Rattle.ev_claims.specs.LocalRoutes.{LocalRoutes, after_take, loses_pinned}
 use Rattle.ev_edge.specs.declared.event.Event.TheVariants as events
-use Rattle.ev_edge.specs.declared.learning.Case.TheVariants.{Refuse}
 use Rattle.ev_edge.specs.declared.reply.Reply.{Reply}
 use Rattle.ev_edge.specs.Edge.{Edge, table_of, address_of}
 use Rattle.ev_edge.proofs.Limiting.{limits_nothing}
-use Rattle.ev_edge.specs.Learning.{Does, Learning as Learns, case_of, case_at, new_case, numbered_case, move_case}
-use Rattle.ev_edge.specs.Steps.{Steps, Takes, lost_alert, nothing}
+use Rattle.ev_edge.specs.Learning.{Does, Learning as Learns, case_of, move_case}
+use Rattle.ev_edge.specs.Steps.{Steps, lost_alert, nothing}
 use Rattle.ev_fabric.specs.declared.refusal.FabricRefusal.TheVariants.{NoSuchUpdate}
 use Rattle.ev_fabric.specs.declared.step.LocalEvent.{LocalEvent}
 use Rattle.ev_fabric.specs.declared.step.Step.TheVariants.{Local, Announce, Deliver}
@@ -48,10 +46,10 @@ pub first_steps : (a b c : Edge) (pool : List Fields) (event : LocalEvent) (repl
 first_steps a b c pool event reply steps =
     record { after = c; answer = Ok reply; steps = steps; result_is = refl; new_is = refl }
 
-pub second_steps : (a b c : Edge) (pool : List Fields) (event : LocalEvent) (reply : Reply)
+pub second_steps : (a : Edge) {b c : Edge} (pool : List Fields) (event : LocalEvent) {reply : Reply}
     → Steps b (event_of event) (Ok reply) c
     → FabricSteps (fabric_with a b pool) (Local 2 event) (Ok reply) (fabric_with a c pool)
-second_steps a b c pool event reply steps =
+second_steps a {c} pool event {reply} steps =
     record { after = c; answer = Ok reply; steps = steps; result_is = refl; new_is = refl }
 
 -- ---- announcing
@@ -68,7 +66,7 @@ announces : (address : ℕ) (said : List Said) (counter : ℕ) (r : Register) (r
     → Steps (risen_edge (speaker_with address said counter (r ∷ rs)) l w) events.Announce (Ok (announcing (update r v)))
     (risen_edge (speaker_with address said counter rs) l w)
 announces address said counter r rs l w v is = (
-  ap (λ o. Ok (record nothing { announced = option_map (λ (x : Value). update r x) o })) (sym (found said r ∙ is)),
+  rw (found said r ∙ is),
   refl,
 )
 
@@ -98,14 +96,13 @@ takes : (a : Edge) (u : Fields) (c : LocalRoutes) → (u.register.originator == 
     → is_listed (table_of a) u.register.originator ≡ true → after_take a.routes u ≡ c
     → Steps a (events.Take u) (Ok (taking a u)) (record a { routes = c })
 takes a u c other listed is =
-    subst (λ b. Takes b a u (Ok (taking a u)) (record a { routes = c })) (sym other)
-    (listed, refl, ap (λ d. record a { routes = d }) (sym is))
+    rw other (listed, refl, rw is)
 
-pub first_takes : (a b : Edge) (pool : List Fields) (k : ℕ) (u : Fields) (c : LocalRoutes) → nth pool k ≡ Some u
+pub first_takes : (a b : Edge) (pool : List Fields) (k : ℕ) {u : Fields} {c : LocalRoutes} → nth pool k ≡ Some u
     → (u.register.originator == address_of a) ≡ false → is_listed (table_of a) u.register.originator ≡ true
     → after_take a.routes u ≡ c
     → FabricSteps (fabric_with a b pool) (Deliver 1 k) (Ok (taking a u)) (fabric_with (record a { routes = c }) b pool)
-first_takes a b pool k u c at other listed is =
+first_takes a b pool k {u} {c} at other listed is =
     subst (λ o. MatchOption o
     (IsRefused NoSuchUpdate (fabric_with a b pool) (Ok (taking a u)) (fabric_with (record a { routes = c }) b pool))
     (λ w. StepsAt (fabric_with a b pool) 1 a (events.Take w) (Ok (taking a u))
@@ -118,11 +115,11 @@ first_takes a b pool k u c at other listed is =
       new_is = refl;
     })
 
-pub second_takes : (a b : Edge) (pool : List Fields) (k : ℕ) (u : Fields) (c : LocalRoutes) → nth pool k ≡ Some u
+pub second_takes : (a b : Edge) (pool : List Fields) (k : ℕ) {u : Fields} {c : LocalRoutes} → nth pool k ≡ Some u
     → (u.register.originator == address_of b) ≡ false → is_listed (table_of b) u.register.originator ≡ true
     → after_take b.routes u ≡ c
     → FabricSteps (fabric_with a b pool) (Deliver 2 k) (Ok (taking b u)) (fabric_with a (record b { routes = c }) pool)
-second_takes a b pool k u c at other listed is =
+second_takes a b pool k {u} {c} at other listed is =
     subst (λ o. MatchOption o
     (IsRefused NoSuchUpdate (fabric_with a b pool) (Ok (taking b u)) (fabric_with a (record b { routes = c }) pool))
     (λ w. StepsAt (fabric_with a b pool) 2 b (events.Take w) (Ok (taking b u))
@@ -139,7 +136,7 @@ second_takes a b pool k u c at other listed is =
 
 -- nothing is learnt yet, and there is room for one station
 room : is_full nobody_learnt ≡ false
-room = ap (λ n. n == 1) (len-empty station_cmp Entry)
+room = rw (len-empty station_cmp Entry)
 
 -- an edge that has made only its flood advert, and has learnt nothing
 abbrev pub newcomer : ℕ → List Said → List Register → Edge
@@ -151,13 +148,13 @@ pub learns : (address : ℕ) (said : List Said) (pending : List Register) (n : �
     → Does (move_case None 0 n) (newcomer address said pending) guest 1 None e'
     → Learns (newcomer address said pending) guest 1 None e'
 learns address said pending n e' next does =
-    subst (λ c. Does c (newcomer address said pending) guest 1 None e')
-    (sym ((limits_nothing (newcomer address said pending) guest 1 refl).0 ∙ is)) does
+    rw ((limits_nothing (newcomer address said pending) guest 1 refl).0 ∙ is) does
   where
     is : case_of (newcomer address said pending) guest ≡ move_case None 0 n
     is =
-        ap (λ o. case_at (newcomer address said pending) guest o) (get-empty {X = Entry} station_cmp guest)
-        ∙ ap (λ o. new_case (newcomer address said pending) guest o) (get-empty {X = Window} station_cmp guest)
-        ∙ ap (λ q. numbered_case (newcomer address said pending) None q)
-        (next_number said address 5001 guest.mac ∙ next)
-        ∙ ap (λ b. cond b (Refuse TableFull) (move_case None 0 n)) room
+        rw (
+          get-empty {X = Entry} station_cmp guest,
+          get-empty {X = Window} station_cmp guest,
+          (next_number said address 5001 guest.mac ∙ next),
+          room,
+        )

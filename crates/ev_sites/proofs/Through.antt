@@ -1,17 +1,17 @@
 -- A way through sites at rest stays in its site, or crosses one tunnel and ends in another site.
 use Rattle.std.proofs.Common.{◌≡◌, ◌≢◌, ◌⊎◌, inl, inr, ℕ, zero, suc, ◌+◌, true, Some, List, [], ◌∷◌, slice_get, refl}
-use Rattle.std.proofs.Common.{sym, ap, subst, ◌∙◌, arith}
+use Rattle.std.proofs.Common.{sym, ap, ◌∙◌, arith}
 use Rattle.std.proofs.lemmas.Option.{same_Some}
 use Rattle.ether_wire.specs.Ports.{IsPort, has_port}
 use Rattle.ev_tunnel.specs.declared.decision.Decision.{Decision}
 use Rattle.rstp_run.specs.Events.{Passes}
-use Rattle.ev_sites.specs.Network.{Spot, Network, IsBridgeAt, IsNetwork, IsAtRest, PassesAt, Crosses, Travels, NoCircle}
+use Rattle.ev_sites.specs.Network.{Spot, Network, PassesAt, Crosses, Travels, NoCircle}
 use Rattle.ev_sites.specs.Network.{CanBeAtRest}
 use Rattle.ev_edge.specs.Edge.{Edge, address_of}
 use Rattle.ev_sites.specs.Sites.{Site, IsSiteAt, AreAtRest, Point, IsEdgeOf, DecidesAt, Leaves, ByTunnel, Hops, Goes}
 use Rattle.ev_sites.specs.Sites.{SitesCanBeAtRest}
 use Rattle.ev_sites.proofs.Back.{longer, never_back}
-use Rattle.ev_sites.proofs.Leaving.{Sent, frame_sent, tunnel_passes, tunnel_other}
+use Rattle.ev_sites.proofs.Leaving.{frame_sent, tunnel_passes, tunnel_other}
 
 -- ---- the form of a hop
 
@@ -23,14 +23,14 @@ record Came (e : Edge) (from : ℕ) (d : Decision) : Type 0 where
 -- a port of the edge's bridge that passes there, passes in the site's network
 passes_at : (s : Site) (e : Edge) (x : Spot) → IsEdgeOf s e → x.bridge ≡ s.attached → Passes e.tree (x.place + 1)
     → PassesAt s.net x
-passes_at s e x edge here passes = (e.tree, subst (λ b. IsBridgeAt s.net b e.tree) (sym here) edge.bridge, passes)
+passes_at s e x edge here passes = (e.tree, rw here edge.bridge, passes)
 
 -- an edge forwards a frame of its own site as any bridge does
-edge_crosses : (s : Site) (x y : Spot) (d : Decision) → DecidesAt s x d → Leaves s d y → Crosses s.net x y
-edge_crosses s x y d at leaves =
+edge_crosses : {s : Site} {x y : Spot} {d : Decision} → DecidesAt s x d → Leaves s d y → Crosses s.net x y
+edge_crosses {s} {x} {d} at leaves =
     let e = at.before in
-    let sent : Sent e (x.place + 1) (leaves.out.place + 1) =
-    frame_sent e (x.place + 1) at.after (omega arith) _ at.result d at.step at.decision (leaves.out.place + 1)
+    let sent = frame_sent e (x.place + 1) at.after (omega arith) _ at.result d at.step at.decision
+    (leaves.out.place + 1)
     leaves.among.0 leaves.among.1 in
     record {
       out = leaves.out;
@@ -51,17 +51,17 @@ record Within (sites : List Site) (x y : Point) : Type 0 where
   pub crosses : Crosses site.net x.spot y.spot
 
 -- a hop is a crossing within its site, or by a tunnel
-hop_is : (sites : List Site) (x y : Point) → Hops sites x y → Within sites x y ⊎ ByTunnel sites x y
-hop_is sites x y (inl h) = inl (record { site = h.site; at = h.at; same = h.same; crosses = h.crosses })
-hop_is sites x y (inr (inl h)) =
+hop_is : {sites : List Site} {x y : Point} → Hops sites x y → Within sites x y ⊎ ByTunnel sites x y
+hop_is (inl h) = inl (record { site = h.site; at = h.at; same = h.same; crosses = h.crosses })
+hop_is {x} {y} (inr (inl h)) =
     inl (record {
       site = h.site;
       at = h.at;
       same = h.same;
-      crosses = edge_crosses h.site x.spot y.spot h.decision
+      crosses = edge_crosses
           h.decides h.leaves;
     })
-hop_is sites x y (inr (inr h)) = inr h
+hop_is (inr (inr h)) = inr h
 
 came : (sites : List Site) (x y : Point) (h : ByTunnel sites x y)
     → Came h.decides_far.before h.near.address h.decision_far
@@ -69,15 +69,15 @@ came sites x y h =
     let far = h.decides_far in
     record {
       other =
-          tunnel_other far.before h.near.address far.octets far.result far.after h.decision_far far.step far.decision;
-      passes = tunnel_passes far.before _ far.result far.after h.decision_far far.step far.decision;
+          tunnel_other far.before far.octets far.result far.after far.step far.decision;
+      passes = tunnel_passes far.before _ far.result far.after far.step far.decision;
     }
 
 -- the far end of a tunnel is in another site
 elsewhere : (sites : List Site) (x y : Point) → ByTunnel sites x y → y.site ≢ x.site
 elsewhere sites x y h same =
-    let one : h.far ≡ h.near = same_Some h.far h.near (sym h.at_far ∙ ap (λ i. slice_get sites i) same ∙ h.at_near) in
-    (came sites x y h).other (ap (λ (s : Site). s.address) (sym one) ∙ sym h.decides_far.edge.address)
+    (came sites x y h).other (ap (λ (s : Site). s.address) (sym (same_Some h.far h.near (sym h.at_far ∙ (rw same)
+    ∙ h.at_near))) ∙ sym h.decides_far.edge.address)
 
 -- ---- ways
 
@@ -93,7 +93,7 @@ record Stays (sites : List Site) (points : List Point) (x w : Point) : Type 0 wh
 -- a way and one more hop
 on_to : (sites : List Site) (points : List Point) (y z w : Point) → Goes sites points y z → Hops sites z w
     → (longer_way : List Point) × Goes sites longer_way y w
-on_to sites [] y z w goes hop = (w ∷ [], (subst (λ p. Hops sites p w) (sym goes) hop, refl))
+on_to sites [] y z w goes hop = (w ∷ [], (rw goes hop, refl))
 on_to sites (v ∷ later) y z w goes hop =
     let more = on_to sites later v z w goes.1 hop in
     (v ∷ more.0, (goes.0, more.1))
@@ -106,21 +106,18 @@ module _ (law : NoCircle) (sites : List Site) (rest : AreAtRest sites) where
       → Goes sites points z w → w.site ≡ z.site
   after_tunnel [] z w s o y before at here leaves arrives segment apart way goes = ap (λ (p : Point). p.site) (sym goes)
   after_tunnel (v ∷ later) z w s o y before at here leaves arrives segment apart way goes =
-      elim (hop_is sites z v goes.0) [
+      elim (hop_is goes.0) [
         | inl h ↦ (
-            let one : h.site ≡ s = same_Some h.site s (sym h.at ∙ at) in
-            let crosses : Crosses s.net z.spot v.spot =
-            subst (λ (t : Site). Crosses t.net z.spot v.spot) one h.crosses in
-            let further = longer s.net before y z.spot v.spot way crosses in
-            let at_v : IsSiteAt sites v.site s = ap (λ i. slice_get sites i) h.same ∙ at in
-            after_tunnel later v w s o y (further.first ∷ further.later) at_v here leaves arrives segment apart
+            let further = longer s.net before y z.spot v.spot way (rw (same_Some h.site s (sym h.at
+            ∙ at)) at h.crosses) in
+            after_tunnel later v w s o y (further.first ∷ further.later) ((rw h.same)
+            ∙ at) here leaves arrives segment apart
             further.way
             goes.1 ∙ h.same)
         | inr h ↦ (
-            let one : h.near ≡ s = same_Some h.near s (sym h.at_near ∙ at) in
-            let back : z.spot.bridge ≡ o.bridge = h.decides.here ∙ ap (λ (t : Site). t.attached) one ∙ sym here in
             absurd (never_back law s.net (rest.networks z.site s at) (rest.rest z.site s at) o y z.spot before leaves
-            arrives segment apart way back))
+            arrives segment apart way (h.decides.here ∙ ap (λ (t : Site). t.attached) (same_Some h.near s
+            (sym h.at_near ∙ at)) ∙ sym here)))
       ]
 
   -- so a way that begins after a tunnel stays in the site to which that tunnel leads
@@ -146,7 +143,7 @@ module _ (law : NoCircle) (sites : List Site) (rest : AreAtRest sites) where
       → Stays sites points x w ⊎ (w.site ≢ x.site)
   stays_or_leaves [] x w goes =
       inl (record { same = ap (λ (p : Point). p.site) (sym goes); way = λ s at. ap (λ (p : Point). p.spot) goes })
-  stays_or_leaves (z ∷ later) x w goes = elim (hop_is sites x z goes.0) [
+  stays_or_leaves (z ∷ later) x w goes = elim (hop_is goes.0) [
     | inr h ↦ inr (ends_elsewhere later x z w h goes.1)
     | inl h ↦ on h (stays_or_leaves later z w goes.1)
   ]
@@ -156,12 +153,11 @@ module _ (law : NoCircle) (sites : List Site) (rest : AreAtRest sites) where
       on h (inr away) = inr (λ same. away (same ∙ sym h.same))
       on h (inl more) = inl (record {
         same = more.same ∙ h.same;
-        way = λ s at. (
-            let one : h.site ≡ s = same_Some h.site s (sym h.at ∙ at) in (
-              subst (λ (t : Site). Crosses t.net x.spot z.spot) one h.crosses,
-              more.way s
-                  (ap (λ i. slice_get sites i) h.same ∙ at),
-            ));
+        way = λ s at. ((
+          rw (same_Some h.site s (sym h.at ∙ at)) at h.crosses,
+          more.way s
+              ((rw h.same) ∙ at),
+        ));
       })
 
   site_of : (x z : Point) → Hops sites x z → (s : Site) × IsSiteAt sites x.site s
@@ -176,37 +172,30 @@ module _ (law : NoCircle) (sites : List Site) (rest : AreAtRest sites) where
     | inl stays ↦ (
         let first = site_of x z goes.0 in
         let s = first.0 in
-        let none : z.spot ∷ spots later ≡ [] =
-        law s.net (rest.networks x.site s first.1) (rest.rest x.site s first.1) x.spot (z.spot ∷ spots later)
-        (stays.way s first.1) in
-        absurd (let no : ⊥ = cc in no))
+        absurd ((cc (law s.net (rest.networks x.site s first.1) (rest.rest x.site s first.1) x.spot
+        (z.spot ∷ spots later) (stays.way s first.1)))))
   ]
 
 -- ---- sites at rest
 
 pub sites_at_rest : NoCircle → CanBeAtRest → SitesCanBeAtRest
 sites_at_rest law (net, x, y, is, rest, crosses) =
-    let first : Site = record { net = net; attached = y.bridge; address = 1 } in
-    let second : Site = record { net = net; attached = y.bridge; address = 2 } in
-    let away : y.bridge ≢ crosses.out.bridge =
-    never_back law net is rest crosses.out y y [] crosses.leaves crosses.arrives crosses.segment crosses.apart
-    refl in
-    let x_at : Point = record { site = 0; spot = x } in
-    let y_at : Point = record { site = 0; spot = y } in (
+    let first : Site = record { net = net; attached = y.bridge; address = 1 } in (
       first,
-      second,
-      x_at,
-      y_at,
+      (record { net = net; attached = y.bridge; address = 2 }),
+      (record { site = 0; spot = x }),
+      (record { site = 0; spot = y }),
       record {
-        networks = λ i s at. subst IsNetwork (sym (the_net net i s at)) is;
-        rest = λ i s at. subst IsAtRest
-            (sym (the_net net i s at)) rest;
+        networks = λ i s at. rw (the_net net i s at) is;
+        rest = λ i s at. rw (the_net net i s at) rest;
       },
       record {
         site = first;
         at = refl;
         same = refl;
-        other = λ same. away (sym same ∙ sym crosses.bridge);
+        other = λ same. (never_back law net is rest crosses.out y y [] crosses.leaves crosses.arrives crosses.segment
+            crosses.apart
+            refl) (sym same ∙ sym crosses.bridge);
         crosses = crosses;
       },
       refl,
@@ -218,4 +207,4 @@ sites_at_rest law (net, x, y, is, rest, crosses) =
         ∷ record { net = net; attached = y.bridge; address = 2 } ∷ []) i ≡ Some s → s.net ≡ net
     the_net net zero s at = ap (λ (t : Site). t.net) (sym (same_Some _ s at))
     the_net net (suc zero) s at = ap (λ (t : Site). t.net) (sym (same_Some _ s at))
-    the_net net (suc (suc i)) s at = absurd (let no : ⊥ = cc in no)
+    the_net net (suc (suc i)) s at = absurd ((cc))

@@ -4,7 +4,7 @@ use Rattle.std.proofs.Common.{◌≡◌, inl, inr, ℕ, zero, suc, ◌+◌, ◌*
 use Rattle.std.proofs.Common.{None, List, [], ◌∷◌}
 use Rattle.std.proofs.Common.{◌++◌, take, refl, sym, ap, subst, ◌∙◌, arith}
 use Rattle.std.proofs.lemmas.Bool.{and_parts}
-use Rattle.std.specs.Prelude.{Ok, IsSome, Contains}
+use Rattle.std.specs.Prelude.{Ok, Contains}
 use Rattle.std.specs.FinMap.{get, insert, empty, get-empty}
 use Rattle.ether_wire.specs.Frame.{frame_of}
 use Rattle.route_wire.specs.declared.update.Ip.{Ip}
@@ -13,9 +13,8 @@ use Rattle.route_wire.specs.declared.update.Register.{Register}
 use Rattle.route_wire.specs.declared.update.Value.{Value}
 use Rattle.route_wire.specs.Fields.{Fields}
 use Rattle.route_wire.specs.Order.{is_newer}
-use Rattle.route_join.specs.Table.{Table, value_at, is_news, register_of}
+use Rattle.route_join.specs.Table.{Table, value_at, register_of}
 use Rattle.mac_arena.specs.declared.station.Station.{Station}
-use Rattle.route_join.specs.Owner.{advert_of}
 use Rattle.mac_arena.specs.declared.station.Entry.{Entry}
 use Rattle.mac_arena.specs.Station.{station_cmp}
 use Rattle.mac_arena.specs.Learning.{Learning, after_pin as pinned_on}
@@ -32,7 +31,7 @@ use Rattle.ev_edge.specs.declared.event.Event.TheVariants as events
 use Rattle.ev_edge.specs.declared.reply.Reply.{Reply}
 use Rattle.ev_edge.specs.Arrival.{frame_arrival}
 use Rattle.ev_edge.specs.Edge.{Edge, table_of}
-use Rattle.ev_edge.specs.Steps.{FrameSteps, Steps, alone, nothing}
+use Rattle.ev_edge.specs.Steps.{Steps, alone, nothing}
 use Rattle.ev_fabric.specs.declared.step.LocalEvent.TheVariants.{Frame, Pin, Unpin, PortUp}
 use Rattle.ev_fabric.specs.declared.step.Step.{Step}
 use Rattle.ev_fabric.specs.declared.step.Step.TheVariants.{Local, Announce, Deliver, Restart}
@@ -175,7 +174,7 @@ abbrev guest_lost : Learning
 guest_lost = gone guest_learnt guest
 
 free_once : IsFree left_once
-free_once = free_again nobody_learnt free_first
+free_once = free_again free_first
 
 abbrev one_move : Windows
 one_move = insert empty guest (after_move (get {X = Window} {R = station_cmp} empty guest) 0)
@@ -366,94 +365,94 @@ s16 = trio_with first_5 second_6 third_6 (pool 9)
 
 -- ---- the steps
 p1_p2 : Going p1 (Announce 1) p2
-p1_p2 = announces p1 1 first_learnt first_half flood_one (found a1 flood_one.register) refl refl refl
+p1_p2 = announces first_learnt flood_one (found a1 flood_one.register) refl refl refl
 
 p2_p3 : Going p2 (Announce 1) p3
-p2_p3 = announces p2 1 first_half first_0 guest_here (found a1 guest_here.register) refl refl refl
+p2_p3 = announces first_half guest_here (found a1 guest_here.register) refl refl refl
 
 p3_p4 : Going p3 (Announce 2) p4
-p3_p4 = announces p3 2 second_up second_told flood_two (found b0 flood_two.register) refl refl refl
+p3_p4 = announces second_up flood_two (found b0 flood_two.register) refl refl refl
 
 p4_p5 : Going p4 (Announce 3) p5
-p4_p5 = announces p4 3 third_up third_told flood_three (found c0 flood_three.register) refl refl refl
+p4_p5 = announces third_up flood_three (found c0 flood_three.register) refl refl refl
 
 p5_p6 : Going p5 (Deliver 2 2) p6
-p5_p6 = takes p5 2 2 second_told guest_here second_0.routes refl refl refl refl
+p5_p6 = takes second_told guest_here refl refl refl refl
     (keeps 0 there here b0 1 [] nobody_learnt guest_here.value refl refl)
 
 p6_p7 : Going p6 (Deliver 3 2) p7
-p6_p7 = takes p6 3 2 third_told guest_here third_heard.routes refl refl refl refl
+p6_p7 = takes third_told guest_here refl refl refl refl
     (keeps 0 far here c0 1 [] nobody_learnt guest_here.value refl refl)
 
 p7_p8 : Going p7 (Local 3 (Pin lodger 1)) p8
-p7_p8 = does p7 3 third_heard third_pinned (Pin lodger 1) (alone None) refl
+p7_p8 = does third_pinned (alone None) refl
     (pins 0 root_bridge far c1 1 [] nobody_learnt empty 0 free_first refl refl)
 
 p8_p9 : Going p8 (Announce 3) p9
-p8_p9 = announces p8 3 third_pinned third_said lodger_first (found c2 lodger_first.register) refl refl refl
+p8_p9 = announces third_pinned lodger_first (found c2 lodger_first.register) refl refl refl
 
 p9_agreed : Going p9 (Local 3 (Unpin lodger)) agreed
-p9_agreed = does p9 3 third_said third_0 (Unpin lodger) nothing refl
+p9_agreed = does third_0 nothing refl
     (unpins far c2 2 [] nobody_learnt empty free_first)
 
 s0_s1 : Going s0 (Deliver 1 5) s1
-s0_s1 = takes s0 1 5 first_0 lodger_first first_1.routes refl refl refl refl
+s0_s1 = takes first_0 lodger_first refl refl refl refl
     (hears_of 0 here far a1 2 [] guest_learnt lodger_first.value refl refl)
 
 s1_s2 : Going s1 (Announce 2) s2
-s1_s2 = announces s1 2 second_1 second_2 guest_there (found b2 guest_there.register) refl refl refl
+s1_s2 = announces second_1 guest_there (found b2 guest_there.register) refl refl refl
 
 s2_s3 : Going s2 (Deliver 2 5) s3
-s2_s3 = takes s2 2 5 second_2 lodger_first second_3.routes refl refl refl refl
+s2_s3 = takes second_2 lodger_first refl refl refl refl
     (hears_of 0 there far b2 2 [] guest_learnt lodger_first.value refl refl)
 
 s3_s4 : Going s3 (Deliver 1 6) s4
-s3_s4 = takes s3 1 6 first_1 guest_there first_2.routes refl refl refl refl
+s3_s4 = takes first_1 guest_there refl refl refl refl
     (withdraws here there a2 2 [] guest_learnt guest_there.value refl refl)
 
 s4_s5 : Going s4 (Announce 3) s5
-s4_s5 = announces s4 3 third_0 third_1 lodger_gone (found c3 lodger_gone.register) refl refl refl
+s4_s5 = announces third_0 lodger_gone (found c3 lodger_gone.register) refl refl refl
 
 s5_s6 : Going s5 (Local 3 (Pin lodger 1)) s6
-s5_s6 = does s5 3 third_1 third_2 (Pin lodger 1) (alone None) refl
+s5_s6 = does third_2 (alone None) refl
     (pins 0 root_bridge far c3 3 [] left_once empty 0 free_once refl refl)
 
 s6_s7 : Going s6 (Deliver 1 7) s7
-s6_s7 = takes s6 1 7 first_2 lodger_gone first_3.routes refl refl refl refl
+s6_s7 = takes first_2 lodger_gone refl refl refl refl
     (hears_of 0 here far a3 3 (guest_register here ∷ []) guest_lost lodger_gone.value refl refl)
 
 s7_s8 : Going s7 (Deliver 3 6) s8
-s7_s8 = takes s7 3 6 third_2 guest_there third_3.routes refl refl refl refl
+s7_s8 = takes third_2 guest_there refl refl refl refl
     (keeps 0 far there c4 4 (lodger_register far ∷ []) lodged_again guest_there.value refl refl)
 
 s8_s9 : Going s8 (Deliver 2 7) s9
-s8_s9 = takes s8 2 7 second_3 lodger_gone second_4.routes refl refl refl refl
+s8_s9 = takes second_3 lodger_gone refl refl refl refl
     (hears_of 0 there far b3 2 [] guest_learnt lodger_gone.value refl refl)
 
 s9_s10 : Going s9 (Announce 1) s10
-s9_s10 = announces s9 1 first_3 first_4 guest_gone (found a4 guest_gone.register) refl refl refl
+s9_s10 = announces first_3 guest_gone (found a4 guest_gone.register) refl refl refl
 
 s10_s11 : Going s10 (Announce 3) s11
-s10_s11 = announces s10 3 third_3 third_4 lodger_again (found c5 lodger_again.register) refl refl refl
+s10_s11 = announces third_3 lodger_again (found c5 lodger_again.register) refl refl refl
 
 s11_s12 : Going s11 (Local 3 (Unpin lodger)) s12
-s11_s12 = does s11 3 third_4 third_5 (Unpin lodger) nothing refl
+s11_s12 = does third_5 nothing refl
     (unpins far c5 4 [] left_once empty free_once)
 
 s12_s13 : Going s12 (Deliver 1 9) s13
-s12_s13 = takes s12 1 9 first_4 lodger_again first_5.routes refl refl refl refl
+s12_s13 = takes first_4 lodger_again refl refl refl refl
     (hears_of 0 here far a4 3 [] guest_lost lodger_again.value refl refl)
 
 s13_s14 : Going s13 (Deliver 2 8) s14
-s13_s14 = takes s13 2 8 second_4 guest_gone second_5.routes refl refl refl refl
+s13_s14 = takes second_4 guest_gone refl refl refl refl
     (keeps 0 there here b4 2 [] guest_learnt guest_gone.value refl refl)
 
 s14_s15 : Going s14 (Deliver 2 9) s15
-s14_s15 = takes s14 2 9 second_5 lodger_again second_6.routes refl refl refl refl
+s14_s15 = takes second_5 lodger_again refl refl refl refl
     (hears_of 0 there far b5 2 [] guest_learnt lodger_again.value refl refl)
 
 s15_s16 : Going s15 (Deliver 3 8) s16
-s15_s16 = takes s15 3 8 third_5 guest_gone third_6.routes refl refl refl refl
+s15_s16 = takes third_5 guest_gone refl refl refl refl
     (keeps 0 far here c6 5 (lodger_register far ∷ []) left_again guest_gone.value refl refl)
 
 -- ---- a pin at the third edge changes no register of the guest
@@ -464,21 +463,21 @@ same_said said v ip =
     found ((lodger_register far, v) ∷ said) (register_of far (Mac 5001 guest.mac ip))
     ∙ sym (found said (register_of far (Mac 5001 guest.mac ip)))
 
-at_third : (old new : Fabric) (a b : Edge) → IsEdge old 2 a → IsEdge new 2 b → SaysTheSame guest a b → (x : ℕ)
+at_third : (old new : Fabric) {a b : Edge} → IsEdge old 2 a → IsEdge new 2 b → SaysTheSame guest a b → (x : ℕ)
     (c d : Edge) → 3 ≡ suc x → IsEdge old x c → IsEdge new x d → SaysTheSame guest c d
-at_third old new a b at_a at_b same x c d place at_c at_d =
+at_third old new {a} {b} at_a at_b same x c d place at_c at_d =
     let is : 2 ≡ x = omega (arith, place) in
-    let here_c : IsEdge old 2 c = subst (λ n. IsEdge old n c) (sym is) at_c in
-    let here_d : IsEdge new 2 d = subst (λ n. IsEdge new n d) (sym is) at_d in
+    let here_c : IsEdge old 2 c = rw is at_c in
+    let here_d : IsEdge new 2 d = rw is at_d in
     let c_is : a ≡ c = cc in
     let d_is : b ≡ d = cc in
-    subst (λ e. SaysTheSame guest e d) c_is (subst (SaysTheSame guest a) d_is same)
+    rw c_is at (rw d_is at same)
 
 leaves_s6 : (x : ℕ) (c d : Edge) → 3 ≡ suc x → IsEdge s5 x c → IsEdge s6 x d → SaysTheSame guest c d
-leaves_s6 = at_third s5 s6 third_1 third_2 refl refl (λ ip. same_said c3 (said_fixed 4) ip)
+leaves_s6 = at_third s5 s6 refl refl (λ ip. same_said c3 (said_fixed 4) ip)
 
 leaves_s12 : (x : ℕ) (c d : Edge) → 3 ≡ suc x → IsEdge s11 x c → IsEdge s12 x d → SaysTheSame guest c d
-leaves_s12 = at_third s11 s12 third_4 third_5 refl refl (λ ip. same_said c5 (said_free 5) ip)
+leaves_s12 = at_third s11 s12 refl refl (λ ip. same_said c5 (said_free 5) ip)
 
 -- ---- runs beside the guest
 record Way (f : Fabric) (steps : List Step) (g : Fabric) : Type 0 where
@@ -489,7 +488,7 @@ by {f} {g} {step} go leaves = record { runs = (g, Ok go.reply, go.goes, leaves, 
 
 after : (xs ys : List Step) (f g k : Fabric) → RunsBeside 0 1 guest f xs g → RunsBeside 0 1 guest g ys k
     → RunsBeside 0 1 guest f (xs ++ ys) k
-after [] ys f g k h l = subst (λ (x : Fabric). RunsBeside 0 1 guest x ys k) h l
+after [] ys f g k h l = (rw h at l)
 after (x ∷ xs) ys f g k h l = (h.0, h.1, h.2, h.3, after xs ys h.0 g k h.4 l)
 
 on : {f g k : Fabric} {xs ys : List Step} → Way f xs g → Way g ys k → Way f (xs ++ ys) k
@@ -568,7 +567,7 @@ delivers1 = record {
   number = 4;
   update = lodger_first;
   at = refl;
-  news = ap (λ o. is_news o lodger_first.value) (found a1 lodger_first.register);
+  news = rw (found a1 lodger_first.register);
   there = refl;
   of = refl;
   among = (0, omega arith, refl);
@@ -584,7 +583,7 @@ delivers2 = record {
   number = 4;
   update = lodger_first;
   at = refl;
-  news = ap (λ o. is_news o lodger_first.value) (found b2 lodger_first.register);
+  news = rw (found b2 lodger_first.register);
   there = refl;
   of = refl;
   among = (0, omega arith, refl);
@@ -600,7 +599,7 @@ delivers3 = record {
   number = 6;
   update = lodger_gone;
   at = refl;
-  news = ap (λ o. is_news o lodger_gone.value) (found a3 lodger_gone.register);
+  news = rw (found a3 lodger_gone.register);
   there = refl;
   of = refl;
   among = (2, omega arith, refl);
@@ -616,7 +615,7 @@ delivers4 = record {
   number = 6;
   update = lodger_gone;
   at = refl;
-  news = ap (λ o. is_news o lodger_gone.value) (found b3 lodger_gone.register);
+  news = rw (found b3 lodger_gone.register);
   there = refl;
   of = refl;
   among = (0, omega arith, refl);
@@ -632,7 +631,7 @@ delivers5 = record {
   number = 8;
   update = lodger_again;
   at = refl;
-  news = ap (λ o. is_news o lodger_again.value) (found a4 lodger_again.register);
+  news = rw (found a4 lodger_again.register);
   there = refl;
   of = refl;
   among = (2, omega arith, refl);
@@ -648,7 +647,7 @@ delivers6 = record {
   number = 8;
   update = lodger_again;
   at = refl;
-  news = ap (λ o. is_news o lodger_again.value) (found b5 lodger_again.register);
+  news = rw (found b5 lodger_again.register);
   there = refl;
   of = refl;
   among = (0, omega arith, refl);
@@ -758,8 +757,8 @@ has_each : (es : List Said) (us : List Fields) → has_all es us ≡ true → (u
 has_each es [] h u (n, lt, is) of = absurd (omega (arith, lt))
 has_each es (w ∷ us) h u (suc n, lt, is) of = has_each es us (and_parts (not (is_of guest w.register)
     || has (looked_up es w.register) w.value) (has_all es us) h).1 u (n, omega (arith, lt), is) of
-has_each es (w ∷ us) h u (zero, lt, is) of = subst (HasIt (table_with es)) is
-    (mine (is_of guest w.register) (ap (λ (x : Fields). is_of guest x.register) is ∙ of)
+has_each es (w ∷ us) h u (zero, lt, is) of = rw is at (mine (is_of guest w.register) (ap (λ
+    (x : Fields). is_of guest x.register) is ∙ of)
     (and_parts (not (is_of guest w.register) || has (looked_up es w.register) w.value) (has_all es us) h).0)
   where
     there : (o : Option Value) → looked_up es w.register ≡ o → has o w.value ≡ true → HasIt (table_with es) w
@@ -817,22 +816,22 @@ pending_at : (a b c : Edge) (l : List Fields) (P : Register → Type 0)
     → (i : ℕ) (e : Edge) (r : Register) → IsEdge (trio_with a b c l) i e → is_of guest r ≡ true
     → Contains e.routes.speaker.pending r → P r
 pending_at a b c m P h k l zero e r at of in' = let is : a ≡ e = cc in
-    h r of (subst (λ (d : Edge). Contains d.routes.speaker.pending r) (sym is) in')
+    h r of (rw is in')
 pending_at a b c m P h k l (suc zero) e r at of in' = let is : b ≡ e = cc in
-    k r of (subst (λ (d : Edge). Contains d.routes.speaker.pending r) (sym is) in')
+    k r of (rw is in')
 pending_at a b c m P h k l (suc (suc zero)) e r at of in' = let is : c ≡ e = cc in
-    l r of (subst (λ (d : Edge). Contains d.routes.speaker.pending r) (sym is) in')
+    l r of (rw is in')
 pending_at a b c m P h k l (suc (suc (suc i))) e r at of in' = cc
 
 none : (P : Register → Type 0) (r : Register) → is_of guest r ≡ true → Contains [] r → P r
 none P r of (n, lt, is) = absurd (omega (arith, lt))
 
 other_one : (P : Register → Type 0) (r : Register) → is_of guest r ≡ true → Contains (lodger_register far ∷ []) r → P r
-other_one P r of (zero, lt, is) = let never = ap (is_of guest) is in cc
+other_one P r of (zero, lt, is) = cc (ap (is_of guest) is)
 other_one P r of (suc n, lt, is) = absurd (omega (arith, lt))
 
 one : (P : Register → Type 0) (q : Register) → P q → (r : Register) → is_of guest r ≡ true → Contains (q ∷ []) r → P r
-one P q h r of (zero, lt, is) = subst P is h
+one P q h r of (zero, lt, is) = (rw is at h)
 one P q h r of (suc n, lt, is) = absurd (omega (arith, lt))
 
 told1 : AllAnnounced guest s0 s3
@@ -1011,9 +1010,8 @@ module _ (lists : SettledByLists) (happens : RunsHappen) where
   greeting e = sending (decided e everyone (Port 1))
 
   learns_it : Going up (Local 1 (Frame 1 (lent hello))) p1
-  learns_it = does up 1 first_up first_learnt (Frame 1 (lent hello)) (greeting first_learnt) refl
-      (subst (λ r. FrameSteps r first_up 1 (Ok (greeting first_learnt)) first_learnt)
-      (sym (hello_arrives (speaker_with here a0 1 (flood_register here ∷ [])) nobody_learnt empty))
+  learns_it = does first_learnt (greeting first_learnt) refl
+      (rw (hello_arrives (speaker_with here a0 1 (flood_register here ∷ [])) nobody_learnt empty)
       (sends lists happens _ _ _ _ _ _ everyone guest.mac
       (learns here a0 (flood_register here ∷ []) 0 _ refl (inl (refl, refl)))))
 
@@ -1021,18 +1019,17 @@ module _ (lists : SettledByLists) (happens : RunsHappen) where
   came = greeting second_1
 
   hears : Going agreed (Local 2 (Frame 1 (lent hello))) s0
-  hears = does agreed 2 second_0 second_1 (Frame 1 (lent hello)) came refl
-      (subst (λ r. FrameSteps r second_0 1 (Ok came) second_1)
-      (sym (hello_arrives (speaker_with there b1 1 []) nobody_learnt empty))
+  hears = does second_1 came refl
+      (rw (hello_arrives (speaker_with there b1 1 []) nobody_learnt empty)
       (sends lists happens _ _ _ _ _ _ everyone guest.mac (learns there b1 [] 1 _ refl (inl (refl, refl)))))
 
   run : Ran trio_opened opening agreed
-  run = follows (does trio_opened 1 (started here a0) (ups here a0).0 (PortUp 1) (ups here a0).1 refl (ups here a0).3)
-      (follows (does start_1 1 (ups here a0).0 first_up (PortUp 2) (ups here a0).2 refl (ups here a0).4)
-      (follows (does start_2 2 (started there b0) (ups there b0).0 (PortUp 1) (ups there b0).1 refl (ups there b0).3)
-      (follows (does start_3 2 (ups there b0).0 second_up (PortUp 2) (ups there b0).2 refl (ups there b0).4)
-      (follows (does start_4 3 (started far c0) (ups far c0).0 (PortUp 1) (ups far c0).1 refl (ups far c0).3)
-      (follows (does start_5 3 (ups far c0).0 third_up (PortUp 2) (ups far c0).2 refl (ups far c0).4)
+  run = follows (does (ups here a0).0 (ups here a0).1 refl (ups here a0).3)
+      (follows (does first_up (ups here a0).2 refl (ups here a0).4)
+      (follows (does (ups there b0).0 (ups there b0).1 refl (ups there b0).3)
+      (follows (does second_up (ups there b0).2 refl (ups there b0).4)
+      (follows (does (ups far c0).0 (ups far c0).1 refl (ups far c0).3)
+      (follows (does third_up (ups far c0).2 refl (ups far c0).4)
       (follows learns_it (follows p1_p2 (follows p2_p3 (follows p3_p4
       (follows p4_p5 (follows p5_p6 (follows p6_p7 (follows p7_p8 (follows p8_p9
       (follows p9_agreed (record { run = refl }))))))))))))))))
@@ -1057,7 +1054,7 @@ module _ (lists : SettledByLists) (happens : RunsHappen) where
     had = (
       None,
       record { is_static = false; sequence = 0; label2 = None },
-      ap advert_of (found a1 (guest_register here)),
+      rw (found a1 (guest_register here)),
     );
     unknown = get-empty {X = Entry} station_cmp guest;
     event = Frame 1 (lent hello);
@@ -1065,7 +1062,7 @@ module _ (lists : SettledByLists) (happens : RunsHappen) where
     step = hears.goes;
     after = second_1;
     at_after = refl;
-    learnt = subst IsSome (sym guest_entry) refl;
+    learnt = rw guest_entry;
   }
 
   -- ---- a frame at the third edge
@@ -1084,8 +1081,7 @@ module _ (lists : SettledByLists) (happens : RunsHappen) where
 
   sends_it : Steps third_0 (events.Frame 1 (lent letter)) (Ok given_out) third_0
   sends_it =
-      subst (λ r. FrameSteps r third_0 1 (Ok given_out) third_0)
-      (sym (letter_comes (speaker_with far c3 3 (lodger_register far ∷ [])) left_once empty))
+      rw (letter_comes (speaker_with far c3 3 (lodger_register far ∷ [])) left_once empty)
       (sends lists happens _ _ _ _ _ _ guest.mac nobody (refl, refl))
 
   pub in_traffic : Starts → EveryRun → StationAgrees → AgreesInFour → AgreesInTwo → StationMovesAnyhow → TakenStays
@@ -1096,7 +1092,7 @@ module _ (lists : SettledByLists) (happens : RunsHappen) where
     three = refl;
     station = guest;
     other = lodger;
-    apart = λ e. (let m = ap (λ (s : Station). s.mac) e in omega (arith, m));
+    apart = λ e. (omega (arith, (ap (λ (s : Station). s.mac) e)));
     mid = s0;
     comes = comes;
     parts = parts;

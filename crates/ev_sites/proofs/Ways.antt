@@ -1,15 +1,15 @@
 -- Along the way of a frame through a network at rest the message age rises, or it falls and then rises.
 use Rattle.std.proofs.Common.{◌≡◌, ◌≢◌, ℕ, ◌+◌, ◌-◌, ◌%◌, ◌^◌, ◌*◌, ◌/◌, ◌<◌, ◌≤◌, Bool, true, false, ◌⊎◌, inl}
-use Rattle.std.proofs.Common.{inr, cond, min, nat_lt, List, [], ◌∷◌, length, Option, Some, None, slice_get, refl, sym}
+use Rattle.std.proofs.Common.{inr, cond, nat_lt, List, [], ◌∷◌, length, Option, Some, None, slice_get, refl, sym}
 use Rattle.std.proofs.Common.{ap}
-use Rattle.std.proofs.Common.{subst, ◌∙◌, arith}
+use Rattle.std.proofs.Common.{◌∙◌, arith}
 use Rattle.std.specs.Option.{option_map_or}
 use Rattle.std.proofs.lemmas.Option.{slice_get_cases, same_Some}
 use Rattle.std.proofs.lemmas.Bool.{false≢true, or_cases}
 use Rattle.rstp_state.specs.declared.port.PortState.{PortState}
 use Rattle.rstp_state.specs.declared.vector.Times.{Times}
 use Rattle.rstp_state.specs.declared.vector.Vector.{Vector}
-use Rattle.rstp_state.specs.Port.{is_designated, is_root, test_at}
+use Rattle.rstp_state.specs.Port.{is_designated, is_root}
 use Rattle.rstp_state.specs.Selection.{times_beyond}
 use Rattle.bpdu_wire.specs.Id.{port_number}
 use Rattle.rstp_state.specs.Vector.{is_less, seconds_of, times_of}
@@ -33,7 +33,7 @@ most : (m : ℕ) → seconds_of (field_of m) ≤ 256
 most m = from (nat_lt m 256) refl
   where
     from : (b : Bool) → nat_lt m 256 ≡ b → seconds_of (cond b (m * 256) 65535) ≤ 256
-    from true e = let small : m < 256 = grind (arith) in let w = whole m in omega arith
+    from true e = let small : m < 256 = grind (arith) in omega (arith, whole m)
     from false e = omega arith
 
 -- a received message age below the received max age is equal to the sent one
@@ -42,45 +42,42 @@ carried a m h = from (nat_lt a 256) refl h
   where
     from : (b : Bool) → nat_lt a 256 ≡ b → seconds_of (cond b (a * 256) 65535) < seconds_of (field_of m)
         → (seconds_of (cond b (a * 256) 65535) ≡ a) × (a < 256)
-    from true e k = let small : a < 256 = grind (arith) in (whole a, small)
-    from false e k = let top = most m in absurd (omega arith)
+    from true e k = (whole a, grind (arith))
+    from false e k = absurd (omega (arith, most m))
 
 -- a bridge whose root port has the times that port d sends has a greater message age than d's bridge
-age_beyond : (d : PortState) (u v w : Times) → v ≡ times_beyond u → u ≡ times_of (message_with 0 d)
+age_beyond : (d : PortState) {u v : Times} (w : Times) → v ≡ times_beyond u → u ≡ times_of (message_with 0 d)
     → u.message_age < u.max_age
     → d.designated_times.message_age ≡ w.message_age → w.message_age < v.message_age
-age_beyond d u v w beyond has young is =
-    let age : u.message_age ≡ seconds_of (field_of d.designated_times.message_age) =
-    ap (λ (t : Times). t.message_age) has in
-    let top : u.max_age ≡ seconds_of (field_of d.designated_times.max_age) = ap (λ (t : Times). t.max_age) has in
-    let lower : seconds_of (field_of d.designated_times.message_age) < seconds_of
-    (field_of d.designated_times.max_age) = rw (sym age, sym top) young in
-    let come = carried d.designated_times.message_age d.designated_times.max_age lower in
-    let one : u.message_age ≡ d.designated_times.message_age = age ∙ come.0 in
-    let next : v.message_age ≡ min (u.message_age + 1) 65535 = ap (λ (t : Times). t.message_age) beyond in
-    let few = come.1 in
-    omega arith
+age_beyond d w beyond has young is =
+    let age = ap (λ (t : Times). t.message_age) has in
+    let come = carried d.designated_times.message_age d.designated_times.max_age (rw (
+      sym age,
+      sym (ap (λ
+          (t : Times). t.max_age) has),
+    ) young) in
+    omega (arith, come.1, ap (λ (t : Times). t.message_age) beyond, age ∙ come.0)
 
 -- ---- ports of a network
 
-pub spot_same : (x y : Spot) → x.bridge ≡ y.bridge → x.place ≡ y.place → x ≡ y
-spot_same x y b p = λ i. record { bridge = b i; place = p i }
+pub spot_same : {x y : Spot} → x.bridge ≡ y.bridge → x.place ≡ y.place → x ≡ y
+spot_same b p = λ i. record { bridge = b i; place = p i }
 
-within_of : (ports : List PortState) (p : ℕ) (port : PortState) → slice_get ports p ≡ Some port → p < length ports
-within_of ports p port at =
+within_of : (ports : List PortState) {p : ℕ} {port : PortState} → slice_get ports p ≡ Some port → p < length ports
+within_of ports {p} at =
     elim (slice_get_cases ports p).1 [
       | inl (x, within, found, same) ↦ within
-      | inr (past, none) ↦ let e : ⊥ = cc in absurd e
+      | inr (past, none) ↦ absurd (cc)
     ]
 
-small_number : (p n : ℕ) → p < n → n < 2 ^ 12 → (p + 1) % 2 ^ 12 ≡ p + 1
-small_number p n within few = omega arith
+small_number : {p n : ℕ} → p < n → n < 2 ^ 12 → (p + 1) % 2 ^ 12 ≡ p + 1
+small_number within few = omega arith
 
-next_same : (p q : ℕ) → p + 1 ≡ q + 1 → p ≡ q
-next_same p q h = omega arith
+next_same : {p q : ℕ} → p + 1 ≡ q + 1 → p ≡ q
+next_same h = omega arith
 
-age_of : (net : Network) (b : ℕ) (s : Tree) → IsBridgeAt net b s → age_at net b ≡ s.root.times.message_age
-age_of net b s at = ap (λ o. option_map_or (λ (t : Tree). t.root.times.message_age) o 0) at
+age_of : (net : Network) (b : ℕ) {s : Tree} → IsBridgeAt net b s → age_at net b ≡ s.root.times.message_age
+age_of net b at = ap (λ o. option_map_or (λ (t : Tree). t.root.times.message_age) o 0) at
 
 -- the root port, or the designated port, of a settled bridge
 abbrev pub IsRootAt : Network → Spot → Type 0
@@ -116,31 +113,22 @@ module _ (laws : BridgeLaws) (net : Network) (is : IsNetwork net) where
   one_designated x y s t a b at_x at_y joined quiet settled_s settled_t da db =
       let reached_s = came x.bridge s at_x.in_net in
       let reached_t = came y.bridge t at_y.in_net in
-      let has_a = laws.has s reached_s settled_s x.place a at_x.in_bridge da in
-      let has_b = laws.has t reached_t settled_t y.place b at_y.in_bridge db in
       let send_a = (laws.sends s reached_s settled_s x.place a at_x.in_bridge).vector in
       let send_b = (laws.sends t reached_t settled_t y.place b at_y.in_bridge).vector in
-      let b_not : is_less b.designated_priority a.designated_priority ≡ false =
-      sym (ap (λ v. is_less b.designated_priority v) has_a)
-      ∙ quiet.heard x y s t a b at_x at_y joined refl settled_s settled_t da db in
-      let a_not : is_less a.designated_priority b.designated_priority ≡ false =
-      sym (ap (λ v. is_less a.designated_priority v) has_b)
-      ∙ quiet.heard y x t s b a at_y at_x refl joined settled_t settled_s db da in
-      let same = laws.good a.designated_priority b.designated_priority a_not b_not in
-      let ids : s.settings.identifier ≡ t.settings.identifier =
-      sym (ap (λ (v : Vector). v.bridge) send_a) ∙ ap (λ (v : Vector). v.bridge) same
-      ∙ ap (λ (v : Vector). v.bridge) send_b in
-      let identifiers : a.identifier ≡ b.identifier =
-      sym (ap (λ (v : Vector). v.port) send_a) ∙ ap (λ (v : Vector). v.port) same
-      ∙ ap (λ (v : Vector). v.port) send_b in
-      let num_a = laws.numbered s reached_s x.place a at_x.in_bridge in
-      let num_b = laws.numbered t reached_t y.place b at_y.in_bridge in
-      let small_a = small_number x.place (length s.ports) (within_of s.ports x.place a at_x.in_bridge)
-      (is.few x.bridge s at_x.in_net) in
-      let small_b = small_number y.place (length t.ports) (within_of t.ports y.place b at_y.in_bridge)
-      (is.few y.bridge t at_y.in_net) in
-      spot_same x y (is.distinct x.bridge y.bridge s t at_x.in_net at_y.in_net ids)
-      (next_same x.place y.place (sym small_a ∙ sym num_a ∙ ap port_number identifiers ∙ num_b ∙ small_b))
+      let same = laws.good a.designated_priority b.designated_priority (sym (ap
+      (λ v. is_less a.designated_priority v) (laws.has t reached_t settled_t y.place b at_y.in_bridge db))
+      ∙ quiet.heard y x t s b a at_y at_x refl joined settled_t settled_s db da) (sym (ap
+      (λ v. is_less b.designated_priority v) (laws.has s reached_s settled_s x.place a at_x.in_bridge da))
+      ∙ quiet.heard x y s t a b at_x at_y joined refl settled_s settled_t da db) in
+      spot_same (is.distinct x.bridge y.bridge s t at_x.in_net at_y.in_net (sym (ap (λ
+      (v : Vector). v.bridge) send_a) ∙ ap (λ (v : Vector). v.bridge) same ∙ ap (λ (v : Vector). v.bridge) send_b))
+      (next_same (sym (small_number
+      (within_of s.ports at_x.in_bridge) (is.few x.bridge s at_x.in_net))
+      ∙ sym (laws.numbered s reached_s x.place a at_x.in_bridge)
+      ∙ ap port_number (sym (ap (λ (v : Vector). v.port) send_a) ∙ ap (λ (v : Vector). v.port) same
+      ∙ ap (λ (v : Vector). v.port) send_b) ∙ (laws.numbered t reached_t y.place b at_y.in_bridge)
+      ∙ (small_number (within_of t.ports at_y.in_bridge)
+      (is.few y.bridge t at_y.in_net))))
 
   designated_once : (x y : Spot) → IsDesignatedAt net x → IsDesignatedAt net y → net.segment x ≡ net.segment y
       → IsQuiet net (net.segment y) → x ≡ y
@@ -153,23 +141,20 @@ module _ (laws : BridgeLaws) (net : Network) (is : IsNetwork net) where
   root_once_in x y s t a b at_x at_y same one settled_s ra rb =
       let came_s = came x.bridge s at_x.in_net in
       let P : Tree → Type 0 = λ v. IsAtPlace v y.place b in
-      let at_b : IsAtPlace s y.place b = subst P one at_y.in_bridge in
-      spot_same x y same (laws.one_root came_s.0 came_s.1 s came_s.2 settled_s x.place y.place a b at_x.in_bridge at_b
+      spot_same same (laws.one_root came_s.0 came_s.1 s came_s.2 settled_s x.place y.place a b at_x.in_bridge
+      (rw one at at_y.in_bridge)
       ra rb)
 
   root_once : (x y : Spot) → IsRootAt net x → IsRootAt net y → x.bridge ≡ y.bridge → x ≡ y
   root_once x y (s, a, at_x, ss, ra) (t, b, at_y, st, rb) same =
-      let one : t ≡ s = same_Some t s (sym at_y.in_net ∙ ap (λ n. slice_get net.bridges n) (sym same) ∙ at_x.in_net) in
-      root_once_in x y s t a b at_x at_y same one ss ra rb
+      root_once_in x y s t a b at_x at_y same (same_Some t s (sym at_y.in_net ∙ (rw same) ∙ at_x.in_net)) ss ra rb
 
   -- a port in the tree of a settled bridge is a root port or a designated port
   pub tree_at : (x : Spot) (s : Tree) → IsBridgeAt net x.bridge s → IsSettled s → IsInTree s (x.place + 1)
       → IsRootAt net x ⊎ IsDesignatedAt net x
   tree_at x s at settled tree =
       let zeroth : x.place + 1 - 1 ≡ x.place = omega arith in
-      let here : test_at x.place is_in_tree s.ports ≡ true = sym (ap (λ p. test_at p is_in_tree s.ports) zeroth)
-      ∙ tree in
-      from (slice_get s.ports x.place) refl here
+      from (slice_get s.ports x.place) refl ((rw zeroth) ∙ tree)
     where
       from : (o : Option PortState) → slice_get s.ports x.place ≡ o → option_map_or is_in_tree o false ≡ true
           → IsRootAt net x ⊎ IsDesignatedAt net x
@@ -191,26 +176,18 @@ module _ (laws : BridgeLaws) (net : Network) (is : IsNetwork net) where
       → age_at net x.bridge < age_at net y.bridge
   rises x y dx (t, b, at_y, st, rb) joined quiet =
       let told = quiet.told y t b at_y refl st rb in
-      let quiet_x : IsQuiet net (net.segment x) = subst (λ m. IsQuiet net m) (sym joined) quiet in
-      let same : told.by ≡ x =
-      designated_once told.by x (
-        told.bridge,
-        told.port,
-        told.at,
-        told.settled,
-        told.designated,
-      ) dx (told.segment ∙ sym joined) quiet_x in
       let root = laws.followed t (came y.bridge t at_y.in_net) st y.place b at_y.in_bridge rb in
-      let sent = (laws.sends told.bridge (came told.by.bridge told.bridge told.at.in_net) told.settled told.by.place
-      told.port told.at.in_bridge).times in
-      let age : told.port.designated_times.message_age ≡ told.bridge.root.times.message_age =
-      ap (λ (v : Times). v.message_age) sent in
-      let more = age_beyond told.port b.port_times t.root.times told.bridge.root.times root.further told.times
-      root.young age in
-      let below : age_at net x.bridge ≡ told.bridge.root.times.message_age =
-      ap (λ (z : Spot). age_at net z.bridge) (sym same) ∙ age_of net told.by.bridge told.bridge told.at.in_net in
-      let above : age_at net y.bridge ≡ t.root.times.message_age = age_of net y.bridge t at_y.in_net in
-      omega arith
+      omega (
+        arith,
+        age_of net y.bridge at_y.in_net,
+        ap (λ (z : Spot). age_at net z.bridge) (sym
+            (designated_once told.by x (told.bridge, told.port, told.at, told.settled, told.designated) dx
+            (told.segment ∙ sym joined) (rw joined quiet))) ∙ age_of net told.by.bridge told.at.in_net,
+        age_beyond told.port told.bridge.root.times root.further told.times
+            root.young (ap (λ (v : Times). v.message_age) (laws.sends told.bridge
+            (came told.by.bridge told.bridge told.at.in_net) told.settled told.by.place told.port
+            told.at.in_bridge).times),
+      )
 
   -- ---- one crossing
 
@@ -227,9 +204,7 @@ module _ (laws : BridgeLaws) (net : Network) (is : IsNetwork net) where
         | inl root ↦ root
         | inr designated ↦ absurd (c.apart (designated_once c.out y out designated c.segment quiet))
       ] in
-      let more = rises c.out y out ry c.segment quiet in
-      let same : age_at net c.out.bridge ≡ age_at net x.bridge = ap (age_at net) c.bridge in
-      (ry, omega arith)
+      (ry, omega (arith, ap (age_at net) c.bridge, rises c.out y out ry c.segment quiet))
 
   -- if a frame enters a bridge at a designated port, it left the previous bridge by its root port
   down : (x y : Spot) → Joins net x y → IsQuiet net (net.segment y) → IsDesignatedAt net y
@@ -243,40 +218,32 @@ module _ (laws : BridgeLaws) (net : Network) (is : IsNetwork net) where
         | inl root ↦ absurd (c.other (root_once c.out x out root c.bridge))
         | inr designated ↦ designated
       ] in
-      let quiet_out : IsQuiet net (net.segment c.out) = subst (λ m. IsQuiet net m) (sym c.segment) quiet in
-      let less = rises y c.out dy out (sym c.segment) quiet_out in
-      let same : age_at net c.out.bridge ≡ age_at net x.bridge = ap (age_at net) c.bridge in
-      (dx, omega arith)
+      (dx, omega (arith, ap (age_at net) c.bridge, rises y c.out dy out (sym c.segment) (rw c.segment quiet)))
 
   -- ---- ways
 
   ups : (ports : List Spot) (x y : Spot) → Leads net ports x y → IsRootAt net x
       → age_at net x.bridge + length ports ≤ age_at net y.bridge
-  ups [] x y way rx = let same = ap (λ (z : Spot). age_at net z.bridge) way in omega arith
+  ups [] x y way rx = omega (arith, ap (λ (z : Spot). age_at net z.bridge) way)
   ups (z ∷ later) x y way rx =
       let step = up x z way.0 way.1 rx in
-      let first = step.1 in
-      let more = ups later z y way.2 step.0 in
-      omega arith
+      omega (arith, ups later z y way.2 step.0, step.1)
 
   downs : (ports : List Spot) (x y : Spot) → Leads net ports x y → IsDesignatedAt net y
       → IsDesignatedAt net x × (age_at net y.bridge + length ports ≤ age_at net x.bridge)
   downs [] x y way dy =
-      let same = ap (λ (z : Spot). age_at net z.bridge) way in
       let P : Spot → Type 0 = λ z. IsDesignatedAt net z in
-      (subst P (sym way) dy, omega arith)
+      (rw way dy, omega (arith, ap (λ (z : Spot). age_at net z.bridge) way))
   downs (z ∷ later) x y way dy =
       let below = downs later z y way.2 dy in
       let step = down x z way.0 way.1 below.0 in
-      let first = step.1 in
-      let more = below.1 in
-      (step.0, omega arith)
+      (step.0, omega (arith, below.1, step.1))
 
   pub comes_back_by_none : (x : Spot) (ports : List Spot) → Leads net ports x x → ports ≡ []
   comes_back_by_none x [] way = refl
   comes_back_by_none x (z ∷ later) way =
       elim (way.0.enters) [
-        | inl root ↦ let more = ups (z ∷ later) x x way root in absurd (omega arith)
+        | inl root ↦ absurd (omega (arith, ups (z ∷ later) x x way root))
         | inr designated ↦ let more = (downs (z ∷ later) x x way designated).1 in absurd (omega arith)
       ]
 
@@ -286,11 +253,10 @@ module _ (laws : BridgeLaws) (net : Network) (is : IsNetwork net) where
   short [] x y way = omega arith
   short (z ∷ later) x y way =
       elim (way.0.arrives) [
-        | inl root ↦ let more = ups later z y way.2 root in omega arith
+        | inl root ↦ omega (arith, ups later z y way.2 root)
         | inr designated ↦
             let step = (down x z way.0 way.1 designated).1 in
-            let more = short later z y way.2 in
-            omega arith
+            omega (arith, short later z y way.2)
       ]
 
   -- a frame goes by ports in the tree

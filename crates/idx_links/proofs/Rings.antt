@@ -1,32 +1,29 @@
--- the rings that the places make, and what callers see of them
+-- the rings of the places, as callers see them
 use Rattle.std.proofs.Common.{ℕ, zero, suc, ◌+◌, ◌-◌, ◌<◌, ◌≤◌, ◌≡◌, ◌≢◌, ◌⊎◌, inl, inr, Bool, true, false, cond, ◌||◌}
 use Rattle.std.proofs.Common.{eqb, Option, Some, None, List, [], ◌∷◌, ◌++◌, length, map, replicate, get_or, set, refl}
-use Rattle.std.proofs.Common.{ap, sym, ◌∙◌, subst, arith, length-append, add-zero}
-use Rattle.std.specs.List.{range_with_len, count_by}
+use Rattle.std.proofs.Common.{ap, sym, ◌∙◌, arith, length-append}
+use Rattle.std.specs.List.{range_with_len}
 use Rattle.std.specs.Option.{is_none}
 use Rattle.std.proofs.lemmas.List.Folds.{sum_by-replicate}
 use Rattle.std.proofs.lemmas.Bool.{cases_eq, cases_lt, eq-eqb, ne_eqb, eqb-true, false≢true, or_cases, or_right}
 use Rattle.std.proofs.lemmas.Bool.{false_from_ne_true}
-use Rattle.std.proofs.lemmas.List.{get_or_past, get_or_append_left, get_or-append_right, get_or-replicate}
-use Rattle.std.proofs.lemmas.List.{length-replicate, length-set, get_or-set_same, get_or-set_other, length-map}
-use Rattle.std.proofs.lemmas.List.{ext_get_or, get_or-map}
+use Rattle.std.proofs.Math.Bool.{or-false}
+use Rattle.std.proofs.Math.ListN.{get_or-map as get_or-map_same}
+use Rattle.std.proofs.lemmas.List.{get_or_past, get_or_append_left, get_or-append_right, length-replicate, length-set}
+use Rattle.std.proofs.lemmas.List.{get_or-set_same, get_or-set_other, length-map, map-append, ext_get_or}
 use Rattle.std.proofs.lemmas.List.FromFn.{length-range_with_len, get_or-range_with_len, length-map-range_with_len}
 use Rattle.std.proofs.lemmas.List.FromFn.{get_or-map-range_with_len}
 use Rattle.std.proofs.lemmas.List.Sums.{sum_by-append, sum_by-set, get_or-le-sum_by}
-use Rattle.idx_links.specs.Links.{Links, has, without, Apart, list_at, IsFree, IsLinked}
+use Rattle.idx_links.specs.Links.{has, without, Apart, list_at, IsFree}
 use Rattle.idx_links.specs.Inner.Ring.{walk, Path, follow, ring_of, nodes_of, links_of, is_at, IsRing, AreInverse}
 use Rattle.idx_links.specs.Inner.Ring.{IsGood}
-use Rattle.idx_links.proofs.Paths.{has-minus, apart-minus, walk-path, has-append, has-without, length-without}
-use Rattle.idx_links.proofs.Paths.{apart-without, apart-push, before_on, before_end, path_same, path_push, path_without}
-use Rattle.idx_links.proofs.Paths.{moves_on, without-absent, without-minus}
+use Rattle.idx_links.proofs.Paths.{has-map, without-map, apart-map, has-append, has-without, length-without}
+use Rattle.idx_links.proofs.Paths.{apart-without, apart-push, without-absent, walk-path, first_on, link_on, never}
+use Rattle.idx_links.proofs.Paths.{path_jump, path_push, path_without, all_same}
 
 length-walk : (n : ℕ) (f : ℕ → ℕ) (s : ℕ) → length (walk n f s) ≡ n
 length-walk zero f s = refl
 length-walk (suc n) f s = ap suc (length-walk n f (f s))
-
-or_false : (b : Bool) → (b || false) ≡ b
-or_false true = refl
-or_false false = refl
 
 pub is_at-self : (l : ℕ) → is_at (Some l) l ≡ true
 is_at-self l = eq-eqb l l refl
@@ -35,55 +32,30 @@ pub is_at-true : (o : Option ℕ) (l : ℕ) → is_at o l ≡ true → o ≡ Som
 is_at-true None l h = absurd (false≢true h)
 is_at-true (Some k) l h = ap Some (eqb-true k l h)
 
--- an owned node is a place
-pub owned_below : (owner : List (Option ℕ)) (x l : ℕ) → is_at (get_or owner x None) l ≡ true → x < length owner
-owned_below owner x l h = elim (cases_lt x (length owner)) [
-  | inl s ↦ s
-  | inr s ↦ absurd (false≢true (sym (ap (λ o. is_at o l) (get_or_past owner x None s)) ∙ h))
-]
+-- an element of no other list than l is not on list k
+not_at : (o : Option ℕ) (k l : ℕ) → ((j : ℕ) → o ≡ Some j → j ≡ l) → k ≢ l → is_at o k ≡ false
+not_at o k l only k_l = false_from_ne_true (is_at o k) (λ e. k_l (only k (is_at-true o k e)))
 
--- and no sentinel
-pub owned_above : {next prev : List ℕ} {owner : List (Option ℕ)} {lens : List ℕ} (good : IsGood next prev owner lens)
-    (x l : ℕ) → is_at (get_or owner x None) l ≡ true → length lens ≤ x
-owned_above {lens} good x l h = elim (cases_lt x (length lens)) [
-  | inl s ↦
-      absurd (false≢true (sym (ap (λ o. is_at o l) (good.sentinels x s)) ∙ h))
-  | inr s ↦ s
-]
+-- numbers in order, each changed, are a list if its elements are
+pub range_is : {X : Type 0} (f : ℕ → X) (n : ℕ) (d : X) (xs : List X) → length xs ≡ n
+    → ((k : ℕ) → k < n → f k ≡ get_or xs k d) → map f (range_with_len 0 n) ≡ xs
+range_is f n d xs len same =
+    ext_get_or d (map f (range_with_len 0 n)) xs (length-map-range_with_len f 0 n ∙ sym len) (λ k h.
+    let b = rw (length-map-range_with_len f 0 n) at h in
+    get_or-map-range_with_len f 0 n k k d b (omega arith) ∙ same k b)
 
-pub length-lists : (next lens : List ℕ) → length (links_of next lens).lists ≡ length lens
-length-lists next lens = length-map-range_with_len (nodes_of next lens) 0 (length lens)
+module _ (next lens : List ℕ) where
+  pub length-lists : length (links_of next lens).lists ≡ length lens
+  length-lists = length-map-range_with_len (nodes_of next lens) 0 (length lens)
 
-pub list_at-links : (next lens : List ℕ) (l : ℕ) → l < length lens
-    → list_at (links_of next lens).lists l ≡ nodes_of next lens l
-list_at-links next lens l h = get_or-map-range_with_len (nodes_of next lens) 0 (length lens) l l [] h (omega arith)
+  pub list_at-links : (l : ℕ) → l < length lens → list_at (links_of next lens).lists l ≡ nodes_of next lens l
+  list_at-links l h = get_or-map-range_with_len (nodes_of next lens) 0 (length lens) l l [] h (omega arith)
 
-pub list_at-past : (next lens : List ℕ) (l : ℕ) → length lens ≤ l → list_at (links_of next lens).lists l ≡ []
-list_at-past next lens l h = let far : length (links_of next lens).lists ≤ l = rw (length-lists next lens) h in
-    get_or_past (links_of next lens).lists l [] far
+  pub list_at-past : (l : ℕ) → length lens ≤ l → list_at (links_of next lens).lists l ≡ []
+  list_at-past l h = get_or_past (links_of next lens).lists l [] (rw length-lists h)
 
-pub length-list : (next lens : List ℕ) (l : ℕ) → l < length lens
-    → length (list_at (links_of next lens).lists l) ≡ get_or lens l 0
-length-list next lens l h =
-    ap length (list_at-links next lens l h) ∙ length-map (ring_of next lens l) (λ x. x - length lens)
-    ∙ length-walk (get_or lens l 0) (follow next) (follow next l)
-
--- a node is on the list that owns its place
-pub has-list : {next prev : List ℕ} {owner : List (Option ℕ)} {lens : List ℕ} (good : IsGood next prev owner lens)
-    (l n : ℕ) → has (list_at (links_of next lens).lists l) n ≡ is_at (get_or owner (length lens + n) None) l
-has-list {next} {prev} {owner} {lens} good l n =
-    elim (cases_lt l (length lens)) [
-      | inl s ↦
-          let ring = good.rings l s in
-          ap (λ xs. has xs n) (list_at-links next lens l s)
-          ∙ has-minus (length lens) (ring_of next lens l) n (λ x e. owned_above good x l (sym (ring.owned x) ∙ e))
-          ∙ ring.owned (length lens + n)
-      | inr s ↦
-          let o = get_or owner (length lens + n) None in
-          let none : is_at o l ≡ false = false_from_ne_true (is_at o l) (λ e. let low : l < length lens =
-          good.listed (length lens + n) l (is_at-true o l e) in absurd (omega arith)) in
-          ap (λ xs. has xs n) (list_at-past next lens l s) ∙ sym none
-    ]
+  pub length-list : (l : ℕ) → l < length lens → length (list_at (links_of next lens).lists l) ≡ get_or lens l 0
+  length-list l h = rw (list_at-links l h, length-map, length-walk)
 
 -- a ring from its path
 ring_from : (next : List ℕ) (owner : List (Option ℕ)) (lens : List ℕ) (l : ℕ) (xs : List ℕ)
@@ -91,699 +63,516 @@ ring_from : (next : List ℕ) (owner : List (Option ℕ)) (lens : List ℕ) (l :
     → ((x : ℕ) → has xs x ≡ is_at (get_or owner x None) l)
     → (ring_of next lens l ≡ xs) × IsRing next owner lens l
 ring_from next owner lens l xs path len apart owned =
-    let is : ring_of next lens l ≡ xs = rw len (walk-path (follow next) l xs l path) in
-    let P : List ℕ → Type 0 = λ ys. Path (follow next) l ys l in
-    let Q : List ℕ → Type 0 = λ ys. (x : ℕ) → has ys x ≡ is_at (get_or owner x None) l in
-    (is, record { path = subst P (sym is) path; apart = subst Apart (sym is) apart; owned = subst Q (sym is) owned })
+    let is : ring_of next lens l ≡ xs = rw len (walk-path (follow next) l l xs path) in
+    (is, record { path = rw is path; apart = rw is apart; owned = rw is owned })
 
 -- the places of a ring with its sentinel
 abbrev pub loop_of : List ℕ → List ℕ → ℕ → List ℕ
 loop_of next lens l = l ∷ ring_of next lens l
 
-on_loop : {next prev : List ℕ} {owner : List (Option ℕ)} {lens : List ℕ} (good : IsGood next prev owner lens) (l x : ℕ)
-    → l < length lens
-    → has (loop_of next lens l) x ≡ true → (l ≡ x) ⊎ (get_or owner x None ≡ Some l)
-on_loop {next} {prev} {owner} {lens} good l x h e =
-    elim (or_cases (eqb l x) (has (ring_of next lens l) x) e) [
-      | inl s ↦ inl (eqb-true l x s)
-      | inr s ↦ inr (is_at-true (get_or owner x None) l (sym ((good.rings l h).owned x) ∙ s))
-    ]
-
-loop_below : {next prev : List ℕ} {owner : List (Option ℕ)} {lens : List ℕ} (good : IsGood next prev owner lens)
-    (l x : ℕ) → l < length lens
-    → has (loop_of next lens l) x ≡ true → x < length next
-loop_below {next} {prev} {owner} {lens} good l x h e =
-    elim (on_loop good l x h e) [
-      | inl s ↦ let few : length lens ≤ length next = good.few in omega arith
-      | inr s ↦
-          let low : x < length owner = owned_below owner x l (rw s (is_at-self l)) in
-          let same : length owner ≡ length next = good.owners in
-          omega arith
-    ]
-
--- no place is on two loops
-loops_apart : {next prev : List ℕ} {owner : List (Option ℕ)} {lens : List ℕ} (good : IsGood next prev owner lens)
-    (l k x : ℕ) → l < length lens → k < length lens
-    → has (loop_of next lens l) x ≡ true → has (loop_of next lens k) x ≡ true → k ≡ l
-loops_apart {next} {prev} {owner} {lens} good l k x hl hk el ek =
-    elim (on_loop good l x hl el) [
-      | inl s ↦ elim (on_loop good k x hk ek) [
-        | inl t ↦ t ∙ sym s
-        | inr t ↦ let none : get_or owner x None ≡ None = rw (sym s) (good.sentinels l hl) in cc
-      ]
-      | inr s ↦ elim (on_loop good k x hk ek) [
-        | inl t ↦ let none : get_or owner x None ≡ None = rw (sym t) (good.sentinels k hk) in cc
-        | inr t ↦ cc
-      ]
-    ]
-
--- a loop has a sentinel and its nodes once each
-pub loop_distinct : {next prev : List ℕ} {owner : List (Option ℕ)} {lens : List ℕ} (good : IsGood next prev owner lens)
-    (l : ℕ) → l < length lens → Apart (loop_of next lens l)
-loop_distinct {next} {prev} {owner} {lens} good l h =
-    ((good.rings l h).owned l ∙ ap (λ o. is_at o l) (good.sentinels l h), (good.rings l h).apart)
-
--- what leads to y is what y is led back to
-back_is : {next prev : List ℕ} {owner : List (Option ℕ)} {lens : List ℕ} (good : IsGood next prev owner lens)
-    (l x y : ℕ) → l < length lens
-    → has (loop_of next lens l) x ≡ true → follow next x ≡ y → x ≡ get_or prev y 0
-back_is {next} {prev} good l x y h e is = sym (good.inverse.forth x (loop_below good l x h e)).1
-    ∙ ap (λ z. get_or prev z 0) is
-
 -- two writes: the later one, the earlier one, and each other place
-second_write : (xs : List ℕ) (i j v w : ℕ) → j < length xs → get_or (set (set xs i v) j w) j 0 ≡ w
-second_write xs i j v w h = let h' : j < length (set xs i v) = rw length-set h in get_or-set_same (set xs i v) j w 0 h'
+module _ (xs : List ℕ) (i j v w : ℕ) where
+  second_write : j < length xs → get_or (set (set xs i v) j w) j 0 ≡ w
+  second_write h = get_or-set_same (set xs i v) j w 0 (rw length-set h)
 
-first_write : (xs : List ℕ) (i j v w : ℕ) → i < length xs → i ≢ j → get_or (set (set xs i v) j w) i 0 ≡ v
-first_write xs i j v w h ne = get_or-set_other (set xs i v) j i w 0 ne ∙ get_or-set_same xs i v 0 h
+  first_write : i < length xs → i ≢ j → get_or (set (set xs i v) j w) i 0 ≡ v
+  first_write h ne = get_or-set_other (set xs i v) j i w 0 ne ∙ get_or-set_same xs i v 0 h
 
-no_write : (xs : List ℕ) (i j v w y : ℕ) → y ≢ i → y ≢ j → get_or (set (set xs i v) j w) y 0 ≡ get_or xs y 0
-no_write xs i j v w y ni nj = get_or-set_other (set xs i v) j y w 0 nj ∙ get_or-set_other xs i y v 0 ni
+  no_write : (y : ℕ) → y ≢ i → y ≢ j → get_or (set (set xs i v) j w) y 0 ≡ get_or xs y 0
+  no_write y ni nj = get_or-set_other (set xs i v) j y w 0 nj ∙ get_or-set_other xs i y v 0 ni
 
-length-writes : (xs : List ℕ) (i j v w : ℕ) → length (set (set xs i v) j w) ≡ length xs
-length-writes xs i j v w = length-set (set xs i v) j w ∙ length-set xs i v
+  length-writes : length (set (set xs i v) j w) ≡ length xs
+  length-writes = length-set (set xs i v) j w ∙ length-set xs i v
 
--- ---- a node at the end
+-- ---- two links exchanged
 
-pushed_inverse : (next prev : List ℕ) (l t n : ℕ) → AreInverse next prev → l < length next → n < length next
-    → get_or prev l 0 ≡ t → get_or next n 0 ≡ n → n ≢ l
-    → AreInverse (set (set next t n) n l) (set (set prev n t) l n)
-pushed_inverse next prev l t n inverse lb nb is_t alone apart =
-    let len : length (set (set next t n) n l) ≡ length next = length-writes next t n n l in
-    let len' : length (set (set prev n t) l n) ≡ length next = length-writes prev n l t n ∙ inverse.same in
-    let tb : t < length next = rw (sym is_t) (inverse.back l lb).0 in
-    let to : get_or next t 0 ≡ l = rw (sym is_t) (inverse.back l lb).1 in
-    let nb' : n < length prev = rw inverse.same nb in
-    let lb' : l < length prev = rw inverse.same lb in
-    let t_n : t ≢ n = λ e. apart (sym alone ∙ ap (λ z. get_or next z 0) (sym e) ∙ to) in
-    let prev_n : get_or prev n 0 ≡ n = ap (λ z. get_or prev z 0) (sym alone) ∙ (inverse.forth n nb).1 in
+-- where each of n places leads, the other list leads back
+abbrev LeadsBack : ℕ → List ℕ → List ℕ → Type 0
+LeadsBack n next prev = (x : ℕ) → x < n → (get_or next x 0 < n) × (get_or prev (get_or next x 0) 0 ≡ x)
+
+swapped_back : (n : ℕ) (next prev : List ℕ) (a b c d : ℕ) → length next ≡ n → length prev ≡ n → LeadsBack n next prev
+    → get_or prev c 0 ≡ a → get_or prev d 0 ≡ b → a < n → b < n → c < n → d < n → a ≢ b → d ≢ c
+    → LeadsBack n (set (set next a d) b c) (set (set prev d a) c b)
+swapped_back n next prev a b c d len len' leads to_a to_b ab bb cb db a_b d_c x xb = elim (cases_eq x b) [
+  | inl e ↦ rw (e, second_write next a b d c (rw len bb)) (cb, second_write prev d c a b (rw len' cb))
+  | inr x_b ↦ elim (cases_eq x a) [
+    | inl e ↦ rw (e, first_write next a b d c (rw len ab) a_b) (db, first_write prev d c a b (rw len' db) d_c)
+    | inr x_a ↦ (let back = (leads x xb).1 in rw (no_write next a b d c x x_a x_b) (
+      (leads x xb).0,
+      no_write prev d c a b (get_or next x 0) (λ e. x_b (cc)) (λ e. x_a (cc)) ∙ back,
+    ))
+  ]
+]
+
+-- places a and b exchange their next places, c and d
+swapped_inverse : (next prev : List ℕ) (a b c d : ℕ) → AreInverse next prev → get_or next a 0 ≡ c → get_or next b 0 ≡ d
+    → a < length next → b < length next → a ≢ b → AreInverse (set (set next a d) b c) (set (set prev d a) c b)
+swapped_inverse next prev a b c d inverse to_c to_d ab bb a_b =
+    let n = length next in
+    let same = inverse.same in
+    let at_c : (c < n) × (get_or prev c 0 ≡ a) = rw (← to_c) (inverse.forth a ab) in
+    let at_d : (d < n) × (get_or prev d 0 ≡ b) = rw (← to_d) (inverse.forth b bb) in
+    let d_c : d ≢ c = λ e. a_b (cc (at_c.1, at_d.1)) in
     record {
-      same = len' ∙ sym len;
-      forth = λ x h.
-          let xb : x < length next = rw (sym len) h in
-          elim (cases_eq x n) [
-            | inl e ↦ rw (e, second_write next t n n l nb, len) (lb, second_write prev n l t n lb')
-            | inr x_n ↦ elim (cases_eq x t) [
-              | inl e ↦ rw (e, first_write next t n n l tb t_n, len) (nb, first_write prev n l t n nb' apart)
-              | inr x_t ↦
-                  let y = get_or next x 0 in
-                  let y_n : y ≢ n = λ e. x_n (sym (inverse.forth x xb).1 ∙ ap (λ z. get_or prev z 0) e ∙ prev_n) in
-                  let y_l : y ≢ l = λ e. x_t (sym (inverse.forth x xb).1 ∙ ap (λ z. get_or prev z 0) e ∙ is_t) in
-                  rw (no_write next t n n l x x_t x_n, len) (
-                    (inverse.forth x xb).0,
-                    no_write prev n l t n y y_n y_l ∙ (inverse.forth x xb).1,
-                  )
-            ]
-          ];
-      back = λ x h.
-          let xb : x < length next = rw (sym len) h in
-          elim (cases_eq x l) [
-            | inl e ↦ rw (e, second_write prev n l t n lb', len) (nb, second_write next t n n l nb)
-            | inr x_l ↦ elim (cases_eq x n) [
-              | inl e ↦ rw (e, first_write prev n l t n nb' apart, len) (tb, first_write next t n n l tb t_n)
-              | inr x_n ↦
-                  let y = get_or prev x 0 in
-                  let y_n : y ≢ n = λ e. x_n (sym (inverse.back x xb).1 ∙ ap (λ z. get_or next z 0) e ∙ alone) in
-                  let y_t : y ≢ t = λ e. x_l (sym (inverse.back x xb).1 ∙ ap (λ z. get_or next z 0) e ∙ to) in
-                  rw (no_write prev n l t n x x_n x_l, len) (
-                    (inverse.back x xb).0,
-                    no_write next t n n l y y_t y_n ∙ (inverse.back x xb).1,
-                  )
-            ]
-          ];
+      same = length-writes prev d c a b ∙ same ∙ sym (length-writes next a b d c);
+      forth = rw (length-writes next a b d c) (swapped_back n next prev a b c d refl same inverse.forth at_c.1 at_d.1
+          ab bb at_c.0 at_d.0 a_b d_c);
+      back = rw (length-writes next a b d c) (swapped_back n prev next d c b a same refl inverse.back to_d to_c
+          at_d.0 at_c.0 bb ab d_c a_b);
     }
 
--- a node that is on no list
-pub record IsNew (next : List ℕ) (owner : List (Option ℕ)) (lens : List ℕ) (l n : ℕ) : Type 0 where
-  pub list : l < length lens
-  pub high : length lens ≤ n
-  pub low : n < length next
-  pub free : get_or owner n None ≡ None
+-- node n and place a of list l exchange their next places, c and d; n gets another owner, and l another length
+record IsMove (next : List ℕ) (owner : List (Option ℕ)) (lens : List ℕ) (l a n c d : ℕ) (now : Option ℕ)
+    (len : ℕ) : Type 0 where
+  list : l < length lens
+  high : length lens ≤ n
+  low : n < length next
+  before : a < length next
+  apart : a ≢ n
+  to : get_or next a 0 ≡ c
+  from : get_or next n 0 ≡ d
+  ends : (c ≡ l) ⊎ (c ≡ n)
+  was : (k : ℕ) → get_or owner n None ≡ Some k → k ≡ l
+  is : (k : ℕ) → now ≡ Some k → k ≡ l
+  rest : now ≡ None → c ≡ n
+  count : len + cond (is_none now) 1 0 ≡ get_or lens l 0 + cond (is_none (get_or owner n None)) 1 0
 
-pushed_len : (lens : List ℕ) (l : ℕ) → l < length lens → get_or (set lens l (get_or lens l 0 + 1)) l 0 ≡ get_or lens l 0
-    + 1
-pushed_len lens l h = get_or-set_same lens l (get_or lens l 0 + 1) 0 h
+-- who owns a place after a change of n's owner
+set_owner : (owner : List (Option ℕ)) (n : ℕ) (o : Option ℕ) (x k : ℕ) (b : Bool) → n < length owner
+    → (x ≡ n → b ≡ is_at o k) → (x ≢ n → b ≡ is_at (get_or owner x None) k)
+    → b ≡ is_at (get_or (set owner n o) x None) k
+set_owner owner n o x k b nb here there = elim (cases_eq x n) [
+  | inl e ↦ here e ∙ rw (e, get_or-set_same owner n o None nb)
+  | inr e ↦ there e ∙ rw (get_or-set_other owner n x o None e)
+]
 
-pushed_owner : (owner : List (Option ℕ)) (l n : ℕ) (b : Bool) (x : ℕ) → n < length owner → get_or owner n None ≡ None
-    → b ≡ is_at (get_or owner x None) l
-    → (b || has (n ∷ []) x) ≡ is_at (get_or (set owner n (Some l)) x None) l
-pushed_owner owner l n b x nb free h =
-    elim (cases_eq x n) as (λ _. (b || has (n ∷ []) x) ≡ is_at (get_or (set owner n (Some l)) x None) l) [
-      | inl e ↦ rw (e, get_or-set_same owner n (Some l) None nb, is_at-self l, eq-eqb n n refl) (or_right b true refl)
-      | inr x_n ↦ rw (
-        get_or-set_other owner n x (Some l) None x_n,
-        ne_eqb n x (λ s. x_n (sym s)),
-        h,
-      ) (or_false (is_at (get_or owner x None) l))
-    ]
+module _ {next prev : List ℕ} {owner : List (Option ℕ)} {lens : List ℕ} (good : IsGood next prev owner lens) where
+  -- an owned place is a node
+  is_node : (x l : ℕ) → get_or owner x None ≡ Some l → (length lens ≤ x) × (x < length next)
+  is_node x l is = (
+    elim (cases_lt x (length lens)) [ inl s ↦ absurd (cc (good.sentinels x s)) | inr s ↦ s ],
+    rw (← good.owners) (elim (cases_lt x (length owner)) [
+      | inl s ↦ s
+      | inr s ↦ absurd (cc (get_or_past owner x None s))
+    ]),
+  )
 
-pushed_ring : {next prev : List ℕ} {owner : List (Option ℕ)} {lens : List ℕ} (good : IsGood next prev owner lens)
-    (l n t : ℕ) → IsNew next owner lens l n → get_or prev l 0 ≡ t
-    → (ring_of (set (set next t n) n l) (set lens l (get_or lens l 0 + 1)) l ≡ ring_of next lens l ++ n ∷ [])
-    × IsRing (set (set next t n) n l) (set owner n (Some l)) (set lens l (get_or lens l 0 + 1)) l
-pushed_ring {next} {prev} {owner} {lens} good l n t new is_t =
-    let few : length lens ≤ length next = good.few in
-    let lb : l < length next = (let s = new.list in omega arith) in
-    let n_l : n ≢ l = (let s = new.list in let h = new.high in omega arith) in
-    let tb : t < length next = rw (sym is_t) (good.inverse.back l lb).0 in
-    let to : get_or next t 0 ≡ l = rw (sym is_t) (good.inverse.back l lb).1 in
-    let alone : get_or next n 0 ≡ n = good.alone n new.high new.low new.free in
-    let t_n : t ≢ n = λ e. n_l (sym alone ∙ ap (λ z. get_or next z 0) (sym e) ∙ to) in
-    let ring = good.rings l new.list in
-    let xs = ring_of next lens l in
-    let off : has xs n ≡ false = ring.owned n ∙ ap (λ o. is_at o l) new.free in
-    ring_from (set (set next t n) n l) (set owner n (Some l)) (set lens l (get_or lens l 0 + 1)) l (xs ++ n ∷ [])
-    (path_push (follow next) (follow (set (set next t n) n l)) l xs l t n ring.path (loop_distinct good l new.list)
-    (λ y e is. back_is good l y l new.list e is ∙ is_t)
-    (first_write next t n n l tb t_n) (second_write next t n n l new.low) (λ y y_t y_n. no_write next t n n l y y_t y_n)
-    (rw (ne_eqb l n (λ e. n_l (sym e))) off))
-    (pushed_len lens l new.list ∙ ap (λ k. k + 1) (sym (length-walk (get_or lens l 0) (follow next) (follow next l)))
-    ∙ sym (length-append xs (n ∷ [])))
-    (apart-push xs n ring.apart off)
-    (λ x. has-append xs (n ∷ []) x ∙ pushed_owner owner l n (has xs x) x (rw good.owners new.low) new.free
-    (ring.owned x))
+  owned_by : (l x : ℕ) → l < length lens → has (ring_of next lens l) x ≡ true → get_or owner x None ≡ Some l
+  owned_by l x h on = is_at-true (get_or owner x None) l (sym ((good.rings l h).owned x) ∙ on)
 
--- the rings that a change of links and owner does not touch
-kept_ring : {next prev : List ℕ} {owner : List (Option ℕ)} {lens : List ℕ} (good : IsGood next prev owner lens) (k : ℕ)
-    (next' : List ℕ) (owner' : List (Option ℕ)) (lens' : List ℕ)
-    → k < length lens
-    → ((y : ℕ) → has (loop_of next lens k) y ≡ true → get_or next' y 0 ≡ get_or next y 0)
-    → ((y : ℕ) → is_at (get_or owner' y None) k ≡ is_at (get_or owner y None) k)
-    → get_or lens' k 0 ≡ get_or lens k 0
-    → (ring_of next' lens' k ≡ ring_of next lens k) × IsRing next' owner' lens' k
-kept_ring {next} {prev} {owner} {lens} good k next' owner' lens' h links owns len =
-    let ring = good.rings k h in
-    let xs = ring_of next lens k in
-    ring_from next' owner' lens' k xs
-    (path_same (follow next) (follow next') k xs k ring.path links)
-    (len ∙ sym (length-walk (get_or lens k 0) (follow next) (follow next k)))
-    ring.apart
-    (λ y. ring.owned y ∙ sym (owns y))
+  pub on_ring : (l n : ℕ) → l < length lens → get_or owner n None ≡ Some l → has (ring_of next lens l) n ≡ true
+  on_ring l n b is = (good.rings l b).owned n ∙ rw is (is_at-self l)
 
-other_owner : (owner : List (Option ℕ)) (l k n y : ℕ) → n < length owner → get_or owner n None ≡ None → k ≢ l
-    → is_at (get_or (set owner n (Some l)) y None) k ≡ is_at (get_or owner y None) k
-other_owner owner l k n y nb free k_l =
-    elim (cases_eq y n) as (λ _. is_at (get_or (set owner n (Some l)) y None) k ≡ is_at (get_or owner y None) k) [
-      | inl e ↦ rw (e, get_or-set_same owner n (Some l) None nb, free) (ne_eqb l k (λ s. k_l (sym s)))
-      | inr y_n ↦ ap (λ o. is_at o k) (get_or-set_other owner n y (Some l) None y_n)
-    ]
+  -- each place past the sentinels is a node
+  pub above : (l : ℕ) → l < length lens → (x : ℕ) → has (ring_of next lens l) x ≡ true → length lens ≤ x
+  above l h x e = (is_node x l (owned_by l x h e)).0
 
--- the other rings stay as they are
-pushed_other : {next prev : List ℕ} {owner : List (Option ℕ)} {lens : List ℕ} (good : IsGood next prev owner lens)
-    (l n t k : ℕ) → IsNew next owner lens l n → get_or prev l 0 ≡ t → k < length lens → k ≢ l
-    → (ring_of (set (set next t n) n l) (set lens l (get_or lens l 0 + 1)) k ≡ ring_of next lens k)
-    × IsRing (set (set next t n) n l) (set owner n (Some l)) (set lens l (get_or lens l 0 + 1)) k
-pushed_other {next} {prev} {owner} {lens} good l n t k new is_t h k_l =
-    let end = before_end (follow next) l (ring_of next lens l) l (good.rings l new.list).path in
-    let t_on : has (loop_of next lens l) t ≡ true = ap (has (loop_of next lens l)) (sym is_t
-    ∙ sym (back_is good l end.0 l new.list end.1 end.2)) ∙ end.1 in
-    kept_ring good k (set (set next t n) n l) (set owner n (Some l)) (set lens l (get_or lens l 0 + 1)) h
-    (λ y e. no_write next t n n l y
-    (λ s. k_l (loops_apart good l k y new.list h (ap (has (loop_of next lens l)) s ∙ t_on) e))
-    (λ s. elim (on_loop good k y h e) [
-      | inl k_y ↦ (let high = new.high in absurd (omega arith))
-      | inr mine ↦ (let free : get_or owner y None ≡ None = ap (λ z. get_or owner z None) s ∙ new.free in cc)
-    ]))
-    (λ y. other_owner owner l k n y (rw good.owners new.low) new.free k_l)
-    (get_or-set_other lens l k (get_or lens l 0 + 1) 0 k_l)
+  -- each is one node
+  pub node_only : (l : ℕ) → l < length lens → (n x : ℕ) → has (ring_of next lens l) x ≡ true → x - length lens ≡ n
+      → x ≡ length lens + n
+  node_only l h n x e is = (let high = above l h x e in omega arith)
 
--- the invariant after a node was added
-pub pushed_good : {next prev : List ℕ} {owner : List (Option ℕ)} {lens : List ℕ} (good : IsGood next prev owner lens)
-    (l n t : ℕ) → IsNew next owner lens l n → get_or prev l 0 ≡ t
-    → IsGood (set (set next t n) n l) (set (set prev n t) l n) (set owner n (Some l)) (set lens l (get_or lens l 0 + 1))
-pushed_good {next} {prev} {owner} {lens} good l n t new is_t =
-    let few : length lens ≤ length next = good.few in
-    let lb : l < length next = (let s = new.list in omega arith) in
-    let n_l : n ≢ l = (let s = new.list in let h = new.high in omega arith) in
-    let lens' = set lens l (get_or lens l 0 + 1) in
-    let next' = set (set next t n) n l in
-    let owner' = set owner n (Some l) in
-    let len : length next' ≡ length next = length-writes next t n n l in
-    let len' : length lens' ≡ length lens = length-set lens l (get_or lens l 0 + 1) in
-    let nb : n < length owner = rw good.owners new.low in
-    record {
-      inverse = pushed_inverse next prev l t n good.inverse lb new.low is_t (good.alone n new.high new.low new.free)
-          n_l;
-      owners = length-set owner n (Some l) ∙ good.owners ∙ sym len;
-      few = rw (len, len') few;
-      sentinels = λ k h. (let kb : k < length lens = rw (sym len') h in
-          let k_n : k ≢ n = (let high = new.high in omega arith) in
-          get_or-set_other owner n k (Some l) None k_n ∙ good.sentinels k kb);
-      listed = λ x k h. rw len' (elim (cases_eq x n) [
-        | inl e ↦ (let is : Some l ≡ Some k = sym (ap (λ z. get_or owner' z None) e
-            ∙ get_or-set_same owner n (Some l) None nb) ∙ h in let same : l ≡ k = cc in let b = new.list in omega arith)
-        | inr x_n ↦ good.listed x k (sym (get_or-set_other owner n x (Some l) None x_n) ∙ h)
-      ]);
-      alone = λ x high low free.
-          elim (cases_eq x n) [
-            | inl e ↦ absurd (let is : Some l ≡ None = sym (ap (λ z. get_or owner' z None) e
-                ∙ get_or-set_same owner n (Some l) None nb) ∙ free in cc)
-            | inr x_n ↦
-                let free' : get_or owner x None ≡ None = sym (get_or-set_other owner n x (Some l) None x_n) ∙ free in
-                let high' : length lens ≤ x = rw (sym len') high in
-                let low' : x < length next = rw (sym len) low in
-                let stays : get_or next x 0 ≡ x = good.alone x high' low' free' in
-                let to : get_or next t 0 ≡ l = rw (sym is_t) (good.inverse.back l lb).1 in
-                let x_t : x ≢ t = λ e. (let at_l : x ≡ l = sym stays ∙ ap (λ z. get_or next z 0) e ∙ to in
-                let b = new.list in absurd (omega arith)) in
-                no_write next t n n l x x_t x_n ∙ stays
+  -- a node is on the list that owns its place
+  pub has-list : (l n : ℕ) → has (list_at (links_of next lens).lists l) n ≡ is_at (get_or owner
+      (length lens + n) None) l
+  has-list l n = elim (cases_lt l (length lens)) [
+    | inl s ↦
+        rw (list_at-links next lens l s) (has-map (λ x. x - length lens) n (length lens + n) (omega arith)
+        (ring_of next lens l) (node_only l s n) ∙ (good.rings l s).owned (length lens + n))
+    | inr s ↦
+        let o = get_or owner (length lens + n) None in
+        rw (list_at-past next lens l s) (sym (false_from_ne_true (is_at o l) (λ e. let low =
+        good.listed (length lens + n) l (is_at-true o l e) in omega arith)))
+  ]
+
+  pub on_loop : (l x : ℕ) → l < length lens → has (loop_of next lens l) x ≡ true
+      → (l ≡ x) ⊎ (get_or owner x None ≡ Some l)
+  on_loop l x h e = elim (or_cases (eqb l x) (has (ring_of next lens l) x) e) [
+    | inl s ↦ inl (eqb-true l x s)
+    | inr s ↦ inr (owned_by l x h s)
+  ]
+
+  loop_below : (l x : ℕ) → l < length lens → has (loop_of next lens l) x ≡ true → x < length next
+  loop_below l x h e = elim (on_loop l x h e) [
+    | inl s ↦ omega (arith, good.few)
+    | inr s ↦ (is_node x l s).1
+  ]
+
+  -- a link of a loop stays on it
+  pub next_on : (l x : ℕ) → l < length lens → has (loop_of next lens l) x ≡ true
+      → has (loop_of next lens l) (follow next x) ≡ true
+  next_on l x h e = link_on (follow next) l l (ring_of next lens l) x (good.rings l h).path e
+
+  -- a loop has a sentinel and its nodes once each
+  pub loop_distinct : (l : ℕ) → l < length lens → Apart (loop_of next lens l)
+  loop_distinct l h = ((good.rings l h).owned l ∙ rw (good.sentinels l h), (good.rings l h).apart)
+
+  -- the place before y leads to y
+  back_is : (l x y : ℕ) → l < length lens → has (loop_of next lens l) x ≡ true → follow next x ≡ y → x ≡ get_or prev y 0
+  back_is l x y h e is = rw (← is) (sym (good.inverse.forth x (loop_below l x h e)).1)
+
+  -- the rings that a change of links and owner does not touch
+  kept_ring : (k : ℕ) (next' : List ℕ) (owner' : List (Option ℕ)) (lens' : List ℕ) → k < length lens
+      → ((y : ℕ) → has (loop_of next lens k) y ≡ true → get_or next' y 0 ≡ get_or next y 0)
+      → ((y : ℕ) → is_at (get_or owner y None) k ≡ is_at (get_or owner' y None) k)
+      → get_or lens' k 0 ≡ get_or lens k 0
+      → (ring_of next' lens' k ≡ ring_of next lens k) × IsRing next' owner' lens' k
+  kept_ring k next' owner' lens' h links owns len =
+      let ring = good.rings k h in
+      let xs = ring_of next lens k in
+      ring_from next' owner' lens' k xs
+      (path_jump (follow next) k (follow next') k k xs ring.path (links k (first_on k xs))
+      (λ y e. links y (or_right (eqb k y) (has xs y) e)))
+      (rw length-walk len)
+      ring.apart
+      (λ y. ring.owned y ∙ owns y)
+
+  -- ---- a move of a node
+
+  module _ (l a n c d : ℕ) (now : Option ℕ) (len : ℕ) (move : IsMove next owner lens l a n c d now len) where
+    abbrev next' : List ℕ
+    next' = set (set next a d) n c
+
+    abbrev owner' : List (Option ℕ)
+    owner' = set owner n now
+
+    abbrev lens' : List ℕ
+    lens' = set lens l len
+
+    owned_node : n < length owner
+    owned_node = rw good.owners move.low
+
+    -- the other rings stay as they are
+    moved_other : (k : ℕ) → k < length lens → k ≢ l
+        → (ring_of next' lens' k ≡ ring_of next lens k) × IsRing next' owner' lens' k
+    moved_other k h k_l =
+        let not_n : (y : ℕ) → has (loop_of next lens k) y ≡ true → y ≢ n = λ y on s. elim (on_loop k y h on) [
+          | inl t ↦ omega (arith, move.high)
+          | inr t ↦ k_l (move.was k (rw s at t))
+        ] in
+        let not_c : has (loop_of next lens k) c ≡ true → ⊥ = λ on. elim move.ends [
+          | inl s ↦ elim (on_loop k c h on) [
+            | inl t ↦ k_l (t ∙ s)
+            | inr t ↦ cc (good.sentinels l move.list, rw s at t)
+          ]
+          | inr s ↦ not_n c on s
+        ] in
+        kept_ring k next' owner' lens' h
+        (λ y on. no_write next a n d c y (λ s. not_c (rw (s, move.to) at (next_on k y h on))) (not_n y on))
+        (λ y. set_owner owner n now y k (is_at (get_or owner y None) k) owned_node
+        (λ e. rw e (not_at (get_or owner n None) k l move.was k_l ∙ sym (not_at now k l move.is k_l))) (λ e. refl))
+        (get_or-set_other lens l k len 0 k_l)
+
+    -- the invariant after the move, if the list's ring is one
+    moved_good : IsRing next' owner' lens' l → IsGood next' (set (set prev d a) c n) owner' lens'
+    moved_good ring =
+        let same = length-writes next a n d c in
+        let as_many = length-set lens l len in
+        record {
+          inverse = swapped_inverse next prev a n c d good.inverse move.to move.from move.before move.low move.apart;
+          owners = length-set owner n now ∙ good.owners ∙ sym same;
+          few = rw (as_many, same) good.few;
+          sentinels = λ k h. (let kb = rw as_many at h in
+              get_or-set_other owner n k now None (λ e. omega (arith, kb, move.high)) ∙ good.sentinels k kb);
+          listed = λ x k h. rw as_many (elim (cases_eq x n) [
+            | inl e ↦ (let is = move.is k (rw (e, get_or-set_same owner n now None owned_node) at h) in
+                omega (arith, is, move.list))
+            | inr e ↦ good.listed x k (rw (get_or-set_other owner n x now None e) at h)
+          ]);
+          alone = λ x high low free. elim (cases_eq x n) [
+            | inl e ↦ rw (e, second_write next a n d c move.low) (move.rest (rw (
+              e,
+              get_or-set_same owner n now None owned_node,
+            ) at free))
+            | inr e ↦
+                let high' = rw as_many at high in
+                let stays = good.alone x high' (rw same at low) (rw (get_or-set_other owner n x now None e) at free) in
+                let x_a : x ≢ a = λ s. (let at_c : x ≡ c = sym stays ∙ rw s move.to in elim move.ends [
+                  | inl t ↦ omega (arith, at_c, t, high', move.list)
+                  | inr t ↦ e (at_c ∙ t)
+                ]) in
+                no_write next a n d c x x_a e ∙ stays
           ];
-      rings = λ k h.
-          let kb : k < length lens = rw (sym len') h in
-          elim (cases_eq k l) [
-            | inl e ↦ (let P : ℕ → Type 0 = λ z. IsRing next' owner' lens' z in
-                subst P (sym e) (pushed_ring good l n t new is_t).1)
-            | inr k_l ↦ (pushed_other good l n t k new is_t kb k_l).1
+          rings = λ k h. elim (cases_eq k l) [
+            | inl e ↦ rw e ring
+            | inr e ↦ (moved_other k (rw as_many at h) e).1
           ];
-      counted =
-          let more = sum_by-set (λ x. x) lens l (get_or lens l 0 + 1) 0 new.list in
-          let less : count_by is_none owner' + 1 ≡ count_by is_none owner =
-          ap (λ o. count_by is_none owner' + cond (is_none o) 1 0) (sym new.free)
-          ∙ sum_by-set (λ x. cond (is_none x) 1 0) owner n (Some l) None nb ∙ omega arith in
-          let before = good.counted in
-          omega (arith, more, less, before, len);
-    }
+          counted = omega (
+            arith,
+            sum_by-set (λ x. x) lens l len 0 move.list,
+            sum_by-set (λ x. cond (is_none x) 1 0) owner n now None owned_node,
+            move.count,
+            good.counted,
+            same,
+          );
+        }
 
--- ---- a node taken out
+    -- the lists that callers see, if list l is as it is to be
+    moved_lists : (lists : List (List ℕ)) → length lists ≡ length lens
+        → map (λ x. x - length lens) (ring_of next' lens' l) ≡ list_at lists l
+        → ((k : ℕ) → k < length lens → k ≢ l → nodes_of next lens k ≡ list_at lists k)
+        → (links_of next' lens').lists ≡ lists
+    moved_lists lists size mine others =
+        let as_many = length-set lens l len in
+        range_is (nodes_of next' lens') (length lens') [] lists (size ∙ sym as_many) (λ k h. rw as_many
+        (elim (cases_eq k l) [
+          | inl e ↦ rw e mine
+          | inr e ↦ (let kb = rw as_many at h in rw (moved_other k kb e).0 (others k kb e))
+        ]))
 
-unlinked_inverse : (next prev : List ℕ) (p n q : ℕ) → AreInverse next prev → n < length next → get_or prev n 0 ≡ p
-    → get_or next n 0 ≡ q → n ≢ q
-    → AreInverse (set (set next p q) n n) (set (set prev q p) n n)
-unlinked_inverse next prev p n q inverse nb is_p is_q apart =
-    let len : length (set (set next p q) n n) ≡ length next = length-writes next p n q n in
-    let len' : length (set (set prev q p) n n) ≡ length next = length-writes prev q n p n ∙ inverse.same in
-    let pb : p < length next = rw (sym is_p) (inverse.back n nb).0 in
-    let to : get_or next p 0 ≡ n = rw (sym is_p) (inverse.back n nb).1 in
-    let qb : q < length next = rw (sym is_q) (inverse.forth n nb).0 in
-    let from : get_or prev q 0 ≡ n = rw (sym is_q) (inverse.forth n nb).1 in
-    let nb' : n < length prev = rw inverse.same nb in
-    let qb' : q < length prev = rw inverse.same qb in
-    let p_n : p ≢ n = λ e. apart (sym to ∙ ap (λ z. get_or next z 0) e ∙ is_q) in
-    let q_n : q ≢ n = λ e. apart (sym e) in
-    record {
-      same = len' ∙ sym len;
-      forth = λ x h.
-          let xb : x < length next = rw (sym len) h in
-          elim (cases_eq x n) [
-            | inl e ↦ rw (e, second_write next p n q n nb, len) (nb, second_write prev q n p n nb')
-            | inr x_n ↦ elim (cases_eq x p) [
-              | inl e ↦ rw (e, first_write next p n q n pb p_n, len) (qb, first_write prev q n p n qb' q_n)
-              | inr x_p ↦
-                  let y = get_or next x 0 in
-                  let y_n : y ≢ n = λ e. x_p (sym (inverse.forth x xb).1 ∙ ap (λ z. get_or prev z 0) e ∙ is_p) in
-                  let y_q : y ≢ q = λ e. x_n (sym (inverse.forth x xb).1 ∙ ap (λ z. get_or prev z 0) e ∙ from) in
-                  rw (no_write next p n q n x x_p x_n, len) (
-                    (inverse.forth x xb).0,
-                    no_write prev q n p n y y_q y_n ∙ (inverse.forth x xb).1,
-                  )
-            ]
-          ];
-      back = λ x h.
-          let xb : x < length next = rw (sym len) h in
-          elim (cases_eq x n) [
-            | inl e ↦ rw (e, second_write prev q n p n nb', len) (nb, second_write next p n q n nb)
-            | inr x_n ↦ elim (cases_eq x q) [
-              | inl e ↦ rw (e, first_write prev q n p n qb' q_n, len) (pb, first_write next p n q n pb p_n)
-              | inr x_q ↦
-                  let y = get_or prev x 0 in
-                  let y_n : y ≢ n = λ e. x_q (sym (inverse.back x xb).1 ∙ ap (λ z. get_or next z 0) e ∙ is_q) in
-                  let y_p : y ≢ p = λ e. x_n (sym (inverse.back x xb).1 ∙ ap (λ z. get_or next z 0) e ∙ to) in
-                  rw (no_write prev q n p n x x_q x_n, len) (
-                    (inverse.back x xb).0,
-                    no_write next p n q n y y_p y_n ∙ (inverse.back x xb).1,
-                  )
-            ]
-          ];
-    }
+  -- ---- node n put at the end of list l
 
--- a node on list l, between p and q
-pub record IsBetween (next prev : List ℕ) (owner : List (Option ℕ)) (l p n q : ℕ) : Type 0 where
-  pub owner_is : get_or owner n None ≡ Some l
-  pub prev_is : get_or prev n 0 ≡ p
-  pub next_is : get_or next n 0 ≡ q
+  module _ (l n : ℕ) (list : l < length lens) (low : length lens + n < length next)
+      (free : get_or owner (length lens + n) None ≡ None) where
+    abbrev last : ℕ
+    last = get_or prev l 0
 
-pub on_ring : {next prev : List ℕ} {owner : List (Option ℕ)} {lens : List ℕ} (good : IsGood next prev owner lens)
-    (l n : ℕ) → l < length lens → get_or owner n None ≡ Some l → has (ring_of next lens l) n ≡ true
-on_ring {next} {prev} {owner} {lens} good l n b is = (good.rings l b).owned n ∙ ap (λ o. is_at o l) is ∙ is_at-self l
+    push : IsMove next owner lens l last (length lens + n) l (length lens + n) (Some l) (get_or lens l 0 + 1)
+    push =
+        let back = good.inverse.back l (omega (arith, good.few)) in
+        let alone = good.alone (length lens + n) (omega arith) low free in
+        record {
+          list = list;
+          high = omega arith;
+          low = low;
+          before = back.0;
+          apart = λ e. (let same : l ≡ length lens + n = sym back.1 ∙ rw e alone in omega arith);
+          to = back.1;
+          from = alone;
+          ends = inl refl;
+          was = λ k is. cc;
+          is = λ k is. cc;
+          rest = λ is. cc;
+          count = rw free (omega arith);
+        }
 
-moved_on : {next prev : List ℕ} {owner : List (Option ℕ)} {lens : List ℕ} (good : IsGood next prev owner lens) (l n : ℕ)
-    → l < length lens → get_or owner n None ≡ Some l → get_or next n 0 ≢ n
-moved_on {next} {prev} {owner} {lens} good l n b is =
-    let ring = good.rings l b in
-    moves_on (follow next) l (ring_of next lens l) l n ring.path (on_ring good l n b is) (loop_distinct good l b).0
-    ring.apart
+    pushed_ring : (ring_of (set (set next last (length lens + n)) (length lens + n) l)
+        (set lens l (get_or lens l 0 + 1)) l ≡ ring_of next lens l ++ (length lens + n) ∷ [])
+        × IsRing (set (set next last (length lens + n)) (length lens + n) l) (set owner (length lens + n) (Some l))
+        (set lens l (get_or lens l 0 + 1)) l
+    pushed_ring =
+        let place = length lens + n in
+        let next' = set (set next last place) place l in
+        let ring = good.rings l list in
+        let xs = ring_of next lens l in
+        let off : has xs place ≡ false = ring.owned place ∙ rw free in
+        let l_place : l ≢ place = λ e. omega arith in
+        ring_from next' (set owner place (Some l)) (set lens l (get_or lens l 0 + 1)) l (xs ++ place ∷ [])
+        (path_push (follow next) l (follow next') last place (no_write next last place place l) l xs ring.path
+        (loop_distinct l list).0 (rw (ne_eqb l place l_place) off) push.to
+        (first_write next last place place l push.before push.apart) (second_write next last place place l low)
+        (λ y e is. back_is l y l list e is))
+        (get_or-set_same lens l (get_or lens l 0 + 1) 0 list ∙ rw (length-append, length-walk))
+        (apart-push xs place ring.apart off)
+        (λ x. has-append xs (place ∷ []) x ∙ set_owner owner place (Some l) x l (has xs x || has (place ∷ []) x)
+        (rw good.owners low) (λ e. rw (e, off, eq-eqb place place refl) (sym (is_at-self l)))
+        (λ e. rw (ne_eqb place x (λ s. e (sym s)), or-false) (ring.owned x)))
 
-pub owned_len : {next prev : List ℕ} {owner : List (Option ℕ)} {lens : List ℕ} (good : IsGood next prev owner lens)
-    (l n : ℕ) → get_or owner n None ≡ Some l → 0 < get_or lens l 0
-owned_len {next} {prev} {owner} {lens} good l n is =
-    let b = good.listed n l is in
-    let more = length-without (ring_of next lens l) n (on_ring good l n b is) in
-    let len = length-walk (get_or lens l 0) (follow next) (follow next l) in
-    omega (arith, more, len)
+    -- the invariant after a node was added
+    pub pushed_good : IsGood (set (set next last (length lens + n)) (length lens + n) l)
+        (set (set prev (length lens + n) last) l (length lens + n)) (set owner (length lens + n) (Some l))
+        (set lens l (get_or lens l 0 + 1))
+    pushed_good = moved_good l last (length lens + n) l (length lens + n) (Some l) (get_or lens l 0 + 1) push
+        pushed_ring.1
 
-unlinked_owner : (owner : List (Option ℕ)) (l n x : ℕ) (b : Bool) → n < length owner → b ≡ is_at (get_or owner x None) l
-    → cond (eqb x n) false b ≡ is_at (get_or (set owner n None) x None) l
-unlinked_owner owner l n x b nb h =
-    elim (cases_eq x n) as (λ _. cond (eqb x n) false b ≡ is_at (get_or (set owner n None) x None) l) [
-      | inl e ↦ rw (e, get_or-set_same owner n None None nb, eq-eqb n n refl) refl
-      | inr x_n ↦ rw (get_or-set_other owner n x None None x_n, ne_eqb x n x_n) h
-    ]
+    pub pushed_lists : (links_of (set (set next last (length lens + n)) (length lens + n) l)
+        (set lens l (get_or lens l 0 + 1))).lists
+        ≡ set (links_of next lens).lists l (list_at (links_of next lens).lists l ++ n ∷ [])
+    pushed_lists =
+        let place = length lens + n in
+        let old = (links_of next lens).lists in
+        let added = list_at old l ++ n ∷ [] in
+        let same : place - length lens ≡ n = omega arith in
+        moved_lists l last place l place (Some l) (get_or lens l 0 + 1) push (set old l added)
+        (length-set old l added ∙ length-lists next lens)
+        (rw (
+          pushed_ring.0,
+          map-append,
+          same,
+          get_or-set_same old l added [] (rw (length-lists next lens) list),
+          list_at-links next lens l list,
+        ))
+        (λ k h k_l. rw (get_or-set_other old l k added [] k_l, list_at-links next lens k h))
 
-unlinked_ring : {next prev : List ℕ} {owner : List (Option ℕ)} {lens : List ℕ} (good : IsGood next prev owner lens)
-    (l p n q : ℕ) → IsBetween next prev owner l p n q
-    → (ring_of (set (set next p q) n n) (set lens l (get_or lens l 0 - 1)) l ≡ without n (ring_of next lens l))
-    × IsRing (set (set next p q) n n) (set owner n None) (set lens l (get_or lens l 0 - 1)) l
-unlinked_ring {next} {prev} {owner} {lens} good l p n q it =
-    let b = good.listed n l it.owner_is in
-    let nb' : n < length owner = owned_below owner n l (rw it.owner_is (is_at-self l)) in
-    let nb : n < length next = rw (sym good.owners) nb' in
-    let pb : p < length next = rw (sym it.prev_is) (good.inverse.back n nb).0 in
-    let to : get_or next p 0 ≡ n = rw (sym it.prev_is) (good.inverse.back n nb).1 in
-    let p_n : p ≢ n = λ e. moved_on good l n b it.owner_is (sym (ap (λ z. get_or next z 0) e) ∙ to) in
-    let ring = good.rings l b in
-    let xs = ring_of next lens l in
-    let on = on_ring good l n b it.owner_is in
-    let len' : get_or (set lens l (get_or lens l 0 - 1)) l 0 ≡ length (without n xs) =
-    get_or-set_same lens l (get_or lens l 0 - 1) 0 b ∙ (let more = length-without xs n on in
-    let len = length-walk (get_or lens l 0) (follow next) (follow next l) in omega (arith, more, len)) in
-    ring_from (set (set next p q) n n) (set owner n None) (set lens l (get_or lens l 0 - 1)) l (without n xs)
-    (path_without (follow next) (follow (set (set next p q) n n)) l xs l p n ring.path on (loop_distinct good l b)
-    (λ y e is. back_is good l y n b e is ∙ it.prev_is)
-    (first_write next p n q n pb p_n ∙ sym it.next_is) (λ y y_p y_n. no_write next p n q n y y_p y_n))
-    len'
-    (apart-without xs n ring.apart)
-    (λ x. has-without xs n x ring.apart ∙ unlinked_owner owner l n x (has xs x) nb' (ring.owned x))
+  -- ---- node n of list l taken out
 
-unlinked_other : {next prev : List ℕ} {owner : List (Option ℕ)} {lens : List ℕ} (good : IsGood next prev owner lens)
-    (l p n q k : ℕ) → IsBetween next prev owner l p n q → k < length lens → k ≢ l
-    → (ring_of (set (set next p q) n n) (set lens l (get_or lens l 0 - 1)) k ≡ ring_of next lens k)
-    × IsRing (set (set next p q) n n) (set owner n None) (set lens l (get_or lens l 0 - 1)) k
-unlinked_other {next} {prev} {owner} {lens} good l p n q k it h k_l =
-    let b = good.listed n l it.owner_is in
-    let nb' : n < length owner = owned_below owner n l (rw it.owner_is (is_at-self l)) in
-    let on = on_ring good l n b it.owner_is in
-    let n_on : has (loop_of next lens l) n ≡ true = or_right (eqb l n) (has (ring_of next lens l) n) on in
-    let r = before_on (follow next) l (ring_of next lens l) l n (good.rings l b).path on in
-    let p_on : has (loop_of next lens l) p ≡ true = ap (has (loop_of next lens l)) (sym it.prev_is
-    ∙ sym (back_is good l r.0 n b r.1 r.2)) ∙ r.1 in
-    kept_ring good k (set (set next p q) n n) (set owner n None) (set lens l (get_or lens l 0 - 1)) h
-    (λ y e. no_write next p n q n y
-    (λ s. k_l (loops_apart good l k y b h (ap (has (loop_of next lens l)) s ∙ p_on) e))
-    (λ s. k_l (loops_apart good l k y b h (ap (has (loop_of next lens l)) s ∙ n_on) e)))
-    (λ y. elim (cases_eq y n) as (λ _. is_at (get_or (set owner n None) y None) k ≡ is_at (get_or owner y None) k) [
-      | inl e ↦ rw (e, get_or-set_same owner n None None nb', it.owner_is) (sym (ne_eqb l k (λ s. k_l (sym s))))
-      | inr y_n ↦ ap (λ o. is_at o k) (get_or-set_other owner n y None None y_n)
-    ])
-    (get_or-set_other lens l k (get_or lens l 0 - 1) 0 k_l)
+  module _ (l n : ℕ) (mine : get_or owner (length lens + n) None ≡ Some l) where
+    abbrev before : ℕ
+    before = get_or prev (length lens + n) 0
 
--- the invariant after a node was taken out
-pub unlinked_good : {next prev : List ℕ} {owner : List (Option ℕ)} {lens : List ℕ} (good : IsGood next prev owner lens)
-    (l p n q : ℕ) → IsBetween next prev owner l p n q
-    → IsGood (set (set next p q) n n) (set (set prev q p) n n) (set owner n None) (set lens l (get_or lens l 0 - 1))
-unlinked_good {next} {prev} {owner} {lens} good l p n q it =
-    let few : length lens ≤ length next = good.few in
-    let b = good.listed n l it.owner_is in
-    let nb : n < length owner = owned_below owner n l (rw it.owner_is (is_at-self l)) in
-    let low : n < length next = rw (sym good.owners) nb in
-    let lens' = set lens l (get_or lens l 0 - 1) in
-    let next' = set (set next p q) n n in
-    let owner' = set owner n None in
-    let len : length next' ≡ length next = length-writes next p n q n in
-    let len' : length lens' ≡ length lens = length-set lens l (get_or lens l 0 - 1) in
-    let to : get_or next p 0 ≡ n = rw (sym it.prev_is) (good.inverse.back n low).1 in
-    record {
-      inverse = unlinked_inverse next prev p n q good.inverse low it.prev_is it.next_is
-          (λ e. moved_on good l n b it.owner_is (it.next_is ∙ sym e));
-      owners = length-set owner n None ∙ good.owners ∙ sym len;
-      few = rw (len, len') few;
-      sentinels = λ k h. elim (cases_eq k n) [
-        | inl e ↦ rw e (get_or-set_same owner n None None nb)
-        | inr k_n ↦ (let kb : k < length lens = rw (sym len') h in
-            get_or-set_other owner n k None None k_n ∙ good.sentinels k kb)
-      ];
-      listed = λ x k h. rw len' (elim (cases_eq x n) [
-        | inl e ↦ absurd (let is : None ≡ Some k = sym (ap (λ z. get_or owner' z None) e
-            ∙ get_or-set_same owner n None None nb) ∙ h in cc)
-        | inr x_n ↦ good.listed x k (sym (get_or-set_other owner n x None None x_n) ∙ h)
-      ]);
-      alone = λ x high xb free.
-          elim (cases_eq x n) [
-            | inl e ↦ rw e (second_write next p n q n low)
-            | inr x_n ↦
-                let free' : get_or owner x None ≡ None = sym (get_or-set_other owner n x None None x_n) ∙ free in
-                let high' : length lens ≤ x = rw (sym len') high in
-                let low' : x < length next = rw (sym len) xb in
-                let stays : get_or next x 0 ≡ x = good.alone x high' low' free' in
-                let x_p : x ≢ p = λ e. x_n (sym stays ∙ ap (λ z. get_or next z 0) e ∙ to) in
-                no_write next p n q n x x_p x_n ∙ stays
-          ];
-      rings = λ k h.
-          let kb : k < length lens = rw (sym len') h in
-          elim (cases_eq k l) [
-            | inl e ↦ (let P : ℕ → Type 0 = λ z. IsRing next' owner' lens' z in
-                subst P (sym e) (unlinked_ring good l p n q it).1)
-            | inr k_l ↦ (unlinked_other good l p n q k it kb k_l).1
-          ];
-      counted =
-          let less = sum_by-set (λ x. x) lens l (get_or lens l 0 - 1) 0 b in
-          let more : count_by is_none owner' ≡ count_by is_none owner + 1 = sym (add-zero (count_by is_none owner'))
-          ∙ ap (λ o. count_by is_none owner' + cond (is_none o) 1 0) (sym it.owner_is)
-          ∙ sum_by-set (λ x. cond (is_none x) 1 0) owner n None None nb in
-          let some = owned_len good l n it.owner_is in
-          let before = good.counted in
-          omega (arith, more, less, before, len, some);
-    }
+    abbrev behind : ℕ
+    behind = get_or next (length lens + n) 0
 
--- ---- what callers see
+    pub listed : l < length lens
+    listed = good.listed (length lens + n) l mine
 
--- each place past the sentinels is a node
-pub above : {next prev : List ℕ} {owner : List (Option ℕ)} {lens : List ℕ} (good : IsGood next prev owner lens) (l : ℕ)
-    → l < length lens → (x : ℕ) → has (ring_of next lens l) x ≡ true → length lens ≤ x
-above {next} {prev} {owner} {lens} good l h x e = owned_above good x l (sym ((good.rings l h).owned x) ∙ e)
+    shorter : length (without (length lens + n) (ring_of next lens l)) + 1 ≡ get_or lens l 0
+    shorter = length-without (ring_of next lens l) (length lens + n) (on_ring l (length lens + n) listed mine)
+        ∙ length-walk (get_or lens l 0) (follow next) (follow next l)
 
-map-append : (f : ℕ → ℕ) (xs ys : List ℕ) → map f (xs ++ ys) ≡ map f xs ++ map f ys
-map-append f [] ys = refl
-map-append f (x ∷ xs) ys = ap (λ t. f x ∷ t) (map-append f xs ys)
+    pub owned_len : 0 < get_or lens l 0
+    owned_len = omega (arith, shorter)
 
-pub pushed_lists : {next prev : List ℕ} {owner : List (Option ℕ)} {lens : List ℕ} (good : IsGood next prev owner lens)
-    (l n t : ℕ) → IsNew next owner lens l (length lens + n) → get_or prev l 0 ≡ t
-    → (links_of (set (set next t (length lens + n)) (length lens + n) l) (set lens l (get_or lens l 0 + 1))).lists
-    ≡ set (links_of next lens).lists l (list_at (links_of next lens).lists l ++ n ∷ [])
-pushed_lists {next} {prev} {owner} {lens} good l n t new is_t =
-    let place = length lens + n in
-    let lens' = set lens l (get_or lens l 0 + 1) in
-    let next' = set (set next t place) place l in
-    let old = (links_of next lens).lists in
-    let len' : length lens' ≡ length lens = length-set lens l (get_or lens l 0 + 1) in
-    let added = list_at old l ++ n ∷ [] in
-    ext_get_or [] (links_of next' lens').lists (set old l added)
-    (length-lists next' lens' ∙ len' ∙ sym (length-lists next lens) ∙ sym (length-set old l added))
-    (λ k h.
-    let kb' : k < length lens' = rw (sym (length-lists next' lens')) h in
-    let kb : k < length lens = rw (sym len') kb' in
-    list_at-links next' lens' k kb' ∙ ap (λ c. map (λ x. x - c) (ring_of next' lens' k)) len' ∙ elim (cases_eq k l) [
-      | inl e ↦
-          ap (λ z. map (λ x. x - length lens) (ring_of next' lens' z)) e
-          ∙ ap (map (λ x. x - length lens)) (pushed_ring good l place t new is_t).0
-          ∙ map-append (λ x. x - length lens) (ring_of next lens l) (place ∷ [])
-          ∙ ap (λ z. nodes_of next lens l ++ z ∷ []) (let same : place - length lens ≡ n = omega arith in same)
-          ∙ ap (λ z. z ++ n ∷ []) (sym (list_at-links next lens l new.list))
-          ∙ sym (get_or-set_same old l added [] (rw (length-lists next lens) new.list))
-          ∙ ap (λ z. get_or (set old l added) z []) (sym e)
-      | inr k_l ↦
-          ap (map (λ x. x - length lens)) (pushed_other good l place t k new is_t kb k_l).0
-          ∙ sym (list_at-links next lens k kb) ∙ sym (get_or-set_other old l k added [] k_l)
-    ])
+    leave : IsMove next owner lens l before (length lens + n) (length lens + n) behind None (get_or lens l 0 - 1)
+    leave =
+        let low = (is_node (length lens + n) l mine).1 in
+        let back = good.inverse.back (length lens + n) low in
+        record {
+          list = listed;
+          high = omega arith;
+          low = low;
+          before = back.0;
+          apart = λ e. false≢true (sym (never (follow next) l l (ring_of next lens l) (length lens + n)
+              (good.rings l listed).path (λ s. omega (arith, listed)) (λ y on is.
+              back_is l y (length lens + n) listed on is ∙ e)) ∙ on_ring l (length lens + n) listed mine);
+          to = back.1;
+          from = refl;
+          ends = inr refl;
+          was = λ k is. cc;
+          is = λ k is. cc;
+          rest = λ is. refl;
+          count = rw mine (omega (arith, owned_len));
+        }
 
-pub unlinked_lists : {next prev : List ℕ} {owner : List (Option ℕ)} {lens : List ℕ} (good : IsGood next prev owner lens)
-    (l p n q : ℕ) → IsBetween next prev owner l p (length lens + n) q
-    → (links_of (set (set next p q) (length lens + n) (length lens + n)) (set lens l (get_or lens l 0 - 1))).lists
-    ≡ map (without n) (links_of next lens).lists
-unlinked_lists {next} {prev} {owner} {lens} good l p n q it =
-    let place = length lens + n in
-    let lens' = set lens l (get_or lens l 0 - 1) in
-    let next' = set (set next p q) place place in
-    let old = (links_of next lens).lists in
-    let len' : length lens' ≡ length lens = length-set lens l (get_or lens l 0 - 1) in
-    let b = good.listed place l it.owner_is in
-    ext_get_or [] (links_of next' lens').lists (map (without n) old)
-    (length-lists next' lens' ∙ len' ∙ sym (length-lists next lens) ∙ sym (length-map old (without n)))
-    (λ k h.
-    let kb' : k < length lens' = rw (sym (length-lists next' lens')) h in
-    let kb : k < length lens = rw (sym len') kb' in
-    let there : get_or (map (without n) old) k [] ≡ without n (list_at old k) =
-    get_or-map (without n) old k [] [] (rw (length-lists next lens) kb) in
-    list_at-links next' lens' k kb' ∙ ap (λ c. map (λ x. x - c) (ring_of next' lens' k)) len' ∙ elim (cases_eq k l) [
-      | inl e ↦
-          ap (λ z. map (λ x. x - length lens) (ring_of next' lens' z)) e
-          ∙ ap (map (λ x. x - length lens)) (unlinked_ring good l p place q it).0
-          ∙ without-minus (length lens) (ring_of next lens l) n (above good l b)
-          ∙ ap (without n) (sym (list_at-links next lens l b)) ∙ ap (λ z. without n (list_at old z)) (sym e) ∙ sym there
-      | inr k_l ↦
-          ap (map (λ x. x - length lens)) (unlinked_other good l p place q k it kb k_l).0
-          ∙ sym (list_at-links next lens k kb)
-          ∙ sym (without-absent (list_at old k) n (has-list good k n ∙ ap (λ o. is_at o k) it.owner_is
-          ∙ ne_eqb l k (λ s. k_l (sym s)))) ∙ sym there
-    ])
+    unlinked_ring : (ring_of (set (set next before behind) (length lens + n) (length lens + n))
+        (set lens l (get_or lens l 0 - 1)) l ≡ without (length lens + n) (ring_of next lens l))
+        × IsRing (set (set next before behind) (length lens + n) (length lens + n))
+        (set owner (length lens + n) None) (set lens l (get_or lens l 0 - 1)) l
+    unlinked_ring =
+        let place = length lens + n in
+        let next' = set (set next before behind) place place in
+        let ring = good.rings l listed in
+        let xs = ring_of next lens l in
+        let l_place : l ≢ place = λ e. omega (arith, listed) in
+        ring_from next' (set owner place None) (set lens l (get_or lens l 0 - 1)) l (without place xs)
+        (path_without (follow next) l (follow next') before place
+        (no_write next before place behind place) l xs ring.path
+        (loop_distinct l listed) l_place l_place leave.to (first_write next before place behind place leave.before
+        leave.apart) (λ y e is. back_is l y place listed e is))
+        (get_or-set_same lens l (get_or lens l 0 - 1) 0 listed ∙ omega (arith, shorter))
+        (apart-without xs place ring.apart)
+        (λ x. has-without xs place x ring.apart ∙ set_owner owner place None x l (cond (eqb x place) false (has xs x))
+        (rw good.owners leave.low) (λ e. rw (eq-eqb x place e)) (λ e. rw (ne_eqb x place e) (ring.owned x)))
 
--- ---- consequences of the conditions of the calls
+    -- the invariant after a node was taken out
+    pub unlinked_good : IsGood (set (set next before behind) (length lens + n) (length lens + n))
+        (set (set prev behind before) (length lens + n) (length lens + n)) (set owner (length lens + n) None)
+        (set lens l (get_or lens l 0 - 1))
+    unlinked_good = moved_good l before (length lens + n) (length lens + n) behind None (get_or lens l 0 - 1) leave
+        unlinked_ring.1
 
-pub free_place : {next prev : List ℕ} {owner : List (Option ℕ)} {lens : List ℕ} (good : IsGood next prev owner lens)
-    (n : ℕ) → IsFree (links_of next lens).lists n → get_or owner (length lens + n) None ≡ None
-free_place {next} {prev} {owner} {lens} good n free =
-    none_from (get_or owner (length lens + n) None) (λ l is. false≢true (sym (free l) ∙ has-list good l n
-    ∙ ap (λ o. is_at o l) is ∙ is_at-self l))
-  where
-    none_from : (o : Option ℕ) → ((l : ℕ) → o ≡ Some l → ⊥) → o ≡ None
-    none_from None h = refl
-    none_from (Some l) h = absurd (h l refl)
+    pub unlinked_lists : (links_of (set (set next before behind) (length lens + n) (length lens + n))
+        (set lens l (get_or lens l 0 - 1))).lists ≡ map (without n) (links_of next lens).lists
+    unlinked_lists =
+        let place = length lens + n in
+        let old = (links_of next lens).lists in
+        let left = λ (k : ℕ). get_or-map_same (without n) old k [] in
+        moved_lists l before place place behind None (get_or lens l 0 - 1) leave (map (without n) old)
+        (length-map old (without n) ∙ length-lists next lens)
+        (rw (unlinked_ring.0, left l, list_at-links next lens l listed) (without-map (λ x. x - length lens) n place
+        (omega arith) (ring_of next lens l) (node_only l listed n)))
+        (λ k h k_l. rw (
+          left k,
+          without-absent (list_at old k) n (has-list k n ∙ rw mine (ne_eqb l k (λ s. k_l (sym s)))),
+          list_at-links next lens k h,
+        ))
 
-pub linked_place : {next prev : List ℕ} {owner : List (Option ℕ)} {lens : List ℕ} (good : IsGood next prev owner lens)
-    (n : ℕ) (on : IsLinked (links_of next lens).lists n) → get_or owner (length lens + n) None ≡ Some on.0
-linked_place {next} {prev} {owner} {lens} good n on = is_at-true (get_or owner (length lens + n) None) on.0
-    (sym (has-list good on.0 n) ∙ on.1)
+  -- ---- consequences of the conditions of the calls
 
--- a list is shorter than there are places
-pub len_below : {next prev : List ℕ} {owner : List (Option ℕ)} {lens : List ℕ} (good : IsGood next prev owner lens)
-    (l : ℕ) → l < length lens → get_or lens l 0 ≤ length next
-len_below {next} {prev} {owner} {lens} good l h =
-    let part = get_or-le-sum_by (λ x. x) lens l 0 h in let all = good.counted in omega (arith, part, all)
+  pub free_place : (n : ℕ) → IsFree (links_of next lens).lists n → get_or owner (length lens + n) None ≡ None
+  free_place n free = none_from (get_or owner (length lens + n) None) (λ l is. false≢true (sym (free l) ∙ has-list l n
+      ∙ rw is (is_at-self l)))
+    where
+      none_from : (o : Option ℕ) → ((l : ℕ) → o ≡ Some l → ⊥) → o ≡ None
+      none_from None h = refl
+      none_from (Some l) h = absurd (h l refl)
 
--- a list of the view has a place
-pub list_below : (next lens : List ℕ) (v : Links) (l : ℕ) → links_of next lens ≡ v → l < length v.lists
-    → l < length lens
-list_below next lens v l is h = let same : length v.lists ≡ length lens = ap (λ w. length w.lists) (sym is)
-    ∙ length-lists next lens in omega arith
+  pub linked_place : (l n : ℕ) → has (list_at (links_of next lens).lists l) n ≡ true
+      → get_or owner (length lens + n) None ≡ Some l
+  linked_place l n on = is_at-true (get_or owner (length lens + n) None) l (sym (has-list l n) ∙ on)
 
--- a node of the view has a place
-pub node_below : (next lens : List ℕ) (v : Links) (n : ℕ) → links_of next lens ≡ v → n < v.nodes
-    → length lens + n < length next
-node_below next lens v n is h = let same : v.nodes ≡ length next - length lens = ap (λ w. w.nodes) (sym is) in
-    omega arith
+  -- a list is shorter than there are places
+  pub len_below : (l : ℕ) → l < length lens → get_or lens l 0 ≤ length next
+  len_below l h = omega (arith, get_or-le-sum_by (λ x. x) lens l 0 h, good.counted)
 
--- each list has its nodes once
-pub apart-list : {next prev : List ℕ} {owner : List (Option ℕ)} {lens : List ℕ} (good : IsGood next prev owner lens)
-    (l : ℕ) → Apart (list_at (links_of next lens).lists l)
-apart-list {next} {prev} {owner} {lens} good l =
-    elim (cases_lt l (length lens)) [
-      | inl s ↦ subst Apart (sym (list_at-links next lens l s))
-          (apart-minus (length lens) (ring_of next lens l) (above good l s) (good.rings l s).apart)
-      | inr s ↦ subst Apart (sym (list_at-past next lens l s)) tt
-    ]
+  -- each list has its nodes once
+  pub apart-list : (l : ℕ) → Apart (list_at (links_of next lens).lists l)
+  apart-list l = elim (cases_lt l (length lens)) [
+    | inl s ↦ rw (list_at-links next lens l s) (apart-map (λ x. x - length lens) (ring_of next lens l) (λ x y ex ey e.
+        node_only l s (y - length lens) x ex e ∙ sym (node_only l s (y - length lens) y ey refl))
+        (good.rings l s).apart)
+    | inr s ↦ rw (list_at-past next lens l s) tt
+  ]
 
 -- ---- more nodes
 
 abbrev pub more_links : List ℕ → ℕ → List ℕ
 more_links links places = links ++ range_with_len (length links) (places - length links)
 
-more_before : (links : List ℕ) (places x : ℕ) → x < length links
-    → get_or (more_links links places) x 0 ≡ get_or links x 0
-more_before links places x h = get_or_append_left links (range_with_len (length links) (places - length links)) 0 x h
+module _ (links : List ℕ) (places : ℕ) where
+  more_before : (x : ℕ) → x < length links → get_or (more_links links places) x 0 ≡ get_or links x 0
+  more_before x h = get_or_append_left links (range_with_len (length links) (places - length links)) 0 x h
 
-more_behind : (links : List ℕ) (places x : ℕ) → length links ≤ x → x < places → get_or (more_links links places) x 0 ≡ x
-more_behind links places x low high =
-    get_or-append_right links (range_with_len (length links) (places - length links)) (length links) x 0 refl low
-    ∙ get_or-range_with_len (length links) (places - length links) (x - length links) 0 (omega arith) ∙ omega arith
+  more_behind : (x : ℕ) → length links ≤ x → x < places → get_or (more_links links places) x 0 ≡ x
+  more_behind x low high =
+      get_or-append_right links (range_with_len (length links) (places - length links)) (length links) x 0 refl low
+      ∙ get_or-range_with_len (length links) (places - length links) (x - length links) 0 (omega arith) ∙ omega arith
 
-pub length-more : (links : List ℕ) (places : ℕ) → length links ≤ places → length (more_links links places) ≡ places
-length-more links places h = length-append links (range_with_len (length links) (places - length links))
-    ∙ (let k = length-range_with_len (length links) (places - length links) in omega (arith, k))
+  pub length-more : length links ≤ places → length (more_links links places) ≡ places
+  length-more h = rw (length-append, length-range_with_len) (omega arith)
+
+more_back : (n : ℕ) (next prev : List ℕ) (places : ℕ) → length next ≡ n → length prev ≡ n → n ≤ places
+    → LeadsBack n next prev → LeadsBack places (more_links next places) (more_links prev places)
+more_back n next prev places len len' h leads x b = elim (cases_lt x n) [
+  | inl s ↦ (let to = leads x s in rw (more_before next places x (rw len s)) (
+    omega (arith, to.0),
+    more_before prev places (get_or next x 0) (rw len' to.0) ∙ to.1,
+  ))
+  | inr s ↦ rw (more_behind next places x (rw len s) b) (b, more_behind prev places x (rw len' s) b)
+]
 
 more_owners : (owner : List (Option ℕ)) (n x : ℕ) → get_or (owner ++ replicate n None) x None ≡ get_or owner x None
-more_owners owner n x =
-    elim (cases_lt x (length owner)) [
-      | inl s ↦ get_or_append_left owner (replicate n None) None x s
-      | inr s ↦ get_or-append_right owner (replicate n None) (length owner) x None refl s
-          ∙ past_none n (x - length owner) ∙ sym (get_or_past owner x None s)
-    ]
-  where
-    past_none : (n i : ℕ) → get_or {A = Option ℕ} (replicate n None) i None ≡ None
-    past_none n i = elim (cases_lt i n) [
-      | inl s ↦ get_or-replicate n i None None s
-      | inr s ↦ (let far : length (replicate {A = Option ℕ} n None) ≤ i = rw length-replicate s in
-          get_or_past (replicate n None) i None far)
-    ]
+more_owners owner n x = elim (cases_lt x (length owner)) [
+  | inl s ↦ get_or_append_left owner (replicate n None) None x s
+  | inr s ↦ get_or-append_right owner (replicate n None) (length owner) x None refl s
+      ∙ all_same n (x - length owner) None ∙ sym (get_or_past owner x None s)
+]
 
-more_inverse : (next prev : List ℕ) (places : ℕ) → AreInverse next prev → length next ≤ places
-    → AreInverse (more_links next places) (more_links prev places)
-more_inverse next prev places inverse h =
-    let same : length prev ≡ length next = inverse.same in
-    let len : length (more_links next places) ≡ places = length-more next places h in
-    let len' : length (more_links prev places) ≡ places = length-more prev places (omega (arith, same)) in
-    record {
-      same = len' ∙ sym len;
-      forth = λ x b.
-          let xb : x < places = rw (sym len) b in
-          elim (cases_lt x (length next)) [
-            | inl s ↦
-                let to = inverse.forth x s in
-                let to' : get_or next x 0 < length prev = rw same to.0 in
-                let low : get_or next x 0 < places = (let t = to.0 in omega (arith, t)) in
-                rw (more_before next places x s, len) (low, more_before prev places (get_or next x 0) to' ∙ to.1)
-            | inr s ↦ rw (more_behind next places x s xb, len) (xb, more_behind prev places x (omega (arith, same)) xb)
-          ];
-      back = λ x b.
-          let xb : x < places = rw (sym len) b in
-          elim (cases_lt x (length next)) [
-            | inl s ↦
-                let to = inverse.back x s in
-                let s' : x < length prev = rw same s in
-                let low : get_or prev x 0 < places = (let t = to.0 in omega (arith, t)) in
-                rw (more_before prev places x s', len) (low, more_before next places (get_or prev x 0) to.0 ∙ to.1)
-            | inr s ↦ (let s' : length prev ≤ x = rw same s in
-                rw (more_behind prev places x s' xb, len) (xb, more_behind next places x s xb))
-          ];
-    }
+module _ {next prev : List ℕ} {owner : List (Option ℕ)} {lens : List ℕ} (good : IsGood next prev owner lens)
+    (places : ℕ) where
+  more_rings : (n k : ℕ) → k < length lens → (ring_of (more_links next places) lens k ≡ ring_of next lens k)
+      × IsRing (more_links next places) (owner ++ replicate n None) lens k
+  more_rings n k h = kept_ring good k (more_links next places) (owner ++ replicate n None) lens h
+      (λ y e. more_before next places y (loop_below good k y h e)) (λ y. rw (more_owners owner n y)) refl
 
-more_rings : {next prev : List ℕ} {owner : List (Option ℕ)} {lens : List ℕ} (good : IsGood next prev owner lens)
-    (places n k : ℕ) → k < length lens
-    → (ring_of (more_links next places) lens k ≡ ring_of next lens k)
-    × IsRing (more_links next places) (owner ++ replicate n None) lens k
-more_rings {next} {prev} {owner} {lens} good places n k h =
-    kept_ring good k (more_links next places) (owner ++ replicate n None) lens h
-    (λ y e. more_before next places y (loop_below good k y h e))
-    (λ y. ap (λ o. is_at o k) (more_owners owner n y))
-    refl
+  -- the invariant, with more nodes
+  pub grown_good : (n : ℕ) → length next ≤ places → length owner + n ≡ places
+      → IsGood (more_links next places) (more_links prev places) (owner ++ replicate n None) lens
+  grown_good n h count =
+      let same = good.inverse.same in
+      let len = length-more next places h in
+      let len' = length-more prev places (rw same h) in
+      record {
+        inverse = record {
+          same = len' ∙ sym len;
+          forth = rw len (more_back (length next) next prev places refl same h good.inverse.forth);
+          back = rw len (more_back (length next) prev next places same refl h good.inverse.back);
+        };
+        owners = rw (len, length-append, length-replicate) count;
+        few = omega (arith, len, good.few);
+        sentinels = λ l b. more_owners owner n l ∙ good.sentinels l b;
+        listed = λ x l is. good.listed x l (rw (more_owners owner n x) at is);
+        alone = λ x high low free. elim (cases_lt x (length next)) [
+          | inl s ↦ more_before next places x s ∙ good.alone x high s (rw (more_owners owner n x) at free)
+          | inr s ↦ more_behind next places x s (rw len at low)
+        ];
+        rings = λ k b. (more_rings n k b).1;
+        counted =
+            (let none = sum_by-replicate (λ (x : Option ℕ). cond (is_none x) 1 0) n None in
+            let parts = sum_by-append (λ (x : Option ℕ). cond (is_none x) 1 0) owner (replicate n None) in
+            omega (arith, good.counted, good.owners, none, parts, len, count));
+      }
 
--- the invariant, with more nodes
-pub grown_good : {next prev : List ℕ} {owner : List (Option ℕ)} {lens : List ℕ} (good : IsGood next prev owner lens)
-    (places n : ℕ) → length next ≤ places → length owner + n ≡ places
-    → IsGood (more_links next places) (more_links prev places) (owner ++ replicate n None) lens
-grown_good {next} {prev} {owner} {lens} good places n h count =
-    let few : length lens ≤ length next = good.few in
-    let len : length (more_links next places) ≡ places = length-more next places h in
-    let owners : length (owner ++ replicate n None) ≡ places = length-append owner (replicate n None)
-    ∙ (let k = length-replicate {A = Option ℕ} n None in omega (arith, k, count)) in
-    record {
-      inverse = more_inverse next prev places good.inverse h;
-      owners = owners ∙ sym len;
-      few = rw len (omega arith);
-      sentinels = λ l b. more_owners owner n l ∙ good.sentinels l b;
-      listed = λ x l is. good.listed x l (sym (more_owners owner n x) ∙ is);
-      alone = λ x high low free.
-          (let xb : x < places = rw (sym len) low in
-          elim (cases_lt x (length next)) [
-            | inl s ↦ more_before next places x s ∙ good.alone x high s (sym (more_owners owner n x) ∙ free)
-            | inr s ↦ more_behind next places x s xb
-          ]);
-      rings = λ k b. (more_rings good places n k b).1;
-      counted =
-          (let all = good.counted in let same = good.owners in
-          let none : count_by is_none (replicate {A = Option ℕ} n None) ≡ n =
-          sum_by-replicate (λ (x : Option ℕ). cond (is_none x) 1 0) n None ∙ omega arith in
-          let parts : count_by is_none (owner ++ replicate n None) ≡ count_by is_none owner
-          + count_by is_none (replicate n None) = sum_by-append (λ (x : Option ℕ). cond (is_none x) 1 0) owner
-          (replicate n None) in
-          omega (arith, all, same, none, parts, len, count));
-    }
-
-pub grown_lists : {next prev : List ℕ} {owner : List (Option ℕ)} {lens : List ℕ} (good : IsGood next prev owner lens)
-    (places : ℕ)
-    → (links_of (more_links next places) lens).lists ≡ (links_of next lens).lists
-grown_lists {next} {prev} {owner} {lens} good places =
-    ext_get_or [] (links_of (more_links next places) lens).lists (links_of next lens).lists
-    (length-lists (more_links next places) lens ∙ sym (length-lists next lens))
-    (λ k h.
-    let kb : k < length lens = rw (sym (length-lists (more_links next places) lens)) h in
-    list_at-links (more_links next places) lens k kb ∙ ap (map (λ x. x - length lens)) (more_rings good places 0 k kb).0
-    ∙ sym (list_at-links next lens k kb))
+  pub grown_lists : (links_of (more_links next places) lens).lists ≡ (links_of next lens).lists
+  grown_lists = range_is (nodes_of (more_links next places) lens) (length lens) [] (links_of next lens).lists
+      (length-lists next lens) (λ k h. rw (list_at-links next lens k h, (more_rings 0 k h).0))

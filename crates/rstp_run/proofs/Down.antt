@@ -1,85 +1,45 @@
 -- A port of a settled bridge that isn't the root port goes down: each port keeps its role, or has no role any more.
-use Rattle.std.proofs.Common.{◌≡◌, ℕ, zero, suc, ◌+◌, ◌-◌, ◌⊎◌, inl, inr, Bool, true, false, not, ◌&&◌, ◌==◌, List, []}
-use Rattle.std.proofs.Common.{◌∷◌, map, Option, Some, None, slice_get, slice_set, refl, sym, ap, subst, ◌∙◌, arith}
-use Rattle.std.specs.List.{enumerate_from}
-use Rattle.std.specs.Option.{option_map_or}
-use Rattle.rstp_state.specs.declared.port.PortState.{PortState}
-use Rattle.rstp_state.specs.declared.port.InfoIs.TheVariants as info_is
-use Rattle.rstp_state.specs.declared.port.Role.{Role}
-use Rattle.rstp_state.specs.declared.port.Role.TheVariants as role
-use Rattle.rstp_state.specs.declared.selection.Path.{Path}
-use Rattle.rstp_state.specs.declared.selection.Root.{Root}
-use Rattle.rstp_state.specs.declared.start.Settings.{Settings}
-use Rattle.rstp_state.specs.Direct.{with_enabled, without_slot}
-use Rattle.rstp_state.specs.Port.{change_at, is_current, is_out, is_received, test_at}
-use Rattle.bpdu_wire.specs.Id.{bridge_address}
-use Rattle.rstp_state.specs.Selection.{best_path, designated_times, designated_vector, is_better, is_own, is_through}
-use Rattle.rstp_state.specs.Selection.{role_by, root_along, selected_ports, selected_root, updates_by, with_choice}
-use Rattle.rstp_state.specs.Vector.{is_less, same_times, same_vector}
-use Rattle.rstp_run.specs.declared.event.Event.TheVariants as events
-use Rattle.rstp_run.specs.declared.rule.InformationRule.{InformationRule}
-use Rattle.rstp_run.specs.declared.rule.InformationRule.TheVariants as information_rule
-use Rattle.rstp_run.specs.declared.rule.ReceiveRule.{ReceiveRule}
-use Rattle.rstp_run.specs.declared.rule.ReceiveRule.TheVariants as receive_rule
-use Rattle.rstp_run.specs.declared.rule.Rule.{Rule}
-use Rattle.rstp_run.specs.declared.rule.Rule.TheVariants as rules
-use Rattle.rstp_run.specs.Events.{direct}
-use Rattle.rstp_run.specs.Machines.{information_asks, information_does, receive_asks, receive_does}
-use Rattle.rstp_run.specs.Rules.{Tree, after, guard, ports_after}
-use Rattle.rstp_run.specs.Runs.{Firing, Run}
-use Rattle.rstp_run.proofs.Candidates.{AtEach, Remains, best_stays, root_stays}
-use Rattle.rstp_run.proofs.Current.{choice_in, path_in}
-use Rattle.rstp_run.proofs.Each.{Each, each_map, each_then}
-use Rattle.rstp_run.proofs.Quiet.{IsStill, Known, Still, still_of}
-use Rattle.rstp_run.proofs.Walk.{is_plain, still_after}
-use Rattle.rstp_state.proofs.Basics.{no}
-
--- ---- places
-
-abbrev pub IsEach : (ℕ → PortState → Type 0) → ℕ → List PortState → Type 0
-IsEach P n [] = Unit {0}
-IsEach P n (x ∷ xs) = P n x × IsEach P (n + 1) xs
-
-at_same : (R : ℕ → PortState → PortState → Type 0) → ((n : ℕ) (x : PortState) → R n x x) → (n : ℕ)
-    (ports : List PortState) → AtEach R n ports ports
-at_same R same n [] = tt
-at_same R same n (x ∷ xs) = (same n x, at_same R same (n + 1) xs)
-
-at_weaker : (R : PortState → PortState → Type 0) (S : ℕ → PortState → PortState → Type 0)
-    → ((n : ℕ) (x y : PortState) → R x y → S n x y) → (n : ℕ) (xs ys : List PortState) → Each R xs ys → AtEach S n xs ys
-at_weaker R S w n [] [] h = tt
-at_weaker R S w n (x ∷ xs) (y ∷ ys) h = (w n x y h.0, at_weaker R S w (n + 1) xs ys h.1)
-at_weaker R S w n xs ys h = absurd h
-
-module _ (R : ℕ → PortState → PortState → Type 0) (same : (n : ℕ) (x : PortState) → R n x x) where
-  push : (n : ℕ) (does : PortState → PortState) (x : PortState) (xs : List PortState) (p : ℕ) (o : Option PortState)
-      → AtEach R (n + 1) xs (option_map_or (λ port. slice_set xs p (does port)) o xs)
-      → AtEach R n (x ∷ xs) (option_map_or (λ port. slice_set (x ∷ xs) (suc p) (does port)) o (x ∷ xs))
-  push n does x xs p None h = (same n x, h)
-  push n does x xs p (Some port) h = (same n x, h)
-
-  at_change : (does : PortState → PortState) (n : ℕ) (ports : List PortState) (p : ℕ)
-      → ((port : PortState) → slice_get ports p ≡ Some port → R (n + p) port (does port))
-      → AtEach R n ports (change_at p does ports)
-  at_change does n [] p h = tt
-  at_change does n (x ∷ xs) zero h =
-      let here : n + 0 ≡ n = omega arith in (rw here at (h x refl), at_same R same (n + 1) xs)
-  at_change does n (x ∷ xs) (suc p) h =
-      let next : n + suc p ≡ n + 1 + p = omega arith in
-      push n does x xs p (slice_get xs p) (at_change does (n + 1) xs p (λ port at. rw next at (h port at)))
+-- A settled bridge is calm, and after a port other than the root port went down its ports in the tree were there.
+use Rattle.rstp_run.proofs.Basics.{clash, current_not_out, Facts, Off, On, Relation, Relations}
+use Rattle.rstp_run.proofs.Candidates.{best_stays, Remains, root_stays}
+use Rattle.rstp_run.proofs.Current.{choice_in, IsCurrent, path_in}
+use Rattle.rstp_run.proofs.Each.{AtAll, AtEach, Each, each_as, each_back, each_change, each_map, each_same}
+use Rattle.rstp_run.proofs.Each.{each_selected, each_then, Over}
+use Rattle.rstp_run.proofs.Names.{[], after, and_off, ap, arith, asks, Bool, best_path, bridge_address, cases_Bool}
+use Rattle.rstp_run.proofs.Names.{designated_times, designated_vector, direct, Firing, false, guard, InformationRule}
+use Rattle.rstp_run.proofs.Names.{IsInTree, IsSettled, information_asks, information_does, inl, inr, is_better}
+use Rattle.rstp_run.proofs.Names.{is_current, is_in_tree, is_less, is_out, is_own, is_received, is_root, is_select}
+use Rattle.rstp_run.proofs.Names.{is_through, List, map, no, not, Path, PortState, ports_after, Role, Root, Rule, Run}
+use Rattle.rstp_run.proofs.Names.{refl, role_by, root_along, Settings, Some, same_times, same_vector, selected_ports}
+use Rattle.rstp_run.proofs.Names.{slice_get, subst, sym, Tree, timing_in, updates_by, with_choice, with_enabled}
+use Rattle.rstp_run.proofs.Names.{without_slot, ℕ, ◌&&◌, ◌-◌, ◌==◌, ◌∙◌, ◌∷◌, ◌≡◌, ◌⊎◌}
+use Rattle.rstp_run.proofs.Own.{own, own-each, spread_by, spread_of}
+use Rattle.rstp_run.proofs.Quiet.{IsStill, Known, own_still, Still, spread_still, still_of}
+use Rattle.rstp_run.proofs.Reached.{IsReached}
+use Rattle.rstp_run.proofs.Resting.{has_selected, is_informed, is_off, no_message, still_fresh, updated}
+use Rattle.rstp_run.proofs.Totals.{tested_at}
+use Rattle.rstp_run.specs.Lasting.{LosesPort}
+use Rattle.rstp_state.specs.Selection.{selected_root}
+use Rattle.rstp_run.proofs.Names.events
+use Rattle.rstp_run.proofs.Names.info_is
+use Rattle.rstp_run.proofs.Names.information_rule
+use Rattle.rstp_run.proofs.Names.receive_rule
+use Rattle.rstp_run.proofs.Names.role
+use Rattle.rstp_run.proofs.Names.rules
 
 -- ---- truth values
 
-down_receives_not : (b e m : Bool) → e ≡ false → b && e && not m ≡ false
+down_receives_not : (b e m : Bool) → Off e → Off (b && e && not m)
 down_receives_not b e m h = grind arith
 
-down_is : (e o : Bool) → not e && not o ≡ true → e ≡ false
+down_is : (e o : Bool) → On (not e && not o) → Off e
 down_is e o h = grind arith
 
--- ---- a calm port
+through_off : (t e : Bool) → (On t → On e) → Off e → Off t
+through_off t e h d = grind arith
 
 -- the port keeps its selected role, or has none any more
-abbrev pub Loses : PortState → PortState → Type 0
+abbrev Loses : Relation
 Loses x y = (y.selected_role ≡ x.selected_role) ⊎ (y.selected_role ≡ role.Disabled)
 
 loses_then : (x y z : PortState) → Loses x y → Loses y z → Loses x z
@@ -102,24 +62,19 @@ module _ (settings : Settings) (root : Root) (path : Path) where
   -- port that is out is down, and the root port is up. Selection gives the port its selected role, or none.
   abbrev pub IsCalmOf : ℕ → Still → Type 0
   IsCalmOf n s =
-      (s.received_bpdu && s.enabled && not s.received_message ≡ false)
-      × (is_current s.known.information ≡ true → s.received_message ≡ false)
-      × (is_out s.known.information ≡ true → (s.received_message ≡ false) × (s.enabled ≡ false))
-      × (is_through path n ≡ true → s.enabled ≡ true)
-      × (is_received s.known.info_is ≡ true → (s.known.received_info_while == 0) ≡ false)
-      × (s.known.update_info ≡ false)
-      × (update_in n s.known ≡ false)
-      × ((role_in n s.known ≡ s.known.selected_role) ⊎ (s.known.info_is ≡ info_is.Disabled))
+      Off (s.received_bpdu && s.enabled && not s.received_message)
+      × (On (is_current s.known.information) → Off s.received_message)
+      × (On (is_out s.known.information) → Off s.received_message × Off s.enabled)
+      × (On (is_through path n) → On s.enabled)
+      × (On (is_received s.known.info_is) → Off (s.known.received_info_while == 0)) × Off s.known.update_info
+      × Off (update_in n s.known) × ((role_in n s.known ≡ s.known.selected_role) ⊎ (s.known.info_is ≡ info_is.Disabled))
 
-  abbrev pub IsCalm : ℕ → PortState → Type 0
+  abbrev pub IsCalm : Facts
   IsCalm n x = IsCalmOf n (still_of x)
 
   -- a calm port stays calm, is the candidate that it was or none, and keeps its role or has none
-  abbrev Step : ℕ → PortState → PortState → Type 0
+  abbrev Step : Relations
   Step n x y = IsCalm n x → IsCalm n y × Remains settings path n x y × Loses x y
-
-  unchanged : (n : ℕ) (x : PortState) → Step n x x
-  unchanged n x c = (c, inl (refl, refl), inl refl)
 
   still_step : (n : ℕ) (x y : PortState) → IsStill x y → Step n x y
   still_step n x y h c = (
@@ -128,24 +83,18 @@ module _ (settings : Settings) (root : Root) (path : Path) where
     inl (ap (λ (s : Still). s.known.selected_role) h),
   )
 
-  receive_step : (rule : ReceiveRule) (n : ℕ) (x : PortState) → receive_asks rule x ≡ true
-      → Step n x (receive_does rule x)
-  receive_step receive_rule.Discard n x g c =
-      ((refl, λ i. refl, λ o. (refl, (c.2 o).1), c.3, c.4, c.5, c.6, c.7), inl (refl, refl), inl refl)
-  receive_step receive_rule.Receive n x g c = no (sym c.0 ∙ g)
-
   -- no rule of information but Disabled is enabled at a calm port
-  information_step : (rule : InformationRule) (n : ℕ) (x : PortState) → information_asks rule x ≡ true
+  information_step : (rule : InformationRule) (n : ℕ) (x : PortState) → On (information_asks rule x)
       → Step n x (information_does rule x)
   information_step information_rule.Disabled n x g c =
-      let down = down_is x.enabled (is_out x.information) g in
-      let off : is_through path n ≡ false = from (is_through path n) c.3 down in (
+      let down = down_is x.enabled _ g in
+      let off = through_off (is_through path n) x.enabled c.3 down in (
         (
           down_receives_not x.received_bpdu x.enabled false down,
           λ i. refl,
           λ o. (refl, down),
-          λ t. no (sym off ∙ t),
-          λ r. no r,
+          clash off,
+          no,
           c.5,
           refl,
           inr refl,
@@ -153,20 +102,25 @@ module _ (settings : Settings) (root : Root) (path : Path) where
         inr (refl, off),
         inl refl,
       )
-    where
-      from : (t : Bool) → (t ≡ true → x.enabled ≡ true) → x.enabled ≡ false → t ≡ false
-      from true h d = no (sym d ∙ h refl)
-      from false h d = refl
   information_step rule n x g c = let no_rule : ⊥ = grind arith in absurd no_rule
 
+  own_step : (rule : Rule) (s : Tree) (p : ℕ) (x : PortState) → Off (is_select rule) → On (asks rule s p x)
+      → Step p x (own rule (timing_in s) x)
+  own_step rules.Select s p x n g c = cc
+  own_step (rules.Receive receive_rule.Discard) s p x n g c =
+      ((refl, λ i. refl, λ o. (refl, (c.2 o).1), c.3, c.4, c.5, c.6, c.7), inl (refl, refl), inl refl)
+  own_step (rules.Receive receive_rule.Receive) s p x n g c = clash c.0 g
+  own_step (rules.Information rule) s p x n g c = information_step rule p x g c
+  own_step rule s p x n g c = still_step p x (own rule (timing_in s) x) (own_still rule (timing_in s) x refl) c
+
   -- a port that isn't the root port goes down
-  down_step : (n : ℕ) (x : PortState) → is_through path n ≡ false → Step n x (with_enabled false x)
+  down_step : (n : ℕ) (x : PortState) → Off (is_through path n) → Step n x (with_enabled false x)
   down_step n x off c = (
     (
       down_receives_not x.received_bpdu false x.received_message refl,
       c.1,
       λ o. ((c.2 o).0, refl),
-      λ t. no (sym off ∙ t),
+      clash off,
       c.4,
       c.5,
       c.6,
@@ -177,28 +131,16 @@ module _ (settings : Settings) (root : Root) (path : Path) where
   )
 
   -- selection
-  choice_loses : (n : ℕ) (x : PortState) → IsCalm n x → Loses x (with_choice settings root (is_through path n) x)
-  choice_loses n x c = elim c.7 [
-    | inl same ↦ inl same
-    | inr none ↦ inr (ap (λ i. role_by i (is_through path n) (is_better settings root x) (is_own settings x)) none)
-  ]
-
-  choice_step : (n : ℕ) (x : PortState) → Step n x (with_choice settings root (is_through path n) x)
-  choice_step n x c = ((c.0, c.1, c.2, c.3, c.4, c.6, c.6, inl refl), inl (refl, refl), choice_loses n x c)
-
-  choice_steps : (n : ℕ) (xs : List PortState)
-      → AtEach Step n xs (map (λ e. with_choice settings root (is_through path e.0) e.1) (enumerate_from n xs))
-  choice_steps n [] = tt
-  choice_steps n (x ∷ xs) = (choice_step n x, choice_steps (n + 1) xs)
-
-  all_step : (n : ℕ) (xs ys : List PortState) → AtEach Step n xs ys → IsEach IsCalm n xs
-      → IsEach IsCalm n ys × AtEach (Remains settings path) n xs ys × Each Loses xs ys
-  all_step n [] [] h c = (tt, tt, tt)
-  all_step n (x ∷ xs) (y ∷ ys) h c =
-      let here = h.0 c.0 in
-      let rest = all_step (n + 1) xs ys h.1 c.1 in
-      ((here.0, rest.0), (here.1, rest.1), (here.2, rest.2))
-  all_step n xs ys h c = absurd h
+  choice_step : (s : Settings) (r : Root) (through : Path) (n : ℕ) (x : PortState) → s ≡ settings → r ≡ root
+      → through ≡ path → Step n x (with_choice s r (is_through through n) x)
+  choice_step s r through n x e f g = rw (e, f, g) (λ c. (
+    (c.0, c.1, c.2, c.3, c.4, c.6, c.6, inl refl),
+    inl (refl, refl),
+    elim c.7 [
+      | inl same ↦ inl same
+      | inr none ↦ inr (ap (λ i. role_by i (is_through path n) (is_better settings root x) (is_own settings x)) none)
+    ],
+  ))
 
   -- ---- a calm bridge
 
@@ -207,79 +149,123 @@ module _ (settings : Settings) (root : Root) (path : Path) where
     pub rooted : s.root ≡ root
     pub best : best_path settings s.ports ≡ path
     pub along : root_along settings s.ports path ≡ root
-    pub calm : IsEach IsCalm 0 s.ports
+    pub calm : AtAll IsCalm s.ports
     pub loses : Each Loses first s.ports
 
-  calm_by : (first : List PortState) (s : Tree) (ports : List PortState) → AtEach Step 0 s.ports ports → Calm first s
-      → Calm first (record s { ports = ports })
-  calm_by first s ports h k =
-      let (calm, remains, lose) = all_step 0 s.ports ports h k.calm in
-      record {
-        set = k.set;
-        rooted = k.rooted;
-        best = best_stays settings path s.ports ports k.best remains;
-        along = root_stays settings path s.ports ports remains ∙ k.along;
-        calm = calm;
-        loses = each_then Loses loses_then first s.ports ports k.loses lose;
-      }
+  module _ (first : List PortState) where
+    calm_by : (s : Tree) (ports : List PortState) → AtEach Step s.ports ports → Calm first s
+        → Calm first (record s { ports = ports })
+    calm_by s ports h k =
+        let now = each_as (λ q x y. IsCalm q y × Remains settings path q x y × Loses x y) s.ports ports h
+        (λ q x y at _ step. step (k.calm q x at)) in
+        let remains = each_as (Remains settings path) s.ports ports now (λ q x y _ _ r. r.1) in
+        record {
+          set = k.set;
+          rooted = k.rooted;
+          best = best_stays settings path s.ports ports k.best remains;
+          along = root_stays settings path s.ports ports remains ∙ k.along;
+          calm = λ q y at. (each_back _ s.ports ports now q y at).2.0;
+          loses = each_then Loses Loses Loses loses_then first s.ports ports k.loses
+              (each_as (λ q. Loses) s.ports ports now (λ q x y _ _ r. r.2));
+        }
 
-  at_rule : (asks : PortState → Bool) (does : PortState → PortState) (ports : List PortState) (p : ℕ)
-      → ((port : PortState) → asks port ≡ true → Step p port (does port)) → test_at p asks ports ≡ true
-      → AtEach Step 0 ports (change_at p does ports)
-  at_rule asks does ports p h g =
-      let zeroth : p ≡ 0 + p = omega arith in
-      at_change Step unchanged does 0 ports p (λ port at. rw (← zeroth) (h port (rw at at g)))
+    calm_rule : (rule : Rule) (s : Tree) (p : ℕ) → On (guard rule s p) → Calm first s → Calm first (after rule s p)
+    unfolding selected_root
+    calm_rule rules.Select s p g k =
+        let new : selected_root s.settings s.ports ≡ root = rw (k.set, k.best) k.along in
+        let path_is : best_path s.settings s.ports ≡ path = rw k.set k.best in
+        let there = calm_by s (selected_ports s.settings s.ports) (each_selected Step s.settings s.ports
+        (λ q x at. choice_step s.settings (selected_root s.settings s.ports) (best_path s.settings s.ports) q x k.set
+        new
+        path_is)) k in
+        record {
+          set = k.set;
+          rooted = new;
+          best = there.best;
+          along = there.along;
+          calm = there.calm;
+          loses = there.loses;
+        }
+    calm_rule rule s p g k =
+        calm_by s (ports_after rule s p) (own-each Step rule s p refl g
+        (λ q x apart. still_step q x (spread_by (spread_of rule) x) (spread_still (spread_of rule) x))
+        (λ x at. own_step rule s p x refl)) k
 
-  plain : (first : List PortState) (rule : Rule) (s : Tree) (p : ℕ) → is_plain rule ≡ true → guard rule s p ≡ true
-      → Calm first s → Calm first (record s { ports = ports_after rule s p })
-  plain first rule s p n g k =
-      calm_by first s (ports_after rule s p)
-      (at_weaker IsStill Step still_step 0 s.ports _ (still_after rule s p n g)) k
+    calm_run : (firings : List Firing) (s t : Tree) → Run firings s t → Calm first s → Calm first t
+    calm_run [] s t run k = rw run k
+    calm_run (f ∷ earlier) s t run k =
+        rw run.2.1 (calm_rule f.rule run.0 f.place run.2.0 (calm_run earlier s run.0 run.1 k))
 
-  select_calm : (first : List PortState) (s : Tree) → s.settings ≡ settings → (p : ℕ) → Calm first s
-      → Calm first (after rules.Select s p)
-  unfolding selected_ports selected_root
-  select_calm first s is p k =
-      let new : selected_root s.settings s.ports ≡ root = rw (is, k.best) k.along in
-      let ports : selected_ports s.settings s.ports
-      ≡ map (λ e. with_choice settings root (is_through path e.0) e.1) (enumerate_from 0 s.ports) =
-      simp (is, k.best)
-      (ap (λ r. map (λ e. with_choice settings r (is_through path e.0) e.1) (enumerate_from 0 s.ports)) k.along) in
-      let P : List PortState → Type 0 = λ l. Calm first (record s { ports = l }) in
-      let there = subst P (sym ports) (calm_by first s _ (choice_steps 0 s.ports) k) in
-      record {
-        set = is;
-        rooted = new;
-        best = there.best;
-        along = there.along;
-        calm = there.calm;
-        loses = there.loses;
-      }
+    -- a port that isn't the root port goes down, and rules fire
+    calm_down : (firings : List Firing) (p : ℕ) (s t : Tree) → Off (is_through path (p - 1))
+        → Run firings (direct (events.PortDown p) s) t → Calm first s → Calm first t
+    calm_down firings p s t off run k =
+        let empty = calm_by s (map without_slot s.ports)
+        (each_map Step without_slot s.ports (λ q x at. still_step q x (without_slot x) refl)) k in
+        calm_run firings (direct (events.PortDown p) s) t run
+        (calm_by (record s { ports = map without_slot s.ports }) _
+        (each_change Step (p - 1) (with_enabled false) _ _ (each_same (Over Step (p - 1) (with_enabled false))
+        (map without_slot s.ports) (λ q x at. (λ apart. still_step q x x refl, λ e. down_step q x (rw e off))))) empty)
 
-  calm_rule : (first : List PortState) (rule : Rule) (s : Tree) (p : ℕ) → guard rule s p ≡ true → Calm first s
-      → Calm first (after rule s p)
-  calm_rule first rules.Select s p g k = select_calm first s k.set p k
-  calm_rule first (rules.Receive rule) s p g k =
-      calm_by first s _ (at_rule (receive_asks rule) (receive_does rule) s.ports p (receive_step rule p) g) k
-  calm_rule first (rules.Information rule) s p g k =
-      calm_by first s _
-      (at_rule (information_asks rule) (information_does rule) s.ports p (information_step rule p) g) k
-  calm_rule first rule s p g k = plain first rule s p refl g k
+up_is : (e o : Bool) → Off (not e && not o) → Off o → On e
+up_is e o h k = grind arith
 
-  calm_run : (first : List PortState) (firings : List Firing) (s t : Tree) → Run firings s t → Calm first s
-      → Calm first t
-  calm_run first [] s t run k = subst (Calm first) (sym run) k
-  calm_run first (f ∷ earlier) s t run k = subst (Calm first) (sym run.2.1)
-      (calm_rule first f.rule run.0 f.place run.2.0 (calm_run first earlier s run.0 run.1 k))
+-- ---- a settled bridge is calm
 
-  -- a port that isn't the root port goes down, and rules fire
-  pub calm_down : (first : List PortState) (firings : List Firing) (p : ℕ) (s t : Tree)
-      → is_through path (p - 1) ≡ false → Run firings (direct (events.PortDown p) s) t → Calm first s → Calm first t
-  calm_down first firings p s t off run k =
-      let zeroth : p - 1 ≡ 0 + (p - 1) = omega arith in
-      let empty = calm_by first s (map without_slot s.ports)
-      (at_weaker IsStill Step still_step 0 s.ports _ (each_map IsStill without_slot (λ port. refl) s.ports)) k in
-      let down = calm_by first (record s { ports = map without_slot s.ports }) _
-      (at_change Step unchanged (with_enabled false) 0 (map without_slot s.ports) (p - 1)
-      (λ port at. rw (← zeroth) (down_step (p - 1) port off))) empty in
-      calm_run first firings (direct (events.PortDown p) s) t run down
+module _ (s : Tree) (reached : IsReached s) (settled : IsSettled s) (current : IsCurrent s) where
+  calm_at : AtAll (IsCalm s.settings s.root (best_path s.settings s.ports)) s.ports
+  calm_at p x at =
+      let off = is_off s reached.kept settled p x at in
+      let chosen = current.ports p x at in
+      let fresh = (is_informed s reached settled p x at).4 in (
+        off (rules.Receive receive_rule.Receive),
+        no_message s reached settled p x at,
+        λ o. (
+          and_off (is_out x.information) x.received_message (off (rules.Information information_rule.Drop)) o,
+          and_off (is_out x.information) x.enabled (off (rules.Information information_rule.Enabled)) o,
+        ),
+        λ t. up_is x.enabled _ (off (rules.Information information_rule.Disabled))
+            (current_not_out x.information (fresh (chosen.4 t)).0),
+        still_fresh s reached settled p x at,
+        updated s reached settled p x at,
+        sym chosen.1 ∙ updated s reached settled p x at,
+        inl (sym chosen.0),
+      )
+
+  calm_now : Calm s.settings s.root (best_path s.settings s.ports) s.ports s
+  calm_now = record {
+    set = refl;
+    rooted = refl;
+    best = refl;
+    along = sym current.root;
+    calm = calm_at;
+    loses = each_same (λ q. Loses) s.ports (λ q x at. inl refl);
+  }
+
+  -- the best path isn't through a port that isn't the root port
+  not_through : (p : ℕ) (x : PortState) → slice_get s.ports p ≡ Some x → Off (is_root x.role)
+      → Off (is_through (best_path s.settings s.ports) p)
+  not_through p x at not_root = elim (cases_Bool (is_through (best_path s.settings s.ports) p)) [
+    | inr off ↦ off
+    | inl t ↦ (let has = has_selected s reached.kept settled p x at in
+        let other : ⊥ = grind (arith, has, (current.ports p x at).0, (current.ports p x at).4 t, not_root, t) in
+        absurd other)
+  ]
+
+-- ---- after the event
+
+pub loses_port : (s t : Tree) → IsReached s → IsReached t → IsSettled s → IsSettled t → IsCurrent s → LosesPort s t
+    → (q : ℕ) → IsInTree t q → IsInTree s q
+loses_port s t reached_s reached_t settled rests current loses q tree =
+    let (b, at_b, here) = tested_at is_in_tree t.ports (q - 1) tree in
+    let off = not_through s reached_s settled current (loses.0 - 1) loses.4 loses.5.0 loses.5.1 in
+    let calm = calm_down s.settings s.root (best_path s.settings s.ports) s.ports loses.6.firings loses.0 s t off
+    loses.6.run (calm_now s reached_s settled current) in
+    let (a, at_a, lost) = each_back (λ q. Loses) s.ports t.ports calm.loses (q - 1) b at_b in
+    let now = has_selected t reached_t.kept rests (q - 1) b at_b in
+    let before = has_selected s reached_s.kept settled (q - 1) a at_a in
+    let kept : On (is_in_tree a) = elim lost [
+      | inl same ↦ rw (before, ← same, ← now) here
+      | inr gone ↦ no (rw (now, gone) at here)
+    ] in
+    rw at_a kept

@@ -1,232 +1,267 @@
+-- Facts of a designated port before and after its rules of roles and of topology change are tried.
 -- A designated port that has taken its role begins to forward in few passes: after two more passes it forwards and has
 -- been detected, is an edge, or is shut for the rest of the event.
-use Rattle.std.proofs.Common.{◌∷◌, ◌≡◌, ℕ, Bool, true, false, not, ◌&&◌, ◌||◌, ◌==◌, List, [], ◌++◌, take, drop, refl}
-use Rattle.std.proofs.Common.{sym, ap, subst, ◌∙◌, arith}
-use Rattle.rstp_state.specs.declared.port.PortState.{PortState}
-use Rattle.rstp_state.specs.declared.port.Topology.{Topology}
-use Rattle.rstp_state.specs.declared.port.Topology.TheVariants as topology
-use Rattle.rstp_state.specs.Port.{forward_delay, is_active, is_discarding, is_inactive, is_learning}
-use Rattle.rstp_roles.specs.RoleTransitions as roles
-use Rattle.rstp_roles.specs.declared.rule.RoleRule.TheVariants as role_rule
-use Rattle.rstp_roles.specs.declared.rule.StateRule.TheVariants as state_rule
-use Rattle.rstp_run.specs.TopologyChange as changes
-use Rattle.rstp_run.specs.TopologyChange.{with_change_timer}
-use Rattle.rstp_run.specs.declared.rule.DetectionRule.TheVariants as detection_rule
-use Rattle.rstp_run.specs.declared.rule.Rule.{Rule}
-use Rattle.rstp_run.specs.declared.rule.Rule.TheVariants as rules
-use Rattle.rstp_run.specs.declared.rule.TopologyRule.TheVariants as topology_rule
-use Rattle.rstp_run.specs.Lasting.{is_select}
-use Rattle.rstp_run.specs.Rules.{Tree, asks, timing_in}
-use Rattle.rstp_run.specs.Sweep.{Going, main_order, tries, tries_all}
-use Rattle.rstp_run.proofs.Own.{Nothing, Now, Spread, Tells, all_keep, own, spread_by, step, steps}
-use Rattle.rstp_run.proofs.Places.{Stage, Zone, main_rest, stage-as}
-use Rattle.rstp_run.proofs.Sound.{or_true}
-use Rattle.rstp_run.proofs.Visits.{all_then, one_then}
-use Rattle.rstp_run.proofs.Placed.{IsEven}
-use Rattle.rstp_run.proofs.Flags.{Bits, after_discard, after_edge, after_forward, after_learn, after_retired}
-use Rattle.rstp_run.proofs.Flags.{after_roles, after_synced, bits_of, discarded, discards, due, forwards, if_off}
-use Rattle.rstp_run.proofs.Flags.{if_on, learns, learnt, off_four, off_three, on_four, on_three, passing, pick, shut}
-use Rattle.rstp_run.proofs.Flags.{syncs}
-use Rattle.rstp_run.proofs.Fixed.{IsFixed, acts, enabled, fits, fixed-fits, fixed-goes, in_tree, spread-fixed}
-use Rattle.rstp_run.proofs.Heard.{apart, Before, Tested, active_shut, is_apart, timed}
-use Rattle.rstp_state.proofs.Basics.{no, and_left as left, and_right as right, and_second_off as off_two}
+use Rattle.rstp_run.proofs.Basics.{clash, Fact, Off, On, parts, timed}
+use Rattle.rstp_run.proofs.Fixed.{acts, enabled, fits, fixed-fits, fixed-goes, IsFixed, in_tree, spread-fixed}
+use Rattle.rstp_run.proofs.Flags.{after_discard, after_edge, after_forward, after_learn, after_retired, after_roles}
+use Rattle.rstp_run.proofs.Flags.{after_synced, Bits, bits_of, Case, discarded, discards, due, FlagTest, forwards}
+use Rattle.rstp_run.proofs.Flags.{if_off, if_on, learns, learnt, off_four, off_three, on_four, on_three, passing, pick}
+use Rattle.rstp_run.proofs.Flags.{shut, syncs}
+use Rattle.rstp_run.proofs.Kept.{or_true}
+use Rattle.rstp_run.proofs.Names.{ap, arith, asks, Bool, drop, false, forward_delay, Going, IsOrderly, is_active}
+use Rattle.rstp_run.proofs.Names.{is_discarding, is_inactive, is_learning, is_select, List, main_order, no, not}
+use Rattle.rstp_run.proofs.Names.{PortState, RoleRule, Rule, refl, Topology, Tree, take, timing_in, tries_all, true, ℕ}
+use Rattle.rstp_run.proofs.Names.{◌&&◌, ◌==◌, ◌||◌, ◌∷◌, ◌≡◌}
+use Rattle.rstp_run.proofs.Own.{all_keep, Nothing, own, Spread, spread_by, Tells}
+use Rattle.rstp_run.proofs.Places.{keep, Leads, leads-as, leads-end, main_rest, next, Stage, Zone}
+use Rattle.rstp_run.proofs.RoleKinds.{kind, role-kind, rule_kind}
+use Rattle.rstp_run.proofs.Steady.{steady-informs}
+use Rattle.rstp_run.proofs.Takes.{IsEven}
+use Rattle.rstp_state.proofs.Basics.{and_second_off as off_two}
+use Rattle.rstp_run.proofs.Names.change
+use Rattle.rstp_run.proofs.Names.migration_rule
+use Rattle.rstp_run.proofs.Names.receive_rule
+use Rattle.rstp_run.proofs.Names.role_rule
+use Rattle.rstp_run.proofs.Names.roles
+use Rattle.rstp_run.proofs.Names.rules
+use Rattle.rstp_run.proofs.Names.topology
+use Rattle.rstp_run.proofs.Names.transmit_rule
+use Rattle.rstp_run.proofs.Visits as levels
 
--- ---- the visit of a port
+-- the flags of a designated port pass the test
+abbrev pub Tested : (Bool → Bool → FlagTest) → Fact
+Tested t x = kind x.selected_role ≡ 2 → On (t (is_inactive x.topology) (is_active x.topology) (bits_of x))
+
+-- before its rules of roles are tried
+abbrev Before : Case → Fact
+Before t x =
+    Off x.flush
+    × (kind x.selected_role ≡ 2
+    → On (t (is_discarding x) (is_inactive x.topology) (is_active x.topology) (bits_of x)))
+
+-- a rule that concerns none of these flags
+abbrev is_apart : Rule → Bool
+is_apart (rules.Role role_rule.Synced) = false
+is_apart (rules.Role role_rule.Retired) = false
+is_apart (rules.Role role_rule.DesignatedDiscard) = false
+is_apart (rules.Role role_rule.DesignatedLearn) = false
+is_apart (rules.Role role_rule.DesignatedForward) = false
+is_apart rules.Select = false
+is_apart (rules.Detection rule) = false
+is_apart (rules.State rule) = false
+is_apart (rules.Topology rule) = false
+is_apart _ = true
+
+module _ (t : Case) where
+  role_apart : (rule : RoleRule) (s : Tree) (p : ℕ) (x : PortState) → On (is_apart (rules.Role rule))
+      → On (asks (rules.Role rule) s p x) → kind x.selected_role ≡ rule_kind rule → Before t x
+      → Before t (own (rules.Role rule) (timing_in s) x)
+  role_apart role_rule.Designated s p x n g k h = h
+  role_apart role_rule.Propose s p x n g k h = h
+  role_apart role_rule.Synced s p x n g k h = no n
+  role_apart role_rule.Retired s p x n g k h = no n
+  role_apart role_rule.DesignatedDiscard s p x n g k h = no n
+  role_apart role_rule.DesignatedLearn s p x n g k h = no n
+  role_apart role_rule.DesignatedForward s p x n g k h = no n
+  role_apart rule s p x n g k h = (h.0, λ e. absurd (omega (arith, e, k)))
+
+  pub apart : (rule : Rule) (s : Tree) (p : ℕ) (x : PortState) → On (is_apart rule) → IsFixed x → On (asks rule s p x)
+      → Before t x → Before t (own rule (timing_in s) x)
+  apart (rules.Receive receive_rule.Discard) s p x n r g h = h
+  apart (rules.Receive receive_rule.Receive) s p x n r g h = absurd (levels.receive-off x r.0.0.0.0 g)
+  apart (rules.Migration migration_rule.Recheck) s p x n r g h = h
+  apart (rules.Migration rule) s p x n r g h = h
+  apart (rules.Information rule) s p x n r g h = absurd (steady-informs rule x r.0 g)
+  apart (rules.Role rule) s p x n r g h = role_apart rule s p x n g (role-kind rule s p x g) h
+  apart (rules.Transmit transmit_rule.Periodic) s p x n r g h = h
+  apart (rules.Transmit rule) s p x n r g h = h
+  apart rule s p x n r g h = no n
+
+-- ---- forwarding is detected
+
+pub not_active : (t : Topology) → On (is_inactive t) → Off (is_active t)
+not_active t h = grind arith
+
+pub active_shut : (e q : Bool) → On (e || true || q)
+active_shut e q = grind arith
+
+pub edge_shut : (e a q : Bool) → On e → On (e || a || q)
+edge_shut e a q h = grind arith
+
+pub out_or_edge : (a t e : Bool) → On (a && (not t || e)) → On t → On e
+out_or_edge a t e h k = grind arith
+
+lit_by : (l f ing fing r : Bool) → On ((not fing || ing) && r) → Off ((ing && not l) || (fing && not f))
+    → On (l || (not ing && not fing))
+lit_by l f ing fing r h k = grind arith
+
+-- between visits a port that shouldn't learn is discarding
+pub lit : (x : PortState) → IsOrderly x → IsEven x → On (x.learn || is_discarding x)
+lit x h k = lit_by x.learn x.forward x.learning x.forwarding _ h k
 
 -- no change is to be passed on from a message, unless the port has to learn first
-abbrev pub IsNoted : PortState → Type 0
-IsNoted x = is_inactive x.topology || (not x.received_topology_change && not x.received_notification) ≡ true
+abbrev pub IsNoted : Fact
+IsNoted x = On (is_inactive x.topology || (not x.received_topology_change && not x.received_notification))
 
 -- the end of a visit
-abbrev pub Ends : (Bits → Bool) → PortState → Type 0
-Ends core x = (x.flush ≡ false) × IsEven x × Tested (shut core) x × IsNoted x
+abbrev Ends : FlagTest → Fact
+Ends core x = Off x.flush × IsEven x × Tested (shut core) x × IsNoted x
 
 -- the beginning of a visit
-abbrev pub Begins : (Bool → Bool → Bits → Bool) → PortState → Type 0
-Begins t x = (x.flush ≡ false) × (x.learn || is_discarding x ≡ true) × Tested t x
+abbrev Begins : (Bool → Bool → FlagTest) → Fact
+Begins t x = Off x.flush × On (x.learn || is_discarding x) × Tested t x
 
 -- the same of a port that has taken its role
-abbrev pub Ended : (Bits → Bool) → PortState → Type 0
+abbrev pub Ended : FlagTest → Fact
 Ended core x = IsFixed x × Ends core x
 
-abbrev pub Begun : (Bool → Bool → Bits → Bool) → PortState → Type 0
+abbrev pub Begun : (Bool → Bool → FlagTest) → Fact
 Begun t x = IsFixed x × Begins t x
 
-spread_ends : (core : Bits → Bool) (k : Spread) (x : PortState) → fits k ≡ true → Ended core x
+spread_ends : (core : FlagTest) (k : Spread) (x : PortState) → On (fits k) → Ended core x
     → Ended core (spread_by k x)
 spread_ends core Nothing x f h = h
 spread_ends core Tells x f h = (spread-fixed Tells x h.0, h.1)
 spread_ends core k x f h = no f
 
-spread_begins : (t : Bool → Bool → Bits → Bool) (k : Spread) (x : PortState) → fits k ≡ true → Begun t x
+spread_begins : (t : Bool → Bool → FlagTest) (k : Spread) (x : PortState) → On (fits k) → Begun t x
     → Begun t (spread_by k x)
 spread_begins t Nothing x f h = h
 spread_begins t Tells x f h = (spread-fixed Tells x h.0, h.1)
 spread_begins t k x f h = no f
 
-abbrev Late : (Bits → Bool) → PortState → Type 0
+abbrev Late : FlagTest → Fact
 Late core x = IsEven x × Tested (shut core) x
 
 -- the facts after Detected, TcClear, NotifiedTcn and NotifiedTc
 
-abbrev Detects : (Bits → Bool) → PortState → Type 0
-Detects core x = Late core x × (is_learning x.topology ≡ true → changes.detected_guard x ≡ false)
+abbrev Detects : FlagTest → Fact
+Detects core x = Late core x × (On (is_learning x.topology) → Off (change.detected_guard x))
 
-abbrev Clears : (Bits → Bool) → PortState → Type 0
+abbrev Clears : FlagTest → Fact
 Clears core x =
-    Late core x
-    × (is_learning x.topology ≡ true → x.received_topology_change || x.received_notification ≡ false)
+    Late core x × (On (is_learning x.topology) → Off (x.received_topology_change || x.received_notification))
 
-abbrev Notifies : (Bits → Bool) → PortState → Type 0
-Notifies core x = Clears core x × (is_active x.topology ≡ true → x.received_notification ≡ false)
+abbrev Notifies : FlagTest → Fact
+Notifies core x = Clears core x × (On (is_active x.topology) → Off x.received_notification)
 
-abbrev Noted : (Bits → Bool) → PortState → Type 0
+abbrev Noted : FlagTest → Fact
 Noted core x = Late core x × IsNoted x
 
-noted_by : (t : Topology) (a b : Bool) → (is_learning t ≡ true → a || b ≡ false) → (is_active t ≡ true → b ≡ false)
-    → is_active t && a ≡ false → is_inactive t || (not a && not b) ≡ true
+noted_by : (t : Topology) (a b : Bool) → (On (is_learning t) → Off (a || b)) → (On (is_active t) → Off b)
+    → Off (is_active t && a) → On (is_inactive t || (not a && not b))
 noted_by t a b h k off = grind arith
 
-module _ (core : Bits → Bool) (start : Bool → Bool → Bits → Bool)
-    (visits : (dark inactive active : Bool) (b : Bits) → b.learn || dark ≡ true → start inactive active b ≡ true
-    → after_roles dark (due core inactive active) b ≡ true)
-    (c n limit p : ℕ) where
-  abbrev At : (PortState → Type 0) → Going → Type 0
-  At H g = Now IsFixed (Ends core) (Begins start) c n limit p H g
-
-  act : (H K : PortState → Type 0) (rule : Rule) → is_select rule ≡ false
-      → ((s : Tree) (x : PortState) → IsFixed x → asks rule s p x ≡ false → H x → K x)
-      → ((s : Tree) (x : PortState) → IsFixed x → asks rule s p x ≡ true → H x → K (own rule (timing_in s) x))
-      → (g : Going) → At H g → At K (tries rule p limit g)
-  act H K rule other rests fires =
-      step IsFixed (Ends core) (Begins start) c n limit p fits (spread_ends core) (spread_begins start)
-      (λ rule s x other. fixed-fits rule s p x) (λ rule s x. fixed-goes rule s p x) H K rule other rests fires
+module _ (core : FlagTest) (start : Bool → Bool → FlagTest)
+    (visits : (dark inactive active : Bool) (b : Bits) → On (b.learn || dark) → On (start inactive active b)
+    → On (after_roles dark (due core inactive active) b)) (c n limit p : ℕ) where
+  -- the visit goes on with these rules
+  abbrev Goes : Fact → List Rule → Type 0
+  Goes H list = Leads (Ended core) (Begun start) c n limit p (λ x. IsFixed x × H x) list (Ended core)
 
   -- a rule, and the rules after it up to the end of the visit
-  next : (H K : PortState → Type 0) (rule : Rule) (rest : List Rule) → is_select rule ≡ false
-      → ((s : Tree) (x : PortState) → IsFixed x → asks rule s p x ≡ false → H x → K x)
-      → ((s : Tree) (x : PortState) → IsFixed x → asks rule s p x ≡ true → H x → K (own rule (timing_in s) x))
-      → ((g : Going) → At K g → At (Ends core) (tries_all rest p limit g))
-      → (g : Going) → At H g → At (Ends core) (tries_all (rule ∷ rest) p limit g)
-  next H K rule rest other rests fires later =
-      one_then (At H) (At K) (At (Ends core)) rule rest p limit (act H K rule other rests fires) later
+  go_on : {H : Fact} (K : Fact) {rule : Rule} {rest : List Rule} → Off (is_select rule)
+      → ((s : Tree) (x : PortState) → IsFixed x → Off (asks rule s p x) → H x → K x)
+      → ((s : Tree) (x : PortState) → IsFixed x → On (asks rule s p x) → H x → K (own rule (timing_in s) x))
+      → Goes K rest → Goes H (rule ∷ rest)
+  go_on K {rule} other rests fires later =
+      next (Ended core) (Begun start) c n limit p fits (spread_ends core) (spread_begins start) (λ x. IsFixed x × K x)
+      other (λ s x off d. (d.0, rests s x d.0 off d.1))
+      (λ s x on d. (fixed-fits rule s p x on d.0, (fixed-goes rule s p x other on d.0, fires s x d.0 on d.1))) later
 
-  keep : (H : PortState → Type 0) (keeps : Rule → Bool)
-      → ((rule : Rule) (s : Tree) (x : PortState) → is_select rule ≡ false → keeps rule ≡ true → IsFixed x
-      → asks rule s p x ≡ true → H x → H (own rule (timing_in s) x))
-      → (list : List Rule) → all_keep keeps list ≡ true → (g : Going) → At H g → At H (tries_all list p limit g)
-  keep H keeps fires list ok =
-      steps IsFixed (Ends core) (Begins start) c n limit p fits (spread_ends core) (spread_begins start)
-      (λ rule s x other. fixed-fits rule s p x) (λ rule s x. fixed-goes rule s p x) H keeps fires list ok
+  -- m rules that concern none of the flags
+  pass_over : (t : Case) (m : ℕ) {list : List Rule} → On (all_keep is_apart (take m list))
+      → Goes (Before t) (drop m list) → Goes (Before t) list
+  pass_over t m ok later =
+      keep (Ended core) (Begun start) c n limit p fits (spread_ends core) (spread_begins start)
+      (λ x. IsFixed x × Before t x) is_apart
+      (λ rule s x other is on d. (
+        fixed-fits rule s p x on d.0,
+        (fixed-goes rule s p x other on d.0, apart t rule s p x is d.0 on d.1),
+      )) m ok later
 
-  abbrev last : Bool → Bool → Bits → Bool
+  abbrev last : Bool → Bool → FlagTest
   last inactive active = due core inactive active
 
-  abbrev to_forward : Bool → Bool → Bool → Bits → Bool
+  abbrev to_forward : Case
   to_forward dark inactive active = after_forward (last inactive active)
 
-  abbrev to_learn : Bool → Bool → Bool → Bits → Bool
+  abbrev to_learn : Case
   to_learn dark inactive active = after_learn (to_forward dark inactive active)
 
-  abbrev to_discard : Bool → Bool → Bool → Bits → Bool
+  abbrev to_discard : Case
   to_discard dark inactive active = after_discard (to_learn dark inactive active)
 
-  abbrev to_retire : Bool → Bool → Bool → Bits → Bool
+  abbrev to_retire : Case
   to_retire dark inactive active = after_retired (to_discard dark inactive active)
 
-  abbrev to_sync : Bool → Bool → Bool → Bits → Bool
+  abbrev to_sync : Case
   to_sync dark inactive active = after_synced dark (to_retire dark inactive active)
 
-  abbrev to_edge : Bool → Bool → Bool → Bits → Bool
+  abbrev to_edge : Case
   to_edge dark inactive active = after_edge (to_sync dark inactive active)
 
-  abbrev Due : PortState → Type 0
-  Due x = (x.flush ≡ false) × Tested last x
+  abbrev Due : Fact
+  Due x = Off x.flush × Tested last x
+
+  abbrev Lit : Fact
+  Lit x = Due x × IsEven x
 
   -- about to be detected
-  abbrev Heard : PortState → Type 0
+  abbrev Heard : Fact
   Heard x = IsEven x × Tested (λ inactive active b. shut core inactive active b || (b.forward && not inactive)) x
 
-  flushed : (g : Going) → At (Noted core) g → At (Ends core) (tries_all (drop 51 main_order) p limit g)
+  flushed : Goes (Noted core) (drop 51 main_order)
   flushed =
-      next (Noted core) (Noted core) (rules.Topology topology_rule.Propagating) (drop 52 main_order) refl
-      (λ s x r off h. h)
-      (λ s x r on h.
-      timed (λ z. Noted core (record z { flush = true; propagate_topology_change = false })) (timing_in s) x h h h)
-      (next (Noted core) (Noted core) (rules.Topology topology_rule.Acknowledged) (drop 53 main_order) refl
-      (λ s x r off h. h)
-      (λ s x r on h. h)
-      (next (Noted core) (Ends core) (rules.Topology topology_rule.Flush) [] refl
-      (λ s x r off h. (off, h.0.0, h.0.1, h.1)) (λ s x r on h. (refl, h.0.0, h.0.1, h.1)) (λ g h. h)))
+      go_on (Noted core) refl (λ s x r off h. h)
+      (λ s x r on h. timed (λ z. Noted core (record z { flush = true; propagate_topology_change = false }))
+      (timing_in s)
+      x (λ time new. h))
+      (go_on (Noted core) refl (λ s x r off h. h) (λ s x r on h. h)
+      (go_on (Ends core) refl (λ s x r off h. (off, h.0.0, h.0.1, h.1)) (λ s x r on h. (refl, h.0.0, h.0.1, h.1))
+      (leads-end (Ended core) (Begun start) c n limit p)))
 
-  notified : (g : Going) → At (Clears core) g → At (Ends core) (tries_all (drop 49 main_order) p limit g)
+  notified : Goes (Clears core) (drop 49 main_order)
   notified =
-      next (Clears core) (Notifies core) (rules.Topology topology_rule.NotifiedTcn) (drop 50 main_order) refl
-      (λ s x r off h. (h, λ a. off_two (is_active x.topology) x.received_notification off a))
-      (λ s x r on h. timed (λ z. Notifies core (changes.notified_at z)) (timing_in s) x
-      ((h.0, λ l. refl), λ a. refl) ((h.0, λ l. refl), λ a. refl) ((h.0, λ l. refl), λ a. refl))
-      (next (Notifies core) (Noted core) (rules.Topology topology_rule.NotifiedTc) (drop 51 main_order) refl
+      go_on (Notifies core) refl (λ s x r off h. (h, off_two (is_active x.topology) x.received_notification off))
+      (λ s x r on h. timed (λ z. Notifies core (change.notified_at z)) (timing_in s) x
+      (λ time new. ((h.0, λ l. refl), λ a. refl)))
+      (go_on (Noted core) refl
       (λ s x r off h. (h.0.0, noted_by x.topology x.received_topology_change x.received_notification h.0.1 h.1 off))
-      (λ s x r on h. (h.0.0, or_true (is_inactive x.topology)))
-      flushed)
+      (λ s x r on h. (h.0.0, or_true (is_inactive x.topology))) flushed)
 
-  cleared : (g : Going) → At (Detects core) g → At (Ends core) (tries_all (drop 46 main_order) p limit g)
+  cleared : Goes (Detects core) (drop 46 main_order)
   cleared =
-      next (Detects core) (Clears core) (rules.Topology topology_rule.TcClear) (drop 47 main_order) refl
-      (λ s x r off h. (h.0, λ l. grind (arith, off, l, h.1 l)))
+      go_on (Clears core) refl (λ s x r off h. (h.0, λ l. grind (arith, off, l, h.1 l)))
       (λ s x r on h. (h.0, λ l. refl))
-      (next (Clears core) (Clears core) (rules.Topology topology_rule.TcInactive) (drop 48 main_order) refl
-      (λ s x r off h. h)
-      (λ s x r on h. (
-        (
-          h.0.0,
-          λ e. grind (arith, on, in_tree x r e),
-        ),
-        no,
-      ))
-      (next (Clears core) (Clears core) (rules.Topology topology_rule.TcBack) (drop 49 main_order) refl
-      (λ s x r off h. h)
-      (λ s x r on h. (
-        (
-          h.0.0,
-          λ e. grind (arith, on, in_tree x r e),
-        ),
-        λ l. refl,
-      ))
-      notified))
+      (go_on (Clears core) refl (λ s x r off h. h)
+      (λ s x r on h. ((h.0.0, λ e. grind (arith, on, in_tree x r e)), no))
+      (go_on (Clears core) refl (λ s x r off h. h)
+      (λ s x r on h. ((h.0.0, λ e. grind (arith, on, in_tree x r e)), λ l. refl)) notified))
 
-  told : (g : Going) → At (λ x. Due x × IsEven x) g → At (Ends core) (tries_all (drop 44 main_order) p limit g)
+  told : Goes Lit (drop 44 main_order)
   told =
-      next (λ x. Due x × IsEven x) Heard (rules.Topology topology_rule.TcLearning) (drop 45 main_order) refl
-      (λ s x r off h. (h.1, λ e. grind (arith, off, h.0.0, h.0.1 e)))
+      go_on Heard refl (λ s x r off h. (h.1, λ e. grind (arith, off, h.0.0, h.0.1 e)))
       (λ s x r on h. (h.1, λ e. grind (arith, on, h.0.1 e)))
-      (next Heard (Detects core) (rules.Topology topology_rule.Detected) (drop 46 main_order) refl
-      (λ s x r off h. ((h.0, λ e. grind (arith, in_tree x r e, off, h.1 e)), λ l. off))
+      (go_on (Detects core) refl (λ s x r off h. ((h.0, λ e. grind (arith, in_tree x r e, off, h.1 e)), λ l. off))
       (λ s x r on h. timed (λ z. Detects core (record z { new_info = true })) (timing_in s)
-      (record x { topology = topology.Active }) ((h.0, λ e. active_shut x.oper_edge _), λ l. no l)
-      ((h.0, λ e. active_shut x.oper_edge _), λ l. no l) ((h.0, λ e. active_shut x.oper_edge _), λ l. no l))
+      (record x { topology = topology.Active }) (λ time new. ((h.0, λ e. active_shut x.oper_edge _), no)))
       cleared)
 
-  states_end : (g : Going) → At Due g → At (Ends core) (tries_all (drop 41 main_order) p limit g)
+  states_end : Goes Due (drop 41 main_order)
   states_end =
-      next Due Due (rules.State state_rule.ToLearning) (drop 42 main_order) refl (λ s x r off h. h) (λ s x r on h. h)
-      (next Due Due (rules.State state_rule.ToForwarding) (drop 43 main_order) refl (λ s x r off h. h) (λ s x r on h. h)
-      (next Due (λ x. Due x × IsEven x) (rules.State state_rule.ToDiscarding) (drop 44 main_order) refl
-      (λ s x r off h. (h, off))
-      (λ s x r on h. (h, refl)) told))
+      go_on Due refl (λ s x r off h. h) (λ s x r on h. h) (go_on Due refl (λ s x r off h. h) (λ s x r on h. h)
+      (go_on Lit refl (λ s x r off h. (h, off)) (λ s x r on h. (h, refl)) told))
 
-  abbrev Last : PortState → Type 0
+  abbrev Last : Fact
   Last x = Before (λ dark. last) x
 
-  roles_end : (g : Going) → At Last g → At (Ends core) (tries_all (drop 36 main_order) p limit g)
-  roles_end =
-      all_then (At Last) (At Last) (At (Ends core)) (take 5 (drop 36 main_order)) (drop 41 main_order) p limit
-      (keep Last is_apart (λ rule s x other. apart (λ dark. last) rule s p x) (take 5 (drop 36 main_order)) refl)
-      states_end
+  roles_end : Goes Last (drop 36 main_order)
+  roles_end = pass_over (λ dark. last) 5 refl states_end
 
-  forward : (g : Going) → At (Before to_learn) g → At (Ends core) (tries_all (drop 34 main_order) p limit g)
+  forward : Goes (Before to_learn) (drop 34 main_order)
   forward =
-      next (Before to_learn) (Before to_forward) (rules.Role role_rule.DesignatedLearn) (drop 35 main_order) refl
+      go_on (Before to_forward) refl
       (λ s x r off h. (
         h.0,
         λ e. if_off (learns (bits_of x)) _ _
@@ -238,7 +273,7 @@ module _ (core : Bits → Bool) (start : Bool → Bool → Bits → Bool)
             (λ w. learnt w (bits_of x)) (forward_delay (timing_in s) x == 0) (if_on (learns (bits_of x)) _ _
             (on_three (roles.acts_as_designated x) (not x.learn) (roles.may_go_on x) on) (h.1 e)),
       ))
-      (next (Before to_forward) Last (rules.Role role_rule.DesignatedForward) (drop 36 main_order) refl
+      (go_on Last refl
       (λ s x r off h. (
         h.0,
         λ e. if_off (forwards (bits_of x)) _ _
@@ -253,9 +288,9 @@ module _ (core : Bits → Bool) (start : Bool → Bool → Bits → Bool)
       ))
       roles_end)
 
-  discard : (g : Going) → At (Before to_retire) g → At (Ends core) (tries_all (drop 32 main_order) p limit g)
+  discard : Goes (Before to_retire) (drop 32 main_order)
   discard =
-      next (Before to_retire) (Before to_discard) (rules.Role role_rule.Retired) (drop 33 main_order) refl
+      go_on (Before to_discard) refl
       (λ s x r off h. (
         h.0,
         λ e. if_off (x.recent_root_while == 0 && x.re_root) _ _
@@ -266,7 +301,7 @@ module _ (core : Bits → Bool) (start : Bool → Bool → Bits → Bool)
         λ e. if_on (x.recent_root_while == 0 && x.re_root) _ _
             (on_three (roles.acts_as_designated x) (x.recent_root_while == 0) x.re_root on) (h.1 e),
       ))
-      (next (Before to_discard) (Before to_learn) (rules.Role role_rule.DesignatedDiscard) (drop 34 main_order) refl
+      (go_on (Before to_learn) refl
       (λ s x r off h. (
         h.0,
         λ e. if_off (discards (bits_of x)) _ _ (off_four (roles.acts_as_designated x)
@@ -281,61 +316,32 @@ module _ (core : Bits → Bool) (start : Bool → Bool → Bits → Bool)
       ))
       forward)
 
-  sync : (g : Going) → At (Before to_sync) g → At (Ends core) (tries_all (drop 10 main_order) p limit g)
-  sync =
-      all_then (At (Before to_sync)) (At (Before to_sync)) (At (Ends core)) (take 21 (drop 10 main_order))
-      (drop 31 main_order) p limit
-      (keep (Before to_sync) is_apart (λ rule s x other. apart to_sync rule s p x) (take 21 (drop 10 main_order)) refl)
-      (next (Before to_sync) (Before to_retire) (rules.Role role_rule.Synced) (drop 32 main_order) refl
+  visit_ends : Leads (Ended core) (Begun start) c n limit p (Begun start) main_rest (Ended core)
+  visit_ends =
+      leads-as (Ended core) (Begun start) c n limit p (λ x. IsFixed x × Before to_edge x)
+      (λ x h. (
+        h.0,
+        (
+          h.1.0,
+          λ k. visits (is_discarding x) (is_inactive x.topology) (is_active x.topology) (bits_of x)
+              h.1.1 (h.1.2 k),
+        ),
+      ))
+      (pass_over to_edge 7 refl
+      (go_on (Before to_sync) refl (λ s x r off h. (h.0, λ e. (parts (h.1 e)).0))
+      (λ s x r on h. (h.0, λ e. (parts (h.1 e)).1))
+      (go_on (Before to_sync) refl (λ s x r off h. h)
+      (λ s x r on h. (h.0, λ e. clash (ap not (enabled x r.0 e)) (parts (parts on).0).1))
+      (pass_over to_sync 21 refl
+      (go_on (Before to_retire) refl
       (λ s x r off h. (
         h.0,
-        λ e. if_off (syncs (is_discarding x) (bits_of x)) _ _
-            (off_two (roles.acts_as_designated x) _ off (acts x r e)) (h.1 e),
+        λ e. if_off (syncs (is_discarding x) (bits_of x)) _ _ (off_two (roles.acts_as_designated x) _ off (acts x r e))
+            (h.1 e),
       ))
-      (λ s x r on h. (
-        h.0,
-        λ e. if_on (syncs (is_discarding x) (bits_of x)) _ _
-            (right (roles.acts_as_designated x) _ on) (h.1 e),
-      ))
-      discard)
+      (λ s x r on h. (h.0, λ e. if_on (syncs (is_discarding x) (bits_of x)) _ _ (parts on).1 (h.1 e)))
+      discard)))))
 
-  edge : (g : Going) → At (Before to_edge) g → At (Ends core) (tries_all (drop 8 main_order) p limit g)
-  edge =
-      next (Before to_edge) (Before to_sync) (rules.Detection detection_rule.Edge) (drop 9 main_order) refl
-      (λ s x r off h. (h.0, λ e. left _ _ (h.1 e)))
-      (λ s x r on h. (
-        h.0,
-        λ e. right (to_sync (is_discarding x) (is_inactive x.topology) (is_active x.topology)
-            (bits_of x)) _ (h.1 e),
-      ))
-      (next (Before to_sync) (Before to_sync) (rules.Detection detection_rule.NotEdge) (drop 10 main_order) refl
-      (λ s x r off h. h)
-      (λ s x r on h. (
-        h.0,
-        λ e. no (sym (ap not (enabled x r.0 e)) ∙ right x.oper_edge (not x.enabled) (left _ _ on)),
-      ))
-      sync)
-
-  pub visit-ends : (g : Going)
-      → Stage c n (Zone (Ended core) (Begun start) (Begun start) p) limit g
+  pub visit-ends : (g : Going) → Stage c n (Zone (Ended core) (Begun start) (Begun start) p) limit g
       → Stage c n (Zone (Ended core) (Ended core) (Begun start) p) limit (tries_all main_rest p limit g)
-  visit-ends g h =
-      let same : take 7 main_rest ++ drop 7 main_rest ≡ main_rest = refl in
-      subst (λ (l : List Rule). At (Ends core) (tries_all l p limit g)) same
-      (all_then (At (Before to_edge)) (At (Before to_edge)) (At (Ends core)) (take 7 main_rest) (drop 7 main_rest) p
-      limit
-      (keep (Before to_edge) is_apart (λ rule s x other. apart to_edge rule s p x) (take 7 main_rest) refl) edge g
-      (stage-as c n limit (Zone (Ended core) (Begun start) (Begun start) p)
-      (Zone (Ended core) (λ x. IsFixed x × Before to_edge x) (Begun start) p) g
-      (λ q x within z. (
-        z.0,
-        λ e. (let h = z.1 e in (
-          h.0,
-          (
-            h.1.0,
-            λ k. visits (is_discarding x) (is_inactive x.topology) (is_active x.topology) (bits_of x)
-                h.1.1 (h.1.2 k),
-          ),
-        )),
-        z.2,
-      )) h))
+  visit-ends = visit_ends.walk

@@ -1,208 +1,323 @@
+-- The rules of topology change and of the states lower the measure.
+-- Parts of the measure at a port with a known role.
 -- The rules of the role transitions lower the measure.
-use Rattle.std.proofs.Common.{◌≡◌, ℕ, ◌+◌, ◌*◌, ◌≤◌, ◌<◌, inl, inr, Bool, true, false, not, ◌&&◌, ◌||◌, ◌==◌}
-use Rattle.std.proofs.Common.{refl, arith}
-use Rattle.std.proofs.lemmas.Bool.{and_parts, cases_Bool, not-true, or_cases}
-use Rattle.rstp_state.specs.declared.port.PortState.{PortState}
-use Rattle.rstp_state.specs.declared.port.Role.TheVariants as role
-use Rattle.rstp_state.specs.declared.port.Timing.{Timing}
-use Rattle.rstp_state.specs.Port.{is_disabled, is_root, is_designated, is_blocked, has_role, forward_delay, edge_delay}
-use Rattle.rstp_roles.specs.AllPorts.{with_sync, with_re_root}
-use Rattle.rstp_roles.specs.RoleTransitions as roles
-use Rattle.rstp_run.proofs.Totals.{if_so-le}
-use Rattle.rstp_run.proofs.Measure.{acting, changing-le, stepping-le, going_on-le, is_held}
-use Rattle.rstp_run.proofs.RoleParts.{disabled_is, root_is, designated_is, blocked_not_root, same_itself, other_role}
-use Rattle.rstp_run.proofs.RoleParts.{going-blocked, waiting-blocked, third_off, same_number, not_held, one_agrees}
-use Rattle.rstp_run.proofs.RoleParts.{one_syncs, one_rests, one_on, changing-dark, blocked_too}
+use Rattle.rstp_run.proofs.Basics.{Off, On, parts, timed}
+use Rattle.rstp_run.proofs.Measure.{acting, changing, changing-le, going_on, going_on-le, is_held, is_outside, Lowers}
+use Rattle.rstp_run.proofs.Measure.{raise, stepping, stepping-le, waiting}
+use Rattle.rstp_run.proofs.Names.{arith, Bool, cases_Bool, edge_delay, eq-eqb, false, forward_delay, has_role, inl, inr}
+use Rattle.rstp_run.proofs.Names.{is_active, is_blocked, is_designated, is_disabled, is_in_tree, is_inactive}
+use Rattle.rstp_run.proofs.Names.{is_learning, is_root, List, not, not-true, PortState, Role, RoleRule, refl, role_asks}
+use Rattle.rstp_run.proofs.Names.{StateRule, same_role, state_asks, Timing, Topology, TopologyRule, topology_asks, true}
+use Rattle.rstp_run.proofs.Names.{with_sync, ℕ, ◌&&◌, ◌*◌, ◌+◌, ◌<◌, ◌==◌, ◌||◌, ◌≡◌, ◌≤◌}
+use Rattle.rstp_run.proofs.Own.{Nothing, Reroots, Spread, Syncs, spread_by, Tells}
+use Rattle.rstp_run.proofs.Totals.{if_so, if_so-le}
+use Rattle.rstp_run.specs.TopologyChange.{notified_at}
+use Rattle.std.proofs.lemmas.Bool.{or_cases}
+use Rattle.rstp_run.proofs.Names.role
+use Rattle.rstp_run.proofs.Names.role_rule
+use Rattle.rstp_run.proofs.Names.roles
+use Rattle.rstp_run.proofs.Names.rules
+use Rattle.rstp_run.proofs.Names.state_rule
+use Rattle.rstp_run.proofs.Names.topology
+use Rattle.rstp_run.proofs.Names.topology_rule
 
--- the effect of a rule lowers the second level of the measure
-abbrev pub Lowers : ℕ → Timing → (PortState → PortState) → PortState → Type 0
-Lowers n timing does port = acting n timing (does port) < acting n timing port
+learning_is : (state : Topology) → On (is_learning state) → state ≡ topology.Learning
+learning_is state h = grind arith
 
-module _ (n : ℕ) (timing : Timing) (port : PortState) where
-  -- ---- taking the selected role
+active_is : (state : Topology) → On (is_active state) → state ≡ topology.Active
+active_is state h = grind arith
 
-  pub disable_lowers : roles.disable_guard port ≡ true → Lowers n timing roles.disable_effect port
-  disable_lowers h =
-      let (first, other) = and_parts _ _ h in
-      let selected : is_disabled port.selected_role ≡ true = (and_parts _ _ first).1 in
+-- a port that begins to learn has two steps before it, whether it is in the tree or not
+from_inactive : (w : ℕ) (state : Topology) (outside learn : Bool) → On (is_inactive state) → On learn
+    → changing w state outside learn ≡ w + w
+from_inactive w state outside learn h k = grind arith
+
+some_change : (n : ℕ) (a b c d : Bool) → On (a || b || c || d)
+    → 1 ≤ if_so 2 d + if_so 1 c + if_so (2 * n + 1) a + if_so (2 * n + 1) b
+some_change n a b c d h = grind arith
+
+-- ---- states
+
+module _ (a b c d : Bool) where
+  learning_steps : On (a && not c) → stepping a b true d < stepping a b c d
+  learning_steps h = grind arith
+
+  forwarding_steps : On (c && b && not d) → stepping a b c true < stepping a b c d
+  forwarding_steps h = grind arith
+
+  discarding_steps : On ((c && not a) || (d && not b)) → stepping a b false false < stepping a b c d
+  discarding_steps h = grind arith
+
+module _ (n : ℕ) (timing : Timing) (x : PortState) where
+  pub state_lowers : (rule : StateRule) → On (state_asks rule x) → Lowers n timing x (rules.State rule)
+  state_lowers state_rule.ToLearning h = omega (arith, learning_steps x.learn x.forward x.learning x.forwarding h)
+  state_lowers state_rule.ToForwarding h = omega (arith, forwarding_steps x.learn x.forward x.learning x.forwarding h)
+  state_lowers state_rule.ToDiscarding h = omega (arith, discarding_steps x.learn x.forward x.learning x.forwarding h)
+
+  -- ---- topology change
+
+  pub topology_lowers : (rule : TopologyRule) → On (topology_asks rule x) → Lowers n timing x (rules.Topology rule)
+  topology_lowers topology_rule.Flush h = rw h (omega arith)
+  topology_lowers topology_rule.Acknowledged h =
+      let got : On x.received_acknowledgement = (parts h).1 in
+      rw got (omega arith)
+  topology_lowers topology_rule.TcLearning h =
+      let (state, learns) = parts (parts h).0 in
+      omega (arith, from_inactive (2 * n + 2) x.topology (is_outside x) x.learn state learns)
+  topology_lowers topology_rule.TcClear h =
+      omega (
+        arith,
+        some_change n x.received_topology_change x.received_notification x.received_acknowledgement
+            x.propagate_topology_change (parts (parts h).0).1,
+      )
+  topology_lowers topology_rule.TcInactive h =
+      let (third, no_learn) = parts (parts (parts h).0).0 in
+      let no_tree : On (not (is_in_tree x)) = (parts third).1 in
+      rw (learning_is x.topology (parts third).0, not-true x.learn no_learn, no_tree) (omega arith)
+  topology_lowers topology_rule.TcBack h =
+      let outside : On (is_outside x) = (parts h).1 in
+      rw (active_is x.topology (parts h).0, outside) (omega arith)
+  topology_lowers topology_rule.Propagating h =
+      let told : On x.propagate_topology_change = (parts (parts h).0).1 in
+      timed (λ y. acting n timing (record y { flush = true; propagate_topology_change = false }) + n * 0 + 1
+      ≤ acting n timing x + 0) timing x (λ time new. rw told (omega (arith, if_so-le 1 x.flush)))
+  topology_lowers topology_rule.Detected h =
+      let (first, no_edge) = parts h in
+      let (state, in_tree) = parts (parts first).0 in
+      let tree : On (is_in_tree x) = in_tree in
+      timed (λ y. acting n timing (record y { new_info = true }) + n * 2 + 1 ≤ acting n timing x + 2) timing
+      (record x { topology = topology.Active })
+      (λ time new. rw (learning_is x.topology state, tree, not-true x.oper_edge no_edge) (omega arith))
+  topology_lowers topology_rule.NotifiedTc h =
+      let got : On x.received_topology_change = (parts h).1 in
+      rw got (omega arith)
+  topology_lowers topology_rule.NotifiedTcn h =
+      let got : On x.received_notification = (parts h).1 in
+      timed (λ y. acting n timing (notified_at y) + n * 2 + 1 ≤ acting n timing x + 2) timing x
+      (λ time new. rw got (omega arith))
+
+-- ---- roles
+
+module _ (r : Role) where
+  blocked_not_root : On (is_blocked r) → Off (is_root r)
+  blocked_not_root h = grind arith
+
+  disabled_is : On (is_disabled r) → r ≡ role.Disabled
+  disabled_is h = grind arith
+
+  root_is : On (is_root r) → r ≡ role.Root
+  root_is h = grind arith
+
+  designated_is : On (is_designated r) → r ≡ role.Designated
+  designated_is h = grind arith
+
+  pub same_disabled : On (is_disabled r) → On (same_role role.Disabled r)
+  same_disabled h = grind arith
+
+  pub same_root : On (is_root r) → On (same_role role.Root r)
+  same_root h = grind arith
+
+  pub same_designated : On (is_designated r) → On (same_role role.Designated r)
+  same_designated h = grind arith
+
+  pub same_itself : On (same_role r r)
+  same_itself = grind arith
+
+-- a test that holds for the one role only
+pub other_role : (test : Role → Bool) (r s : Role) → On (test s) → Off (test r) → Off (same_role r s)
+other_role test r s h k = grind arith
+
+pub unless : (n : ℕ) (b : Bool) → On b → if_so n (not b) ≡ 0
+unless n b h = grind arith
+
+-- ---- parts of the measure at a role
+
+going-blocked : (w : ℕ) (r : Role) (held learn forward : Bool) → On (is_blocked r)
+    → going_on w r held learn forward ≡ 0
+going-blocked w r held learn forward h = grind arith
+
+module _ (r : Role) (a b : Bool) where
+  pub waiting-disabled : On (is_disabled r) → waiting r a b ≡ if_so 1 (not a)
+  waiting-disabled h = grind arith
+
+  pub waiting-blocked : On (is_blocked r) → waiting r a b ≡ if_so 1 (not b)
+  waiting-blocked h = grind arith
+
+third_off : (w : ℕ) (a b c : Bool) → Off c → if_so w (a && b && c) ≡ 0
+third_off w a b c h = grind arith
+
+pub on_both : (a b : Bool) → On a → On b → On (a && b)
+on_both a b h k = grind arith
+
+pub same_number : (n : ℕ) → On (n == n)
+same_number n = eq-eqb n n refl
+
+changing-dark : (w : ℕ) (state : Topology) (outside learn : Bool)
+    → changing w state outside false ≤ changing w state outside learn
+changing-dark w state outside learn = grind arith
+
+-- ---- requests
+
+pub not_held : (sync synced re_root none : Bool) → On (not sync) → On (none || not re_root)
+    → Off ((sync && not synced) || (re_root && not none))
+not_held sync synced re_root none h k = grind arith
+
+pub retired_held : (x re_root none : Bool) → On none → (x || (re_root && not none)) ≡ (x || (false && not none))
+retired_held x re_root none h = grind arith
+
+pub one_on : (w : ℕ) (a b : Bool) → On (a || b) → w ≤ if_so w a + if_so w b
+one_on w a b h = grind arith
+
+pub one_agrees : (w : ℕ) (all agree proposed : Bool) → On ((all && not agree) || (proposed && agree))
+    → 1 ≤ if_so (w + 1) proposed + if_so 1 (not agree)
+one_agrees w all agree proposed h = grind arith
+
+one_syncs : (w : ℕ) (synced sync may : Bool) → On ((not synced && may) || (sync && synced))
+    → w ≤ if_so w sync + if_so w (not synced)
+one_syncs w synced sync may h = grind arith
+
+one_rests : (w : ℕ) (at_time sync re_root synced none : Bool) → 1 ≤ w
+    → On (not at_time || sync || re_root || not synced || not none)
+    → 1 ≤ if_so 1 (not at_time) + if_so w sync + if_so 1 re_root + if_so w (not synced) + if_so 1 (not none)
+one_rests w at_time sync re_root synced none some h = grind arith
+
+-- the same role is blocked too
+pub blocked_too : (r s : Role) → On (same_role r s) → On (is_blocked r) → On (is_blocked s)
+blocked_too r s h k = grind arith
+
+module _ (n : ℕ) (timing : Timing) (x : PortState) where
+  acts_root : On (roles.acts_as_root x) → x.selected_role ≡ role.Root
+  acts_root acts = root_is x.selected_role (parts acts).1
+
+  acts_designated : On (roles.acts_as_designated x) → x.selected_role ≡ role.Designated
+  acts_designated acts = designated_is x.selected_role (parts acts).1
+
+  goes_free : On (roles.may_go_on x) → Off (is_held x)
+  goes_free h = not_held x.sync x.synced x.re_root (x.recent_root_while == 0) (parts (parts h).0).0 (parts h).1
+
+  -- a port that takes over a proposal has all others sync
+  proposed_lowers : On x.proposed → acting n timing (roles.without_proposal (with_sync x)) + n * (16 * n + 33) + 1
+      ≤ acting n timing x + (16 * n + 33)
+  proposed_lowers h = rw h (omega (arith, going_on-le))
+
+  pub raises : (k : Spread) → acting n timing (spread_by k x) ≤ acting n timing x + raise n k
+  raises Nothing = omega arith
+  raises Syncs = omega (arith, going_on-le)
+  raises Reroots =
+      omega (arith, going_on-le, third_off (n * (8 * n + 17) + 1) (is_root x.selected_role) (not x.forward) false refl)
+  raises Tells = omega arith
+
+  pub role_lowers : (rule : RoleRule) (ports : List PortState) (p : ℕ) → On (role_asks rule timing ports p x)
+      → Lowers n timing x (rules.Role rule)
+  -- taking the selected role
+  role_lowers role_rule.Disable ports p h =
+      let (first, other) = parts h in
+      let selected : On (is_disabled x.selected_role) = (parts first).1 in
       rw (
-        disabled_is port.selected_role,
-        other_role is_disabled port.role role.Disabled refl (not-true (is_disabled port.role) other),
+        disabled_is x.selected_role,
+        other_role is_disabled x.role role.Disabled refl (not-true (is_disabled x.role) other),
       ) (omega (arith, changing-le, stepping-le))
-
-  pub block_lowers : roles.block_guard port ≡ true → Lowers n timing roles.block_effect port
-  block_lowers h =
-      let other : not (has_role port) ≡ true = (and_parts _ _ h).1 in
-      let selected : is_blocked port.selected_role ≡ true = (and_parts _ _ (and_parts _ _ h).0).1 in
-      rw (other, blocked_not_root, going-blocked, same_itself) (omega (arith, changing-le, stepping-le))
-
-  pub designated_lowers : roles.designated_guard port ≡ true → Lowers n timing roles.designated_effect port
-  designated_lowers h =
-      let (first, other) = and_parts _ _ h in
-      let selected : is_designated port.selected_role ≡ true = (and_parts _ _ first).1 in
+  role_lowers role_rule.Block ports p h =
+      let (first, other) = parts h in
+      let same : On (not (has_role x)) = other in
+      let selected : On (is_blocked x.selected_role) = (parts first).1 in
+      rw (same, blocked_not_root, going-blocked, same_itself) (omega (arith, changing-le, stepping-le))
+  role_lowers role_rule.Designated ports p h =
+      let (first, other) = parts h in
+      let selected : On (is_designated x.selected_role) = (parts first).1 in
       rw (
-        designated_is port.selected_role,
-        other_role is_designated port.role role.Designated refl (not-true (is_designated port.role) other),
+        designated_is x.selected_role,
+        other_role is_designated x.role role.Designated refl (not-true (is_designated x.role) other),
       ) (omega (arith, changing-le))
-
   -- the port takes the role, or has it
-  pub root_lowers : roles.root_guard timing port ≡ true → Lowers n timing (roles.root_effect timing) port
-  root_lowers h =
-      let selected : is_root port.selected_role ≡ true = (and_parts _ _ (and_parts _ _ h).0).1 in
-      let why : not (is_root port.role) || not (port.recent_root_while == timing.forward_delay) ≡ true =
-      (and_parts _ _ h).1 in
-      elim (cases_Bool (is_root port.role)) [
+  role_lowers role_rule.Root ports p h =
+      let selected : On (is_root x.selected_role) = (parts (parts h).0).1 in
+      let why : On (not (is_root x.role) || not (x.recent_root_while == timing.forward_delay)) = (parts h).1 in
+      elim (cases_Bool (is_root x.role)) [
         | inl has ↦ (let old = rw has at why in
-            rw (root_is port.selected_role, root_is port.role, old, same_number timing.forward_delay) (omega arith))
+            rw (root_is x.selected_role, root_is x.role, old, same_number timing.forward_delay) (omega arith))
         | inr other ↦
             rw (
-              root_is port.selected_role,
-              other_role is_root port.role role.Root refl other,
-              same_number timing.forward_delay,
-            ) (omega (arith, changing-le))
+              root_is x.selected_role,
+              other_role is_root x.role role.Root refl other,
+              same_number
+                  timing.forward_delay,
+            )
+            (omega (arith, changing-le))
       ]
-
-  -- ---- the root port
-
-  acts_root : roles.acts_as_root port ≡ true → port.selected_role ≡ role.Root
-  acts_root acts = root_is port.selected_role (and_parts _ _ acts).1
-
-  pub root_agreed_lowers : (all : Bool) → roles.root_agreed_guard port all ≡ true
-      → Lowers n timing roles.root_agreed_effect port
-  root_agreed_lowers all h =
-      let (acts, may) = and_parts _ _ h in
-      rw (acts_root acts) (omega (arith, one_agrees (n * (16 * n + 33)) all port.agree port.proposed may))
-
-  pub rerooted_lowers : roles.rerooted_guard port ≡ true → Lowers n timing roles.rerooted_effect port
-  rerooted_lowers h =
-      let (first, re_root) = and_parts _ _ h in
-      let (acts, forwards) = and_parts _ _ first in
-      rw (acts_root acts, forwards, re_root) (omega arith)
-
-  pub root_learn_lowers : (others : Bool) → roles.root_learn_guard port others ≡ true
-      → Lowers n timing (roles.root_learn_effect timing) port
-  root_learn_lowers others h =
-      let (acts, dark) = and_parts _ _ (and_parts _ _ h).0 in
-      rw (acts_root acts, dark) (omega (arith, changing-le, stepping-le))
-
-  pub root_forward_lowers : (others : Bool) → roles.root_forward_guard port others ≡ true
-      → Lowers n timing roles.root_forward_effect port
-  root_forward_lowers others h =
-      let (second, blocked) = and_parts _ _ (and_parts _ _ h).0 in
-      rw (acts_root (and_parts _ _ second).0, blocked) (omega (arith, stepping-le))
-
-  -- ---- designated ports
-
-  acts_designated : roles.acts_as_designated port ≡ true → port.selected_role ≡ role.Designated
-  acts_designated acts = designated_is port.selected_role (and_parts _ _ acts).1
-
-  pub propose_lowers : roles.propose_guard port ≡ true → Lowers n timing (roles.propose_effect timing) port
-  propose_lowers h =
-      let idle : not port.proposing ≡ true = (and_parts _ _ (and_parts _ _ h).0).1 in
-      rw idle (omega (arith, if_so-le 1 (not (edge_delay timing port == 3) && not port.enabled)))
-
-  pub synced_lowers : roles.synced_guard port ≡ true → Lowers n timing roles.synced_effect port
-  synced_lowers h =
-      let (acts, why) = and_parts _ _ h in
-      rw (acts_designated acts) (omega (arith, one_syncs (8 * n + 17) port.synced port.sync _ why, going_on-le))
-
-  pub retired_lowers : roles.retired_guard port ≡ true → Lowers n timing roles.retired_effect port
-  retired_lowers h =
-      let (first, re_root) = and_parts _ _ h in
-      let (acts, none) = and_parts _ _ first in
-      rw (acts_designated acts, re_root, none) (omega arith)
-
+  -- the root port
+  role_lowers role_rule.RootProposed ports p h = proposed_lowers (parts (parts h).0).1
+  role_lowers role_rule.RootAgreed ports p h =
+      rw (acts_root (parts h).0) (omega (arith, one_agrees (n * (16 * n + 33)) _ x.agree x.proposed (parts h).1))
+  role_lowers role_rule.Reroot ports p h =
+      let (first, stays) = parts h in
+      let blocked : On (not x.forward) = (parts first).1 in
+      let old : On (not x.re_root) = stays in
+      rw (acts_root (parts first).0, blocked, old) (omega arith)
+  role_lowers role_rule.Rerooted ports p h =
+      let (first, old) = parts h in
+      let forwards : On x.forward = (parts first).1 in
+      let re_root : On x.re_root = old in
+      rw (acts_root (parts first).0, forwards, re_root) (omega arith)
+  role_lowers role_rule.RootLearn ports p h =
+      let dark : On (not x.learn) = (parts (parts h).0).1 in
+      rw (acts_root (parts (parts h).0).0, dark) (omega (arith, changing-le, stepping-le))
+  role_lowers role_rule.RootForward ports p h =
+      let (second, stays) = parts (parts h).0 in
+      let blocked : On (not x.forward) = stays in
+      rw (acts_root (parts second).0, blocked) (omega (arith, stepping-le))
+  -- designated ports
+  role_lowers role_rule.Propose ports p h =
+      let idle : On (not x.proposing) = (parts (parts h).0).1 in
+      rw idle (omega (arith, if_so-le 1 (not (edge_delay timing x == 3) && not x.enabled)))
+  role_lowers role_rule.Synced ports p h =
+      rw (acts_designated (parts h).0)
+      (omega (arith, one_syncs (8 * n + 17) x.synced x.sync _ (parts h).1, going_on-le))
+  role_lowers role_rule.Retired ports p h =
+      let (first, old) = parts h in
+      let none : On (x.recent_root_while == 0) = (parts first).1 in
+      let re_root : On x.re_root = old in
+      rw (acts_designated (parts first).0, re_root, none) (omega arith)
   -- a designated port goes back to discarding, if it is held back or its state is disputed
-  pub designated_discard_lowers : roles.designated_discard_guard port ≡ true
-      → Lowers n timing (roles.designated_discard_effect timing) port
-  designated_discard_lowers h =
-      let (first, must) = and_parts _ _ h in
-      let (second, on) = and_parts _ _ first in
-      let selected = acts_designated (and_parts _ _ second).0 in
-      elim (or_cases (is_held port) port.disputed must) [
+  role_lowers role_rule.DesignatedDiscard ports p h =
+      let (second, on) = parts (parts h).0 in
+      let selected = acts_designated (parts second).0 in
+      elim (or_cases (is_held x) x.disputed (parts h).1) [
         | inl held ↦
             rw (selected, held)
-            (omega (arith, one_on (4 * n + 8) port.learn port.forward on, stepping-le, changing-dark))
+            (omega (arith, one_on (4 * n + 8) x.learn x.forward on, stepping-le, changing-dark))
         | inr disputed ↦ rw (selected, disputed) (omega (arith, going_on-le, stepping-le, changing-dark))
       ]
-
-  goes_free : roles.may_go_on port ≡ true → is_held port ≡ false
-  goes_free h =
-      let (first, calm) = and_parts _ _ h in
-      not_held port.sync port.synced port.re_root (port.recent_root_while == 0) (and_parts _ _ first).0 calm
-
-  pub designated_learn_lowers : roles.designated_learn_guard port ≡ true
-      → Lowers n timing (roles.designated_learn_effect timing) port
-  designated_learn_lowers h =
-      let (first, may) = and_parts _ _ h in
-      let (acts, dark) = and_parts _ _ first in
-      rw (acts_designated acts, goes_free may, dark) (omega (arith, changing-le, stepping-le))
-
-  pub designated_forward_lowers : roles.designated_forward_guard port ≡ true
-      → Lowers n timing roles.designated_forward_effect port
-  designated_forward_lowers h =
-      let (first, may) = and_parts _ _ h in
-      let (second, blocked) = and_parts _ _ first in
-      rw (acts_designated (and_parts _ _ second).0, goes_free may, blocked) (omega (arith, stepping-le))
-
-  -- ---- other ports
-
-  pub disabled_port_lowers : roles.disabled_port_guard timing port ≡ true
-      → Lowers n timing (roles.disabled_port_effect timing) port
-  disabled_port_lowers h =
-      let (first, unrested) = and_parts _ _ h in
-      let rests = one_rests (8 * n + 17) (port.forward_delay_while == timing.max_age) port.sync port.re_root
-      port.synced (port.recent_root_while == 0) (omega arith) unrested in
-      let selected : is_disabled port.selected_role ≡ true = (and_parts _ _ (and_parts _ _ first).0).1 in
-      rw (disabled_is port.selected_role, same_number timing.max_age) (omega arith)
-
-  pub alternate_lowers : roles.alternate_guard timing port ≡ true
-      → Lowers n timing (roles.alternate_effect timing) port
-  alternate_lowers h =
-      let (first, unrested) = and_parts _ _ h in
-      let (has, blocked) = and_parts _ _ (and_parts _ _ first).0 in
-      let selected = blocked_too port.role port.selected_role (and_parts _ _ has).1 blocked in
-      let rests = one_rests (8 * n + 17) (port.forward_delay_while == forward_delay timing port) port.sync port.re_root
-      port.synced (port.recent_root_while == 0) (omega arith) unrested in
+  role_lowers role_rule.DesignatedLearn ports p h =
+      let dark : On (not x.learn) = (parts (parts h).0).1 in
+      let free : On (roles.may_go_on x) = (parts h).1 in
+      rw (acts_designated (parts (parts h).0).0, goes_free free, dark) (omega (arith, changing-le, stepping-le))
+  role_lowers role_rule.DesignatedForward ports p h =
+      let (second, stays) = parts (parts h).0 in
+      let blocked : On (not x.forward) = stays in
+      let free : On (roles.may_go_on x) = (parts h).1 in
+      rw (acts_designated (parts second).0, goes_free free, blocked) (omega (arith, stepping-le))
+  -- other ports
+  role_lowers role_rule.DisabledPort ports p h =
+      let rests = one_rests (8 * n + 17) (x.forward_delay_while == timing.max_age) x.sync x.re_root x.synced
+      (x.recent_root_while == 0) (omega arith) (parts h).1 in
+      let selected : On (is_disabled x.selected_role) = (parts (parts (parts h).0).0).1 in
+      rw (disabled_is x.selected_role, same_number timing.max_age) (omega arith)
+  role_lowers role_rule.Alternate ports p h =
+      let (has, blocked) = parts (parts (parts h).0).0 in
+      let selected = blocked_too x.role x.selected_role (parts has).1 blocked in
+      let rests = one_rests (8 * n + 17) (x.forward_delay_while == forward_delay timing x) x.sync x.re_root x.synced
+      (x.recent_root_while == 0) (omega arith) (parts h).1 in
       rw (
-        blocked_not_root port.selected_role,
+        blocked_not_root x.selected_role,
         going-blocked,
         waiting-blocked,
         waiting-blocked,
-        same_number (forward_delay timing port),
+        same_number (forward_delay timing x),
       ) (omega arith)
-
-  pub alternate_agreed_lowers : (all : Bool) → roles.alternate_agreed_guard port all ≡ true
-      → Lowers n timing roles.alternate_agreed_effect port
-  alternate_agreed_lowers all h =
-      omega (arith, one_agrees (n * (16 * n + 33)) all port.agree port.proposed (and_parts _ _ h).1)
-
-  pub backup_lowers : roles.backup_guard timing port ≡ true → Lowers n timing (roles.backup_effect timing) port
-  backup_lowers h =
-      let old : not (port.recent_backup_while == 2 * timing.hello) ≡ true = (and_parts _ _ h).1 in
+  role_lowers role_rule.AlternateProposed ports p h = proposed_lowers (parts (parts h).0).1
+  role_lowers role_rule.AlternateAgreed ports p h =
+      omega (arith, one_agrees (n * (16 * n + 33)) _ x.agree x.proposed (parts h).1)
+  role_lowers role_rule.Backup ports p h =
+      let old : On (not (x.recent_backup_while == 2 * timing.hello)) = (parts h).1 in
       rw (old, same_number (2 * timing.hello)) (omega arith)
-
-  -- ---- requests to all ports
-
-  pub sync_raises : acting n timing (with_sync port) ≤ acting n timing port + (16 * n + 33)
-  sync_raises = omega (arith, going_on-le)
-
-  pub proposal_lowers : port.proposed ≡ true
-      → acting n timing (roles.without_proposal port) + (n * (16 * n + 33) + 1) ≤ acting n timing port
-  proposal_lowers h = rw h (omega arith)
-
-  pub re_root_raises : acting n timing (with_re_root port) ≤ acting n timing port + (8 * n + 17)
-  re_root_raises =
-      omega (
-        arith,
-        going_on-le,
-        third_off (n * (8 * n + 17) + 1) (is_root port.selected_role) (not port.forward)
-            false refl,
-      )
-
-  pub reroot_lowers : roles.reroot_guard port ≡ true
-      → acting n timing (with_re_root port) + (n * (8 * n + 17) + 1) ≤ acting n timing port + (8 * n + 17)
-  reroot_lowers h =
-      let (first, stays) = and_parts _ _ h in
-      let (acts, blocked) = and_parts _ _ first in
-      rw (acts_root acts, blocked, stays) (omega arith)

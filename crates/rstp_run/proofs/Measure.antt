@@ -1,32 +1,29 @@
--- A measure of a bridge that each firing of the sweep lowers. Its first level is what may still request a
--- selection. Its
--- second level is what the other rules may still do before the next selection. n is the number of ports.
-use Rattle.std.proofs.Common.{ℕ, ◌+◌, ◌*◌, ◌≤◌, Bool, true, false, not, ◌&&◌, ◌||◌, ◌==◌, is_none, arith}
-use Rattle.rstp_state.specs.declared.port.Migration.{Migration}
-use Rattle.rstp_state.specs.declared.port.Migration.TheVariants as migration
-use Rattle.rstp_state.specs.declared.port.PortState.{PortState}
-use Rattle.rstp_state.specs.declared.port.Role.{Role}
-use Rattle.rstp_state.specs.declared.port.Role.TheVariants as role
-use Rattle.rstp_state.specs.declared.port.Timing.{Timing}
-use Rattle.rstp_state.specs.declared.port.Topology.{Topology}
-use Rattle.rstp_state.specs.declared.port.Topology.TheVariants as topology
-use Rattle.rstp_state.specs.Port.{is_received, is_out, is_root, same_role, forward_delay}
-use Rattle.rstp_run.specs.TopologyChange.{is_in_tree}
+-- A measure of a bridge that each firing of the sweep lowers. Its first level counts the messages, information and
+-- ports that may still request a selection. Its second level counts the steps that the other rules may still make
+-- before the next selection. n is the number of ports.
+use Rattle.rstp_run.proofs.Basics.{Number}
+use Rattle.rstp_run.proofs.Names.{arith, Bool, false, forward_delay, is_in_tree, is_none, is_out, is_received, is_root}
+use Rattle.rstp_run.proofs.Names.{Migration, not, PortState, Role, Rule, same_role, Timing, Topology, true, ℕ, ◌&&◌}
+use Rattle.rstp_run.proofs.Names.{◌*◌, ◌+◌, ◌==◌, ◌||◌, ◌≤◌}
+use Rattle.rstp_run.proofs.Own.{Nothing, own, Reroots, Spread, Syncs, spread_of, Tells}
+use Rattle.rstp_run.proofs.Quiet.{Still, still_of}
 use Rattle.rstp_run.proofs.Totals.{if_so}
-
--- ---- the first level
+use Rattle.rstp_run.proofs.Names.migration
+use Rattle.rstp_run.proofs.Names.role
+use Rattle.rstp_run.proofs.Names.topology
 
 -- an enabled port has still to leave the state Disabled, another port to enter it
 abbrev pub has_to_turn : Bool → Bool → Bool
 has_to_turn true out = out
 has_to_turn false out = not out
 
-abbrev pub selecting : PortState → ℕ
-selecting port =
-    if_so 4 port.received_bpdu + if_so 4 port.received_message + if_so 2 (is_received port.info_is)
-    + if_so 2 (has_to_turn port.enabled (is_out port.information)) + if_so 1 port.reselect
+abbrev pub selecting_of : Still → ℕ
+selecting_of x =
+    if_so 4 x.received_bpdu + if_so 4 x.received_message + if_so 2 (is_received x.known.info_is)
+    + if_so 2 (has_to_turn x.enabled (is_out x.known.information)) + if_so 1 x.known.reselect
 
--- ---- the second level, by machines
+abbrev pub selecting : Number
+selecting port = selecting_of (still_of port)
 
 -- 4 for each step that is left in protocol migration, at most; 2 or more if a rule is enabled
 abbrev pub migrating : Migration → Bool → Bool → ℕ
@@ -91,25 +88,25 @@ is_held port = (port.sync && not port.synced) || (port.re_root && not (port.rece
 abbrev pub is_outside : PortState → Bool
 is_outside port = not (is_in_tree port) || port.oper_edge
 
-abbrev pub of_changes : ℕ → PortState → ℕ
+abbrev pub of_changes : ℕ → Number
 of_changes n port =
     if_so 1 port.flush + if_so 2 port.propagate_topology_change + if_so 1 port.received_acknowledgement
     + if_so (2 * n + 1) port.received_topology_change + if_so (2 * n + 1) port.received_notification
     + changing (2 * n + 2) port.topology (is_outside port) port.learn
 
-abbrev pub of_states : ℕ → PortState → ℕ
+abbrev of_states : ℕ → Number
 of_states n port =
     stepping port.learn port.forward port.learning port.forwarding
     + going_on (4 * n + 8) port.selected_role (is_held port) port.learn port.forward
     + if_so (8 * n + 20) port.disputed
     + if_so (n * (8 * n + 17) + 1) (is_root port.selected_role && not port.forward && not port.re_root)
 
-abbrev pub of_requests : ℕ → PortState → ℕ
+abbrev of_requests : ℕ → Number
 of_requests n port =
     if_so 1 port.re_root + if_so (8 * n + 17) port.sync + if_so (8 * n + 17) (not port.synced)
     + if_so (n * (16 * n + 33) + 1) port.proposed + if_so 1 (not port.agree) + if_so 2 (not port.proposing)
 
-abbrev pub of_roles : ℕ → Timing → PortState → ℕ
+abbrev of_roles : ℕ → Timing → Number
 of_roles n timing port =
     if_so (4 * n + 10) (not (same_role port.role port.selected_role))
     + if_so 2 (is_root port.selected_role && not (port.recent_root_while == timing.forward_delay))
@@ -118,7 +115,7 @@ of_roles n timing port =
     (port.forward_delay_while == forward_delay timing port)
     + if_so 1 (not (port.recent_backup_while == 2 * timing.hello))
 
-abbrev pub of_messages : ℕ → PortState → ℕ
+abbrev of_messages : ℕ → Number
 of_messages n port =
     if_so (8 * n + 14) port.received_bpdu + if_so (16 * n + 36) port.update_info
     + if_so 1 (not (port.edge_delay_while == 3) && not port.enabled)
@@ -127,9 +124,22 @@ of_messages n port =
     + if_so 1 (is_none port.slot) + if_so 1 (port.hello_when == 0)
 
 -- the second level
-abbrev pub acting : ℕ → Timing → PortState → ℕ
+abbrev pub acting : ℕ → Timing → Number
 acting n timing port =
     of_changes n port + of_states n port + of_requests n port + of_roles n timing port + of_messages n port
+
+-- the number that a firing may add to the second level of any other port
+abbrev pub raise : ℕ → Spread → ℕ
+raise n Nothing = 0
+raise n Syncs = 16 * n + 33
+raise n Reroots = 8 * n + 17
+raise n Tells = 2
+
+-- the rule lowers the second level of the measure, more than it may raise that of all other ports
+abbrev pub Lowers : ℕ → Timing → PortState → Rule → Type 0
+Lowers n timing x rule =
+    acting n timing (own rule timing x) + n * raise n (spread_of rule) + 1
+    ≤ acting n timing x + raise n (spread_of rule)
 
 -- ---- bounds of the parts
 

@@ -1,30 +1,19 @@
 -- The effects of a firing on its own port, and on each other port.
-use Rattle.std.proofs.Common.{◌≡◌, ℕ, ◌⊎◌, inl, inr, Bool, true, false, not, List, [], ◌∷◌, ◌&&◌, Some, map}
-use Rattle.std.proofs.Common.{slice_get, slice_set, refl, arith}
-use Rattle.std.proofs.lemmas.Bool.{and_parts, not-true}
-use Rattle.rstp_state.specs.declared.port.PortState.{PortState}
-use Rattle.rstp_state.specs.declared.port.Timing.{Timing}
-use Rattle.rstp_state.specs.Port.{change_at}
-use Rattle.rstp_roles.specs.AllPorts.{with_re_root, with_sync}
-use Rattle.rstp_roles.specs.RoleTransitions as roles
-use Rattle.rstp_roles.specs.Rules.{role_does, state_does}
-use Rattle.rstp_roles.specs.declared.rule.RoleRule.{RoleRule}
-use Rattle.rstp_roles.specs.declared.rule.RoleRule.TheVariants as role_rule
-use Rattle.rstp_run.specs.TopologyChange as changes
-use Rattle.rstp_run.specs.TopologyChange.{telling_others, with_propagation}
-use Rattle.rstp_run.specs.declared.rule.Rule.{Rule}
-use Rattle.rstp_run.specs.declared.rule.Rule.TheVariants as rules
-use Rattle.rstp_run.specs.declared.rule.TopologyRule.{TopologyRule}
-use Rattle.rstp_run.specs.declared.rule.TopologyRule.TheVariants as topology_rule
-use Rattle.rstp_run.specs.Lasting.{is_select}
-use Rattle.rstp_run.specs.Machines.{detection_does, information_does, migration_does, receive_does, topology_does}
-use Rattle.rstp_run.specs.Machines.{transmit_does}
-use Rattle.rstp_run.specs.Rules.{Tree, asks, guard, ports_after, timing_in}
-use Rattle.rstp_run.specs.Sweep.{Going, tries, tries_all}
-use Rattle.rstp_run.proofs.Places.{AtAll, Stage, Zone, at_change, at_map, stage-tries}
-use Rattle.rstp_run.proofs.Totals.{slice_get-map, tested_at, told}
-
--- ---- the changes
+use Rattle.rstp_roles.specs.Rules.{role_does}
+use Rattle.rstp_run.proofs.Basics.{Effect, Fact, Facts, Number, Off, On, Relations, timed}
+use Rattle.rstp_run.proofs.Each.{AtAll, AtEach, at_each, each_as, each_change, each_map, each_same, Over}
+use Rattle.rstp_run.proofs.Names.{[], ap, arith, asks, Bool, change_at, false, guard, information_does, inl, inr}
+use Rattle.rstp_run.proofs.Names.{is_select, List, length, map, migration_does, not, PortState, ports_after, RoleRule}
+use Rattle.rstp_run.proofs.Names.{Rule, receive_does, refl, Some, same_Some, slice_get, slice_set, state_does, suc, sym}
+use Rattle.rstp_run.proofs.Names.{Timing, TopologyRule, Tree, telling_others, timing_in, true, with_propagation}
+use Rattle.rstp_run.proofs.Names.{with_re_root, with_sync, without_proposal, zero, ℕ, ◌&&◌, ◌*◌, ◌+◌, ◌∙◌, ◌∷◌, ◌≡◌}
+use Rattle.rstp_run.proofs.Names.{◌≤◌, ◌⊎◌}
+use Rattle.rstp_run.proofs.Totals.{slice_get-map, tested_at, told, total}
+use Rattle.rstp_run.specs.Machines.{detection_does, topology_does, transmit_does}
+use Rattle.rstp_run.proofs.Names.role_rule
+use Rattle.rstp_run.proofs.Names.rules
+use Rattle.rstp_run.proofs.Names.topology
+use Rattle.rstp_run.proofs.Names.topology_rule
 
 -- the effect of a firing on ports other than its own
 pub data Spread : Type 0 where
@@ -33,66 +22,34 @@ pub data Spread : Type 0 where
   Reroots : Spread
   Tells : Spread
 
-abbrev pub spread_by : Spread → PortState → PortState
+abbrev pub spread_by : Spread → Effect
 spread_by Nothing port = port
 spread_by Syncs port = with_sync port
 spread_by Reroots port = with_re_root port
 spread_by Tells port = with_propagation port
 
-abbrev role_spread : RoleRule → Spread
-role_spread role_rule.RootProposed = Syncs
-role_spread role_rule.AlternateProposed = Syncs
-role_spread role_rule.Reroot = Reroots
-role_spread _ = Nothing
-
-abbrev topology_spread : TopologyRule → Spread
-topology_spread topology_rule.Detected = Tells
-topology_spread topology_rule.NotifiedTcn = Tells
-topology_spread topology_rule.NotifiedTc = Tells
-topology_spread _ = Nothing
-
 abbrev pub spread_of : Rule → Spread
-spread_of (rules.Role rule) = role_spread rule
-spread_of (rules.Topology rule) = topology_spread rule
+spread_of (rules.Role role_rule.RootProposed) = Syncs
+spread_of (rules.Role role_rule.AlternateProposed) = Syncs
+spread_of (rules.Role role_rule.Reroot) = Reroots
+spread_of (rules.Topology topology_rule.Detected) = Tells
+spread_of (rules.Topology topology_rule.NotifiedTcn) = Tells
+spread_of (rules.Topology topology_rule.NotifiedTc) = Tells
 spread_of _ = Nothing
 
-abbrev pub own_role : RoleRule → Timing → PortState → PortState
-own_role role_rule.Disable timing port = roles.disable_effect port
-own_role role_rule.DisabledPort timing port = roles.disabled_port_effect timing port
-own_role role_rule.Root timing port = roles.root_effect timing port
-own_role role_rule.RootProposed timing port = roles.without_proposal (with_sync port)
-own_role role_rule.RootAgreed timing port = roles.root_agreed_effect port
-own_role role_rule.Reroot timing port = with_re_root port
-own_role role_rule.Rerooted timing port = roles.rerooted_effect port
-own_role role_rule.RootLearn timing port = roles.root_learn_effect timing port
-own_role role_rule.RootForward timing port = roles.root_forward_effect port
-own_role role_rule.Designated timing port = roles.designated_effect port
-own_role role_rule.Propose timing port = roles.propose_effect timing port
-own_role role_rule.Synced timing port = roles.synced_effect port
-own_role role_rule.Retired timing port = roles.retired_effect port
-own_role role_rule.DesignatedDiscard timing port = roles.designated_discard_effect timing port
-own_role role_rule.DesignatedLearn timing port = roles.designated_learn_effect timing port
-own_role role_rule.DesignatedForward timing port = roles.designated_forward_effect port
-own_role role_rule.Block timing port = roles.block_effect port
-own_role role_rule.Alternate timing port = roles.alternate_effect timing port
-own_role role_rule.AlternateProposed timing port = roles.without_proposal (with_sync port)
-own_role role_rule.AlternateAgreed timing port = roles.alternate_agreed_effect port
-own_role role_rule.Backup timing port = roles.backup_effect timing port
-
-abbrev pub own_topology : TopologyRule → Timing → PortState → PortState
-own_topology topology_rule.TcLearning timing port = changes.tc_learning_effect port
-own_topology topology_rule.Detected timing port = changes.detected_at timing port
-own_topology topology_rule.TcClear timing port = changes.tc_clear_effect port
-own_topology topology_rule.TcInactive timing port = changes.tc_inactive_effect port
-own_topology topology_rule.TcBack timing port = changes.tc_back_effect port
-own_topology topology_rule.NotifiedTcn timing port = changes.notified_tcn_at timing port
-own_topology topology_rule.NotifiedTc timing port = changes.notified_at port
-own_topology topology_rule.Propagating timing port = changes.propagating_effect timing port
-own_topology topology_rule.Acknowledged timing port = changes.acknowledged_effect port
-own_topology topology_rule.Flush timing port = changes.flush_effect port
+-- the port of a list of one port
+abbrev the_one : PortState → List PortState → PortState
+the_one x [] = x
+the_one x (y ∷ ys) = y
 
 -- the effect of a firing on its own port
-abbrev pub own : Rule → Timing → PortState → PortState
+abbrev pub own_role : RoleRule → Timing → Effect
+own_role rule timing port = the_one port (role_does rule timing (port ∷ []) 0)
+
+abbrev pub own_topology : TopologyRule → Timing → Effect
+own_topology rule timing port = the_one port (topology_does rule timing (port ∷ []) 0)
+
+abbrev pub own : Rule → Timing → Effect
 own rules.Select timing port = port
 own (rules.Receive rule) timing port = receive_does rule port
 own (rules.Migration rule) timing port = migration_does rule port
@@ -103,99 +60,109 @@ own (rules.State rule) timing port = state_does rule port
 own (rules.Topology rule) timing port = own_topology rule timing port
 own (rules.Transmit rule) timing port = transmit_does rule timing port
 
--- ---- facts of all ports after a firing
+-- ---- all ports after a firing
 
-same_place : (q p : ℕ) → (q ≡ p) ⊎ (q ≡ p → ⊥)
-same_place q p = grind arith
+module _ (R : Relations) (p : ℕ) (ports : List PortState) where
+  -- the relation holds of this change at each other port, and at the port at place p
+  abbrev Others : Effect → Type 0
+  Others does = (q : ℕ) (x : PortState) → (q ≡ p → ⊥) → R q x (does x)
 
--- the port came by this change from one with the fact
-abbrev Made : (PortState → PortState) → (ℕ → PortState → Type 0) → ℕ → PortState → Type 0
-Made every P q y = (x : PortState) × (every x ≡ y) × P q x
+  abbrev Here : Effect → Type 0
+  Here does = (x : PortState) → slice_get ports p ≡ Some x → R p x (does x)
 
-module _ (P Q : ℕ → PortState → Type 0) (p : ℕ) (ports : List PortState) (all : AtAll P ports) where
-  -- the change leads from P to Q at each other port, and at the port at place p
-  abbrev Others : (PortState → PortState) → Type 0
-  Others does = (q : ℕ) (x : PortState) → (q ≡ p → ⊥) → P q x → Q q (does x)
+  alone : (does : Effect) → Others (λ x. x) → Here does → AtEach R ports (change_at p does ports)
+  alone does others here =
+      each_change R p does ports ports
+      (each_same (Over R p does) ports (λ q x at. (others q x, λ e. rw e (here x (rw e at at)))))
 
-  abbrev Here : (PortState → PortState) → Type 0
-  Here does = (x : PortState) → P p x → Q p (does x)
-
-  alone : (does : PortState → PortState) → Others (λ x. x) → Here does → AtAll Q (change_at p does ports)
-  alone does others here = at_change P Q does ports p others (λ x at. here x) all
-
-  everywhere : (every does : PortState → PortState) → Others every → Here (λ x. does (every x))
-      → AtAll Q (change_at p does (map every ports))
+  everywhere : (every does : Effect) → Others every → Here (λ x. does (every x))
+      → AtEach R ports (change_at p does (map every ports))
   everywhere every does others here =
-      at_change (Made every P) Q does (map every ports) p
-      (λ q y apart m. rw m.1 at (others q m.0 apart m.2))
-      (λ y at m. rw (← m.1) (here m.0 m.2))
-      (at_map P (Made every P) every (λ q x h. (x, refl, h)) ports all)
+      each_change R p does ports (map every ports)
+      (each_map (Over R p does) every ports (λ q x at. (others q x, λ e. rw e (here x (rw e at at)))))
 
-  rerooting : Others with_re_root → Here with_re_root → AtAll Q (map with_re_root ports)
-  rerooting others here = at_map P Q with_re_root by ports all
+  rerooting : Others with_re_root → Here with_re_root → AtEach R ports (map with_re_root ports)
+  rerooting others here = each_map R with_re_root ports (λ q x at. elim (same_place q) [
+    | inl e ↦ rw e (here x (rw e at at))
+    | inr apart ↦ others q x apart
+  ])
     where
-      by : (q : ℕ) (x : PortState) → P q x → Q q (with_re_root x)
-      by q x h = elim (same_place q p) [
-        | inl e ↦ rw e (here x (rw e at h))
-        | inr apart ↦ others q x apart h
-      ]
+      same_place : (q : ℕ) → (q ≡ p) ⊎ (q ≡ p → ⊥)
+      same_place q = grind arith
 
-  telling : (does : PortState → PortState) (port : PortState) → slice_get ports p ≡ Some port
-      → Others with_propagation → Here does → AtAll Q (telling_others p does ports)
+  telling : (does : Effect) (port : PortState) → slice_get ports p ≡ Some port → Others with_propagation → Here does
+      → AtEach R ports (telling_others p does ports)
   telling does port at others here =
       let there = slice_get-map with_propagation ports p port at in
       let same : change_at p (λ y. does port) (map with_propagation ports)
       ≡ slice_set (map with_propagation ports) p (does port) = rw there in
       rw (told p does ports port at, ← same)
-      (everywhere with_propagation (λ y. does port) others (λ x h. here port (all p port at)))
+      (everywhere with_propagation (λ y. does port) others
+      (λ x is. rw (← same_Some port x (sym at ∙ is)) (here port at)))
 
-  role_at : (rule : RoleRule) (timing : Timing) → Others (spread_by (role_spread rule)) → Here (own_role rule timing)
-      → AtAll Q (role_does rule timing ports p)
-  role_at role_rule.RootProposed timing others here = everywhere with_sync roles.without_proposal others here
-  role_at role_rule.AlternateProposed timing others here = everywhere with_sync roles.without_proposal others here
-  role_at role_rule.Reroot timing others here = rerooting others here
-  role_at rule timing others here = alone (own_role rule timing) others here
-
-  topology_at : (rule : TopologyRule) (timing : Timing) (port : PortState) → slice_get ports p ≡ Some port
-      → Others (spread_by (topology_spread rule)) → Here (own_topology rule timing)
-      → AtAll Q (topology_does rule timing ports p)
-  topology_at topology_rule.Detected timing port at others here =
-      telling (changes.detected_at timing) port at others here
-  topology_at topology_rule.NotifiedTcn timing port at others here =
-      telling (changes.notified_tcn_at timing) port at others here
-  topology_at topology_rule.NotifiedTc timing port at others here = telling changes.notified_at port at others here
-  topology_at rule timing port at others here = alone (own_topology rule timing) others here
-
--- the port at which the rule is enabled passes its test
-asked_at : (rule : Rule) (s : Tree) (p : ℕ) (x : PortState) → guard rule s p ≡ true → slice_get s.ports p ≡ Some x
-    → asks rule s p x ≡ true
-asked_at rule s p x on at = rw at at on
-
--- a fact, and that the rule's guard holds at its port
-abbrev Asked : Rule → Tree → ℕ → (ℕ → PortState → Type 0) → ℕ → PortState → Type 0
-Asked rule s p P q x = (q ≡ p → asks rule s p x ≡ true) × P q x
-
-pub after-at : (rule : Rule) (s : Tree) (p : ℕ) (P Q : ℕ → PortState → Type 0) → is_select rule ≡ false
-    → guard rule s p ≡ true → ((q : ℕ) (x : PortState) → (q ≡ p → ⊥) → P q x → Q q (spread_by (spread_of rule) x))
-    → ((x : PortState) → asks rule s p x ≡ true → P p x → Q p (own rule (timing_in s) x)) → AtAll P s.ports
-    → AtAll Q (ports_after rule s p)
-after-at rule s p P Q other on others here all =
-    go rule other (λ q x apart h. others q x apart h.1) (λ x h. here x (h.0 refl) h.1)
-    (tested_at (asks rule s p) s.ports p on)
+-- each port before and after a firing
+pub own-each : (R : Relations) (rule : Rule) (s : Tree) (p : ℕ) → Off (is_select rule) → On (guard rule s p)
+    → ((q : ℕ) (x : PortState) → (q ≡ p → ⊥) → R q x (spread_by (spread_of rule) x))
+    → ((x : PortState) → slice_get s.ports p ≡ Some x → On (asks rule s p x) → R p x (own rule (timing_in s) x))
+    → AtEach R s.ports (ports_after rule s p)
+own-each R rule s p other on others here =
+    go rule other others (λ x at. here x at (rw at at on)) (tested_at (asks rule s p) s.ports p on)
   where
-    asked : AtAll (Asked rule s p P) s.ports
-    asked q x at = (λ e. asked_at rule s p x on (rw e at at), all q x at)
+    go : (r : Rule) → Off (is_select r) → Others R p s.ports (spread_by (spread_of r))
+        → Here R p s.ports (own r (timing_in s)) → (port : PortState) × (slice_get s.ports p ≡ Some port)
+        × On (asks rule s p port) → AtEach R s.ports (ports_after r s p)
+    go rules.Select n o h port = cc
+    go (rules.Role role_rule.RootProposed) n o h port = everywhere R p s.ports with_sync without_proposal o h
+    go (rules.Role role_rule.AlternateProposed) n o h port = everywhere R p s.ports with_sync without_proposal o h
+    go (rules.Role role_rule.Reroot) n o h port = rerooting R p s.ports o h
+    go (rules.Topology topology_rule.Detected) n o h port = telling R p s.ports _ port.0 port.1 o h
+    go (rules.Topology topology_rule.NotifiedTcn) n o h port = telling R p s.ports _ port.0 port.1 o h
+    go (rules.Topology topology_rule.NotifiedTc) n o h port = telling R p s.ports _ port.0 port.1 o h
+    go r n o h port = alone R p s.ports (own r (timing_in s)) o h
 
-    go : (r : Rule) → is_select r ≡ false
-        → ((q : ℕ) (x : PortState) → (q ≡ p → ⊥) → Asked rule s p P q x → Q q (spread_by (spread_of r) x))
-        → ((x : PortState) → Asked rule s p P p x → Q p (own r (timing_in s) x))
-        → (port : PortState) × (slice_get s.ports p ≡ Some port) × (asks rule s p port ≡ true)
-        → AtAll Q (ports_after r s p)
-    go rules.Select no_select o h port = cc
-    go (rules.Role r) no_select o h port = role_at (Asked rule s p P) Q p s.ports asked r (timing_in s) o h
-    go (rules.Topology r) no_select o h port =
-        topology_at (Asked rule s p P) Q p s.ports asked r (timing_in s) port.0 port.1 o h
-    go r no_select o h port = alone (Asked rule s p P) Q p s.ports asked (own r (timing_in s)) o h
+pub after-at : (P Q : Facts) (rule : Rule) (s : Tree) (p : ℕ) → Off (is_select rule) → On (guard rule s p)
+    → ((q : ℕ) (x : PortState) → (q ≡ p → ⊥) → P q x → Q q (spread_by (spread_of rule) x))
+    → ((x : PortState) → On (asks rule s p x) → P p x → Q p (own rule (timing_in s) x)) → AtAll P s.ports
+    → AtAll Q (ports_after rule s p)
+after-at P Q rule s p other on others here =
+    at_each P Q s.ports (ports_after rule s p)
+    (own-each (λ q x y. P q x → Q q y) rule s p other on others (λ x at. here x))
+
+-- each other port's number grows by at most c, and the port at place p becomes y
+abbrev Grows : Number → ℕ → ℕ → PortState → Relations
+Grows f c p y q u v = ((q ≡ p → ⊥) → f v ≤ f u + c) × (q ≡ p → v ≡ y)
+
+total-at : (f : Number) (c p : ℕ) (a b : List PortState) (x y : PortState) → slice_get a p ≡ Some x
+    → AtEach (Grows f c p y) a b → total f b + f x + c ≤ total f a + f y + length a * c
+total-at f c p [] b x y at h = cc
+total-at f c zero (u ∷ us) (v ∷ vs) x y at h =
+    let old = ap f (same_Some u x at) in
+    let new = ap f (h.0.1 refl) in
+    omega (arith, rest us vs (each_as (λ q u v. f v ≤ f u + c) us vs h.1 (λ q u v _ _ k. k.0 (λ e. omega arith))))
+  where
+    rest : (a b : List PortState) → AtEach (λ q u v. f v ≤ f u + c) a b → total f b ≤ total f a + length a * c
+    rest [] [] h = omega arith
+    rest (u ∷ us) (v ∷ vs) h = omega (arith, h.0, rest us vs h.1)
+    rest _ _ h = absurd h
+total-at f c (suc p) (u ∷ us) (v ∷ vs) x y at h =
+    let first = h.0.0 (λ e. omega arith) in
+    omega (
+      arith,
+      total-at f c p us vs x y at (each_as (Grows f c p y) us vs h.1
+          (λ q u v _ _ k. (λ apart. k.0 (λ e. apart (omega arith)), λ e. k.1 (omega arith)))),
+    )
+total-at f c p _ [] x y at h = absurd h
+
+pub total-after : (f : Number) (c : ℕ) (rule : Rule) (s : Tree) (p : ℕ) (port : PortState) → Off (is_select rule)
+    → On (guard rule s p) → slice_get s.ports p ≡ Some port
+    → ((x : PortState) → f (spread_by (spread_of rule) x) ≤ f x + c)
+    → total f (ports_after rule s p) + f port + c
+    ≤ total f s.ports + f (own rule (timing_in s) port) + length s.ports * c
+total-after f c rule s p port other on at grows =
+    total-at f c p s.ports (ports_after rule s p) port (own rule (timing_in s) port) at
+    (own-each (Grows f c p (own rule (timing_in s) port)) rule s p other on
+    (λ q x apart. (λ far. grows x, λ e. absurd (apart e)))
+    (λ x is asked. (λ far. absurd (far refl), λ e. rw (same_Some x port (sym is ∙ at)))))
 
 -- ---- a port whose rules are being tried
 
@@ -203,65 +170,32 @@ abbrev pub all_keep : (Rule → Bool) → List Rule → Bool
 all_keep keeps [] = true
 all_keep keeps (rule ∷ rest) = not (is_select rule) && keeps rule && all_keep keeps rest
 
--- R is known of every port. V is known of the earlier ports, U of the later ones.
-module _ (R V U : PortState → Type 0) (c n limit p : ℕ) where
-  abbrev Zoned : (PortState → Type 0) → ℕ → PortState → Type 0
-  Zoned H = Zone (λ x. R x × V x) (λ x. R x × H x) (λ x. R x × U x) p
+-- each rule other than Select keeps this fact of its port
+abbrev pub Stable : Fact → Type 0
+Stable R =
+    (rule : Rule) (s : Tree) (p : ℕ) (x : PortState) → Off (is_select rule) → On (asks rule s p x) → R x
+    → R (own rule (timing_in s) x)
 
-  abbrev pub Now : (PortState → Type 0) → Going → Type 0
-  Now H g = Stage c n (Zone (λ x. R x × V x) (λ x. R x × H x) (λ x. R x × U x) p) limit g
+-- the port without what the rules of topology change change
+abbrev pub unturned : Effect
+unturned x = record x {
+  topology = topology.Inactive;
+  flush = false;
+  topology_change_while = 0;
+  new_info = false;
+  propagate_topology_change = false;
+  received_topology_change = false;
+  received_notification = false;
+  received_acknowledgement = false;
+  acknowledge_topology_change = false;
+}
 
-  -- Only changes of other ports that fit come about.
-  module _ (fit : Spread → Bool)
-      (early : (k : Spread) (x : PortState) → fit k ≡ true → R x × V x → R (spread_by k x) × V (spread_by k x))
-      (late : (k : Spread) (x : PortState) → fit k ≡ true → R x × U x → R (spread_by k x) × U (spread_by k x))
-      (calm : (rule : Rule) (s : Tree) (x : PortState) → is_select rule ≡ false → asks rule s p x ≡ true → R x
-      → fit (spread_of rule) ≡ true)
-      (stays : (rule : Rule) (s : Tree) (x : PortState) → is_select rule ≡ false → asks rule s p x ≡ true → R x
-      → R (own rule (timing_in s) x)) where
-    -- a rule that leads from the fact H of its port to the fact K
-    pub step : (H K : PortState → Type 0) (rule : Rule) → is_select rule ≡ false
-        → ((s : Tree) (x : PortState) → R x → asks rule s p x ≡ false → H x → K x)
-        → ((s : Tree) (x : PortState) → R x → asks rule s p x ≡ true → H x → K (own rule (timing_in s) x))
-        → (g : Going) → Now H g → Now K (tries rule p limit g)
-    step H K rule other rests fires g h =
-        stage-tries c n limit (Zoned H) (Zoned K) rule p g other off on h
-      where
-        here : (x : PortState) → guard rule g.tree p ≡ false → slice_get g.tree.ports p ≡ Some x
-            → asks rule g.tree p x ≡ false
-        here x is at = rw at at is
-
-        off : guard rule g.tree p ≡ false → AtAll (Zoned H) g.tree.ports → AtAll (Zoned K) g.tree.ports
-        off is all q x at =
-            let z = all q x at in
-            (z.0, λ e. (let h = z.1 e in (h.0, rests g.tree x h.0 (here x is (rw e at at)) h.1)), z.2)
-
-        on : guard rule g.tree p ≡ true → AtAll (Zoned H) g.tree.ports → AtAll (Zoned K) (ports_after rule g.tree p)
-        on is all =
-            let port = tested_at (asks rule g.tree p) g.tree.ports p is in
-            let fits = calm rule g.tree port.0 other port.2 ((all p port.0 port.1).1 refl).0 in
-            after-at rule g.tree p (Zoned H) (Zoned K) other is
-            (λ q x apart z. (
-              λ less. early (spread_of rule) x fits (z.0 less),
-              λ e. absurd (apart e),
-              λ more. late (spread_of rule) x fits (z.2 more),
-            ))
-            (λ x asked z. (
-              λ less. absurd (omega arith),
-              λ e. (let h = z.1 refl in
-                  (stays rule g.tree x other asked h.0, fires g.tree x h.0 asked h.1)),
-              λ less. absurd (omega arith),
-            )) all
-
-    -- rules that keep the fact H
-    pub steps : (H : PortState → Type 0) (keeps : Rule → Bool)
-        → ((rule : Rule) (s : Tree) (x : PortState) → is_select rule ≡ false → keeps rule ≡ true → R x
-        → asks rule s p x ≡ true → H x → H (own rule (timing_in s) x))
-        → (list : List Rule) → all_keep keeps list ≡ true → (g : Going) → Now H g → Now H (tries_all list p limit g)
-    steps H keeps fires [] ok g h = h
-    steps H keeps fires (rule ∷ rest) ok g h =
-        let kept = and_parts (not (is_select rule) && keeps rule) (all_keep keeps rest) ok in
-        let first = and_parts (not (is_select rule)) (keeps rule) kept.0 in
-        let other = not-true (is_select rule) first.0 in
-        steps H keeps fires rest kept.1 (tries rule p limit g)
-        (step H H rule other (λ s x r off k. k) (λ s x. fires rule s x other first.1) g h)
+pub topology_unturned : (rule : TopologyRule) (timing : Timing) (x : PortState)
+    → unturned (own_topology rule timing x) ≡ unturned x
+topology_unturned topology_rule.Detected timing x =
+    timed (λ y. unturned y ≡ unturned x) timing (record x { topology = topology.Active }) (λ time new. refl)
+topology_unturned topology_rule.NotifiedTcn timing x =
+    timed (λ y. unturned y ≡ unturned x) timing x (λ time new. refl)
+topology_unturned topology_rule.Propagating timing x =
+    timed (λ y. unturned y ≡ unturned x) timing x (λ time new. refl)
+topology_unturned _ timing x = refl

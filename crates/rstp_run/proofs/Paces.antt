@@ -1,27 +1,20 @@
 -- The rules of roles and states in a visit of a port, on six of its flags, whatever its timers, its agreement and its
 -- edge are.
-use Rattle.std.proofs.Common.{◌≡◌, ℕ, ◌+◌, ◌≤◌, Bool, true, false, not, ◌&&◌, ◌||◌, ◌==◌}
-use Rattle.std.proofs.Common.{refl, sym, ap, arith, if◌then◌else◌}
-use Rattle.rstp_state.specs.declared.port.PortState.{PortState}
-use Rattle.rstp_state.specs.declared.port.Role.{Role}
-use Rattle.rstp_state.specs.declared.port.Role.TheVariants as role
-use Rattle.rstp_state.specs.Port.{edge_delay, is_designated}
-use Rattle.rstp_roles.specs.RoleTransitions as roles
-use Rattle.rstp_roles.specs.declared.rule.RoleRule.{RoleRule}
-use Rattle.rstp_roles.specs.declared.rule.RoleRule.TheVariants as role_rule
-use Rattle.rstp_roles.specs.declared.rule.StateRule.{StateRule}
-use Rattle.rstp_roles.specs.declared.rule.StateRule.TheVariants as state_rule
-use Rattle.rstp_run.specs.declared.rule.Rule.TheVariants as rules
-use Rattle.rstp_run.specs.Rules.{Tree, asks, timing_in}
+use Rattle.rstp_run.proofs.Basics.{Bools, Off, On, parts}
 use Rattle.rstp_run.proofs.Inputs.{inputs, offers, wait}
+use Rattle.rstp_run.proofs.LowersRoles.{not_held, on_both, retired_held}
 use Rattle.rstp_run.proofs.Measure.{is_held}
+use Rattle.rstp_run.proofs.Names.{ap, arith, asks, Bool, edge_delay, false, if◌then◌else◌, is_designated, not}
+use Rattle.rstp_run.proofs.Names.{PortState, Role, RoleRule, refl, StateRule, sym, Tree, timing_in, true, ℕ, ◌&&◌, ◌+◌}
+use Rattle.rstp_run.proofs.Names.{◌==◌, ◌||◌, ◌≡◌, ◌≤◌}
 use Rattle.rstp_run.proofs.Own.{own_role}
 use Rattle.rstp_run.proofs.RoleKinds.{as-designated, kind, role-kind, rule_kind}
-use Rattle.rstp_run.proofs.RoleParts.{not_held, on_both, retired_held}
 use Rattle.rstp_run.proofs.Totals.{if_so}
-use Rattle.rstp_state.proofs.Basics.{and_left as left, and_right as right}
-
--- ---- the flags
+use Rattle.rstp_run.proofs.Names.role
+use Rattle.rstp_run.proofs.Names.role_rule
+use Rattle.rstp_run.proofs.Names.roles
+use Rattle.rstp_run.proofs.Names.rules
+use Rattle.rstp_run.proofs.Names.state_rule
 
 -- held is true of a designated port that a request to sync, or to leave the old root, holds back
 pub record Gait : Type 0 where
@@ -32,7 +25,7 @@ pub record Gait : Type 0 where
   pub disputed : Bool
   pub held : Bool
 
-abbrev pub gait_with : Bool → PortState → Gait
+abbrev gait_with : Bool → PortState → Gait
 gait_with h x = record {
   learn = x.learn;
   forward = x.forward;
@@ -45,13 +38,15 @@ gait_with h x = record {
 abbrev pub gait_of : PortState → Gait
 gait_of x = gait_with (is_designated x.selected_role && is_held x) x
 
-abbrev pub gait : Bool → Bool → Bool → Bool → Bool → Bool → Gait
+abbrev pub gait : Bools 6 Gait
 gait a b c d e f = record { learn = a; forward = b; learning = c; forwarding = d; disputed = e; held = f }
 
 abbrev pub dark : Gait → Bool
 dark c = not c.learning && not c.forwarding
 
--- ---- the rules
+-- a number of these flags
+abbrev pub Cost : Type 0
+Cost = Gait → ℕ
 
 -- the rule may be enabled at a port of its role
 abbrev pub may : RoleRule → Gait → Bool
@@ -76,7 +71,7 @@ stepped role_rule.Block c = record c { learn = false; forward = false }
 stepped _ c = c
 
 -- a port that is disputed pays once for its DesignatedDiscard, and a port that doesn't propose for Propose
-abbrev pub price : RoleRule → Gait → ℕ
+abbrev pub price : RoleRule → Cost
 price role_rule.Propose c = 0
 price role_rule.DesignatedDiscard c = if c.disputed then 0 else 1
 price _ c = 1
@@ -91,25 +86,23 @@ turned_on state_rule.ToLearning c = record c { learning = true }
 turned_on state_rule.ToForwarding c = record c { forwarding = true }
 turned_on state_rule.ToDiscarding c = record c { learning = false; forwarding = false }
 
--- ---- the rules of a port
-
 -- the flags of a port whose selected role isn't Designated
-aside : (r : Role) (k : ℕ) → kind r ≡ k → (k == 2) ≡ false → is_designated r ≡ false
+aside : (r : Role) (k : ℕ) → kind r ≡ k → Off (k == 2) → Off (is_designated r)
 aside role.Designated k h other = absurd (let no = rw (← h) at other in cc)
 aside _ k h other = refl
 
 module _ (x : PortState) where
   -- what a firing does: the flags after it, and its price
   pub record Steps (rule : RoleRule) (y : PortState) : Type 0 where
-    pub on : may rule (gait_of x) ≡ true
+    pub on : On (may rule (gait_of x))
     pub to : gait_of y ≡ stepped rule (gait_of x)
     pub paid : inputs y + 1 ≤ inputs x + price rule (gait_of x)
     pub waits : wait y ≡ wait x
     pub same_role : y.selected_role ≡ x.selected_role
 
   -- a rule of another role than Designated that doesn't change the number of inputs
-  outside : {y : PortState} {rule : RoleRule} {k : ℕ} → kind x.selected_role ≡ k → (k == 2) ≡ false
-      → may rule (gait_of x) ≡ true → price rule (gait_of x) ≡ 1 → y.selected_role ≡ x.selected_role
+  outside : {y : PortState} {rule : RoleRule} {k : ℕ} → kind x.selected_role ≡ k → Off (k == 2)
+      → On (may rule (gait_of x)) → price rule (gait_of x) ≡ 1 → y.selected_role ≡ x.selected_role
       → wait y ≡ wait x → inputs y ≡ inputs x → gait_with false y ≡ stepped rule (gait_with false x) → Steps rule y
   outside {k = k} is other on price same waits ins h = record {
     on = on;
@@ -119,7 +112,7 @@ module _ (x : PortState) where
     same_role = same;
   }
 
-  inside : {y : PortState} {rule : RoleRule} → kind x.selected_role ≡ 2 → may rule (gait_of x) ≡ true
+  inside : {y : PortState} {rule : RoleRule} → kind x.selected_role ≡ 2 → On (may rule (gait_of x))
       → inputs y + 1 ≤ inputs x + price rule (gait_of x) → y.selected_role ≡ x.selected_role → wait y ≡ wait x
       → gait_with (is_held y) y ≡ stepped rule (gait_with (is_held x) x) → Steps rule y
   inside is on paid same waits h = record {
@@ -130,65 +123,66 @@ module _ (x : PortState) where
     same_role = same;
   }
 
-and_off : (b : Bool) → b && false ≡ false
+and_off : (b : Bool) → Off (b && false)
 and_off b = grind arith
 
-pub pays : (p e d : Bool) → not p ≡ true → if_so 1 (d && not e) + 1 ≤ offers p e
+pub pays : (p e d : Bool) → On (not p) → if_so 1 (d && not e) + 1 ≤ offers p e
 pays p e d h = grind arith
 
 discounts : (d : Bool) → 1 ≤ if_so 1 d + (if d then 0 else 1)
 discounts d = grind arith
 
-held_off : (d h : Bool) → h ≡ false → not (d && h) ≡ true
+held_off : (d h : Bool) → Off h → On (not (d && h))
 held_off d h k = grind arith
 
 -- each rule at its port
 module _ (s : Tree) (p : ℕ) (x : PortState) where
-  goes_on : roles.may_go_on x ≡ true → not (is_designated x.selected_role && is_held x) ≡ true
+  goes_on : On (roles.may_go_on x) → On (not (is_designated x.selected_role && is_held x))
   goes_on h =
       held_off (is_designated x.selected_role) (is_held x)
-      (not_held x.sync x.synced x.re_root (x.recent_root_while == 0) (left _ _ (left _ _ h))
-      (right _ _ h))
+      (not_held x.sync x.synced x.re_root (x.recent_root_while == 0) (parts (parts h).0).0
+      (parts h).1)
 
-  pub steps : (rule : RoleRule) → asks (rules.Role rule) s p x ≡ true → kind x.selected_role ≡ rule_kind rule
+  pub steps : (rule : RoleRule) → On (asks (rules.Role rule) s p x) → kind x.selected_role ≡ rule_kind rule
       → Steps x rule (own_role rule (timing_in s) x)
   steps role_rule.DisabledPort g k =
-      outside x k refl (right _ _ (left _ _ g)) refl refl refl refl refl
+      outside x k refl (parts (parts g).0).1 refl refl refl refl refl
   steps role_rule.RootLearn g k =
-      outside x k refl (right _ _ (left _ _ g)) refl refl refl refl refl
+      outside x k refl (parts (parts g).0).1 refl refl refl refl refl
   steps role_rule.RootForward g k =
-      let first = left _ _ g in
-      outside x k refl (on_both x.learn (not x.forward) (right _ x.learn (left _ _ first))
-      (right _ _ first)) refl refl refl refl refl
+      let first = (parts g).0 in
+      outside x k refl (on_both x.learn (not x.forward) (parts (parts first).0).1
+      (parts first).1) refl refl refl refl refl
   steps role_rule.Designated g k = inside x k refl (omega arith) refl refl refl
   steps role_rule.Propose g k =
-      let a = pays x.proposing x.enabled (not (edge_delay (timing_in s) x == 3))
-      (right _ _ (left _ _ g)) in
-      inside x k refl (omega arith) refl refl refl
+      inside x k refl (omega (
+        arith,
+        pays x.proposing x.enabled (not (edge_delay (timing_in s) x == 3))
+            (parts (parts g).0).1,
+      )) refl refl refl
   steps role_rule.Synced g k =
       inside x k refl (omega arith) refl refl
       (ap (λ h. gait_with h (roles.synced_effect x)) (and_off x.re_root))
   steps role_rule.Retired g k =
-      let none = right (roles.acts_as_designated x) (x.recent_root_while == 0) (left _ _ g) in
+      let none = (parts (parts g).0).1 in
       inside x k refl (omega arith) refl refl (ap (λ h. gait_with h x)
       (sym (retired_held (x.sync && not x.synced) x.re_root (x.recent_root_while == 0) none)))
   steps role_rule.DesignatedDiscard g k =
-      let held = right _ (roles.must_discard x) g in
-      let a = discounts x.disputed in
-      inside x k (on_both (x.learn || x.forward) _ (right _ _ (left _ _ g))
-      (rw (as-designated x.selected_role k) held)) (omega arith) refl refl refl
+      let held = (parts g).1 in
+      inside x k (on_both (x.learn || x.forward) _ (parts (parts g).0).1
+      (rw (as-designated x.selected_role k) held)) (omega (arith, discounts x.disputed)) refl refl refl
   steps role_rule.DesignatedLearn g k =
-      inside x k (on_both (not x.learn) _ (right _ _ (left _ _ g))
-      (goes_on (right _ _ g))) (omega arith) refl refl refl
+      inside x k (on_both (not x.learn) _ (parts (parts g).0).1
+      (goes_on (parts g).1)) (omega arith) refl refl refl
   steps role_rule.DesignatedForward g k =
-      let first = left _ _ g in
+      let first = (parts g).0 in
       inside x k (on_both (x.learn && not x.forward) _
-      (on_both x.learn (not x.forward) (right _ x.learn (left _ _ first))
-      (right _ _ first)) (goes_on (right _ _ g))) (omega arith) refl refl refl
+      (on_both x.learn (not x.forward) (parts (parts first).0).1
+      (parts first).1) (goes_on (parts g).1)) (omega arith) refl refl refl
   steps role_rule.Alternate g k =
-      outside x k refl (right _ _ (left _ _ g)) refl refl refl refl refl
+      outside x k refl (parts (parts g).0).1 refl refl refl refl refl
   steps _ g k = outside x k refl refl refl refl refl refl refl
 
-pub role-waits : (rule : RoleRule) (s : Tree) (p : ℕ) (x : PortState) → asks (rules.Role rule) s p x ≡ true
+pub role-waits : (rule : RoleRule) (s : Tree) (p : ℕ) (x : PortState) → On (asks (rules.Role rule) s p x)
     → wait (own_role rule (timing_in s) x) ≡ wait x
 role-waits rule s p x g = (steps s p x rule g (role-kind rule s p x g)).waits

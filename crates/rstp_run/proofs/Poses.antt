@@ -1,29 +1,28 @@
 -- The rules of roles and states at a designated port that no port requests to sync or to leave the old root, on nine of
 -- its flags, whatever its timers, its agreement and its edge are. Each lowers a number of these flags. All values of
 -- the flags are tried.
-use Rattle.std.proofs.Common.{◌≡◌, ℕ, ◌+◌, ◌≤◌, ◌<◌, Bool, true, false, not, ◌&&◌, ◌||◌, ◌==◌}
-use Rattle.std.proofs.Common.{nat_lt, refl, arith}
-use Rattle.std.proofs.lemmas.Bool.{and_parts, ltb-true}
-use Rattle.rstp_state.specs.declared.port.PortState.{PortState}
-use Rattle.rstp_roles.specs.RoleTransitions as roles
-use Rattle.rstp_roles.specs.declared.rule.RoleRule.{RoleRule}
-use Rattle.rstp_roles.specs.declared.rule.RoleRule.TheVariants as role_rule
-use Rattle.rstp_run.proofs.Flags.{Test, every, holds, imply}
-use Rattle.rstp_run.proofs.RoleParts.{on_both}
+use Rattle.rstp_run.proofs.Basics.{Bools, On, parts}
+use Rattle.rstp_run.proofs.Flags.{every, holds, imply, Test}
+use Rattle.rstp_run.proofs.LowersRoles.{on_both}
+use Rattle.rstp_run.proofs.Names.{arith, Bool, false, nat_lt, not, PortState, RoleRule, refl, true, ℕ, ◌&&◌, ◌+◌, ◌<◌}
+use Rattle.rstp_run.proofs.Names.{◌==◌, ◌||◌, ◌≤◌}
 use Rattle.rstp_run.proofs.Totals.{if_so, if_so-le}
+use Rattle.std.proofs.lemmas.Bool.{ltb-true}
+use Rattle.rstp_run.proofs.Names.role_rule
+use Rattle.rstp_run.proofs.Names.roles
 
 -- ---- the flags
 
 pub record Pose : Type 0 where
-  pub synced : Bool
-  pub none : Bool
-  pub sync : Bool
-  pub re_root : Bool
-  pub learn : Bool
-  pub forward : Bool
-  pub learning : Bool
-  pub forwarding : Bool
-  pub disputed : Bool
+  synced : Bool
+  none : Bool
+  sync : Bool
+  re_root : Bool
+  learn : Bool
+  forward : Bool
+  learning : Bool
+  forwarding : Bool
+  disputed : Bool
 
 abbrev pub pose_of : PortState → Pose
 pose_of x = record {
@@ -38,7 +37,7 @@ pose_of x = record {
   disputed = x.disputed;
 }
 
-abbrev pose : Bool → Bool → Bool → Bool → Bool → Bool → Bool → Bool → Bool → Pose
+abbrev pose : Bools 9 Pose
 pose a b c d e f g h i = record {
   synced = a;
   none = b;
@@ -57,8 +56,6 @@ held c = (c.sync && not c.synced) || (c.re_root && not c.none)
 abbrev free : Pose → Bool
 free c = not c.sync && (c.none || not c.re_root)
 
--- ---- the rules
-
 -- the rule may be enabled
 abbrev pub may : RoleRule → Pose → Bool
 may role_rule.Synced c = not c.synced || c.sync
@@ -68,15 +65,13 @@ may role_rule.DesignatedLearn c = not c.learn && free c
 may role_rule.DesignatedForward c = c.learn && not c.forward && free c
 may _ c = false
 
-abbrev pub posed : RoleRule → Pose → Pose
+abbrev posed : RoleRule → Pose → Pose
 posed role_rule.Synced c = record c { none = true; synced = true; sync = false }
 posed role_rule.Retired c = record c { re_root = false }
 posed role_rule.DesignatedDiscard c = record c { learn = false; forward = false; disputed = false }
 posed role_rule.DesignatedLearn c = record c { learn = true }
 posed role_rule.DesignatedForward c = record c { forward = true }
 posed _ c = c
-
--- ---- the number
 
 -- The steps that are left to learning and forwarding. Each rule of states lowers this number, and each rule that lets
 -- the port learn or forward.
@@ -117,7 +112,7 @@ falls_case rule a b c d e f g h i =
     falls (pose a b c d e f g h i) (may rule (pose a b c d e f g h i)) (posed rule (pose a b c d e f g h i))
 
 -- each of these rules lowers the number
-falls_by : (rule : RoleRule) → every 9 (falls_case rule) ≡ true → (c : Pose) → may rule c ≡ true
+falls_by : (rule : RoleRule) → On (every 9 (falls_case rule)) → (c : Pose) → On (may rule c)
     → left (posed rule c) < left c
 falls_by rule all c on =
     ltb-true (left (posed rule c)) (left c)
@@ -128,19 +123,19 @@ falls_by rule all c on =
 -- learning and forwarding
 
 module _ (l f lg fg : Bool) where
-  pub begins-learning : not l ≡ true → work true f lg fg < work l f lg fg
+  pub begins-learning : On (not l) → work true f lg fg < work l f lg fg
   begins-learning h = grind arith
 
-  pub begins-forwarding : l && not f ≡ true → work l true lg fg < work l f lg fg
+  pub begins-forwarding : On (l && not f) → work l true lg fg < work l f lg fg
   begins-forwarding h = grind arith
 
-  pub to-learning : l && not lg ≡ true → work l f true fg < work l f lg fg
+  pub to-learning : On (l && not lg) → work l f true fg < work l f lg fg
   to-learning h = grind arith
 
-  pub to-forwarding : lg && f && not fg ≡ true → work l f lg true < work l f lg fg
+  pub to-forwarding : On (lg && f && not fg) → work l f lg true < work l f lg fg
   to-forwarding h = grind arith
 
-  pub to-discarding : (lg && not l) || (fg && not f) ≡ true
+  pub to-discarding : On ((lg && not l) || (fg && not f))
       → work l f false false < work l f lg fg
   to-discarding h = grind arith
 
@@ -152,40 +147,40 @@ place-few c = omega (arith, if_so-le)
 
 -- ---- the rules of a port
 
-syncs : (syn sync dark : Bool) → (not syn && dark) || (sync && syn) ≡ true → not syn || sync ≡ true
+syncs : (syn sync dark : Bool) → On ((not syn && dark) || (sync && syn)) → On (not syn || sync)
 syncs syn sync dark h = grind arith
 
 module _ (x : PortState) where
   abbrev Lowers : RoleRule → Type 0
   Lowers rule = left (posed rule (pose_of x)) < left (pose_of x)
 
-  free_of : roles.may_go_on x ≡ true → free (pose_of x) ≡ true
-  free_of h = on_both (not x.sync) _ (and_parts _ _ (and_parts _ _ h).0).0 (and_parts _ _ h).1
+  free_of : On (roles.may_go_on x) → On (free (pose_of x))
+  free_of h = on_both (not x.sync) _ (parts (parts h).0).0 (parts h).1
 
-  pub synced-lowers : roles.synced_guard x ≡ true → Lowers role_rule.Synced
+  pub synced-lowers : On (roles.synced_guard x) → Lowers role_rule.Synced
   synced-lowers g =
       falls_by role_rule.Synced refl (pose_of x)
-      (syncs x.synced x.sync _ (and_parts (roles.acts_as_designated x) _ g).1)
+      (syncs x.synced x.sync _ (parts g).1)
 
-  pub retired-lowers : roles.retired_guard x ≡ true → Lowers role_rule.Retired
+  pub retired-lowers : On (roles.retired_guard x) → Lowers role_rule.Retired
   retired-lowers g =
       falls_by role_rule.Retired refl (pose_of x)
-      (on_both (x.recent_root_while == 0) x.re_root (and_parts _ _ (and_parts _ _ g).0).1 (and_parts _ _ g).1)
+      (on_both (x.recent_root_while == 0) x.re_root (parts (parts g).0).1 (parts g).1)
 
-  pub discard-lowers : roles.designated_discard_guard x ≡ true → Lowers role_rule.DesignatedDiscard
+  pub discard-lowers : On (roles.designated_discard_guard x) → Lowers role_rule.DesignatedDiscard
   discard-lowers g =
       falls_by role_rule.DesignatedDiscard refl (pose_of x)
-      (on_both (x.learn || x.forward) (roles.must_discard x) (and_parts _ _ (and_parts _ _ g).0).1
-      (and_parts _ _ g).1)
+      (on_both (x.learn || x.forward) (roles.must_discard x) (parts (parts g).0).1
+      (parts g).1)
 
-  pub learn-lowers : roles.designated_learn_guard x ≡ true → Lowers role_rule.DesignatedLearn
+  pub learn-lowers : On (roles.designated_learn_guard x) → Lowers role_rule.DesignatedLearn
   learn-lowers g =
       falls_by role_rule.DesignatedLearn refl (pose_of x)
-      (on_both (not x.learn) _ (and_parts _ _ (and_parts _ _ g).0).1 (free_of (and_parts _ _ g).1))
+      (on_both (not x.learn) _ (parts (parts g).0).1 (free_of (parts g).1))
 
-  pub forward-lowers : roles.designated_forward_guard x ≡ true → Lowers role_rule.DesignatedForward
+  pub forward-lowers : On (roles.designated_forward_guard x) → Lowers role_rule.DesignatedForward
   forward-lowers g =
-      let (first, blocked) = and_parts _ _ (and_parts _ _ g).0 in
+      let (first, blocked) = parts (parts g).0 in
       falls_by role_rule.DesignatedForward refl (pose_of x)
-      (on_both (x.learn && not x.forward) _ (on_both x.learn (not x.forward) (and_parts _ _ first).1 blocked)
-      (free_of (and_parts _ _ g).1))
+      (on_both (x.learn && not x.forward) _ (on_both x.learn (not x.forward) (parts first).1 blocked)
+      (free_of (parts g).1))

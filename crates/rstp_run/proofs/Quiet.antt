@@ -1,38 +1,21 @@
 -- The tree information of a port, and the rules that don't change it: all except selection and those of information.
 -- All of these except Discard and Receive don't change its pending messages either.
-use Rattle.std.proofs.Common.{◌≡◌, ℕ, ◌+◌, Bool, true, false, ◌==◌, cond, List, Some, map, refl, ap, ◌∙◌}
-use Rattle.bpdu_wire.specs.declared.bpdu.Bpdu.{Bpdu}
-use Rattle.rstp_state.specs.declared.port.PortState.{PortState}
-use Rattle.rstp_state.specs.declared.port.Timing.{Timing}
-use Rattle.rstp_state.specs.declared.port.Topology.TheVariants as topology
-use Rattle.rstp_roles.specs.AllPorts.{with_sync, with_re_root}
-use Rattle.rstp_roles.specs.RoleTransitions as roles
-use Rattle.rstp_roles.specs.Rules.{role_does, state_asks, state_does}
-use Rattle.rstp_roles.specs.declared.rule.RoleRule.{RoleRule}
-use Rattle.rstp_roles.specs.declared.rule.RoleRule.TheVariants as role_rule
-use Rattle.rstp_roles.specs.declared.rule.StateRule.{StateRule}
-use Rattle.rstp_roles.specs.declared.rule.StateRule.TheVariants as state_rule
-use Rattle.rstp_run.specs.Machines.{receive_asks, receive_does, migration_asks, migration_does, detection_asks}
-use Rattle.rstp_run.specs.Machines.{detection_does, topology_does, transmit_asks, transmit_does}
-use Rattle.rstp_run.specs.TopologyChange.{with_change_timer, with_propagation, telling_others}
-use Rattle.rstp_run.specs.TopologyChange as changes
-use Rattle.rstp_run.specs.declared.rule.ReceiveRule.{ReceiveRule}
-use Rattle.rstp_run.specs.declared.rule.ReceiveRule.TheVariants as receive_rule
-use Rattle.rstp_run.specs.declared.rule.MigrationRule.{MigrationRule}
-use Rattle.rstp_run.specs.declared.rule.MigrationRule.TheVariants as migration_rule
-use Rattle.rstp_run.specs.declared.rule.DetectionRule.{DetectionRule}
-use Rattle.rstp_run.specs.declared.rule.DetectionRule.TheVariants as detection_rule
-use Rattle.rstp_run.specs.declared.rule.TopologyRule.{TopologyRule}
-use Rattle.rstp_run.specs.declared.rule.TopologyRule.TheVariants as topology_rule
-use Rattle.rstp_run.specs.declared.rule.TransmitRule.{TransmitRule}
-use Rattle.rstp_run.specs.declared.rule.TransmitRule.TheVariants as transmit_rule
-use Rattle.rstp_state.specs.Port.{change_at}
-use Rattle.rstp_state.specs.declared.port.InfoIs.{InfoIs}
-use Rattle.rstp_state.specs.declared.port.Information.{Information}
-use Rattle.rstp_state.specs.declared.port.Role.{Role}
-use Rattle.rstp_state.specs.declared.vector.Times.{Times}
-use Rattle.rstp_state.specs.declared.vector.Vector.{Vector}
-use Rattle.rstp_run.proofs.Each.{Each, each_map, each_then, each_change, each_telling}
+use Rattle.rstp_run.proofs.Basics.{if-is, On, Relation, timed}
+use Rattle.rstp_run.proofs.Names.{ap, Bool, Bpdu, false, handled, InfoIs, Information, InformationRule}
+use Rattle.rstp_run.proofs.Names.{information_does, message_has, no, PortState, ReceiveRule, Role, Rule, receive_does}
+use Rattle.rstp_run.proofs.Names.{refl, rst_has, Times, Timing, true, Vector, with_change_flags, with_message, ℕ, ◌&&◌}
+use Rattle.rstp_run.proofs.Names.{◌||◌, ◌≡◌}
+use Rattle.rstp_run.proofs.Own.{Nothing, own, Spread, spread_by}
+use Rattle.rstp_run.proofs.Names.detection_rule
+use Rattle.rstp_run.proofs.Names.information_rule
+use Rattle.rstp_run.proofs.Names.migration_rule
+use Rattle.rstp_run.proofs.Names.receive_rule
+use Rattle.rstp_run.proofs.Names.role_rule
+use Rattle.rstp_run.proofs.Names.rules
+use Rattle.rstp_run.proofs.Names.state_rule
+use Rattle.rstp_run.proofs.Names.topology
+use Rattle.rstp_run.proofs.Names.topology_rule
+use Rattle.rstp_run.proofs.Names.transmit_rule
 
 pub record Known : Type 0 where
   pub selected : Bool
@@ -67,7 +50,7 @@ known_of port = record {
 }
 
 -- the port's tree information stays
-abbrev pub IsQuiet : PortState → PortState → Type 0
+abbrev pub IsQuiet : Relation
 IsQuiet port next = known_of next ≡ known_of port
 
 -- the tree information of a port, its pending messages, and whether it is enabled
@@ -86,103 +69,66 @@ still_of port = record {
 }
 
 -- all of this stays
-abbrev pub IsStill : PortState → PortState → Type 0
+abbrev pub IsStill : Relation
 IsStill port next = still_of next ≡ still_of port
 
-pub still_quiet : (port next : PortState) → IsStill port next → IsQuiet port next
-still_quiet port next h = ap (λ s. s.known) h
+pub still_quiet : (x y : PortState) → IsStill x y → IsQuiet x y
+still_quiet x y h = ap (λ s. s.known) h
 
-pub receive_quiet : (rule : ReceiveRule) (port : PortState) → receive_asks rule port ≡ true
-    → IsQuiet port (receive_does rule port)
-receive_quiet receive_rule.Discard port g = refl
-receive_quiet receive_rule.Receive port g = refl
+-- neither Select nor a rule of receive or information
+abbrev pub is_plain : Rule → Bool
+is_plain rules.Select = false
+is_plain (rules.Receive rule) = false
+is_plain (rules.Information rule) = false
+is_plain _ = true
 
-pub migration_still : (rule : MigrationRule) (port : PortState) → migration_asks rule port ≡ true
-    → IsStill port (migration_does rule port)
-migration_still migration_rule.Recheck port g = refl
-migration_still _ port g = refl
+pub own_still : (rule : Rule) (timing : Timing) (x : PortState) → On (is_plain rule) → IsStill x (own rule timing x)
+own_still rules.Select timing x n = no n
+own_still (rules.Receive rule) timing x n = no n
+own_still (rules.Information rule) timing x n = no n
+own_still (rules.Migration migration_rule.Recheck) timing x n = refl
+own_still (rules.Detection detection_rule.Edge) timing x n = refl
+own_still (rules.Role role_rule.Root) timing x n = refl
+own_still (rules.State state_rule.ToLearning) timing x n = refl
+own_still (rules.Topology topology_rule.Detected) timing x n =
+    timed (IsStill x) timing (record x { topology = topology.Active }) (λ time new. refl)
+own_still (rules.Topology topology_rule.NotifiedTcn) timing x n = timed (IsStill x) timing x (λ time new. refl)
+own_still (rules.Topology topology_rule.Propagating) timing x n = timed (IsStill x) timing x (λ time new. refl)
+own_still (rules.Transmit transmit_rule.Periodic) timing x n = refl
+own_still _ timing x n = refl
 
-pub detection_still : (rule : DetectionRule) (port : PortState) → detection_asks rule port ≡ true
-    → IsStill port (detection_does rule port)
-detection_still detection_rule.Edge port g = refl
-detection_still detection_rule.NotEdge port g = refl
+pub spread_still : (k : Spread) (x : PortState) → IsStill x (spread_by k x)
+spread_still Nothing x = refl
+spread_still _ x = refl
 
-pub transmit_still : (rule : TransmitRule) (timing : Timing) (port : PortState) → transmit_asks rule timing port ≡ true
-    → IsStill port (transmit_does rule timing port)
-transmit_still transmit_rule.Periodic timing port g = refl
-transmit_still _ timing port g = refl
+-- a fact of this kind stays under these rules
+pub own_stays : (F : Still → Type 0) (rule : Rule) (timing : Timing) (x : PortState) → On (is_plain rule)
+    → F (still_of x) → F (still_of (own rule timing x))
+own_stays F rule timing x is h = rw (own_still rule timing x is) h
 
-pub state_still : (rule : StateRule) (port : PortState) → state_asks rule port ≡ true
-    → IsStill port (state_does rule port)
-state_still state_rule.ToLearning port g = refl
-state_still _ port g = refl
+pub spread_stays : (F : Still → Type 0) (k : Spread) (x : PortState) → F (still_of x) → F (still_of (spread_by k x))
+spread_stays F k x h = rw (spread_still k x) h
 
--- ---- information
+pub receive_quiet : (rule : ReceiveRule) (x : PortState) → IsQuiet x (receive_does rule x)
+receive_quiet receive_rule.Discard x = refl
+receive_quiet receive_rule.Receive x = refl
 
-pub inferior_quiet : (b : Bool) (port : PortState)
-    → IsQuiet port (cond b (record port { disputed = true; agreed = false; received_message = false })
-    (record port { received_message = false }))
-inferior_quiet true port = refl
-inferior_quiet false port = refl
+abbrev pub is_update : InformationRule → Bool
+is_update information_rule.Update = true
+is_update _ = false
 
-pub answer_quiet : (b : Bool) (port : PortState) → IsQuiet port
-    (cond b (record port { agreed = true; proposing = false }) (record port { agreed = false }))
-answer_quiet true port = refl
-answer_quiet false port = refl
+-- a rule of information that leaves the tree information
+abbrev is_answer : InformationRule → Bool
+is_answer information_rule.Inferior = true
+is_answer information_rule.NotDesignated = true
+is_answer _ = false
 
--- ---- topology change
+pub answer_quiet : (rule : InformationRule) (x : PortState) → On (is_answer rule) → IsQuiet x (information_does rule x)
+answer_quiet information_rule.Inferior x n = if-is (IsQuiet x) (rst_has 0x10 x.message) _ _ refl refl
+answer_quiet information_rule.NotDesignated x n =
+    if-is (λ y. IsQuiet x (handled (with_change_flags y))) (x.point_to_point && message_has 0x40 x.message) _ _ refl
+    refl
+answer_quiet _ x n = no n
 
-timer_at : (started rapid : Bool) (timing : Timing) (port : PortState)
-    → IsStill port (cond started (cond rapid (record port { topology_change_while = timing.hello + 1; new_info = true })
-    (record port { topology_change_while = timing.max_age + timing.forward_delay })) port)
-timer_at false rapid timing port = refl
-timer_at true true timing port = refl
-timer_at true false timing port = refl
-
-timer_still : (timing : Timing) (port : PortState) → IsStill port (with_change_timer timing port)
-timer_still timing port = timer_at (port.topology_change_while == 0) port.send_rstp timing port
-
-abbrev EachStill : List PortState → List PortState → Type 0
-EachStill a b = Each IsStill a b
-
-module _ (does : PortState → PortState) (ports : List PortState) (p : ℕ) where
-  pub changes_at : ((port : PortState) → IsStill port (does port)) → EachStill ports (change_at p does ports)
-  changes_at h = each_change IsStill (λ port. refl) does ports p (λ port at. h port)
-
-  tells_at : ((port : PortState) → IsStill port (does port)) → EachStill ports (telling_others p does ports)
-  tells_at h = each_telling IsStill (λ port. refl) (λ port. refl) does ports p h
-
-pub topology_still : (rule : TopologyRule) (timing : Timing) (ports : List PortState) (p : ℕ)
-    → EachStill ports (topology_does rule timing ports p)
-topology_still topology_rule.Detected timing ports p =
-    tells_at (changes.detected_at timing) ports p (λ port. timer_still timing
-    (record port { topology = topology.Active }))
-topology_still topology_rule.NotifiedTcn timing ports p =
-    tells_at (changes.notified_tcn_at timing) ports p (timer_still timing)
-topology_still topology_rule.NotifiedTc timing ports p = tells_at changes.notified_at ports p (λ port. refl)
-topology_still topology_rule.Propagating timing ports p =
-    changes_at (changes.propagating_effect timing) ports p (timer_still timing)
-topology_still _ timing ports p = changes_at _ ports p (λ port. refl)
-
--- ---- role transitions
-
-proposed_still : (ports : List PortState) (p : ℕ) → EachStill ports
-    (change_at p roles.without_proposal (map with_sync ports))
-proposed_still ports p =
-    each_then IsStill (λ a b c h k. k ∙ h) ports (map with_sync ports) _
-    (each_map IsStill with_sync (λ port. refl) ports)
-    (changes_at roles.without_proposal (map with_sync ports) p (λ port. refl))
-
-pub role_still : (rule : RoleRule) (timing : Timing) (ports : List PortState) (p : ℕ)
-    → EachStill ports (role_does rule timing ports p)
-role_still role_rule.RootProposed timing ports p = proposed_still ports p
-role_still role_rule.AlternateProposed timing ports p = proposed_still ports p
-role_still role_rule.Reroot timing ports p = each_map IsStill with_re_root (λ port. refl) ports
-role_still _ timing ports p = changes_at _ ports p (λ port. refl)
-
--- ---- events
-
-pub message_quiet : (b : Bool) (message : Bpdu) (port : PortState)
-    → IsQuiet port (cond b port (record port { message = Some message; received_bpdu = true }))
-message_quiet true message port = refl
-message_quiet false message port = refl
+pub message_quiet : (message : Bpdu) (x : PortState) → IsQuiet x (with_message message x)
+message_quiet message x = if-is (IsQuiet x) (x.received_bpdu || x.received_message) _ _ refl refl

@@ -1,85 +1,82 @@
 -- At an event of a settled bridge Select fires at most twice: in the second pass and in the third.
-use Rattle.std.proofs.Common.{◌≡◌, ℕ, zero, suc, ◌+◌, ◌≤◌, ◌⊎◌, inl, inr, [], ◌∷◌}
-use Rattle.std.proofs.Common.{length, refl, arith}
-use Rattle.std.proofs.lemmas.Bool.{cases_lt, eq-eqb}
-use Rattle.rstp_state.specs.declared.port.PortState.{PortState}
-use Rattle.rstp_run.specs.declared.rule.Rule.TheVariants as rules
-use Rattle.rstp_run.specs.declared.event.Event.{Event}
-use Rattle.rstp_run.specs.Events.{direct}
-use Rattle.rstp_run.specs.Firings.{SelectsTwice, selections}
-use Rattle.rstp_run.specs.Rules.{Tree}
-use Rattle.rstp_run.specs.Runs.{IsSettled}
-use Rattle.rstp_run.specs.Settled.{IsReached}
-use Rattle.rstp_run.specs.Sweep.{Going, main_order, pass, passes, round, sending_order, swept, tries, tries_all}
-use Rattle.rstp_run.specs.Sweep.{until_idle}
-use Rattle.rstp_run.proofs.Levels.{IsCalm, IsCalmOf, IsChosen, IsFirst, IsTaken, IsYoung, stays}
-use Rattle.rstp_run.proofs.Ordered.{pass-full, pass-off, until-more, until-once}
-use Rattle.rstp_run.proofs.Places.{Stage, main_rest, pass-by, stage-plain, stage-rests, stage-select}
+use Rattle.rstp_run.proofs.Basics.{Claim, Fact, On, parts}
+use Rattle.rstp_run.proofs.Names.{[], arith, cases_lt, direct, Event, eq-eqb, Going, IsReached, IsSettled, inl, inr}
+use Rattle.rstp_run.proofs.Names.{is_select, List, length, main_order, not-true, pass, passes, Rule, refl, round}
+use Rattle.rstp_run.proofs.Names.{selections, sending_order, suc, swept, Tree, timing_in, tries, tries_all, until_idle}
+use Rattle.rstp_run.proofs.Names.{zero, ℕ, ◌+◌, ◌∷◌, ◌≡◌, ◌≤◌, ◌⊎◌}
+use Rattle.rstp_run.proofs.Own.{after-at, all_keep, spread_of}
+use Rattle.rstp_run.proofs.Places.{main_rest, pass-by, Stage, stage-rests, stage-select, stage-tries}
+use Rattle.rstp_run.proofs.Quiet.{is_plain, own_stays, spread_stays}
 use Rattle.rstp_run.proofs.Reached.{reached}
 use Rattle.rstp_run.proofs.Ready.{comes-ready, direct-first}
-use Rattle.rstp_run.proofs.Visits.{visit-first, visit-second, visit-later}
+use Rattle.rstp_run.proofs.Steps.{pass-full, pass-off, until-more, until-once}
+use Rattle.rstp_run.proofs.Visits.{IsCalm, IsCalmOf, IsChosen, IsFirst, IsTaken, IsYoung, visit-first, visit-later}
+use Rattle.rstp_run.proofs.Visits.{visit-second}
 use Rattle.rstp_run.proofs.Whole.{pass-grows, pass-idle, passes-keeps, until-keeps}
-
--- ---- passes
+use Rattle.rstp_run.specs.Firings.{SelectsTwice}
+use Rattle.rstp_run.proofs.Names.rules
 
 -- the facts after this many passes
-abbrev pub Passed : ℕ → ℕ → ℕ → Going → Type 0
+abbrev pub Passed : ℕ → ℕ → ℕ → Claim
 Passed n limit zero g = Stage 0 n (λ q. IsFirst) limit g
 Passed n limit (suc zero) g = Stage 0 n (λ q. IsTaken) limit g
 Passed n limit (suc (suc zero)) g = Stage 1 n (λ q. IsYoung) limit g
 Passed n limit (suc (suc (suc k))) g = Stage 2 n (λ q. IsCalm) limit g
 
--- a fact after a pass of Select and the rules after it
-pub whole-pass : (c n limit : ℕ) (P : ℕ → PortState → Type 0) (g : Going)
-    → Stage c n P limit (pass (rules.Select ∷ main_rest) limit g) → Stage c n P limit (pass main_order limit g)
-whole-pass c n limit P g h = h
-
 module _ (n limit : ℕ) (g : Going) where
   pub first-pass : Stage 0 n (λ q. IsFirst) limit g
       → Stage 0 n (λ q. IsTaken) limit (pass main_order limit g)
   first-pass h =
-      whole-pass 0 n limit (λ q. IsTaken) g
-      (pass-by main_rest 0 0 n limit IsFirst IsFirst IsTaken (visit-first n limit) (omega arith) g
-      (stage-rests 0 n limit (λ q. IsFirst) 0 g (λ q y f. f.1) h) h)
+      pass-by main_rest 0 0 n limit IsFirst IsFirst IsTaken (visit-first n limit) (omega arith) g
+      (stage-rests 0 n limit (λ q. IsFirst) 0 g (λ q y f. f.1) h) h
 
   -- Select is reached in the second pass
   pub second-select : Stage 0 n (λ q. IsTaken) limit g
       → Stage 1 n (λ q. IsChosen) limit (tries rules.Select 0 limit g)
   second-select h =
       stage-select 0 n limit (λ q. IsTaken) (λ q. IsChosen) g
-      (λ s root q y through t. ((t.0, t.1, t.2, refl, t.4), refl)) (λ q y none t. (t, none)) h
+      (λ s ports q y t. ((t.0, t.1, t.2, refl, t.4), refl)) (λ q y none t. (t, none)) h
 
   pub second-pass : Stage 0 n (λ q. IsTaken) limit g
       → Stage 1 n (λ q. IsYoung) limit (pass main_order limit g)
   second-pass h =
-      whole-pass 1 n limit (λ q. IsYoung) g
-      (pass-by main_rest 0 1 n limit IsTaken IsChosen IsYoung (visit-second n limit) (omega arith) g
-      (second-select h) h)
+      pass-by main_rest 0 1 n limit IsTaken IsChosen IsYoung (visit-second n limit) (omega arith) g
+      (second-select h) h
 
   -- Select is reached in the third pass
   pub third-select : Stage 1 n (λ q. IsYoung) limit g
       → Stage 2 n (λ q. IsCalm) limit (tries rules.Select 0 limit g)
   third-select h =
       stage-select 1 n limit (λ q. IsYoung) (λ q. IsCalm) g
-      (λ s root q y through t. (((t.0.0, t.0.1, t.0.2, refl, t.0.4), t.1), refl)) (λ q y none t. (t, none)) h
+      (λ s ports q y t. (((t.0.0, t.0.1, t.0.2, refl, t.0.4), t.1), refl)) (λ q y none t. (t, none)) h
 
 -- a pass after that
-pub calm-pass : (c d n limit : ℕ) (B : PortState → Type 0) (g : Going) → c ≤ d
+calm-pass : (c d n limit : ℕ) (B : Fact) (g : Going) → c ≤ d
     → Stage d n (λ q. IsCalm) limit (tries rules.Select 0 limit g) → Stage c n (λ q. B) limit g
     → Stage d n (λ q. IsCalm) limit (pass main_order limit g)
 calm-pass c d n limit B g less first h =
-    whole-pass d n limit (λ q. IsCalm) g
-    (pass-by main_rest c d n limit B IsCalm IsCalm (visit-later d n limit) less g first h)
+    pass-by main_rest c d n limit B IsCalm IsCalm (visit-later d n limit) less g first h
 
-pub later-pass : (c n limit : ℕ) (g : Going) → Stage c n (λ q. IsCalm) limit g
+later-pass : (c n limit : ℕ) (g : Going) → Stage c n (λ q. IsCalm) limit g
     → Stage c n (λ q. IsCalm) limit (pass main_order limit g)
 later-pass c n limit g h =
     calm-pass c c n limit IsCalm g (omega arith) (stage-rests c n limit (λ q. IsCalm) 0 g (λ q y t. t.1) h) h
 
-pub sends-calm : (c n limit p : ℕ) (g : Going) → Stage c n (λ q. IsCalm) limit g
+sends-calm : (c n limit p : ℕ) (g : Going) → Stage c n (λ q. IsCalm) limit g
     → Stage c n (λ q. IsCalm) limit (tries_all sending_order p limit g)
-sends-calm c n limit p g h =
-    stage-plain c n limit (λ q. IsCalm) (λ q. stays IsCalmOf) sending_order refl p g h
+sends-calm c n limit p g h = go sending_order refl g h
+  where
+    go : (list : List Rule) → On (all_keep is_plain list) → (g : Going) → Stage c n (λ q. IsCalm) limit g
+        → Stage c n (λ q. IsCalm) limit (tries_all list p limit g)
+    go [] plain g h = h
+    go (rule ∷ rest) plain g h =
+        let (first, later) = parts plain in
+        let (selects, is) = parts first in
+        let other = not-true (is_select rule) selects in
+        go rest later (tries rule p limit g) (stage-tries c n limit (λ q. IsCalm) (λ q. IsCalm) rule p g other
+        (λ off all. all) (λ on. after-at (λ q. IsCalm) (λ q. IsCalm) rule g.tree p other on
+        (λ q x apart. spread_stays IsCalmOf (spread_of rule) x)
+        (λ x asked. own_stays IsCalmOf rule (timing_in g.tree) x is)) h)
 
 next_pass : (n limit k : ℕ) (g : Going) → Passed n limit k g → Passed n limit (suc k) (pass main_order limit g)
 next_pass n limit zero g h = first-pass n limit g h
@@ -106,7 +103,7 @@ abbrev plus : ℕ → ℕ → ℕ
 plus zero k = k
 plus (suc j) k = suc (plus j k)
 
-module _ (limit end : ℕ) (F : ℕ → Going → Type 0)
+module _ (limit end : ℕ) (F : ℕ → Claim)
     (next : (k : ℕ) (g : Going) → F k g → F (suc k) (pass main_order limit g))
     (full : (k : ℕ) (g : Going) → limit ≤ length g.firings → F k g → F end g)
     (last : (k : ℕ) (g : Going) → F (plus end k) g → F end g)
@@ -145,8 +142,6 @@ module _ (limit end : ℕ) (F : ℕ → Going → Type 0)
       → F 0 (swept limit s) ⊎ F end (swept limit s)
   sweep-reaches s h =
       until-keeps (λ g. F 0 g ⊎ F end g) (round limit) round_begun limit (record { tree = s; firings = [] }) (inl h)
-
--- ---- an event of a settled bridge
 
 -- the facts right after the event
 pub passed-first : (event : Event) (limit : ℕ) (s : Tree) → IsReached s → IsSettled s

@@ -1,33 +1,22 @@
 -- Enough firings settle every event: the sweep fires no more often than the measure says.
-use Rattle.std.proofs.Common.{◌≡◌, ℕ, ◌+◌, ◌≤◌, ◌<◌, ◌⊎◌, inl, inr, Bool}
-use Rattle.std.proofs.Common.{true, false, ◌&&◌, List, [], ◌∷◌, Option, Some}
-use Rattle.std.proofs.Common.{None, zero, suc, take, drop, length, map, slice_get, slice_set, refl, ◌∙◌, arith}
-use Rattle.std.proofs.lemmas.Bool.{cases_Bool, and_parts, cases_lt, or_parts}
-use Rattle.std.proofs.lemmas.List.{length-map}
-use Rattle.std.specs.List.{list_any}
-use Rattle.rstp_state.specs.declared.port.PortState.{PortState}
-use Rattle.rstp_state.specs.Direct.{with_second, without_slot}
-use Rattle.rstp_state.specs.Port.{change_at, test_at}
-use Rattle.rstp_run.specs.PortReceive.{discard_guard, discard_effect, receive_effect}
-use Rattle.rstp_run.specs.declared.event.Event.{Event}
-use Rattle.rstp_run.specs.declared.event.Event.TheVariants as events
-use Rattle.rstp_run.specs.declared.rule.Rule.{Rule}
-use Rattle.rstp_run.specs.declared.rule.Rule.TheVariants as rules
-use Rattle.rstp_run.specs.declared.rule.ReceiveRule.TheVariants as receive_rule
-use Rattle.rstp_run.specs.declared.rule.MigrationRule.{MigrationRule}
-use Rattle.rstp_run.specs.declared.rule.MigrationRule.TheVariants as migration_rule
-use Rattle.rstp_run.specs.declared.rule.DetectionRule.TheVariants as detection_rule
-use Rattle.rstp_run.specs.Events.{direct, ports_at}
-use Rattle.rstp_run.specs.Machines.{migration_does}
-use Rattle.rstp_run.specs.Rules.{Tree, guard, after}
-use Rattle.rstp_run.specs.Settled.{EventsSettle, enough_firings}
-use Rattle.rstp_run.specs.Sweep.{Going, fired, main_order, sending_order, tries, tries_all, swept}
-use Rattle.rstp_run.proofs.Bounds.{measure, measure-falls, measure-bound}
-use Rattle.rstp_run.proofs.Falls.{IsAfterDiscard}
-use Rattle.rstp_run.proofs.Ordered.{tries-full, tries-off, tries-on}
+use Rattle.rstp_run.proofs.Basics.{Claim, Effect, Off, On, parts}
+use Rattle.rstp_run.proofs.Falls.{IsAfterDiscard, measure, measure-bound, measure-falls}
+use Rattle.rstp_run.proofs.Names.{[], after, arith, Bool, cases_Bool, cases_lt, change_at, direct, discard_effect}
+use Rattle.rstp_run.proofs.Names.{discard_guard, drop, Event, enough_firings, false, fired, Going, guard, inl, inr}
+use Rattle.rstp_run.proofs.Names.{List, length, length-map, list_any, MigrationRule, main_order, map, migration_does}
+use Rattle.rstp_run.proofs.Names.{None, Option, or_parts, PortState, ports_at, Rule, receive_effect, refl, Some}
+use Rattle.rstp_run.proofs.Names.{sending_order, slice_get, slice_set, suc, swept, Tree, take, test_at, tries}
+use Rattle.rstp_run.proofs.Names.{tries_all, true, with_second, without_slot, zero, ℕ, ◌&&◌, ◌+◌, ◌<◌, ◌∙◌, ◌∷◌, ◌≡◌}
+use Rattle.rstp_run.proofs.Names.{◌≤◌, ◌⊎◌}
 use Rattle.rstp_run.proofs.Places.{main_rest}
-use Rattle.rstp_run.proofs.Steps.{length-change_at}
+use Rattle.rstp_run.proofs.Steps.{length-change_at, tries-full, tries-off, tries-on}
 use Rattle.rstp_run.proofs.Whole.{swept-keeps, tries-cases}
+use Rattle.rstp_run.specs.Settled.{EventsSettle}
+use Rattle.rstp_run.proofs.Names.detection_rule
+use Rattle.rstp_run.proofs.Names.events
+use Rattle.rstp_run.proofs.Names.migration_rule
+use Rattle.rstp_run.proofs.Names.receive_rule
+use Rattle.rstp_run.proofs.Names.rules
 
 -- ---- a rule whose guard Discard doesn't concern
 
@@ -35,14 +24,14 @@ abbrev is_edge : Rule → Bool
 is_edge (rules.Detection detection_rule.Edge) = true
 is_edge _ = false
 
-apart : (rule : Rule) (s : Tree) (p : ℕ) → is_edge rule ≡ false → IsAfterDiscard rule s p
+apart : (rule : Rule) (s : Tree) (p : ℕ) → Off (is_edge rule) → IsAfterDiscard rule s p
 apart (rules.Detection detection_rule.Edge) s p h = cc
 apart _ s p h = tt
 
 -- ---- Discard comes before Edge, and the rules between them don't enable it
 
-abbrev IsOffAt : ℕ → ℕ → Going → Type 0
-IsOffAt p limit g = (limit ≤ length g.firings) ⊎ (guard (rules.Receive receive_rule.Discard) g.tree p ≡ false)
+abbrev IsOffAt : ℕ → ℕ → Claim
+IsOffAt p limit g = (limit ≤ length g.firings) ⊎ (Off (guard (rules.Receive receive_rule.Discard) g.tree p))
 
 slice_get-set : (ports : List PortState) (p : ℕ) (port new : PortState) → slice_get ports p ≡ Some port
     → slice_get (slice_set ports p new) p ≡ Some new
@@ -51,7 +40,7 @@ slice_get-set (x ∷ xs) zero port new at = refl
 slice_get-set (x ∷ xs) (suc p) port new at = slice_get-set xs p port new at
 
 -- the test of a port after its change
-test_changed : (test : PortState → Bool) (does : PortState → PortState) (ports : List PortState) (p : ℕ) (b : Bool)
+test_changed : (test : PortState → Bool) (does : Effect) (ports : List PortState) (p : ℕ) (b : Bool)
     → ((port : PortState) → slice_get ports p ≡ Some port → test (does port) ≡ b)
     → (slice_get ports p ≡ None → false ≡ b) → test_at p test (change_at p does ports) ≡ b
 test_changed test does ports p b some none = go (slice_get ports p) refl
@@ -61,7 +50,7 @@ test_changed test does ports p b some none = go (slice_get ports p) refl
     go (Some port) at = rw (at, slice_get-set ports p port (does port) at) (some port at)
 
 discarded : (s : Tree) (p : ℕ)
-    → guard (rules.Receive receive_rule.Discard) (after (rules.Receive receive_rule.Discard) s p) p ≡ false
+    → Off (guard (rules.Receive receive_rule.Discard) (after (rules.Receive receive_rule.Discard) s p) p)
 discarded s p = test_changed discard_guard discard_effect s.ports p false (λ port at. refl) (λ at. refl)
 
 -- the rules between Discard and Edge
@@ -74,9 +63,9 @@ moves_keep : (rule : MigrationRule) (port : PortState) → discard_guard (migrat
 moves_keep migration_rule.Recheck port = refl
 moves_keep _ port = refl
 
-stays_off : (rule : Rule) (s : Tree) (p : ℕ) → is_between rule ≡ true
-    → guard (rules.Receive receive_rule.Discard) s p ≡ false
-    → guard (rules.Receive receive_rule.Discard) (after rule s p) p ≡ false
+stays_off : (rule : Rule) (s : Tree) (p : ℕ) → On (is_between rule)
+    → Off (guard (rules.Receive receive_rule.Discard) s p)
+    → Off (guard (rules.Receive receive_rule.Discard) (after rule s p) p)
 stays_off (rules.Receive receive_rule.Receive) s p h off =
     test_changed discard_guard receive_effect s.ports p false (λ port at. refl) (λ at. refl)
 stays_off (rules.Migration rule) s p h off =
@@ -101,18 +90,18 @@ module _ (p limit : ℕ) where
   full-tries : (rule : Rule) (g : Going) → limit ≤ length g.firings → limit ≤ length (tries rule p limit g).firings
   full-tries rule g full = rw (tries-full rule p limit g full) full
 
-  off-tries : (rule : Rule) (g : Going) → is_between rule ≡ true → IsOffAt p limit g
+  off-tries : (rule : Rule) (g : Going) → On (is_between rule) → IsOffAt p limit g
       → IsOffAt p limit (tries rule p limit g)
   off-tries rule g h (inl full) = inl (full-tries rule g full)
   off-tries rule g h (inr off) =
       tries-cases (IsOffAt p limit) rule p limit g (λ below on. inr (stays_off rule g.tree p h off)) (inr off)
 
-  off-all : (rules : List Rule) (g : Going) → all_between rules ≡ true → IsOffAt p limit g
+  off-all : (rules : List Rule) (g : Going) → On (all_between rules) → IsOffAt p limit g
       → IsOffAt p limit (tries_all rules p limit g)
   off-all [] g h off = off
   off-all (rule ∷ rules) g h off =
-      let parts = and_parts (is_between rule) (all_between rules) h in
-      off-all rules (tries rule p limit g) parts.1 (off-tries rule g parts.0 off)
+      let (first, later) = parts h in
+      off-all rules (tries rule p limit g) later (off-tries rule g first off)
 
   off-discard : (g : Going) → IsOffAt p limit (tries (rules.Receive receive_rule.Discard) p limit g)
   off-discard g = elim (cases_lt (length g.firings) limit) [
@@ -125,24 +114,24 @@ module _ (p limit : ℕ) where
 
 -- ---- an invariant of each firing, if Edge fires only at a port at which Discard isn't enabled
 
-module _ (W : Going → Type 0) (steps : (rule : Rule) (p : ℕ) (g : Going) → IsAfterDiscard rule g.tree p
-    → guard rule g.tree p ≡ true → W g → W (fired rule p g)) where
+module _ (W : Claim) (steps : (rule : Rule) (p : ℕ) (g : Going) → IsAfterDiscard rule g.tree p
+    → On (guard rule g.tree p) → W g → W (fired rule p g)) where
   module _ (p limit : ℕ) where
     tries_holds : (rule : Rule) (g : Going) → IsAfterDiscard rule g.tree p → W g → W (tries rule p limit g)
     tries_holds rule g rest h = tries-cases W rule p limit g (λ below on. steps rule p g rest on h) h
 
-    all_holds : (rules : List Rule) (g : Going) → list_any is_edge rules ≡ false → W g → W (tries_all rules p limit g)
+    all_holds : (rules : List Rule) (g : Going) → Off (list_any is_edge rules) → W g → W (tries_all rules p limit g)
     all_holds [] g none h = h
     all_holds (rule ∷ rules) g none h =
-        let parts = or_parts (is_edge rule) (list_any is_edge rules) none in
-        all_holds rules (tries rule p limit g) parts.1 (tries_holds rule g (apart rule g.tree p parts.0) h)
+        let (here, others) = or_parts (is_edge rule) (list_any is_edge rules) none in
+        all_holds rules (tries rule p limit g) others (tries_holds rule g (apart rule g.tree p here) h)
 
     edge_holds : (g : Going) → IsOffAt p limit g → W g → W (tries (rules.Detection detection_rule.Edge) p limit g)
     edge_holds g (inl full) h = rw (tries-full (rules.Detection detection_rule.Edge) p limit g full) h
     edge_holds g (inr off) h = tries_holds (rules.Detection detection_rule.Edge) g off h
 
     -- the rules after Select
-    pub rest-holds : (g : Going) → W g → W (tries_all main_rest p limit g)
+    rest-holds : (g : Going) → W g → W (tries_all main_rest p limit g)
     rest-holds g h =
         let mid : Going = tries_all before_edge p limit g in
         let off = off-all p limit after_discard (tries (rules.Receive receive_rule.Discard) p limit g) refl
@@ -156,13 +145,11 @@ module _ (W : Going → Type 0) (steps : (rule : Rule) (p : ℕ) (g : Going) →
     pub sends-hold : (g : Going) → W g → W (tries_all sending_order p limit g)
     sends-hold g h = all_holds sending_order g refl h
 
-  pub sweep-holds : (limit : ℕ) (s : Tree) → W (record { tree = s; firings = [] }) → W (swept limit s)
+  sweep-holds : (limit : ℕ) (s : Tree) → W (record { tree = s; firings = [] }) → W (swept limit s)
   sweep-holds limit = swept-keeps W limit (λ p. main-holds p limit) (λ p. sends-hold p limit)
 
--- ---- the whole sweep
-
 -- the measure and the firings so far come to no more than m
-abbrev Within : ℕ → Going → Type 0
+abbrev Within : ℕ → Claim
 Within m g = (measure g.tree + length g.firings ≤ m) × (1 ≤ g.tree.settings.hello)
 
 pub length-direct : (event : Event) (ports : List PortState) → length (ports_at event ports) ≡ length ports
@@ -187,6 +174,6 @@ events_settle event limit s t settled mask some enough h = go settled h.unsettle
     bound : measure (direct event s) < enough_firings (length s.ports)
     bound = rw same at (measure-bound (direct event s))
 
-    go : (b : Bool) → (b ≡ false → length h.firings ≡ limit) → b ≡ true
+    go : (b : Bool) → (Off b → length h.firings ≡ limit) → On b
     go true full = refl
     go false full = absurd (omega (arith, full refl, few, bound))

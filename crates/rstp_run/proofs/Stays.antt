@@ -1,23 +1,14 @@
 -- A bridge stays settled from its start on, if each event may have enough firings.
-use Rattle.std.proofs.Common.{◌≡◌, ℕ, ◌+◌, ◌*◌, ◌≤◌, Bool, true, false, List, [], ◌∷◌, length, map, refl, ap}
-use Rattle.std.proofs.Common.{◌∙◌, arith}
-use Rattle.std.proofs.lemmas.List.{length-map}
-use Rattle.rstp_state.specs.declared.start.PortSettings.{PortSettings}
-use Rattle.rstp_state.specs.declared.start.Settings.{Settings}
-use Rattle.rstp_state.specs.Direct.{without_slot}
-use Rattle.rstp_state.specs.Start.{ports_from}
-use Rattle.rstp_run.specs.declared.event.Event.{Event}
-use Rattle.rstp_run.specs.Events.{Happens, direct, firings_at, start}
-use Rattle.rstp_run.specs.Firings.{ComesByEvents, ComesWithin, EventEndsSettled, EveryEventSettles, StaysSettled}
-use Rattle.rstp_run.specs.Firings.{most_firings}
-use Rattle.rstp_run.specs.RootPort.{Comes}
-use Rattle.rstp_run.specs.Rules.{Tree}
-use Rattle.rstp_run.specs.Runs.{Firing, IsSettled, Run}
-use Rattle.rstp_run.specs.Settled.{IsReached}
+use Rattle.rstp_run.proofs.Basics.{Off, On}
 use Rattle.rstp_run.proofs.Few.{events_are_short}
+use Rattle.rstp_run.proofs.Kept.{settled-start}
+use Rattle.rstp_run.proofs.Names.{[], ap, arith, Bool, Comes, direct, Event, Firing, false, Happens, IsReached}
+use Rattle.rstp_run.proofs.Names.{IsSettled, List, length, length-map, map, most_firings, PortSettings, ports_from, Run}
+use Rattle.rstp_run.proofs.Names.{refl, Settings, start, Tree, true, without_slot, ℕ, ◌*◌, ◌+◌, ◌∙◌, ◌∷◌, ◌≡◌, ◌≤◌}
 use Rattle.rstp_run.proofs.Settling.{length-direct}
-use Rattle.rstp_run.proofs.Starting.{settled-start}
 use Rattle.rstp_run.proofs.Within.{run_length}
+use Rattle.rstp_run.specs.Events.{firings_at}
+use Rattle.rstp_run.specs.Firings.{ComesByEvents, ComesWithin, EventEndsSettled, EveryEventSettles, StaysSettled}
 
 run_settings : (firings : List Firing) (s t : Tree) → Run firings s t → t.settings ≡ s.settings
 run_settings [] s t same = ap (λ (v : Tree). v.settings) same
@@ -34,15 +25,15 @@ length_start : (n : ℕ) (settings : Settings) (ports : List PortSettings)
 length_start n settings [] = refl
 length_start n settings (x ∷ xs) = omega (arith, length_start (n + 1) settings xs)
 
-module _ (event : Event) (limit : ℕ) (s t : Tree) (settled : Bool) (mask most : ℕ)
+module _ {event : Event} {limit : ℕ} {s t : Tree} {settled : Bool} {mask : ℕ} (most : ℕ)
     (h : Happens event limit s t settled mask) where
   -- an event that has fewer firings than its limit ends settled
-  told : length h.firings ≤ most → most + 1 ≤ limit → settled ≡ true
+  told : length h.firings ≤ most → most + 1 ≤ limit → On settled
   told few enough = go settled h.unsettled
     where
-      go : (b : Bool) → (b ≡ false → length h.firings ≡ limit) → b ≡ true
+      go : (b : Bool) → (Off b → length h.firings ≡ limit) → On b
       go true full = refl
-      go false full = let all = full refl in absurd (omega arith)
+      go false full = absurd (omega (arith, full refl))
 
   ends : length h.firings ≤ most → most + 1 ≤ limit → IsSettled t
   ends few enough =
@@ -63,15 +54,13 @@ kept settings ports (event ∷ earlier) s some (mid, limit, settled, mask, befor
     let few = events_are_short event limit mid s settled mask can was.0 hello happens in
     let same : length (direct event mid).ports ≡ length mid.ports =
     length-direct event (map without_slot mid.ports) ∙ length-map mid.ports without_slot in
-    let end = ends event limit mid s settled mask (most_firings (length ports)) happens
+    let end = ends (most_firings (length ports)) happens
     (rw was.2 at few) enough in
     let kept_settings = run_settings happens.firings (direct event mid) s happens.run ∙ was.1 in
     (end, kept_settings, run_length happens.firings (direct event mid) s happens.run ∙ same ∙ was.2)
 
 pub stays_settled : StaysSettled
 stays_settled settings ports events s some comes = (kept settings ports events s some comes).0
-
--- ---- with the limit of `Bridge::event`
 
 -- that limit is above the most firings
 below : (n : ℕ) → most_firings n + 1 ≤ 64 * (n + 1)
@@ -80,8 +69,7 @@ below n = omega arith
 pub event_ends_settled : EventEndsSettled
 event_ends_settled event limit s t settled mask can rests some enough h =
     let few = events_are_short event limit s t settled mask can rests some h in
-    let less = below (length s.ports) in
-    told event limit s t settled mask (most_firings (length s.ports)) h few (omega arith)
+    told (most_firings (length s.ports)) h few (omega (arith, below (length s.ports)))
 
 -- events with that limit have enough firings
 within : (settings : Settings) (ports : List PortSettings) (events : List Event) (s : Tree) → 1 ≤ settings.hello
@@ -89,10 +77,15 @@ within : (settings : Settings) (ports : List PortSettings) (events : List Event)
     → ComesWithin (most_firings (length ports) + 1) events (start settings ports) s
 within settings ports [] s some comes = comes
 within settings ports (event ∷ earlier) s some (mid, settled, mask, before, happens) =
-    let was = within settings ports earlier mid some before in
-    let many = (kept settings ports earlier mid some was).2 in
-    let less = below (length ports) in
-    (mid, firings_at mid, settled, mask, was, omega arith, happens)
+    let was = within settings ports earlier mid some before in (
+      mid,
+      firings_at mid,
+      settled,
+      mask,
+      was,
+      omega (arith, below (length ports), (kept settings ports earlier mid some was).2),
+      happens,
+    )
 
 pub every_event_settles : EveryEventSettles
 every_event_settles settings ports events s t event settled mask some comes h =

@@ -21,10 +21,10 @@ three_listed = record {
 }
 
 pub open-requires-clause-originators : goal.open-requires-clause-originators
-open-requires-clause-originators c = subst AreOriginators (sym c.originators.ensures) three_listed
+open-requires-clause-originators c = rw c.originators.ensures three_listed
 
 pub open-requires-clause-listed : goal.open-requires-clause-listed
-open-requires-clause-listed c = subst (λ xs. Contains xs c.new.result) (sym c.originators.ensures) (
+open-requires-clause-listed c = rw c.originators.ensures (
   1,
   lit< tt,
   sym c.new.ensures,
@@ -33,8 +33,7 @@ open-requires-clause-listed c = subst (λ xs. Contains xs c.new.result) (sym c.o
 -- nothing is learnt at second 0
 opened_early : {E : Type 0} (s : Start) (r : Result LocalRoutes E) → IfOk r (IsOpening s)
     → IfOk r (λ c. IsLatest c.learned 0)
-opened_early s (Ok c) h = subst (λ t. IsLatest t 0) (sym h.learned)
-    (latest_nothing s.capacity (length s.ports.items) s.buckets s.salt 0)
+opened_early s (Ok c) h = rw h.learned (latest_nothing s.capacity (length s.ports.items) s.buckets s.salt 0)
 opened_early s (Err e) h = tt
 
 pub returns : goal.returns

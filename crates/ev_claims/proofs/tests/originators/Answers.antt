@@ -4,6 +4,6 @@ use Rattle.route_join.proofs.Basics.{pushed}
 
 pub returns : goal.returns
 returns c =
-    let one = pushed _ [] _ _ 0x0a00_0001 c.push.ensures.items c.new-originators.ensures c.new.ensures in
-    let two = pushed _ _ _ _ 0x0a00_0002 c.push-2.ensures.items one c.new-2.ensures in
-    pushed _ _ _ _ 0x0a00_0003 c.push-3.ensures.items two c.new-3.ensures
+    pushed _ _ _ _ 0x0a00_0003 c.push-3.ensures.items (pushed _ _ _ _ 0x0a00_0002 c.push-2.ensures.items
+    (pushed _ [] _ _ 0x0a00_0001 c.push.ensures.items c.new-originators.ensures c.new.ensures) c.new-2.ensures)
+    c.new-3.ensures

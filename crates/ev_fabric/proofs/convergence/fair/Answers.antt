@@ -1,6 +1,5 @@
-use Rattle.ev_fabric.proofs.ConvergingMoves.{sound_kept}
 use Rattle.ev_fabric.proofs.ConvergingRounds.{fair_agrees}
 use Rattle.ev_fabric.proofs.convergence.fair.Goals as goal
 
 pub returns : goal.returns
-returns c = λ old steps new sound given quiet. fair_agrees old steps new (sound_kept old sound) given quiet
+returns c = λ old steps new sound given quiet. fair_agrees steps new sound given quiet

@@ -6,7 +6,7 @@ pub returns-in-Ok : goal.returns-in-Ok
 returns-in-Ok c = record {
   before = c.index_mut-edge.result.now;
   there = at_index c.args.edges.now.items c.args.e c.index_mut-edge.result.now c.index_mut-edge.result.now
-      (λ zero. let some = c.requires.some in omega (arith, some, zero)) c.requires.there c.index_mut-edge.ensures.value;
+      (λ zero. omega (arith, c.requires.some)) c.requires.there c.index_mut-edge.ensures.value;
   after = c.step-answer.new.self;
   answer = Ok c.in-Ok.reply;
   steps = c.in-Ok.ensures;
@@ -18,7 +18,7 @@ pub returns-in-Err : goal.returns-in-Err
 returns-in-Err c = record {
   before = c.index_mut-edge.result.now;
   there = at_index c.args.edges.now.items c.args.e c.index_mut-edge.result.now c.index_mut-edge.result.now
-      (λ zero. let some = c.requires.some in omega (arith, some, zero)) c.requires.there c.index_mut-edge.ensures.value;
+      (λ zero. omega (arith, c.requires.some)) c.requires.there c.index_mut-edge.ensures.value;
   after = c.step-answer.new.self;
   answer = Err c.in-Err.refusal;
   steps = c.in-Err.ensures;

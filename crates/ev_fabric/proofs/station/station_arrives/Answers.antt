@@ -1,4 +1,4 @@
-use Rattle.ev_fabric.proofs.StationArrival.{station_arrives}
+use Rattle.ev_fabric.proofs.StationRounds.{station_arrives}
 use Rattle.ev_fabric.proofs.station.station_arrives.Goals as goal
 
 pub returns : goal.returns

@@ -1,5 +1,5 @@
 use Rattle.ev_fabric.proofs.StationAlone.{station_lasts}
-use Rattle.ev_fabric.proofs.StationRest.{station_reached}
+use Rattle.ev_fabric.proofs.StationAlone.{station_reached}
 use Rattle.ev_fabric.proofs.station.station_lasts.Goals as goal
 
 pub returns : goal.returns

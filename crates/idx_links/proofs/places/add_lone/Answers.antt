@@ -11,17 +11,16 @@ loop-place-preserved c =
     let low : start ≤ at = search rules in
     let kept = c.loop-place.invariant in
     let now = c.loop-place.links.items in
-    let new = c.push_reserved.new.self.items in
     let more = c.push_reserved.ensures.items in
     record {
       next = range_step (λ (x : PlaceLinks). x.next)
-          (map (λ (x : PlaceLinks). x.next) old) now new _ start at low kept.next more
+          (map (λ (x : PlaceLinks). x.next) old) now _ start at low kept.next more
           refl;
       prev = range_step (λ (x : PlaceLinks). x.prev)
-          (map (λ (x : PlaceLinks). x.prev) old) now new _ start at low kept.prev more
+          (map (λ (x : PlaceLinks). x.prev) old) now _ start at low kept.prev more
           refl;
       marks = same_step (λ (x : PlaceLinks). x.mark)
-          (map (λ (x : PlaceLinks). x.mark) old) now new _ 0 start at low kept.marks more
+          (map (λ (x : PlaceLinks). x.mark) old) now _ 0 start at low kept.marks more
           refl;
       len = search rules;
       room = c.push_reserved.ensures.capacity ∙ kept.room;

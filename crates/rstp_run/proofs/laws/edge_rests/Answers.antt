@@ -2,4 +2,4 @@ use Rattle.rstp_run.proofs.EdgeRests.{edge_rests}
 use Rattle.rstp_run.proofs.laws.edge_rests.Goals as goal
 
 pub returns : goal.returns
-returns c = λ port down off. edge_rests port down off
+returns c = edge_rests

@@ -1,6 +1,6 @@
 use Rattle.std.proofs.Common.{◌∷◌}
 use Rattle.rstp_run.proofs.Current.{comes_current}
-use Rattle.rstp_run.proofs.Downs.{loses_port}
+use Rattle.rstp_run.proofs.Down.{loses_port}
 use Rattle.rstp_run.proofs.Reached.{reached}
 use Rattle.rstp_run.specs.declared.event.Event.TheVariants as events
 use Rattle.rstp_run.proofs.laws.losing_keeps_tree.Goals as goal

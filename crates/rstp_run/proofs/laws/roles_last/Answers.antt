@@ -1,4 +1,4 @@
-use Rattle.rstp_run.proofs.Lasting.{lasting_reached, lasting_role}
+use Rattle.rstp_run.proofs.Current.{lasting_reached, lasting_role}
 use Rattle.rstp_run.proofs.Reached.{reached}
 use Rattle.rstp_run.proofs.laws.roles_last.Goals as goal
 

@@ -1,5 +1,5 @@
-use Rattle.rstp_run.proofs.Flushes.{any_run}
+use Rattle.rstp_run.proofs.Within.{any_run}
 use Rattle.rstp_run.proofs.laws.runs_happen.Goals as goal
 
 pub returns : goal.returns
-returns c = λ event limit s t firings order. any_run event limit s t firings order
+returns c = any_run

@@ -11,11 +11,9 @@ loop-port-preserved c =
     let e = c.loop-port.self in
     let set = c.args.ports in
     let port = c.in-Some.port in
-    let next = c.in-Some.ensures.some in
     let rest = ports_after set port in
-    ap (after_removals c.flush_port.new.self) (flushed_same e.learned c.flush_port.new.self.learned rest
-    (λ q in'. let later = later_ports set port q in' in
-    c.flush_port.ensures.others q (omega (arith, later)) (λ same. omega (arith, later, same))))
+    (rw (flushed_same e.learned c.flush_port.new.self.learned rest (λ q in'. let later = later_ports set in' in
+    c.flush_port.ensures.others q (omega (arith, later)) (λ same. omega (arith, later, same)))))
     ∙ ap (λ (b : LocalRoutes). after_removals b (flushed_at e.learned rest)) c.flush_port.ensures.after
     ∙ sym (removals_joined e (unpinned_on e.learned port) (flushed_at e.learned rest))
-    ∙ sym (ap (λ ps. after_removals e (flushed_at e.learned ps)) next.rest) ∙ c.loop-port.invariant
+    ∙ (rw c.in-Some.ensures.some.rest) ∙ c.loop-port.invariant

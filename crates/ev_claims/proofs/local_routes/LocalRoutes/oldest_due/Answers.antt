@@ -1,4 +1,4 @@
-use Rattle.std.proofs.Common.{None, Some, true, false, refl, ap, ◌∙◌}
+use Rattle.std.proofs.Common.{true, false, refl, ap, ◌∙◌}
 use Rattle.std.specs.Prelude.{slice_get}
 use Rattle.std.proofs.lemmas.Bool.{le-leb, lt-leb}
 use Rattle.ev_claims.specs.LocalRoutes.{LocalRoutes}
@@ -11,18 +11,18 @@ returns-in_default-clause-first c = front_none c.self.inside.learned c.args.limi
     ∙ ap (λ (b : LocalRoutes). slice_get (due_in b.learned c.args.limit) 0) c.self.view_is
 
 pub returns-in_default-look-clause-first : goal.returns-in_default-look-clause-first
-returns-in_default-look-clause-first c = front_is c.self.inside.learned c.args.limit c.in-Some.station None
+returns-in_default-look-clause-first c = front_is c.self.inside.learned c.args.limit
     c.in-Some.ensures c.in_default-look.ensures false refl
     ∙ ap (λ (b : LocalRoutes). slice_get (due_in b.learned c.args.limit) 0) c.self.view_is
 
 pub returns-then-entry-limit-clause-first : goal.returns-then-entry-limit-clause-first
-returns-then-entry-limit-clause-first c = front_is c.self.inside.learned c.args.limit c.in-Some.station
-    (Some c.in-Some-look.entry) c.in-Some.ensures c.in-Some-look.ensures false
+returns-then-entry-limit-clause-first c = front_is c.self.inside.learned c.args.limit c.in-Some.ensures
+    c.in-Some-look.ensures false
     (lt-leb c.in-Some-look.entry.last c.args.limit c.if-entry-limit.true)
     ∙ ap (λ (b : LocalRoutes). slice_get (due_in b.learned c.args.limit) 0) c.self.view_is
 
 pub returns-clause-first : goal.returns-clause-first
-returns-clause-first c = front_is c.self.inside.learned c.args.limit c.in-Some.station (Some c.in-Some-look.entry)
+returns-clause-first c = front_is c.self.inside.learned c.args.limit
     c.in-Some.ensures c.in-Some-look.ensures true
     (le-leb c.in-Some-look.entry.last c.args.limit c.if-entry-limit.false)
     ∙ ap (λ (b : LocalRoutes). slice_get (due_in b.learned c.args.limit) 0) c.self.view_is

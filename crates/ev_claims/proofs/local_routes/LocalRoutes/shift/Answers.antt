@@ -7,10 +7,10 @@ use Rattle.ev_claims.proofs.local_routes.LocalRoutes.shift.Goals as goal
 pub invariant_of-self : goal.invariant_of-self
 invariant_of-self c =
     let f = c.self.inside in
-    let e = routes_of f.speaker f.learned f.ports.items f.vnis.items in
     let s = c.args.station.now in
     let old = sym c.self.view_is in
-    shift_routes e c.pin-pinned.new.self s c.args.port c.self.invariant
+    shift_routes (routes_of f.speaker f.learned f.ports.items f.vnis.items) c.pin-pinned.new.self s c.args.port
+    c.self.invariant
     (subst (λ (b : LocalRoutes). is_pinned (entry_at b.learned s) ≡ true) old c.requires.pinned)
     (subst (λ (b : LocalRoutes). vni_at b.ports c.args.port ≡ Some s.vni) old c.requires.port)
     c.pin-pinned.ensures.after

@@ -6,29 +6,21 @@ use Rattle.ev_claims.proofs.Queue.{now_queue, unlinked, front_out, drop_map, lef
 use Rattle.ev_claims.proofs.pending.Pending.unmark_first.Goals as goal
 
 pub invariant_of-self : goal.invariant_of-self
-invariant_of-self c =
-    let f = c.self.inside in
-    left_pending f.links c.unlink.new.self f.registers.items f.nodes.entries f.room c.in-Some.node c.self.invariant
-    c.unlink.ensures.nodes (unlinked f.links c.unlink.new.self c.in-Some.node c.self.invariant.one
-    c.unlink.ensures.families)
+invariant_of-self c = left_pending c.self.invariant c.in-Some.node c.unlink.ensures.nodes
+    (unlinked c.self.inside.links c.unlink.new.self c.in-Some.node c.self.invariant.one c.unlink.ensures.families)
 
 pub returns : goal.returns
 returns c =
     let f = c.self.inside in
     let rs = f.registers.items in
-    let waiting = ap (map (register_at rs)) (now_queue c.unlink.new.self _ (unlinked f.links c.unlink.new.self
+    let waiting = ap (map (register_at rs)) (now_queue c.unlink.new.self (unlinked f.links c.unlink.new.self
     c.in-Some.node c.self.invariant.one c.unlink.ensures.families)
     ∙ front_out (queue f.links) c.in-Some.node (sym c.in-Some.ensures)) ∙ drop_map rs (queue f.links) in
-    (λ i. let p : Pending = record { known = rs; waiting = waiting i } in p)
-    ∙ ap (λ (p : Pending). let q : Pending = record { known = p.known; waiting = drop 1 p.waiting } in
-    q) c.self.view_is
+    (λ i. (record { known = rs; waiting = waiting i }))
+    ∙ ap (λ (p : Pending). (record { known = p.known; waiting = drop 1 p.waiting })) c.self.view_is
 
 pub unlink-requires : goal.unlink-requires
 unlink-requires c =
-    let f = c.self.inside in
     let p = c.self.invariant in
-    let on = has-at (queue f.links) 0 c.in-Some.node (sym c.in-Some.ensures) in
-    let low = p.within c.in-Some.node on in
-    let fits = p.fits in
-    let counted = p.counted in
-    (lit< tt, (lit< tt, (omega (arith, low, fits, counted), (0, on))))
+    let on = has-at (queue c.self.inside.links) 0 c.in-Some.node (sym c.in-Some.ensures) in
+    (lit< tt, (lit< tt, (omega (arith, p.within c.in-Some.node on, p.fits, p.counted), (0, on))))

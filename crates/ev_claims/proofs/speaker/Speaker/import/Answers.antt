@@ -1,13 +1,12 @@
 use Rattle.std.proofs.Common.{◌≢◌, sym, subst}
 use Rattle.ev_claims.specs.Speaker.{Speaker}
-use Rattle.ev_claims.specs.Inner.Speaker.{speaker_of}
 use Rattle.ev_claims.proofs.Said.{heard_speaker}
 use Rattle.ev_claims.proofs.speaker.Speaker.import.Goals as goal
 
 pub invariant_of-self : goal.invariant_of-self
 invariant_of-self c =
     let f = c.self.inside in
-    let e = speaker_of f.address f.incarnation f.table f.counter f.pending in
-    heard_speaker e f.pending.known c.take.new.self c.args.update.now c.take.result
+    heard_speaker
+    c.args.update.now c.take.result
     (subst (λ (v : Speaker). c.args.update.now.register.originator ≢ v.address) (sym c.self.view_is) c.requires)
     c.self.invariant c.take.ensures.table c.take.ensures.err

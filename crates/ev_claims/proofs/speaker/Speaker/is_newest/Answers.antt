@@ -9,7 +9,7 @@ pub returns-in-Some : goal.returns-in-Some
 returns-in-Some c =
     let t = c.self.inside.table in
     let u = c.args.update.now in
-    let found = sym c.in-Some.is ∙ c.register.ensures ∙ ap (update_at t) c.register-register.ensures in
-    let is_there = there t u.register c.in-Some.last found in
+    let is_there = there t u.register c.in-Some.last (sym c.in-Some.is ∙ c.register.ensures
+    ∙ ap (update_at t) c.register-register.ensures) in
     c.is_newer.ensures ∙ ap (is_newer u.value) is_there.valued ∙ sym (ap (λ o. is_news o u.value) is_there.at)
     ∙ ap (λ (v : Speaker). is_newest v u) c.self.view_is

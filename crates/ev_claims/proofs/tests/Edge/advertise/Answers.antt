@@ -10,23 +10,21 @@ use Rattle.ev_claims.proofs.tests.Edge.advertise.Goals as goal
 pub advertise-requires-clause-latest : goal.advertise-requires-clause-latest
 advertise-requires-clause-latest c =
     let edge = c.args.self.now in
-    let later : edge.now ≤ c.args.second = omega arith in
-    latest_later edge.routes.learned edge.now c.args.second later edge.latest
+    latest_later edge.routes.learned edge.now c.args.second (omega arith) edge.latest
 
 latest_said : {E : Type 0} (r : Result (Unit {0}) E) (old new : LocalRoutes) (s : Station) (port second n : ℕ)
     → IsLatest old.learned second → OnOk r (new ≡ after_advert old s port second n) → OnErr r (new ≡ old)
     → IsLatest new.learned second
 latest_said (Ok done) old new s port second n h ok err =
-    subst (λ (e : LocalRoutes). IsLatest e.learned second) (sym ok) (latest_learn old.learned s port second New h)
+    rw ok (latest_learn old.learned s port second New h)
 latest_said (Err refused) old new s port second n h ok err =
-    subst (λ (e : LocalRoutes). IsLatest e.learned second) (sym err) h
+    rw err h
 
 pub invariant_of-self : goal.invariant_of-self
 invariant_of-self c =
     let edge = c.args.self.now in
-    let later : edge.now ≤ c.args.second = omega arith in
     record {
       latest = latest_said c.advertise.result edge.routes c.advertise.new.self c.args.station c.args.port c.args.second
-          c.args.sequence (latest_later edge.routes.learned edge.now c.args.second later edge.latest)
+          c.args.sequence (latest_later edge.routes.learned edge.now c.args.second (omega arith) edge.latest)
           c.advertise.ensures.ok c.advertise.ensures.err;
     }

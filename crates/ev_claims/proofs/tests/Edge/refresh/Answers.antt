@@ -7,16 +7,13 @@ use Rattle.ev_claims.proofs.tests.Edge.refresh.Goals as goal
 pub refresh-requires-clause-latest : goal.refresh-requires-clause-latest
 refresh-requires-clause-latest c =
     let edge = c.args.self.now in
-    let later : edge.now ≤ c.args.second = omega arith in
-    latest_later edge.routes.learned edge.now c.args.second later edge.latest
+    latest_later edge.routes.learned edge.now c.args.second (omega arith) edge.latest
 
 pub invariant_of-self : goal.invariant_of-self
 invariant_of-self c =
     let edge = c.args.self.now in
-    let later : edge.now ≤ c.args.second = omega arith in
     record {
-      latest = subst (λ (e : LocalRoutes). IsLatest e.learned c.args.second) (sym c.refresh.ensures)
-          (latest_learn edge.routes.learned c.args.station c.args.port c.args.second
+      latest = rw c.refresh.ensures (latest_learn edge.routes.learned c.args.station c.args.port c.args.second
           (learnt_of edge.routes.learned c.args.station c.args.port)
-          (latest_later edge.routes.learned edge.now c.args.second later edge.latest));
+          (latest_later edge.routes.learned edge.now c.args.second (omega arith) edge.latest));
     }

@@ -12,7 +12,7 @@ put-requires c = λ some.
     let edges = c.self.inside.edges.items in
     let within : c.args.e ≤ length edges = omega (arith, c.if-e-len.false, c.len.ensures) in
     let there = at_index edges c.args.e c.index.result.now c.index.result.now c.if-e-eq0.false within c.index.ensures in
-    let waits = announced_waits edges c.step_edge.new.edges.items c.args.e c.index.result.now c.in_ok-reply.reply there
+    let waits = announced_waits c.in_ok-reply.reply there
     c.in_ok-reply.ensures some in
     on_ok c.make_room.result _ c.make_room.ensures.room (sym c.is_err.ensures.value ∙ c.if-is_err.false)
     (c.has_pending-is_wanted.ensures ∙ waits)
@@ -20,7 +20,7 @@ put-requires c = λ some.
 pub invariant_of-self-2 : goal.invariant_of-self-2
 invariant_of-self-2 c =
     let f = fabric_of c.self.inside.edges.items c.self.inside.configs.items c.self.inside.pool.items in
-    (announce_does f c.step_edge.new.edges.items c.put.new.pool.items c.args.e c.in_ok-reply.reply c.self.invariant
+    (announce_does c.put.new.pool.items c.in_ok-reply.reply c.self.invariant
     c.in_ok-reply.ensures
     (c.put.ensures ∙ ap (λ l. with_announced l c.in_ok-reply.reply.announced) c.make_room.ensures.items)).sound
 
@@ -29,6 +29,6 @@ returns c =
     let f = fabric_of c.self.inside.edges.items c.self.inside.configs.items c.self.inside.pool.items in
     subst (λ x. FabricSteps x (Announce c.args.e) (Ok c.in_ok-reply.reply)
     (fabric_of c.step_edge.new.edges.items f.configs c.put.new.pool.items)) c.self.view_is
-    (announce_does f c.step_edge.new.edges.items c.put.new.pool.items c.args.e c.in_ok-reply.reply c.self.invariant
+    (announce_does c.put.new.pool.items c.in_ok-reply.reply c.self.invariant
     c.in_ok-reply.ensures
     (c.put.ensures ∙ ap (λ l. with_announced l c.in_ok-reply.reply.announced) c.make_room.ensures.items)).steps

@@ -9,7 +9,7 @@ use Rattle.ev_fabric.proofs.fabric.Fabric.local.Goals as goal
 pub invariant_of-self : goal.invariant_of-self
 invariant_of-self c =
     let f = fabric_of c.self.inside.edges.items c.self.inside.configs.items c.self.inside.pool.items in
-    (local_does f c.step_edge.new.edges.items c.args.e c.args.event.now c.step_edge.result c.self.invariant
+    (local_does c.args.event.now c.self.invariant
     (subst (λ x. OneSteps f.edges c.args.e x c.step_edge.result c.step_edge.new.edges.items) c.event_of.ensures
     c.step_edge.ensures)).sound
 
@@ -18,6 +18,6 @@ returns c =
     let f = fabric_of c.self.inside.edges.items c.self.inside.configs.items c.self.inside.pool.items in
     subst (λ x. FabricSteps x (Local c.args.e c.args.event.now) c.step_edge.result
     (fabric_of c.step_edge.new.edges.items f.configs f.pool)) c.self.view_is
-    (local_does f c.step_edge.new.edges.items c.args.e c.args.event.now c.step_edge.result c.self.invariant
+    (local_does c.args.event.now c.self.invariant
     (subst (λ x. OneSteps f.edges c.args.e x c.step_edge.result c.step_edge.new.edges.items) c.event_of.ensures
     c.step_edge.ensures)).steps

@@ -24,7 +24,7 @@ restarts : (f : Fabric) (e : ℕ) (c : EdgeConfig) → IsSound f → (e ≡ 0 �
 restarts f e c h some within is = record {
   edge = a.0;
   there = a.1;
-  opened = at_index f.configs e c c some (let same = h.count in omega (arith, within, same)) is;
+  opened = at_index f.configs e c c some (omega (arith, h.count)) is;
 }
   where
     a : (a : Edge) × (nth f.edges e ≡ Some a)
@@ -35,17 +35,16 @@ returns-then-n-index c =
     let f = fabric_of c.self.inside.edges.items c.self.inside.configs.items c.self.inside.pool.items in
     let r = restarts f c.args.e c.index.result.now c.self.invariant c.if-e-eq0.false
     (omega (arith, c.if-e-len.false, c.len.ensures)) c.index.ensures in
-    let life = incarnation_is f c.args.e r.edge c.index.result.now c.self.invariant r.there r.opened in
     subst (λ x. FabricSteps x (Restart c.args.e c.args.n) (Err NoHigher) x) c.self.view_is
-    (not_higher f c.args.e c.args.n r.edge c.self.invariant r.there (let low = c.if-n-index.true in
-    omega (arith, life, low))).steps
+    (not_higher c.args.e c.args.n c.self.invariant r.there
+    (omega (arith, incarnation_is c.args.e c.self.invariant r.there r.opened, c.if-n-index.true))).steps
 
 pub open-requires : goal.open-requires
 open-requires c =
     let f = fabric_of c.self.inside.edges.items c.self.inside.configs.items c.self.inside.pool.items in
     let r = restarts f c.args.e c.index-2.result.now c.self.invariant c.if-e-eq0.false
     (omega (arith, c.if-e-len.false, c.len.ensures)) c.index-2.ensures in
-    subst IsConfig (sym c.in_incarnation-config.ensures) (config_fits f c.args.e c.args.n r.edge c.index-2.result.now
+    subst IsConfig (sym c.in_incarnation-config.ensures) (config_fits c.args.e c.args.n
     c.self.invariant r.there r.opened)
 
 pub returns-in_default : goal.returns-in_default
@@ -53,10 +52,9 @@ returns-in_default c =
     let f = fabric_of c.self.inside.edges.items c.self.inside.configs.items c.self.inside.pool.items in
     let r = restarts f c.args.e c.index.result.now c.self.invariant c.if-e-eq0.false
     (omega (arith, c.if-e-len.false, c.len.ensures)) c.index.ensures in
-    let life = incarnation_is f c.args.e r.edge c.index.result.now c.self.invariant r.there r.opened in
     subst (λ x. FabricSteps x (Restart c.args.e c.args.n) (Err NoMemory) x) c.self.view_is
-    (not_opened f c.args.e c.args.n r.edge c.self.invariant r.there (let high = c.if-n-index.false in
-    omega (arith, life, high))).steps
+    (not_opened c.args.e c.args.n c.self.invariant r.there
+    (omega (arith, incarnation_is c.args.e c.self.invariant r.there r.opened, c.if-n-index.false))).steps
 
 opens : (c : goal.After-nothing) → let f = fabric_of c.self.inside.edges.items c.self.inside.configs.items
     c.self.inside.pool.items in Does f (with_opened f c.args.e c.in-Ok.edge
@@ -69,10 +67,9 @@ opens c =
     let second = restarts f c.args.e c.index-2.result.now c.self.invariant c.if-e-eq0.false within c.index-2.ensures in
     let third = restarts f c.args.e c.index_mut-2.result.now c.self.invariant c.if-e-eq0.false within
     c.index_mut-2.ensures.value in
-    let life = incarnation_is f c.args.e first.edge c.index.result.now c.self.invariant first.there first.opened in
-    let same = same_nth f.configs c.args.e c.index-2.result.now c.index_mut-2.result.now second.opened third.opened in
-    restart_does f c.args.e c.args.n first.edge c.in-Ok.edge c.index_mut-2.result.now c.self.invariant first.there
-    third.opened (let high = c.if-n-index.false in omega (arith, life, high))
+    let same = same_nth f.configs c.args.e second.opened third.opened in
+    restart_does c.args.e c.args.n c.self.invariant first.there
+    third.opened (omega (arith, incarnation_is c.args.e c.self.invariant first.there first.opened, c.if-n-index.false))
     (subst (λ d. IsOpening (in_incarnation d c.args.n) c.in-Ok.edge) same
     (subst (λ d. IsOpening d c.in-Ok.edge) c.in_incarnation-config.ensures c.in-Ok.ensures)) c.always_good.ensures
 

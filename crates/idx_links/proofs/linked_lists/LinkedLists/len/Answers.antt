@@ -1,24 +1,12 @@
-use Rattle.std.proofs.Common.{refl, length}
-use Rattle.idx_links.proofs.Calls.{Found, list_place, len_owes, apart_owes}
+use Rattle.std.proofs.Common.{refl}
+use Rattle.idx_links.proofs.Calls.{list_place, len_owes, apart_owes}
 use Rattle.idx_links.proofs.linked_lists.LinkedLists.len.Goals as goal
 
 pub len-requires : goal.len-requires
-len-requires c =
-    let at = c.self.inside.places in
-    let found : Found at.next at.prev at.owner at.lens c.args.self.now (length at.lens) =
-    record { good = c.self.invariant; seen = c.self.view_is; count_is = refl } in
-    (list_place found c.args.list c.requires).0
+len-requires c = (list_place c.self.invariant c.self.view_is refl c.requires).0
 
 pub returns-clause-value : goal.returns-clause-value
-returns-clause-value c =
-    let at = c.self.inside.places in
-    let found : Found at.next at.prev at.owner at.lens c.args.self.now (length at.lens) =
-    record { good = c.self.invariant; seen = c.self.view_is; count_is = refl } in
-    len_owes found c.args.list c.len.result c.requires c.len.ensures
+returns-clause-value c = len_owes c.self.invariant c.self.view_is refl c.requires c.len.ensures
 
 pub returns-clause-apart : goal.returns-clause-apart
-returns-clause-apart c =
-    let at = c.self.inside.places in
-    let found : Found at.next at.prev at.owner at.lens c.args.self.now (length at.lens) =
-    record { good = c.self.invariant; seen = c.self.view_is; count_is = refl } in
-    apart_owes found
+returns-clause-apart c = apart_owes c.self.invariant c.self.view_is refl

@@ -5,26 +5,24 @@ use Rattle.idx_links.proofs.places.Places.enter.Goals as goal
 
 pub returns-clause-next : goal.returns-clause-next
 returns-clause-next c = none_seen (λ x. x.next) c.self.inside.links.items c.args.place c.args.list _ _
-    c.index_mut-link.result.now c.index_mut.result.now c.index_mut-link.ensures.value refl c.index_mut.ensures.value
-    refl ∙ ap (λ v. v.next) c.self.view_is
+    c.index_mut-link.ensures.value refl c.index_mut.ensures.value refl ∙ ap (λ v. v.next) c.self.view_is
 
 pub returns-clause-prev : goal.returns-clause-prev
 returns-clause-prev c = none_seen (λ x. x.prev) c.self.inside.links.items c.args.place c.args.list _ _
-    c.index_mut-link.result.now c.index_mut.result.now c.index_mut-link.ensures.value refl c.index_mut.ensures.value
-    refl ∙ ap (λ v. v.prev) c.self.view_is
+    c.index_mut-link.ensures.value refl c.index_mut.ensures.value refl ∙ ap (λ v. v.prev) c.self.view_is
 
 pub returns-clause-owner : goal.returns-clause-owner
 returns-clause-owner c =
-    let at = both_places (λ x. x.mark) c.self.inside.lists c.args.list c.args.place c.self.inside.links.items
-    c.args.self.now.lens c.self.invariant (ap (λ v. v.lens) c.self.view_is) c.requires.list c.requires.node in
+    let at = both_places (λ x. x.mark) c.self.inside.lists c.self.inside.links.items c.self.invariant
+    (ap (λ v. v.lens) c.self.view_is) c.requires.list c.requires.node in
     owners_changed (λ x. x.mark) c.self.inside.links.items c.self.inside.lists c.args.place c.args.list _ _ at.0 at.1
     ∙ ap (λ v. set v.owner c.args.place (list_named (c.args.list + 1))) c.self.view_is
     ∙ ap (set c.args.self.now.owner c.args.place) (named c.args.list)
 
 pub returns-clause-lens : goal.returns-clause-lens
 returns-clause-lens c =
-    let at = both_places (λ x. x.mark) c.self.inside.lists c.args.list c.args.place c.self.inside.links.items
-    c.args.self.now.lens c.self.invariant (ap (λ v. v.lens) c.self.view_is) c.requires.list c.requires.node in
-    lens_changed (λ x. x.mark) c.self.inside.links.items c.self.inside.lists c.args.place c.args.list _ _
-    c.index_mut.result.now (λ k. k + 1) c.index_mut.ensures.value refl at.0 at.1 at.2
+    let at = both_places (λ x. x.mark) c.self.inside.lists c.self.inside.links.items c.self.invariant
+    (ap (λ v. v.lens) c.self.view_is) c.requires.list c.requires.node in
+    lens_changed (λ x. x.mark) c.self.inside.links.items c.self.inside.lists c.args.place c.args.list _ _ at.0 at.1
+    (λ k. k + 1) c.index_mut.ensures.value refl at.2
     ∙ ap (λ v. set v.lens c.args.list (get_or v.lens c.args.list 0 + 1)) c.self.view_is

@@ -1,4 +1,4 @@
-use Rattle.rstp_run.proofs.Passing.{passing-in_tree, passing-learns}
+use Rattle.rstp_run.proofs.Orderly.{passing-in_tree, passing-learns}
 use Rattle.rstp_run.proofs.bridge.Bridge.passes.Goals as goal
 
 pub returns-clause-learns : goal.returns-clause-learns

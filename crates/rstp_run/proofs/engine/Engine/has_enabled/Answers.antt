@@ -1,5 +1,5 @@
 use Rattle.std.proofs.Common.{below_more, sym, ◌∙◌, arith}
-use Rattle.rstp_run.proofs.Settled.{found}
+use Rattle.rstp_run.proofs.Whole.{found}
 use Rattle.rstp_run.proofs.engine.Engine.has_enabled.Goals as goal
 
 pub returns-then-has_enabled_at : goal.returns-then-has_enabled_at

@@ -1,5 +1,5 @@
 use Rattle.rstp_run.specs.declared.rule.TheConstants.{MAIN, SENDS}
-use Rattle.rstp_run.proofs.Settled.{settled-off, off-settled, not-false}
+use Rattle.rstp_run.proofs.Whole.{settled-off, off-settled, not-false}
 use Rattle.rstp_run.proofs.engine.Engine.is_settled.Goals as goal
 use Rattle.std.proofs.lemmas.Bool.{not-true}
 

@@ -1,27 +1,24 @@
 use Rattle.std.proofs.Common.{◌∙◌, ◌<◌, arith, inl, inr, refl}
-use Rattle.rstp_run.specs.Sweep.{round}
-use Rattle.rstp_run.specs.Inner.Runs.{swept_on}
-use Rattle.rstp_run.proofs.Ordered.{again, goes-none}
-use Rattle.rstp_run.proofs.Rounds.{rounds-end, rounds-on}
-use Rattle.rstp_run.proofs.Settled.{settled-off}
+use Rattle.rstp_run.proofs.Steps.{goes-none}
+use Rattle.rstp_run.proofs.Steps.{rounds-end, rounds-on}
+use Rattle.rstp_run.proofs.Whole.{settled-off}
 use Rattle.rstp_run.proofs.engine.Engine.run.Goals as goal
 
 pub rounds-init : goal.rounds-init
 rounds-init c =
-    let limit = c.args.count.now.limit in
-    (limit, omega arith, goes-none swept_on (again limit round) _ _ c.requires (λ before is. refl), refl)
+    (c.args.count.now.limit, omega arith, goes-none c.requires (λ before is. refl), refl)
 
 pub returns-then-count-clause-goes : goal.returns-then-count-clause-goes
 returns-then-count-clause-goes c =
     let (n, enough, goes, ports) = c.rounds.invariant in
-    rounds-end _ _ _ _ _ _ _ _ c.settle.ensures.goes c.settle-in-rounds.ensures.goes n goes enough (inl c.if-count.true)
+    rounds-end c.settle.ensures.goes c.settle-in-rounds.ensures.goes n goes enough (inl c.if-count.true)
 
 pub returns-then-count-before-clause-goes : goal.returns-then-count-before-clause-goes
 returns-then-count-before-clause-goes c =
     let (n, enough, goes, ports) = c.rounds.invariant in
     let same = c.settle-in-rounds.ensures.idle c.if-count-before.true in
     let room : c.settle-in-rounds.new.count.fired < c.settle-in-rounds.new.count.limit = omega arith in
-    rounds-end _ _ _ _ _ _ _ _ c.settle.ensures.goes c.settle-in-rounds.ensures.goes n goes enough (inr (
+    rounds-end c.settle.ensures.goes c.settle-in-rounds.ensures.goes n goes enough (inr (
       rw same (c.settle.ensures.off (omega (arith, c.settle-in-rounds.ensures.goes.limit))),
       c.settle-in-rounds.ensures.off room,
     ))
@@ -36,6 +33,6 @@ returns-then-count-before-clause-yes c = λ yes.
 pub rounds-preserved : goal.rounds-preserved
 rounds-preserved c =
     let (n, enough, goes, ports) = c.rounds.invariant in
-    let (m, next, more) = rounds-on _ _ _ _ _ _ _ _ c.settle.ensures.goes c.settle-in-rounds.ensures.goes n goes
+    let (m, next, more) = rounds-on c.settle.ensures.goes c.settle-in-rounds.ensures.goes n goes
     enough c.if-count-before.false c.if-count.false in
     (m, next, more, c.settle-in-rounds.ensures.ports ∙ c.settle.ensures.ports ∙ ports)

@@ -1,7 +1,7 @@
 use Rattle.std.proofs.Common.{◌≡◌, ℕ, ◌+◌, ◌-◌, ◌≤◌, length}
 use Rattle.rstp_run.specs.Inner.Runs.{Goes, swept_on}
 use Rattle.rstp_run.specs.Sweep.{round}
-use Rattle.rstp_run.proofs.Ordered.{again}
+use Rattle.rstp_run.proofs.Steps.{again}
 use Rattle.rstp_run.proofs.engine.Engine.run.Given as goal
 
 -- at most n rounds remain

@@ -1,7 +1,7 @@
 use Rattle.std.proofs.Common.{◌≡◌, ℕ, ◌+◌, ◌-◌, ◌≤◌, length}
 use Rattle.rstp_run.specs.Inner.Runs.{Goes, rules_of}
 use Rattle.rstp_run.specs.Sweep.{pass, passes}
-use Rattle.rstp_run.proofs.Ordered.{again}
+use Rattle.rstp_run.proofs.Steps.{again}
 use Rattle.rstp_run.proofs.engine.Engine.settle.Given as goal
 
 -- at most n passes remain
