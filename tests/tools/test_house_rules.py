@@ -20,7 +20,7 @@ SUBJECTS_SINCE = "42c388f"  # the subjects of later commits than this one of 202
 LONG_RT = {  # bpdu_wire's is the row of a table, ether_wire's are tables of digits, evpnd's texts of the program, ev_run's rows of Linux
     "crates/bpdu_wire/src/reading.rt": 1, "crates/ether_wire/src/text.rt": 4, "crates/ev_report/src/usage.rt": 2, "crates/evpnd/src/subcommand.rt": 5,
     "crates/evpnd_report/src/main.rt": 1, "crates/evpnd_report/src/program.rt": 1,
-    "crates/ev_sites/src/bridges.rt": 1, "tests/unproved/ev_run/tests.rt.txt": 3,
+    "crates/ev_sites/src/bridges.rt": 1, "crates/ev_run/src/tests.rt": 3,
 }
 LONG_ANTT = 1
 MOST_LINES, MOST_PARAMETERS = 450, 6

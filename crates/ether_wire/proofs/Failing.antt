@@ -1,5 +1,5 @@
 -- The calls of an end, counted with failures of another end besides its own.
-use Rattle.std.proofs.Common.{◌≡◌, ℕ, ◌+◌, ◌^◌, ◌<◌, List, Result, Ok, Err, refl, ap, arith}
+use Rattle.std.proofs.Common.{◌≡◌, ℕ, ◌+◌, ◌-◌, ◌^◌, ◌<◌, min, List, Result, Ok, Err, refl, ap, arith}
 use Rattle.ether_wire.specs.declared.ends.Device.{Device}
 use Rattle.ether_wire.specs.Ends.{End, Source, IsOpen, Allows, Puts, Gets}
 use Rattle.ether_wire.specs.FailAt.{failures_of, writer_beside, reader_beside}
@@ -35,12 +35,16 @@ gets_own s own buffer d h = record {
   reads = omega arith;
 }
 
+pub puts_own : (e : End) (own : ℕ) (text : List ℕ) (d : Device)
+    → Puts (writer_beside e own) (writer_beside e (min (own + 1) (2 ^ 64 - 1))) text (Err d)
+puts_own e own text d = λ room. omega (arith, room)
+
 -- ---- a call of the other end
 
-pub puts_beside : (e f : End) (own : ℕ) (text : List ℕ) (r : Result (Unit {0}) Device) → IsOpen (writer_beside e own)
-    → Puts e f text r → Puts (writer_beside e own) (writer_beside f own) text r
-puts_beside e f own text (Ok done) room h = ap (λ (x : End). writer_beside x own) h
-puts_beside e f own text (Err d) room h = omega (arith, room, h)
+pub puts_beside : (e f : End) (own : ℕ) (text : List ℕ) (r : Result (Unit {0}) Device) → Puts e f text r
+    → Puts (writer_beside e own) (writer_beside f own) text r
+puts_beside e f own text (Ok done) h = ap (λ (x : End). writer_beside x own) h
+puts_beside e f own text (Err d) h = λ room. (let one = h (open_inner e own room) in omega (arith, room, one))
 
 pub gets_beside : (s t : Source) (own : ℕ) (buffer : List ℕ) (r : Result ℕ Device) → Allows 1 (reader_beside s own)
     → Gets s t buffer r → Gets (reader_beside s own) (reader_beside t own) buffer r

@@ -1,9 +1,9 @@
 //! Ends over std's readers and writers, which count their errors.
-#![tactic(auto, using(crate::proofs::Failing::allows_new, crate::proofs::Failing::open_new, crate::proofs::Failing::allows_inner, crate::proofs::Failing::gets_beside, crate::proofs::Failing::gets_own, crate::proofs::Failing::open_inner, crate::proofs::Failing::puts_beside, crate::proofs::Failing::one_more))]
+#![tactic(auto, using(crate::proofs::Failing::allows_new, crate::proofs::Failing::open_new, crate::proofs::Failing::allows_inner, crate::proofs::Failing::gets_beside, crate::proofs::Failing::gets_own, crate::proofs::Failing::open_inner, crate::proofs::Failing::puts_beside, crate::proofs::Failing::one_more, crate::proofs::Failing::puts_own))]
 
 ghost use Rattle.std.specs.Prelude.{◌≡◌, None, OnOk};
 ghost use Rattle.std.specs.Io.KnownBytes.{ReadConsumes, Appends};
-ghost use Rattle.ether_wire.specs.Ends.{IsOpen, Allows, Puts, Gets, end_of, source_of};
+ghost use Rattle.ether_wire.specs.Ends.{Allows, Puts, Gets, end_of, source_of};
 
 use crate::ends::{Device, In, Out};
 use std::io::{Read, Write};
@@ -94,7 +94,6 @@ impl<W: Write> Out for Writer<W> {
     }
 
     fn put(&mut self, octets: &[u8]) -> Result<(), Device>
-        requires { IsOpen (writer_end self.old) }
         ensures puts { Puts (writer_end self.old) (writer_end self.new) octets.now result }
         ensures passes { OnOk result
             (Appends (W.contents self.old.inner) (W.contents self.new.inner) octets.now) }
@@ -102,7 +101,7 @@ impl<W: Write> Out for Writer<W> {
         match self.inner.write_all(octets) {
             Ok(()) => Ok(()),
             Err(_) => {
-                self.failures += 1;
+                self.failures = self.failures.saturating_add(1);
                 Err(Device)
             }
         }

@@ -2,7 +2,7 @@
 #![tactic(auto, using(crate::proofs::Appending::with_text_twice, crate::proofs::Appending::with_text_none, crate::proofs::Appending::part_behind))]
 
 ghost use Rattle.std.specs.Prelude.{◌≡◌, []};
-ghost use Rattle.ether_wire.specs.Ends.{End, IsOpen, Puts};
+ghost use Rattle.ether_wire.specs.Ends.{End, Puts};
 
 use crate::ends::{Device, Out};
 use crate::piece::Piece;
@@ -37,7 +37,6 @@ impl<W: Out> Buffered<W> {
     /// Passes the octets in the buffer on, in one call if there are any, and returns the other
     /// writer.
     pub fn finish(mut self) -> (W, Result<(), Device>)
-        requires { IsOpen (buffered_end W.end self) }
         ensures { Puts (buffered_end W.end self) (W.end result.0) [] result.1 }
     {
         let result = self.pass_on();
@@ -55,7 +54,6 @@ impl<W: Out> Buffered<W> {
 
     /// Passes the octets in the buffer on. The buffer is empty afterwards, even if that failed.
     fn pass_on(&mut self) -> Result<(), Device>
-        requires { IsOpen (W.end self.old.inner) }
         ensures passes { Puts (W.end self.old.inner)
             (W.end self.new.inner) self.old.held result }
         ensures empty { self.new.held ≡ [] }
@@ -73,7 +71,6 @@ impl<W: Out> Buffered<W> {
     // Separate from `put`, so that calls that only buffer a few more octets are inlined.
     #[inline(never)]
     fn put_anew(&mut self, octets: &[u8]) -> Result<(), Device>
-        requires { IsOpen (W.end self.old.inner) }
         ensures { Puts (buffered_end W.end self.old) (buffered_end W.end self.new)
             octets.now result }
     {
@@ -104,7 +101,6 @@ impl<W: Out> Out for Buffered<W> {
 
     /// Passes the octets in the buffer on. The buffer is empty afterwards, even if that failed.
     fn flush(&mut self) -> Result<(), Device>
-        requires { IsOpen (buffered_end W.end self.old) }
         ensures puts { Puts (buffered_end W.end self.old) (buffered_end W.end self.new) [] result }
         ensures passes { Puts (passed_end W.end self.old) (passed_end W.end self.new)
             (held_of self.old) result }

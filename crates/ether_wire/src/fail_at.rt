@@ -120,7 +120,6 @@ impl<W: Out> Out for FailAt<W> {
     }
 
     fn put(&mut self, octets: &[u8]) -> Result<(), Device>
-        requires { IsOpen (failing_writer W.end self.old) }
         ensures puts { Puts (failing_writer W.end self.old)
             (failing_writer W.end self.new) octets.now result }
         ensures due { calls_of self.old + 1 ≡ fails_at self.old → is_err result ≡ true }
@@ -128,14 +127,13 @@ impl<W: Out> Out for FailAt<W> {
             → Puts (W.end (inner_end self.old)) (W.end (inner_end self.new)) octets.now result }
     {
         if is_due(&mut self.calls, self.at) {
-            self.failures += 1;
+            self.failures = self.failures.saturating_add(1);
             return Err(Device);
         }
         self.inner.put(octets)
     }
 
     fn flush(&mut self) -> Result<(), Device>
-        requires { IsOpen (failing_writer W.end self.old) }
         ensures puts { Puts (failing_writer W.end self.old)
             (failing_writer W.end self.new) [] result }
         ensures due { calls_of self.old + 1 ≡ fails_at self.old → is_err result ≡ true }
@@ -143,7 +141,7 @@ impl<W: Out> Out for FailAt<W> {
             → Puts (W.end (inner_end self.old)) (W.end (inner_end self.new)) [] result }
     {
         if is_due(&mut self.calls, self.at) {
-            self.failures += 1;
+            self.failures = self.failures.saturating_add(1);
             return Err(Device);
         }
         self.inner.flush()
@@ -158,7 +156,7 @@ impl<W: Flushing> Flushing for FailAt<W> {
 
     fn flush_held(&mut self) -> Result<(), Device> {
         if is_due(&mut self.calls, self.at) {
-            self.failures += 1;
+            self.failures = self.failures.saturating_add(1);
             return Err(Device);
         }
         self.inner.flush_held()

@@ -2,7 +2,7 @@
 #![tactic(auto, using(crate::proofs::Appending::with_text_twice, crate::proofs::Appending::with_text_none, crate::proofs::Appending::part_behind))]
 
 ghost use Rattle.std.specs.Prelude.{◌≡◌, ℕ, List, [], OnOk};
-ghost use Rattle.ether_wire.specs.Ends.{End, IsOpen, Puts};
+ghost use Rattle.ether_wire.specs.Ends.{End, Puts};
 
 use crate::buffered::Buffered;
 use crate::ends::{Device, Out};
@@ -16,7 +16,6 @@ pub trait Flushing: Out {
 
     /// Passes on the octets in the buffer. After `Ok` the buffer is empty.
     fn flush_held(&mut self) -> Result<(), Device>
-        requires { IsOpen (Self.end self.old) }
         ensures puts { Puts (Self.end self.old) (Self.end self.new) [] result }
         ensures none_held { OnOk result (held self.new ≡ []) };
 }

@@ -2,7 +2,7 @@
 #![tactic(auto, using(crate::proofs::Appending::with_text_twice, crate::proofs::Appending::with_text_none, crate::proofs::Appending::part_behind))]
 
 ghost use Rattle.std.specs.Prelude.{◌≡◌, ◌+◌, ◌≤◌, ◌↔◌, [], length, Some, IsOk, OnErr};
-ghost use Rattle.ether_wire.specs.Ends.{IsOpen, Puts, end_of, source_of};
+ghost use Rattle.ether_wire.specs.Ends.{Puts, end_of, source_of};
 
 use crate::ends::{Device, In, Out};
 use arrayvec::ArrayVec;
@@ -86,7 +86,6 @@ impl<const N: usize> Out for Page<N> {
     }
 
     fn put(&mut self, octets: &[u8]) -> Result<(), Device>
-        requires { IsOpen (page_end self.old) }
         ensures puts { Puts (page_end self.old) (page_end self.new) octets.now result }
         ensures fits { IsOk result ↔ (length (page_octets self.old) + length octets.now ≤ N) }
         ensures err { OnErr result (page_octets self.new ≡ page_octets self.old) }
@@ -94,7 +93,7 @@ impl<const N: usize> Out for Page<N> {
         match self.octets.try_extend_from_slice(octets) {
             Ok(()) => Ok(()),
             Err(_) => {
-                self.failures += 1;
+                self.failures = self.failures.saturating_add(1);
                 Err(Device)
             }
         }

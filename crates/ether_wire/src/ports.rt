@@ -1,7 +1,7 @@
 //! Sets of access ports, as numbers of 64 bits: port p, from 1 to 64, is bit p - 1.
 ghost use Rattle.std.specs.Prelude.{◌≡◌, ℕ, ◌<◌, ◌==◌, ◌&&◌, ◌||◌, not, false, [], ◌++◌, codes, IfSome, IfNone};
 ghost use Rattle.std.specs.Fmt.{decimal};
-ghost use Rattle.ether_wire.specs.Ends.{IsOpen, Puts};
+ghost use Rattle.ether_wire.specs.Ends.{Puts};
 ghost use Rattle.ether_wire.specs.Ports.{IsPort, IsNextPort, place_of_port, has_port, no_ports, with_port, without_port, common_ports, ports_after, ports_of, ArePortsOf, comma_text, ports_text};
 
 use crate::ends::{Device, Out};
@@ -72,7 +72,6 @@ pub fn next_port(set: u64, after: u8) -> Option<u8>
 /// Writes the numbers of the ports, ascending and with commas between them, or a dash if there is
 /// none.
 pub fn put_ports<O: Out>(out: &mut O, set: u64) -> Result<(), Device>
-    requires { IsOpen (O.end out.old) }
     ensures { Puts (O.end out.old) (O.end out.new) (ports_text set) result }
 {
     let Some(first) = next_port(set, 0) else {
@@ -84,7 +83,6 @@ pub fn put_ports<O: Out>(out: &mut O, set: u64) -> Result<(), Device>
 
 /// Writes the numbers of the ports after `first`, each with a comma before it.
 fn put_later<O: Out>(out: &mut O, set: u64, first: u8) -> Result<(), Device>
-    requires { IsOpen (O.end out.old) }
     ensures { Puts (O.end out.old) (O.end out.new) (comma_text (ports_after set first)) result }
 {
     let mut port = first;
@@ -97,7 +95,6 @@ fn put_later<O: Out>(out: &mut O, set: u64, first: u8) -> Result<(), Device>
 
 /// Writes a comma, and the number of a port.
 fn put_behind_comma<O: Out>(out: &mut O, port: u8) -> Result<(), Device>
-    requires { IsOpen (O.end out.old) }
     ensures { Puts (O.end out.old) (O.end out.new) (codes "," ++ decimal port) result }
 {
     out.put(b",")?;

@@ -1,7 +1,7 @@
 //! The book of an edge.
 ghost use Rattle.std.specs.Prelude.{◌≡◌, ◌+◌, ◌<◌, ◌≤◌, true, false, [], vec_len, IfOk, OnOk, Ok, Err};
 ghost use Rattle.route_wire.specs.Record.{Answers};
-ghost use Rattle.ether_wire.specs.Ends.{IsOpen, Puts};
+ghost use Rattle.ether_wire.specs.Ends.{Puts};
 ghost use Rattle.route_join.specs.Owner.{owner};
 ghost use Rattle.route_join.specs.Report.{report_of};
 ghost use Rattle.route_join.specs.Updates.{all_updates};
@@ -272,7 +272,6 @@ impl<L: Ledger> Book<L> {
     ///
     /// `Device` exactly where a call of the writer failed; then no further call is made.
     pub fn write_journal<W: Out>(&self, out: &mut W) -> Result<(), Device>
-        requires { IsOpen (W.end out.old) }
         ensures puts { Puts (W.end out.old) (W.end out.new) (records_of self.now.journal) result }
         ensures again { OnOk result
             (Answers (records_of self.now.journal) (all_ok self.now.journal) []) }

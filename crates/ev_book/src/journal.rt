@@ -3,7 +3,7 @@
 ghost use Rattle.std.specs.Prelude.{◌≡◌, ◌+◌, ◌*◌, ◌<◌, ◌≤◌, ◌++◌, [], true, length, OnOk, OnErr, IfSome, vec_len, vec_capacity};
 ghost use Rattle.std.specs.Bool.{OnFalse};
 ghost use Rattle.route_wire.specs.Record.{Answers};
-ghost use Rattle.ether_wire.specs.Ends.{IsOpen, Puts};
+ghost use Rattle.ether_wire.specs.Ends.{Puts};
 ghost use Rattle.route_join.specs.Table.{IsTableOf};
 ghost use Rattle.route_join.specs.Updates.{all_updates};
 ghost use Rattle.ev_edge.specs.declared.reply.Reply.{Reply as Replied};
@@ -242,7 +242,6 @@ impl Journal {
 
 /// Writes the records of updates, one after the other.
 pub(crate) fn put_records<W: Out>(updates: &[Update], out: &mut W) -> Result<(), Device>
-    requires { IsOpen (W.end out.old) }
     ensures puts { Puts (W.end out.old) (W.end out.new) (records_of updates.now) result }
     ensures again { OnOk result (Answers (records_of updates.now) (all_ok updates.now) []) }
 {

@@ -1,5 +1,5 @@
 //! What no contract of a book says: worked journals, threads that share a book, and refused memory.
-ghost use Rattle.std.specs.Prelude.{◌≡◌, ◌<◌, ◌∷◌, []};
+ghost use Rattle.std.specs.Prelude.{◌≡◌, ◌<◌, ◌≤◌, ◌∷◌, []};
 ghost use Rattle.ev_edge.specs.Config.{IsConfig, vnis_of};
 
 use crate::{Book, Pass};
@@ -12,6 +12,7 @@ use route_wire::{Advert, Content, Key, Register, Update, Value};
 use rstp_state::{PortSettings, Settings};
 use std::sync::ledger::Ledger;
 
+mod full;
 mod journals;
 mod memory;
 mod threads;
@@ -92,6 +93,15 @@ fn tree() -> Settings
 fn config(incarnation: u32) -> EdgeConfig
     ensures { IsConfig result }
 {
+    sized_config(incarnation, 8)
+}
+
+// The same with room for so many stations.
+fn sized_config(incarnation: u32, stations: usize) -> EdgeConfig
+    requires some { 1 ≤ stations }
+    requires few { stations ≤ 65536 }
+    ensures { IsConfig result }
+{
     EdgeConfig {
         address: Addr::new(0x0a00_0002),
         incarnation,
@@ -99,8 +109,8 @@ fn config(incarnation: u32) -> EdgeConfig
         vnis: one_network(),
         tree: tree(),
         ageing: 300,
-        capacity: 8,
-        buckets: 8,
+        capacity: stations,
+        buckets: stations,
         salt: 0,
         ports: one_port(),
     }

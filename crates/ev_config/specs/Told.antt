@@ -6,7 +6,7 @@ use Rattle.std.specs.List.{list_any}
 use Rattle.toml.specs.Data.{Members}
 use Rattle.toml.specs.Parse.{parse_document}
 use Rattle.ether_wire.specs.declared.ends.Device.{Device}
-use Rattle.ether_wire.specs.Ends.{End, with_text, Puts}
+use Rattle.ether_wire.specs.Ends.{End, IsOpen, with_text, Puts}
 use Rattle.ev_config.specs.declared.whole.Use.{Use}
 use Rattle.ev_config.specs.declared.schema.Range.{Range}
 use Rattle.ev_config.specs.declared.schema.KeyKind.{KeyKind}
@@ -88,7 +88,7 @@ AreAbout wanted (fault ∷ faults) (words ∷ more) = IsAbout wanted fault words
 abbrev pub TellsEach : Use → List Faulty → End → End → Result (Unit {0}) Device → Type 0
 TellsEach wanted faults old new (Ok done) =
     (lines : List (List ℕ)) × AreAbout wanted faults lines × (new ≡ with_text old (lines_text lines))
-TellsEach wanted faults old new (Err device) = new.failures ≡ old.failures + 1
+TellsEach wanted faults old new (Err device) = IsOpen old → new.failures ≡ old.failures + 1
 
 -- one line, or a call failed
 abbrev pub TellsOne : End → End → Result (Unit {0}) Device → Type 0

@@ -2,7 +2,7 @@
 #![tactic(auto, using(ether_wire::proofs::Appending::with_text_twice, ether_wire::proofs::Appending::with_text_none))]
 
 ghost use Rattle.std.specs.Prelude.{◌≡◌, ◌++◌, map, option_map};
-ghost use Rattle.ether_wire.specs.Ends.{IsOpen, Puts};
+ghost use Rattle.ether_wire.specs.Ends.{Puts};
 ghost use Rattle.ev_config.specs.Faults.{rows_at};
 ghost use Rattle.ev_config.specs.Told.{numbered, steps_text, span_text, kind_text, row_text};
 ghost use Rattle.ev_config.specs.Inner.Faults.{spot_of, row_of};
@@ -29,7 +29,6 @@ pub(crate) fn rows_of(wanted: Use, place: DocumentTable<'_>) -> &'static [Row]
 
 /// Writes a name and a number: `edge 2`.
 pub(crate) fn put_number<N: Out>(notes: &mut N, name: &[u8], number: usize) -> Result<(), Device>
-    requires { IsOpen (N.end notes.old) }
     ensures { Puts (N.end notes.old) (N.end notes.new) (numbered name.now number) result }
 {
     notes.put(name)?;
@@ -38,7 +37,6 @@ pub(crate) fn put_number<N: Out>(notes: &mut N, name: &[u8], number: usize) -> R
 
 /// Writes the steps of a range, if it has any: ` in steps of 16`.
 fn put_steps<N: Out>(notes: &mut N, step: u64) -> Result<(), Device>
-    requires { IsOpen (N.end notes.old) }
     ensures { Puts (N.end notes.old) (N.end notes.new) (steps_text step) result }
 {
     if step == 0 {
@@ -49,7 +47,6 @@ fn put_steps<N: Out>(notes: &mut N, step: u64) -> Result<(), Device>
 
 /// Writes a range: `0 to 240 in steps of 16`.
 fn put_span<N: Out>(notes: &mut N, range: Range) -> Result<(), Device>
-    requires { IsOpen (N.end notes.old) }
     ensures { Puts (N.end notes.old) (N.end notes.new) (span_text range) result }
 {
     put_decimal(notes, range.0)?;
@@ -60,7 +57,6 @@ fn put_span<N: Out>(notes: &mut N, range: Range) -> Result<(), Device>
 
 /// Writes words and a range.
 fn put_lead<N: Out>(notes: &mut N, words: &[u8], range: Range) -> Result<(), Device>
-    requires { IsOpen (N.end notes.old) }
     ensures { Puts (N.end notes.old) (N.end notes.new) (words.now ++ span_text range) result }
 {
     notes.put(words)?;
@@ -69,7 +65,6 @@ fn put_lead<N: Out>(notes: &mut N, words: &[u8], range: Range) -> Result<(), Dev
 
 /// Writes the values that a kind allows, if that is a range.
 fn put_kind<N: Out>(notes: &mut N, kind: KeyKind) -> Result<(), Device>
-    requires { IsOpen (N.end notes.old) }
     ensures { Puts (N.end notes.old) (N.end notes.new) (kind_text kind) result }
 {
     match kind {
@@ -81,7 +76,6 @@ fn put_kind<N: Out>(notes: &mut N, kind: KeyKind) -> Result<(), Device>
 
 /// Writes the range that a row allows, if it has one.
 pub(crate) fn put_range<N: Out>(notes: &mut N, row: Option<Row>) -> Result<(), Device>
-    requires { IsOpen (N.end notes.old) }
     ensures { Puts (N.end notes.old) (N.end notes.new) (row_text (option_map row_of row)) result }
 {
     match row {

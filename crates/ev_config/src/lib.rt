@@ -26,3 +26,6 @@ pub use laws::readings_agree;
 pub use refusal::put_refusal;
 pub use summary::put_summary;
 pub use whole::{Config, ServedConfig, Use};
+
+#[cfg(test)]
+mod tests;

@@ -5,7 +5,7 @@
 ghost use Rattle.std.specs.Prelude.{◌≡◌, ◌++◌, codes, option_map};
 ghost use Rattle.std.specs.List.{list_any};
 ghost use Rattle.toml.specs.View.{table_view};
-ghost use Rattle.ether_wire.specs.Ends.{IsOpen, Puts};
+ghost use Rattle.ether_wire.specs.Ends.{Puts};
 ghost use Rattle.ev_config.specs.Faults.{Port};
 ghost use Rattle.ev_config.specs.Inner.Faults.{spot_of, faulty_of, faults_view, row_of};
 ghost use Rattle.ev_config.specs.Told.{line_text, spot_text, row_text, is_odd, is_plain, TellsEach, TellsRefusal};
@@ -65,7 +65,6 @@ fn plain_line(key: Option<&str>) -> MessageBuffer {
 
 /// Writes a line.
 fn put_line<N: Out>(notes: &mut N, line: &MessageBuffer) -> Result<(), Device>
-    requires { IsOpen (N.end notes.old) }
     ensures { Puts (N.end notes.old) (N.end notes.new) (line_text line.now.octets.items) result }
 {
     notes.put(line.octets())?;
@@ -74,7 +73,6 @@ fn put_line<N: Out>(notes: &mut N, line: &MessageBuffer) -> Result<(), Device>
 
 /// Writes the place of a port: `edge 2, port 3: `.
 fn put_port<N: Out>(notes: &mut N, edge: usize, port: usize) -> Result<(), Device>
-    requires { IsOpen (N.end notes.old) }
     ensures { Puts (N.end notes.old) (N.end notes.new) (spot_text (Port edge port)) result }
 {
     put_number(notes, b"edge ", edge)?;
@@ -84,7 +82,6 @@ fn put_port<N: Out>(notes: &mut N, edge: usize, port: usize) -> Result<(), Devic
 
 /// Writes where a table is: `edge 2: `.
 fn put_place<N: Out>(notes: &mut N, place: DocumentTable<'_>) -> Result<(), Device>
-    requires { IsOpen (N.end notes.old) }
     ensures { Puts (N.end notes.old) (N.end notes.new) (spot_text (spot_of place.entry)) result }
 {
     match place {
@@ -137,7 +134,6 @@ fn shown_line(key: &str) -> MessageBuffer {
 
 /// Writes a key, as it is if it is plain.
 fn put_key<N: Out>(notes: &mut N, key: &str) -> Result<(), Device>
-    requires { IsOpen (N.end notes.old) }
     ensures { PutsKey key.now (N.end notes.old) (N.end notes.new) result }
 {
     if is_plain(key.as_bytes()) {
@@ -154,7 +150,6 @@ fn put_advice<N: Out>(
     row: Option<Row>,
     advice: &MessageBuffer,
 ) -> Result<(), Device>
-    requires { IsOpen (N.end notes.old) }
     ensures { Puts (N.end notes.old) (N.end notes.new)
         (line_text (found.now.octets.items ++ codes ", " ++ row_text (option_map row_of row)
         ++ advice.now.octets.items)) result }
@@ -173,7 +168,6 @@ fn put_fault<N: Out>(
     document: &Table,
     fault: FaultyKey<'_>,
 ) -> Result<(), Device>
-    requires { IsOpen (N.end notes.old) }
     ensures { TellsFault wanted (faulty_of fault.entry) (N.end notes.old) (N.end notes.new) result }
 {
     let FaultyKey { place, key } = fault;
@@ -193,7 +187,6 @@ fn put_lines<N: Out>(
     document: &Table,
     faults: &[FaultyKey<'_>],
 ) -> Result<(), Device>
-    requires { IsOpen (N.end notes.old) }
     ensures { TellsEach wanted (faults_view faults.now) (N.end notes.old) (N.end notes.new) result }
 {
     for fault in faults {
@@ -210,7 +203,6 @@ fn put_faults<N: Out>(
     document: &Table,
     key: Option<&str>,
 ) -> Result<(), Device>
-    requires { IsOpen (N.end notes.old) }
     ensures { TellsFaults wanted (table_view document.now) (N.end notes.old) (N.end notes.new)
         result }
 {
@@ -233,7 +225,6 @@ pub fn put_refusal<N: Out>(
     text: &str,
     key: Option<&str>,
 ) -> Result<(), Device>
-    requires { IsOpen (N.end notes.old) }
     ensures { TellsRefusal wanted text.now (N.end notes.old) (N.end notes.new) result }
 {
     match toml::table_from_str(alloc, text) {

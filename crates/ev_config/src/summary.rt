@@ -3,7 +3,7 @@
 
 ghost use Rattle.std.specs.Prelude.{◌≡◌, ◌+◌, ◌≤◌, ◌++◌, ◌==◌, if◌then◌else◌, [], length, codes, eqb};
 ghost use Rattle.std.specs.List.{list_any};
-ghost use Rattle.ether_wire.specs.Ends.{IsOpen, Puts};
+ghost use Rattle.ether_wire.specs.Ends.{Puts};
 ghost use Rattle.ev_config.specs.Summary.{port_count, count_different, all_vnis, vni_count, peer_count, counted, peers_text, ports_text, vnis_text, summary_text};
 
 use crate::values::has_vni;
@@ -88,7 +88,6 @@ fn count_peers(edges: &[EdgeConfig]) -> u64
 
 /// Writes the plural's ending, unless the number is 1.
 fn put_ending<W: Out>(out: &mut W, count: u64) -> Result<(), Device>
-    requires { IsOpen (W.end out.old) }
     ensures { Puts (W.end out.old) (W.end out.new)
         (if count == 1 then [] else codes "s") result }
 {
@@ -100,7 +99,6 @@ fn put_ending<W: Out>(out: &mut W, count: u64) -> Result<(), Device>
 
 /// Writes a number of things, and their word.
 fn put_count<W: Out>(out: &mut W, count: u64, word: &[u8]) -> Result<(), Device>
-    requires { IsOpen (W.end out.old) }
     ensures { Puts (W.end out.old) (W.end out.new) (counted count word.now) result }
 {
     put_decimal(out, count)?;
@@ -110,7 +108,6 @@ fn put_count<W: Out>(out: &mut W, count: u64, word: &[u8]) -> Result<(), Device>
 
 /// Writes the number of edges that run elsewhere, if there are any.
 fn put_peers<W: Out>(out: &mut W, count: u64) -> Result<(), Device>
-    requires { IsOpen (W.end out.old) }
     ensures { Puts (W.end out.old) (W.end out.new) (peers_text count) result }
 {
     if count == 0 {
@@ -122,8 +119,7 @@ fn put_peers<W: Out>(out: &mut W, count: u64) -> Result<(), Device>
 
 /// Writes the numbers of edges and ports.
 fn put_ports<W: Out>(out: &mut W, edges: &[EdgeConfig]) -> Result<(), Device>
-    requires few { length edges.now ≤ 64 }
-    requires out { IsOpen (W.end out.old) }
+    requires { length edges.now ≤ 64 }
     ensures { Puts (W.end out.old) (W.end out.new) (ports_text edges.now) result }
 {
     out.put(b"ok: ")?;
@@ -134,8 +130,7 @@ fn put_ports<W: Out>(out: &mut W, edges: &[EdgeConfig]) -> Result<(), Device>
 
 /// Writes the numbers of VNIs and peers.
 fn put_vnis<W: Out>(out: &mut W, edges: &[EdgeConfig]) -> Result<(), Device>
-    requires few { length edges.now ≤ 64 }
-    requires out { IsOpen (W.end out.old) }
+    requires { length edges.now ≤ 64 }
     ensures { Puts (W.end out.old) (W.end out.new) (vnis_text edges.now) result }
 {
     out.put(b", ")?;
@@ -150,7 +145,6 @@ fn put_vnis<W: Out>(out: &mut W, edges: &[EdgeConfig]) -> Result<(), Device>
 ///
 /// `Device` exactly if a call of the writer failed; then no further call is made.
 pub fn put_summary<W: Out>(out: &mut W, config: &Config) -> Result<(), Device>
-    requires { IsOpen (W.end out.old) }
     ensures { Puts (W.end out.old) (W.end out.new) (summary_text config.now.edges.items) result }
 {
     let edges = config.edges.as_slice();

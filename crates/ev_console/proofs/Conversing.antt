@@ -7,7 +7,7 @@ use Rattle.std.proofs.lemmas.List.{take_all, take-append-le}
 use Rattle.std.proofs.lemmas.Grind.{flat_map-append}
 use Rattle.std.proofs.lemmas.List.Elements.{All-push, All-nil, All-head, All-tail}
 use Rattle.ether_wire.specs.declared.ends.Device.{Device}
-use Rattle.ether_wire.specs.Ends.{End, with_text, Puts}
+use Rattle.ether_wire.specs.Ends.{End, IsOpen, with_text, Puts}
 use Rattle.ether_wire.proofs.Appending.{with_text_twice, with_text_none}
 use Rattle.ev_links.specs.Coming.{behind}
 use Rattle.ev_links.proofs.Behind.{behind_none, behind_twice}
@@ -118,8 +118,8 @@ module _ (count : ℕ) (octets held : List ℕ) (before middle : Option (List As
         each = s.are.each;
       };
       told = asked_is;
-      failed = subst (λ (x : Result (Unit {0}) Device). Puts mid new (h.text ++ codes "\n") x) err h.written
-          ∙ ap (λ (e : End). e.failures + 1) s.written;
+      failed = subst (λ (e : End). IsOpen e → new.failures ≡ e.failures + 1) s.written
+          (subst (λ (x : Result (Unit {0}) Device). Puts mid new (h.text ++ codes "\n") x) err h.written);
     }
 
 -- more octets may follow those that weren't processed

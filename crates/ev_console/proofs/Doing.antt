@@ -2,7 +2,7 @@
 use Rattle.std.proofs.Common.{◌≡◌, ℕ, ◌+◌, Bool, true, false, List, [], ◌∷◌, ◌++◌, length, length-append}
 use Rattle.std.proofs.Common.{Option, Result, Ok, Err, refl, sym, ap, subst, ◌∙◌, arith, append-nil}
 use Rattle.ether_wire.specs.declared.ends.Device.{Device}
-use Rattle.ether_wire.specs.Ends.{End, IsOpen, Puts}
+use Rattle.ether_wire.specs.Ends.{End, Puts}
 use Rattle.ev_report.specs.Ends.{Tells}
 use Rattle.ev_report.proofs.Taking.{tells_more, tells_none}
 use Rattle.ev_links.specs.Coming.{behind}
@@ -71,10 +71,6 @@ module _ (n : ℕ) (before middle : Option (List Asked)) (old mid : End) (is_tol
             (served_seen_text (1 + length s.answers) answer) s.told
             (subst (λ m. Tells mid new is_told is_told' (served_seen_text m answer)) place told));
       }
-
-  -- if all answers were written, one call more may fail
-  pub showing_open : IsOpen old → is_told ≡ true → IsOpen mid
-  showing_open room e = let same = ap (λ (x : End). x.failures) (s.told.written e) in omega arith
 
   pub shows_all : (count : ℕ) (done : Unit {0}) → n ≡ count → is_told ≡ true
       → Does (ShowsEdges count) before middle old mid (Ok done)

@@ -17,7 +17,8 @@ use Rattle.route_join.specs.Table.{entries_of, IsOrdered, table_from}
 use Rattle.route_join.specs.After.{PageView, IsPage, is_last, last_from}
 use Rattle.route_join.specs.RunningReport.{Begun, nothing_begun, texts_with, begun_by, end_text}
 use Rattle.route_join.proofs.RunningReports.{running_report, begun_more, texts_more}
-use Rattle.route_join.proofs.Pages.{AreUpTo, page_ordered, page_up_to, full_end, ordered_table}
+use Rattle.route_join.proofs.Edits.{table_of}
+use Rattle.route_join.proofs.Pages.{AreUpTo, page_ordered, page_up_to, full_end}
 use Rattle.ev_report.specs.Ends.{Tells}
 use Rattle.ev_report.proofs.Taking.{tells_more, tells_none}
 use Rattle.ev_links.specs.Coming.{behind}
@@ -62,7 +63,7 @@ begun_both us vs = ap (begun_by nothing_begun) (entries_more us vs)
 
 -- the report of updates in order
 reported : (us : List Fields) → IsOrdered us → IsReportOf us (texts_of us ++ end_text (begun_after us))
-reported us s = record { table = table_from [] us; of = ordered_table [] us s; is = running_report [] us s }
+reported us s = record { table = table_from [] us; of = table_of [] us s; is = running_report [] us s }
 
 -- ---- writing
 -- a text that is known only if nothing had failed
@@ -71,7 +72,7 @@ retold a b true q s t h k = subst (Tells a b true q) (h refl) k
 retold a b false q s t h k = record {
   kept = k.kept;
   written = λ e. let no = (k.kept refl).0 in cc;
-  failed = λ e f. cc;
+  failed = λ e f room. cc;
 }
 
 -- the result tells whether all was written

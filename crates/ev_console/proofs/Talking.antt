@@ -2,7 +2,7 @@
 use Rattle.std.proofs.Common.{◌≡◌, inl, inr, ℕ, ◌+◌, ◌<◌, ◌^◌, List, [], ◌++◌, take, length, Option, Result, Ok, Err}
 use Rattle.std.proofs.Common.{refl, sym, ap, ◌∙◌, arith}
 use Rattle.ether_wire.specs.declared.ends.Device.{Device}
-use Rattle.ether_wire.specs.Ends.{End, Source, Allows, IsOpen, Gets}
+use Rattle.ether_wire.specs.Ends.{End, Source, Allows, Gets}
 use Rattle.ev_report.specs.Input.{Gathers}
 use Rattle.ev_report.proofs.Gathering.{gathers_none, gathers_more, whole_ended}
 use Rattle.ev_report.proofs.Reading.{same_source, prepend_known_none}
@@ -33,9 +33,6 @@ module _ (turn count : ℕ) (source mid last : Source) (held buffer : List ℕ) 
     reads = let r = g.read.gives.reads in let m = g.read.many in let b = a.reads in omega arith;
     failures = let r = g.read.gives.unfailed in let b = a.failures in omega arith;
   }
-
-  pub goes_open : IsOpen old → IsOpen e
-  goes_open room = let same = ap (λ (x : End). x.failures) g.sofar.written in omega arith
 
   module _ (n : ℕ) (got : Gets mid last buffer (Ok n)) (held' : List ℕ) (after : Option (List Asked)) (new : End) where
     -- one piece more

@@ -4,7 +4,7 @@ use Rattle.std.specs.Prelude.{◌≡◌, ◌⊎◌, ℕ, ◌+◌, ◌^◌, Bool,
 use Rattle.std.specs.Prelude.{take, codes, Option, None, Result, Ok, Err}
 use Rattle.std.specs.List.{All, flat_map}
 use Rattle.ether_wire.specs.declared.ends.Device.{Device}
-use Rattle.ether_wire.specs.Ends.{End, Source, with_text}
+use Rattle.ether_wire.specs.Ends.{End, Source, IsOpen, with_text}
 use Rattle.ev_report.specs.Input.{ReadsWhole, Gathers}
 use Rattle.ev_links.specs.Coming.{behind}
 use Rattle.ev_console.specs.Asking.{Asked}
@@ -111,7 +111,7 @@ pub record BreaksOff (count : ℕ) (octets : List ℕ) (before after : Option (L
   pub rest : List ℕ
   pub are : AreExchanges count octets exchanges (last.line ++ feed ++ rest)
   pub told : after ≡ behind before (asked_of exchanges ++ last.asked)
-  pub failed : new.failures ≡ old.failures + 1
+  pub failed : IsOpen old → new.failures ≡ old.failures + 1
 
 -- A call of the writer failed. The requests of the line whose answer was lost were made, once, and none after them.
 pub record ToAFailedWrite (count : ℕ) (source source' : Source) (before after : Option (List Asked)) (old new : End) :

@@ -2,7 +2,6 @@
 #![tactic(auto, using(ether_wire::proofs::Appending::with_text_twice, crate::proofs::Doing::says_put))]
 
 ghost use Rattle.std.specs.Prelude.{◌≡◌, [], true, OnOk};
-ghost use Rattle.ether_wire.specs.Ends.{IsOpen};
 ghost use Rattle.ev_report.specs.Ends.{Tells};
 ghost use Rattle.ev_script.specs.Script.{command_of, line_of};
 ghost use Rattle.ev_console.specs.Answers.{Steps, ShowsPort, ShowsView, ShowsEdges, Says, simulated_text, served_seen_text, AnswersCommand, AnswersWords, AnswersQuestion, AnswersLine};
@@ -26,7 +25,6 @@ fn enter<O: Operated, W: Out>(
     step: &Step,
     out: &mut W,
 ) -> Result<(), Device>
-    requires { IsOpen (W.end out.old) }
     ensures does { Does (Steps edge step.now) (O.asked operated.old) (O.asked operated.new)
         (W.end out.old) (W.end out.new) result }
     ensures count { O.count operated.new ≡ O.count operated.old }
@@ -42,7 +40,6 @@ fn show_port<O: Operated, W: Out>(
     port: u8,
     out: &mut W,
 ) -> Result<(), Device>
-    requires { IsOpen (W.end out.old) }
     ensures does { Does (ShowsPort edge port) (O.asked operated.old) (O.asked operated.new)
         (W.end out.old) (W.end out.new) result }
     ensures count { O.count operated.new ≡ O.count operated.old }
@@ -59,7 +56,6 @@ fn show_view<O: Operated, W: Out>(
     question: &EdgeQuestion,
     out: &mut W,
 ) -> Result<(), Device>
-    requires { IsOpen (W.end out.old) }
     ensures does { Does (ShowsView edge question.now) (O.asked operated.old) (O.asked operated.new)
         (W.end out.old) (W.end out.new) result }
     ensures count { O.count operated.new ≡ O.count operated.old }
@@ -76,7 +72,6 @@ fn tell_served<W: Out>(
     edge: u64,
     answer: &Result<Result<EdgeNetworks, AllocError>, Unreached>,
 ) -> bool
-    requires { is_told ≡ true → IsOpen (W.end out.old) }
     ensures { Tells (W.end out.old) (W.end out.new) is_told result
         (served_seen_text edge answer.now) }
 {
@@ -90,7 +85,6 @@ fn show_edges<O: Operated, W: Out>(
     operated: &mut O,
     out: &mut W,
 ) -> Result<(), Device>
-    requires { IsOpen (W.end out.old) }
     ensures does { Does (ShowsEdges (O.count operated.old)) (O.asked operated.old)
         (O.asked operated.new) (W.end out.old) (W.end out.new) result }
     ensures count { O.count operated.new ≡ O.count operated.old }
@@ -105,7 +99,6 @@ fn show_edges<O: Operated, W: Out>(
 
 /// Writes that a line belongs to a simulation.
 fn refuse<O: Operated, W: Out>(operated: &mut O, out: &mut W) -> Result<(), Device>
-    requires { IsOpen (W.end out.old) }
     ensures does { Does (Says simulated_text) (O.asked operated.old) (O.asked operated.new)
         (W.end out.old) (W.end out.new) result }
     ensures count { O.count operated.new ≡ O.count operated.old }
@@ -121,7 +114,6 @@ fn perform<O: Operated, W: Out>(
     command: &Command<'_>,
     out: &mut W,
 ) -> Result<(), Device>
-    requires { IsOpen (W.end out.old) }
     ensures does { Does (AnswersCommand edge (command_of command.now)) (O.asked operated.old)
         (O.asked operated.new) (W.end out.old) (W.end out.new) result }
     ensures count { O.count operated.new ≡ O.count operated.old }
@@ -160,7 +152,6 @@ fn answer_words<O: Operated, W: Out>(
     line: &[u8],
     out: &mut W,
 ) -> Result<(), Device>
-    requires { IsOpen (W.end out.old) }
     ensures does { Does (AnswersWords line.now (line_of line.now)) (O.asked operated.old)
         (O.asked operated.new) (W.end out.old) (W.end out.new) result }
     ensures count { O.count operated.new ≡ O.count operated.old }
@@ -178,7 +169,6 @@ fn answer_question<O: Operated, W: Out>(
     question: Question,
     out: &mut W,
 ) -> Result<(), Device>
-    requires { IsOpen (W.end out.old) }
     ensures does { Does (AnswersQuestion (O.count operated.old) question) (O.asked operated.old)
         (O.asked operated.new) (W.end out.old) (W.end out.new) result }
     ensures count { O.count operated.new ≡ O.count operated.old }
@@ -197,7 +187,6 @@ fn answer<O: Operated, W: Out>(
     line: &[u8],
     out: &mut W,
 ) -> Result<(), Device>
-    requires { IsOpen (W.end out.old) }
     ensures does { Does (AnswersLine (O.count operated.old) line.now) (O.asked operated.old)
         (O.asked operated.new) (W.end out.old) (W.end out.new) result }
     ensures count { O.count operated.new ≡ O.count operated.old }
@@ -215,7 +204,6 @@ pub(crate) fn reply<O: Operated, W: Flushing>(
     line: &[u8],
     out: &mut W,
 ) -> Result<(), Device>
-    requires { IsOpen (W.end out.old) }
     ensures does { Replies (O.count operated.old) line.now (O.asked operated.old)
         (O.asked operated.new) (W.end out.old) (W.end out.new) result }
     ensures failures { OnOk result ((W.end out.new).failures ≡ (W.end out.old).failures) }

@@ -1,6 +1,6 @@
 //! A conversation: line after line, each answered before the next one is processed.
 ghost use Rattle.std.specs.Prelude.{◌≡◌, ◌^◌, ◌∷◌, ◌++◌, [], take, OnOk};
-ghost use Rattle.ether_wire.specs.Ends.{IsOpen, Allows};
+ghost use Rattle.ether_wire.specs.Ends.{Allows};
 ghost use Rattle.ev_console.specs.Conversation.{Converses, Talks};
 ghost use Rattle.ev_console.specs.Inner.Conversation.{TakesOctets, TakesEnd};
 
@@ -41,7 +41,6 @@ fn take_octet<O: Operated, W: Flushing>(
     octet: u8,
     out: &mut W,
 ) -> Result<(), Device>
-    requires { IsOpen (W.end out.old) }
     ensures takes { TakesOctets (O.count operated.old) (octet ∷ []) line.old.items line.new.items
         (O.asked operated.old) (O.asked operated.new) (W.end out.old) (W.end out.new) result }
     ensures failures { OnOk result ((W.end out.new).failures ≡ (W.end out.old).failures) }
@@ -65,7 +64,6 @@ fn take_piece<O: Operated, W: Flushing>(
     piece: &[u8],
     out: &mut W,
 ) -> Result<(), Device>
-    requires { IsOpen (W.end out.old) }
     ensures takes { TakesOctets (O.count operated.old) piece.now line.old.items line.new.items
         (O.asked operated.old) (O.asked operated.new) (W.end out.old) (W.end out.new) result }
     ensures failures { OnOk result ((W.end out.new).failures ≡ (W.end out.old).failures) }
@@ -88,7 +86,6 @@ fn take_end<O: Operated, W: Flushing>(
     line: &[u8],
     out: &mut W,
 ) -> Result<(), Device>
-    requires { IsOpen (W.end out.old) }
     ensures { TakesEnd (O.count operated.old) line.now
         (O.asked operated.old) (O.asked operated.new) (W.end out.old) (W.end out.new) result }
 {
@@ -111,8 +108,7 @@ pub fn converse_with<O: Operated, I: In, W: Flushing>(
     reader: &mut I,
     out: &mut W,
 ) -> Result<(), Device>
-    requires reader { Allows (2 ^ 40) (I.end reader.old) }
-    requires out { IsOpen (W.end out.old) }
+    requires { Allows (2 ^ 40) (I.end reader.old) }
     ensures { Converses (O.count operated.old) (I.end reader.old) (I.end reader.new)
         (O.asked operated.old) (O.asked operated.new) (W.end out.old) (W.end out.new) result }
 {
@@ -149,8 +145,7 @@ pub fn converse<J: Naming, R: Wait, T: SystemDrops, I: In, W: Flushing>(
     reader: &mut I,
     out: &mut W,
 ) -> Result<(), Device>
-    requires reader { Allows (2 ^ 40) (I.end reader.old) }
-    requires out { IsOpen (W.end out.old) }
+    requires { Allows (2 ^ 40) (I.end reader.old) }
     ensures { Talks (I.end reader.old) (I.end reader.new) (W.end out.old) (W.end out.new) result }
 {
     let mut edges = Edges { many: host };

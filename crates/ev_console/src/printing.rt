@@ -2,7 +2,7 @@
 #![tactic(auto, using(ether_wire::proofs::Appending::with_text_twice))]
 
 ghost use Rattle.std.specs.Prelude.{◌≡◌, ◌++◌, codes};
-ghost use Rattle.ether_wire.specs.Ends.{IsOpen, Puts};
+ghost use Rattle.ether_wire.specs.Ends.{Puts};
 ghost use Rattle.ev_console.specs.Answers.{unreached_text, book_refusal_text, entered_text, port_seen_text, no_memory_text, view_seen_text, served_seen_text, bad_text, help_text, simulated_text};
 
 use crate::operated::Unreached;
@@ -21,7 +21,6 @@ pub(crate) fn put_unreached<W: Out>(
     edge: u64,
     unreached: Unreached,
 ) -> Result<(), Device>
-    requires { IsOpen (W.end out.old) }
     ensures { Puts (W.end out.old) (W.end out.new) (unreached_text edge unreached) result }
 {
     match unreached {
@@ -33,7 +32,6 @@ pub(crate) fn put_unreached<W: Out>(
 /// Writes why a book refused a step. Its own refusals have numbers in addition to those of its
 /// edge.
 fn put_book_refusal<W: Out>(out: &mut W, edge: u64, refusal: BookRefusal) -> Result<(), Device>
-    requires { IsOpen (W.end out.old) }
     ensures { Puts (W.end out.old) (W.end out.new) (book_refusal_text edge refusal) result }
 {
     match refusal {
@@ -50,7 +48,6 @@ pub(crate) fn put_entered<W: Out>(
     edge: u64,
     answer: &Result<Result<Reply, BookRefusal>, Unreached>,
 ) -> Result<(), Device>
-    requires { IsOpen (W.end out.old) }
     ensures { Puts (W.end out.old) (W.end out.new) (entered_text edge answer.now) result }
 {
     match answer {
@@ -67,7 +64,6 @@ pub(crate) fn put_port_seen<W: Out>(
     port: u8,
     answer: &Result<Option<PortView>, Unreached>,
 ) -> Result<(), Device>
-    requires { IsOpen (W.end out.old) }
     ensures { Puts (W.end out.old) (W.end out.new) (port_seen_text edge port answer.now) result }
 {
     match answer {
@@ -82,7 +78,6 @@ pub(crate) fn put_port_seen<W: Out>(
 
 /// Writes that memory was refused.
 pub(crate) fn put_no_memory<W: Out>(out: &mut W, edge: u64) -> Result<(), Device>
-    requires { IsOpen (W.end out.old) }
     ensures { Puts (W.end out.old) (W.end out.new) (no_memory_text edge) result }
 {
     put_refusal(out, edge, &FabricRefusal::NoMemory)
@@ -94,7 +89,6 @@ pub(crate) fn put_served<W: Out>(
     edge: u64,
     answer: &Result<Result<EdgeNetworks, AllocError>, Unreached>,
 ) -> Result<(), Device>
-    requires { IsOpen (W.end out.old) }
     ensures { Puts (W.end out.old) (W.end out.new) (served_seen_text edge answer.now) result }
 {
     match answer {
@@ -113,7 +107,6 @@ pub(crate) fn put_view_seen<W: Out>(
     edge: u64,
     answer: &Result<Result<Vec<u8>, AllocError>, Unreached>,
 ) -> Result<(), Device>
-    requires { IsOpen (W.end out.old) }
     ensures { Puts (W.end out.old) (W.end out.new) (view_seen_text edge answer.now) result }
 {
     match answer {
@@ -125,7 +118,6 @@ pub(crate) fn put_view_seen<W: Out>(
 
 /// Writes why a line is a bad one.
 pub(crate) fn put_bad<W: Out>(out: &mut W, line: &[u8]) -> Result<(), Device>
-    requires { IsOpen (W.end out.old) }
     ensures { Puts (W.end out.old) (W.end out.new) (bad_text line.now) result }
 {
     out.put(b"bad")?;
@@ -134,7 +126,6 @@ pub(crate) fn put_bad<W: Out>(out: &mut W, line: &[u8]) -> Result<(), Device>
 
 /// Writes that a line belongs to a simulation.
 pub(crate) fn put_simulated<W: Out>(out: &mut W) -> Result<(), Device>
-    requires { IsOpen (W.end out.old) }
     ensures { Puts (W.end out.old) (W.end out.new) simulated_text result }
 {
     out.put(b"bad: only a simulation takes this line\n")
@@ -142,7 +133,6 @@ pub(crate) fn put_simulated<W: Out>(out: &mut W) -> Result<(), Device>
 
 /// Writes the list of the console's lines.
 pub(crate) fn put_help<W: Out>(out: &mut W) -> Result<(), Device>
-    requires { IsOpen (W.end out.old) }
     ensures { Puts (W.end out.old) (W.end out.new) help_text result }
 {
     out.put(

@@ -3,7 +3,7 @@
 #![tactic(auto, using(ether_wire::proofs::Appending::with_text_twice, crate::proofs::Doing::says_put))]
 
 ghost use Rattle.std.specs.Prelude.{◌≡◌, ◌++◌, true, Ok, is_ok};
-ghost use Rattle.ether_wire.specs.Ends.{IsOpen, Puts};
+ghost use Rattle.ether_wire.specs.Ends.{Puts};
 ghost use Rattle.route_join.specs.After.{IsPage};
 ghost use Rattle.route_join.specs.Table.{entries_of};
 ghost use Rattle.route_join.specs.RunningReport.{texts_with, begun_by, end_text};
@@ -33,7 +33,6 @@ fn tell_updates<W: Out>(
     report: &mut RunningReport,
     answer: &PageSeen,
 ) -> bool
-    requires { is_told ≡ true → IsOpen (W.end out.old) }
     ensures told { Tells (W.end out.old) (W.end out.new) is_told result
         (texts_with report.old (entries_of (last_updates answer.now))) }
     ensures begun { result ≡ true
@@ -50,7 +49,6 @@ fn tell_updates<W: Out>(
 
 /// Writes why a report ends, unless its last page was shown.
 fn put_last<W: Out>(out: &mut W, edge: u64, answer: &PageSeen) -> Result<(), Device>
-    requires { IsOpen (W.end out.old) }
     ensures { Puts (W.end out.old) (W.end out.new) (last_words edge answer.now) result }
 {
     match answer {
@@ -68,7 +66,6 @@ fn put_end<W: Out>(
     edge: u64,
     answer: &PageSeen,
 ) -> Result<(), Device>
-    requires { IsOpen (W.end out.old) }
     ensures { Puts (W.end out.old) (W.end out.new)
         (end_text report.old ++ last_words edge answer.now) result }
 {
@@ -84,7 +81,6 @@ fn tell_end<W: Out>(
     edge: u64,
     answer: &PageSeen,
 ) -> bool
-    requires { is_told ≡ true → IsOpen (W.end out.old) }
     ensures { Tells (W.end out.old) (W.end out.new) is_told result
         (end_text report.old ++ last_words edge answer.now) }
 {
@@ -125,7 +121,6 @@ pub(crate) fn show_table<O: Operated, W: Out>(
     edge: u64,
     out: &mut W,
 ) -> Result<(), Device>
-    requires { IsOpen (W.end out.old) }
     ensures does { Does (ShowsTable edge) (O.asked operated.old) (O.asked operated.new)
         (W.end out.old) (W.end out.new) result }
     ensures count { O.count operated.new ≡ O.count operated.old }

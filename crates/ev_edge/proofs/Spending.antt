@@ -238,7 +238,7 @@ step_counts e event result e' p limit good some is h = elim (kind_of e event res
 
 -- ---- a run
 
-times_more : (m n : ℕ) → suc m * n ≡ m * n + n
+pub times_more : (m n : ℕ) → suc m * n ≡ m * n + n
 times_more m n = omega arith
 
 -- no time goes back

@@ -31,6 +31,7 @@ use Rattle.ev_edge.proofs.Limiting.{kind_of, bridge_rests, steps_limits}
 use Rattle.ev_edge.proofs.Places.{there_port}
 use Rattle.ev_edge.proofs.Quotas.{met_above}
 use Rattle.ev_edge.proofs.Remaining.{data_port_of}
+use Rattle.ev_edge.proofs.Spending.{times_more}
 
 -- ---- one storm of a list is replaced
 
@@ -235,9 +236,6 @@ keeps_storm_limits e x event result p h = elim (kind_of e event result x h) [
 ]
 
 -- ---- a run
-
-times_more : (m n : ℕ) → suc m * n ≡ m * n + n
-times_more m n = omega arith
 
 -- no time goes back
 runs_later : (run : List Entered) (e e' : Edge) (p n : ℕ) → TakesOnAll p e run e' n → e.clock ≤ e'.clock

@@ -1,6 +1,6 @@
 //! A provider edge: its opening, its step, and its views.
 ghost use Rattle.std.specs.Prelude.{◌≡◌, IfOk, IfSome, IfNone, is_some, slice_get};
-ghost use Rattle.ether_wire.specs.Ends.{IsOpen, Puts};
+ghost use Rattle.ether_wire.specs.Ends.{Puts};
 ghost use Rattle.route_join.specs.Report.{report_of};
 ghost use Rattle.ev_claims.specs.Speaker.{IsOwnAt, IsNoOwnAt};
 ghost use Rattle.ev_claims.specs.LocalRoutes.{entries};
@@ -187,7 +187,6 @@ impl Edge {
     ///
     /// `Device` exactly where a call of the writer failed; then no further call is made.
     pub fn report<W: Out>(&self, out: &mut W) -> Result<(), Device>
-        requires { IsOpen (W.end out.old) }
         ensures { Puts (W.end out.old) (W.end out.new) (report_of (table_of self.now)) result }
     {
         self.table().write_report(out)

@@ -14,9 +14,11 @@ use std::alloc::{AllocError, Global};
 mod away;
 mod frames;
 mod learning;
+mod limits;
 mod lines;
 mod memory;
 mod pins;
+mod storms;
 mod updates;
 
 /// The station 02:00:00:00:00:0a.
@@ -85,12 +87,15 @@ fn port_of(vni: Vni, admin_edge: bool) -> PortConfig
     }
 }
 
-// Three ports of network 5001 that lead to no bridge.
-fn three_ports() -> ArrayVec<PortConfig, 64>
+// Three ports of network 5001 that lead to no bridge. The first one has these limits.
+fn three_ports(limits: Limits) -> ArrayVec<PortConfig, 64>
     ensures { vnis_of result.items ≡ 5001 ∷ 5001 ∷ 5001 ∷ [] }
 {
     let mut ports = ArrayVec::new();
-    ports.push(port_of(Vni::new(5001), true));
+    ports.push(PortConfig {
+        limits,
+        ..port_of(Vni::new(5001), true)
+    });
     ports.push(port_of(Vni::new(5001), true));
     ports.push(port_of(Vni::new(5001), true));
     ports
@@ -123,6 +128,15 @@ fn config(incarnation: u32, capacity: usize, ageing: u64) -> EdgeConfig
     requires few { capacity ≤ 65536 }
     ensures { IsConfig result }
 {
+    limited_config(incarnation, capacity, ageing, Limits::none())
+}
+
+// The same whose port 1 has these limits.
+fn limited_config(incarnation: u32, capacity: usize, ageing: u64, limits: Limits) -> EdgeConfig
+    requires some { 1 ≤ capacity }
+    requires few { capacity ≤ 65536 }
+    ensures { IsConfig result }
+{
     EdgeConfig {
         address: Addr::new(0x0a00_0002),
         incarnation,
@@ -133,7 +147,7 @@ fn config(incarnation: u32, capacity: usize, ageing: u64) -> EdgeConfig
         capacity,
         buckets: capacity,
         salt: 0,
-        ports: three_ports(),
+        ports: three_ports(limits),
     }
 }
 
@@ -144,6 +158,15 @@ fn open(alloc: Global, incarnation: u32, capacity: usize, ageing: u64) -> Result
     requires few { capacity ≤ 65536 }
 {
     let mut edge = Edge::open(alloc, config(incarnation, capacity, ageing))?;
+    let _ = step(&mut edge, &Event::PortUp(1));
+    let _ = step(&mut edge, &Event::PortUp(2));
+    Ok(edge)
+}
+
+// The edge's first incarnation with room for 16 stations, whose port 1 has these limits. Its ports
+// 1 and 2 are up.
+fn open_limited(alloc: Global, limits: Limits) -> Result<Edge, AllocError> {
+    let mut edge = Edge::open(alloc, limited_config(0, 16, 300, limits))?;
     let _ = step(&mut edge, &Event::PortUp(1));
     let _ = step(&mut edge, &Event::PortUp(2));
     Ok(edge)

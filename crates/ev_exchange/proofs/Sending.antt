@@ -2,7 +2,7 @@
 use Rattle.std.proofs.Common.{◌≡◌, ℕ, ◌+◌, Bool, true, false, List, [], ◌∷◌, ◌++◌, Result, Ok, sym, ap}
 use Rattle.std.proofs.Common.{Err, cond, is_ok, subst, ◌∙◌, append_assoc}
 use Rattle.std.proofs.lemmas.List.{map_push}
-use Rattle.ether_wire.specs.Ends.{End, with_text, Puts}
+use Rattle.ether_wire.specs.Ends.{End, IsOpen, with_text, Puts}
 use Rattle.ether_wire.specs.declared.ends.Device.{Device}
 use Rattle.ether_wire.proofs.Appending.{with_text_twice}
 use Rattle.route_wire.specs.Fields.{Fields}
@@ -28,13 +28,13 @@ reads_more us u before last rest =
 -- one record more was written, or the call failed
 sent_more : (s t : Sending) (start : End) (sent : List Fields) (u : Fields) → s.is_open ≡ true
     → (t.is_open ≡ true → t.end ≡ with_text s.end (spelling_of u))
-    → (t.is_open ≡ false → t.end.failures ≡ s.end.failures + 1)
+    → (t.is_open ≡ false → IsOpen s.end → t.end.failures ≡ s.end.failures + 1)
     → ((rest : List ℕ) → Reads (spelling_of u ++ rest) (Ok u ∷ []) rest) → HasSent s start sent
     → HasSent t start (sent ++ u ∷ [])
 sent_more s t start sent u opened put failed last h = record {
   written = λ e. put e ∙ ap (λ x. with_text x (spelling_of u)) (h.written opened)
       ∙ with_text_twice start (records_of sent) (spelling_of u) ∙ ap (with_text start) (sym (records_push sent u));
-  failed = λ e. failed e ∙ ap (λ (x : End). x.failures + 1) (h.written opened);
+  failed = λ e. subst (λ (x : End). IsOpen x → t.end.failures ≡ x.failures + 1) (h.written opened) (failed e);
   again = reads_more sent u h.again last;
 }
 
@@ -66,7 +66,7 @@ sent_put s e e' o b held held' u octets (Err device) same opened spells put is l
     sent_more s (record { end = e'; is_open = b; held = held' }) start sent u
     (sym (ap (λ (x : Sending). x.is_open) same) ∙ opened)
     (λ still. absurd (never (sym still ∙ is)))
-    (λ _. put ∙ ap (λ (x : Sending). x.end.failures + 1) same) last h
+    (λ _. subst (λ (x : Sending). IsOpen x.end → e'.failures ≡ x.end.failures + 1) same put) last h
 
 -- ---- a walk over updates, some of which are sent
 pub own_is : (o : ℕ) (u : Fields) → is_own o u ≡ true → own_of o (u ∷ []) ≡ u ∷ []

@@ -1,7 +1,7 @@
 -- The records that are sent on a connection: those of the edges' tables when it began, and that of each update since.
 use Rattle.std.specs.Prelude.{◌≡◌, ℕ, ◌+◌, ◌==◌, Bool, true, false, List, ◌++◌, Contains, Some}
 use Rattle.std.specs.List.{filter}
-use Rattle.ether_wire.specs.Ends.{End, with_text}
+use Rattle.ether_wire.specs.Ends.{End, IsOpen, with_text}
 use Rattle.route_wire.specs.declared.update.Register.{Register}
 use Rattle.route_wire.specs.declared.update.Value.{Value}
 use Rattle.route_wire.specs.Fields.{Fields}
@@ -43,7 +43,7 @@ pub record AreOwn (t : Table) (o : ℕ) (us : List Fields) : Type 0 where
 -- Whatever follows the records, they are read as the updates.
 pub record HasSent (s : Sending) (start : End) (sent : List Fields) : Type 0 where
   pub written : s.is_open ≡ true → s.end ≡ with_text start (records_of sent)
-  pub failed : s.is_open ≡ false → s.end.failures ≡ start.failures + 1
+  pub failed : s.is_open ≡ false → IsOpen start → s.end.failures ≡ start.failures + 1
   pub again : (rest : List ℕ) → Reads (records_of sent ++ rest) (all_ok sent) rest
 
 -- these updates were sent after all that was sent before

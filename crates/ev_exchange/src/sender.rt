@@ -1,7 +1,6 @@
 //! Sends the updates of one process on a connection: those of its edges' tables when it begins, and
 //! each update that they announce since, in order.
 ghost use Rattle.std.specs.Prelude.{◌≡◌, ◌∷◌, [], true, false};
-ghost use Rattle.ether_wire.specs.Ends.{IsOpen};
 ghost use Rattle.ev_exchange.specs.Sending.{HasSent, HasSaid, own_of};
 
 use ether_wire::{Addr, Flushing};
@@ -17,7 +16,6 @@ pub struct Sender<W: Flushing> {
 
 impl<W: Flushing> Model for Sender<W> {
     ghost use Rattle.std.specs.Prelude.{◌≡◌, true};
-    ghost use Rattle.ether_wire.specs.Ends.{IsOpen};
     ghost use Rattle.ev_exchange.specs.Sending.{Sending};
 
     ghost Value = { Sending };
@@ -27,14 +25,11 @@ impl<W: Flushing> Model for Sender<W> {
       is_open = s.is_open;
       held = W.held s.out;
     } };
-
-    ghost invariant = { λ s. s.is_open ≡ true → IsOpen (W.end s.out) };
 }
 
 impl<W: Flushing> Sender<W> {
     /// Returns a sender that has sent nothing.
     pub fn new(out: W) -> Self
-        requires { IsOpen (W.end out) }
         ensures { HasSent result (W.end out) [] }
     {
         Sender { out, is_open: true }

@@ -34,3 +34,6 @@ pub use tap::Tap;
 pub use udp::socket_address;
 pub use wire::Wire;
 pub use wire_out::{Destination, WireOut};
+
+#[cfg(test)]
+mod tests;

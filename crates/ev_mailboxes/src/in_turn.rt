@@ -3,7 +3,7 @@
 #![tactic(auto, using(ether_wire::proofs::Appending::with_text_twice, ether_wire::proofs::Appending::with_text_none))]
 
 ghost use Rattle.std.specs.Prelude.{◌≡◌};
-ghost use Rattle.ether_wire.specs.Ends.{IsOpen, Puts};
+ghost use Rattle.ether_wire.specs.Ends.{Puts};
 ghost use Rattle.ev_mailboxes.specs.InTurn.{after_sign, told_by, some_text, told_text};
 
 use crate::alarm::Alarm;
@@ -13,7 +13,6 @@ use ether_wire::{Device, Out};
 
 /// Writes a notice, if there is one.
 fn put_some<N: Out>(notes: &mut N, edge: u64, notice: &Option<Notice>) -> Result<(), Device>
-    requires { IsOpen (N.end notes.old) }
     ensures { Puts (N.end notes.old) (N.end notes.new) (some_text edge notice.now) result }
 {
     match notice {
@@ -47,7 +46,6 @@ fn told_by(board: &mut Board, sign: &Option<Alarm>) -> Option<Notice>
 ///
 /// `Device` exactly if a call of the writer failed; then no further call is made.
 pub fn tell_in_turn<N: Out>(notes: &mut N, edge: u64, signs: &[Option<Alarm>]) -> Result<(), Device>
-    requires { IsOpen (N.end notes.old) }
     ensures { Puts (N.end notes.old) (N.end notes.new) (told_text edge signs.now) result }
 {
     let mut board = Board::new();

@@ -3,7 +3,7 @@
 
 ghost use Rattle.std.specs.Prelude.{◌≡◌, ◌++◌, ◌∷◌, [], Option, List, codes};
 ghost use Rattle.std.specs.Fmt.{decimal};
-ghost use Rattle.ether_wire.specs.Ends.{IsOpen, Puts};
+ghost use Rattle.ether_wire.specs.Ends.{Puts};
 ghost use Rattle.ev_links.specs.Coming.{behind};
 ghost use Rattle.ev_mailboxes.specs.Notices.{Told, alert_words, edge_text, count_text, held_text, station_text, place_text, about_text, alarm_text, notice_text, input_text, state_text, reception_text, sending_state_text, sending_text, untold_text, records_text, number_text, refused_text, news_text, TellsAll};
 
@@ -63,7 +63,6 @@ fn alert_words(alert: Alert) -> &'static str
 
 /// Writes `edge E: `.
 fn put_edge<N: Out>(notes: &mut N, edge: u64) -> Result<(), Device>
-    requires { IsOpen (N.end notes.old) }
     ensures { Puts (N.end notes.old) (N.end notes.new) (edge_text edge) result }
 {
     notes.put(b"edge ")?;
@@ -73,7 +72,6 @@ fn put_edge<N: Out>(notes: &mut N, edge: u64) -> Result<(), Device>
 
 /// Writes `N more alerts were held back`.
 fn put_count<N: Out>(notes: &mut N, held: u64) -> Result<(), Device>
-    requires { IsOpen (N.end notes.old) }
     ensures { Puts (N.end notes.old) (N.end notes.new) (count_text held) result }
 {
     put_decimal(notes, held)?;
@@ -82,7 +80,6 @@ fn put_count<N: Out>(notes: &mut N, held: u64) -> Result<(), Device>
 
 /// Writes the number of suppressed alerts, if it isn't 0.
 fn put_held<N: Out>(notes: &mut N, edge: u64, held: u64) -> Result<(), Device>
-    requires { IsOpen (N.end notes.old) }
     ensures { Puts (N.end notes.old) (N.end notes.new) (held_text edge held) result }
 {
     if held == 0 {
@@ -94,7 +91,6 @@ fn put_held<N: Out>(notes: &mut N, edge: u64, held: u64) -> Result<(), Device>
 
 /// Writes ` VNI MAC`, if there is a station.
 fn put_station<N: Out>(notes: &mut N, station: &Option<Station>) -> Result<(), Device>
-    requires { IsOpen (N.end notes.old) }
     ensures { Puts (N.end notes.old) (N.end notes.new) (station_text station.now) result }
 {
     let Some(station) = station else {
@@ -108,7 +104,6 @@ fn put_station<N: Out>(notes: &mut N, station: &Option<Station>) -> Result<(), D
 
 /// Writes ` on port P`, if there is a port, and the end of the line.
 fn put_place<N: Out>(notes: &mut N, port: Option<u8>) -> Result<(), Device>
-    requires { IsOpen (N.end notes.old) }
     ensures { Puts (N.end notes.old) (N.end notes.new) (place_text port) result }
 {
     let Some(port) = port else {
@@ -122,7 +117,6 @@ fn put_place<N: Out>(notes: &mut N, port: Option<u8>) -> Result<(), Device>
 /// Writes `edge E: WORDS VNI MAC on port P`, without the parts for a station or port that the alert
 /// doesn't have.
 fn put_alarm<N: Out>(notes: &mut N, edge: u64, alarm: &Alarm) -> Result<(), Device>
-    requires { IsOpen (N.end notes.old) }
     ensures { Puts (N.end notes.old) (N.end notes.new) (alarm_text edge alarm.now) result }
 {
     put_edge(notes, edge)?;
@@ -133,7 +127,6 @@ fn put_alarm<N: Out>(notes: &mut N, edge: u64, alarm: &Alarm) -> Result<(), Devi
 
 /// Writes the alert of a notice, if it has one.
 fn put_about<N: Out>(notes: &mut N, edge: u64, alarm: &Option<Alarm>) -> Result<(), Device>
-    requires { IsOpen (N.end notes.old) }
     ensures { Puts (N.end notes.old) (N.end notes.new) (about_text edge alarm.now) result }
 {
     match alarm {
@@ -148,7 +141,6 @@ fn put_about<N: Out>(notes: &mut N, edge: u64, alarm: &Option<Alarm>) -> Result<
 ///
 /// `Device` exactly if a call of the writer failed; then no further call is made.
 pub fn put_notice<N: Out>(notes: &mut N, edge: u64, notice: &Notice) -> Result<(), Device>
-    requires { IsOpen (N.end notes.old) }
     ensures { Puts (N.end notes.old) (N.end notes.new) (notice_text edge notice.now) result }
 {
     put_held(notes, edge, notice.held)?;
@@ -158,7 +150,6 @@ pub fn put_notice<N: Out>(notes: &mut N, edge: u64, notice: &Notice) -> Result<(
 
 /// Writes `port P`, `tunnel` or `clock`.
 fn put_input<N: Out>(notes: &mut N, input: Input) -> Result<(), Device>
-    requires { IsOpen (N.end notes.old) }
     ensures { Puts (N.end notes.old) (N.end notes.new) (input_text input) result }
 {
     match input {
@@ -173,7 +164,6 @@ fn put_input<N: Out>(notes: &mut N, input: Input) -> Result<(), Device>
 
 /// Writes that receiving failed, or works again, and the end of the line.
 fn put_state<N: Out>(notes: &mut N, works: bool) -> Result<(), Device>
-    requires { IsOpen (N.end notes.old) }
     ensures { Puts (N.end notes.old) (N.end notes.new) (state_text works) result }
 {
     if works {
@@ -185,7 +175,6 @@ fn put_state<N: Out>(notes: &mut N, works: bool) -> Result<(), Device>
 
 /// Writes `edge E INPUT: receiving failed`, or that it works again.
 fn put_reception<N: Out>(notes: &mut N, edge: u64, reception: Reception) -> Result<(), Device>
-    requires { IsOpen (N.end notes.old) }
     ensures { Puts (N.end notes.old) (N.end notes.new) (reception_text edge reception) result }
 {
     notes.put(b"edge ")?;
@@ -197,7 +186,6 @@ fn put_reception<N: Out>(notes: &mut N, edge: u64, reception: Reception) -> Resu
 
 /// Writes that sends failed, or work again, and the end of the line.
 fn put_sending_state<N: Out>(notes: &mut N, works: bool) -> Result<(), Device>
-    requires { IsOpen (N.end notes.old) }
     ensures { Puts (N.end notes.old) (N.end notes.new) (sending_state_text works) result }
 {
     if works {
@@ -209,7 +197,6 @@ fn put_sending_state<N: Out>(notes: &mut N, works: bool) -> Result<(), Device>
 
 /// Writes `edge E OUTPUT: sending failed`, or that it works again.
 fn put_sending<N: Out>(notes: &mut N, edge: u64, sending: Sending) -> Result<(), Device>
-    requires { IsOpen (N.end notes.old) }
     ensures { Puts (N.end notes.old) (N.end notes.new) (sending_text edge sending) result }
 {
     notes.put(b"edge ")?;
@@ -221,7 +208,6 @@ fn put_sending<N: Out>(notes: &mut N, edge: u64, sending: Sending) -> Result<(),
 
 /// Writes `edge E: receiving failed or was there again N more times`.
 fn put_untold<N: Out>(notes: &mut N, edge: u64, count: u64) -> Result<(), Device>
-    requires { IsOpen (N.end notes.old) }
     ensures { Puts (N.end notes.old) (N.end notes.new) (untold_text edge count) result }
 {
     put_edge(notes, edge)?;
@@ -232,7 +218,6 @@ fn put_untold<N: Out>(notes: &mut N, edge: u64, count: u64) -> Result<(), Device
 
 /// Writes `records of ORIGINATOR: WORDS`.
 fn put_records_of<N: Out>(notes: &mut N, originator: Addr, words: &[u8]) -> Result<(), Device>
-    requires { IsOpen (N.end notes.old) }
     ensures { Puts (N.end notes.old) (N.end notes.new) (records_text originator words.now) result }
 {
     notes.put(b"records of ")?;
@@ -243,7 +228,6 @@ fn put_records_of<N: Out>(notes: &mut N, originator: Addr, words: &[u8]) -> Resu
 
 /// Writes `records: refused NUMBER`.
 fn put_number<N: Out>(notes: &mut N, number: u64) -> Result<(), Device>
-    requires { IsOpen (N.end notes.old) }
     ensures { Puts (N.end notes.old) (N.end notes.new) (number_text number) result }
 {
     notes.put(b"records: refused ")?;
@@ -253,7 +237,6 @@ fn put_number<N: Out>(notes: &mut N, number: u64) -> Result<(), Device>
 
 /// Writes why records were refused.
 fn put_refused<N: Out>(notes: &mut N, refused: Refused) -> Result<(), Device>
-    requires { IsOpen (N.end notes.old) }
     ensures { Puts (N.end notes.old) (N.end notes.new) (refused_text refused) result }
 {
     match refused {
@@ -282,7 +265,6 @@ fn put_refused<N: Out>(notes: &mut N, refused: Refused) -> Result<(), Device>
 ///
 /// `Device` exactly if a call of the writer failed; then no further call is made.
 fn put_news<N: Out>(notes: &mut N, edge: u64, news: &News) -> Result<(), Device>
-    requires { IsOpen (N.end notes.old) }
     ensures { Puts (N.end notes.old) (N.end notes.new) (news_text edge news.now) result }
 {
     match news {
@@ -316,7 +298,6 @@ pub fn notice_worker<A: NoticesIn, N: Out, R: Wait>(
     notices: &mut A,
     notes: &mut N,
 ) -> Result<(), Device>
-    requires { IsOpen (N.end notes.old) }
     ensures { TellsAll (A.came notices.old) (N.end notes.old) (A.came notices.new)
         (N.end notes.new) result }
 {

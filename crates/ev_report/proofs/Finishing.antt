@@ -3,7 +3,7 @@ use Rattle.std.proofs.Common.{◌≡◌, ◌≢◌, ◌⊎◌, inl, inr, ℕ, �
 use Rattle.std.proofs.Common.{length, Result, Ok, Err, is_ok, refl, sym, ap, subst, ◌∙◌, arith}
 use Rattle.std.proofs.lemmas.Bool.Decides.{nat_tests}
 use Rattle.ether_wire.specs.declared.ends.Device.{Device}
-use Rattle.ether_wire.specs.Ends.{End, Source, Puts}
+use Rattle.ether_wire.specs.Ends.{End, Source, IsOpen, Puts}
 use Rattle.route_wire.specs.Stream.{whole_up_to}
 use Rattle.route_wire.specs.Record.{AnswersUpTo}
 use Rattle.route_wire.specs.Feed.{HasRead, shown}
@@ -18,31 +18,34 @@ use Rattle.ev_report.specs.Report.{taken_of, Output, Renders}
 use Rattle.ev_report.specs.Inner.Progressing.{state, new_intake, TakesInput}
 use Rattle.ev_report.proofs.Taking.{tells_more, table_of_all}
 use Rattle.ev_report.proofs.Feeding.{same_note, same_broken}
+use Rattle.ev_report.specs.declared.status.Status.{Status}
+use Rattle.ev_report.specs.declared.status.Status.TheVariants as statuses
 
 -- ---- one call after the other
 
-pub tells_holds : (a b : End) (q : Bool) (t : List ℕ) → Tells a b true q t → Holds a b t
-tells_holds a b true t h = record {
+pub tells_holds : (a b : End) (q : Bool) (t : List ℕ) → IsOpen a → Tells a b true q t → Holds a b t
+tells_holds a b true t room h = record {
   written = λ _. h.written refl;
   failures = inl (ap (λ (x : End). x.failures) (h.written refl));
 }
-tells_holds a b false t h = let one = h.failed refl refl in
+tells_holds a b false t room h = let one = h.failed refl refl room in
     record { written = λ e. absurd (omega arith); failures = inr one }
 
-pub tells_failed : (a b : End) (q : Bool) (t : List ℕ) → Tells a b true q t → has_failed a b ≡ not q
-tells_failed a b true t h = let none : b.failures ≡ a.failures = ap (λ (x : End). x.failures) (h.written refl) in
+pub tells_failed : (a b : End) (q : Bool) (t : List ℕ) → IsOpen a → Tells a b true q t → has_failed a b ≡ not q
+tells_failed a b true t room h = let none : b.failures ≡ a.failures = ap (λ (x : End). x.failures) (h.written refl) in
     grind (arith, nat_tests)
-tells_failed a b false t h = let one = h.failed refl refl in grind (arith, nat_tests)
+tells_failed a b false t room h = let one = h.failed refl refl room in grind (arith, nat_tests)
 
-pub put_holds : (a b : End) (r : Result (Unit {0}) Device) (text : List ℕ) → Puts a b text r → Holds a b text
-put_holds a b (Ok x) text h = record { written = λ _. h; failures = inl (ap (λ (x : End). x.failures) h) }
-put_holds a b (Err e) text h = record { written = λ same. absurd (omega arith); failures = inr h }
+pub put_holds : (a b : End) (r : Result (Unit {0}) Device) (text : List ℕ) → IsOpen a → Puts a b text r → Holds a b text
+put_holds a b (Ok x) text room h = record { written = λ _. h; failures = inl (ap (λ (x : End). x.failures) h) }
+put_holds a b (Err e) text room h = let one = h room in
+    record { written = λ same. absurd (omega arith); failures = inr one }
 
-pub put_failed : (a b : End) (r : Result (Unit {0}) Device) (text : List ℕ) → Puts a b text r
+pub put_failed : (a b : End) (r : Result (Unit {0}) Device) (text : List ℕ) → IsOpen a → Puts a b text r
     → has_failed a b ≡ not (is_ok r)
-put_failed a b (Ok x) text h = let same : b.failures ≡ a.failures = ap (λ (x : End). x.failures) h in
+put_failed a b (Ok x) text room h = let same : b.failures ≡ a.failures = ap (λ (x : End). x.failures) h in
     grind (arith, nat_tests)
-put_failed a b (Err e) text h = grind (arith, nat_tests)
+put_failed a b (Err e) text room h = let one = h room in grind (arith, nat_tests)
 
 -- ---- the whole stream
 
@@ -58,12 +61,12 @@ module _ (newest : ℕ) (output : Output) (originators : List ℕ) (reader reade
   pub renders : (i : TakesInput newest ending reader reader' (state (new_intake newest originators) notes)
       (state intake mid)) → last ≡ record intake { is_told = last.is_told }
       → Tells mid notes' intake.is_told last.is_told (end_note ending (intake.count + 1) intake.feed.rest)
-      → (r : Result (Unit {0}) Device) → (text : List ℕ) → Puts out out' text r
-      → text ≡ output ending i.octets.taken.outcomes last.table → (status : ℕ)
+      → (r : Result (Unit {0}) Device) → (text : List ℕ) → IsOpen out → IsOpen notes → Puts out out' text r
+      → text ≡ output ending i.octets.taken.outcomes last.table → (status : Status)
       → status ≡ status_of (has_stopped ending || (not (is_ok r) || not last.is_told)) last.is_out_of_memory
       (is_broken ending intake.feed.rest)
       → Renders newest output originators (devices reader out notes) (devices reader' out' notes') status
-  renders i kept told r text put makes status is =
+  renders i kept told r text out_open notes_open put makes status is =
       let o = i.octets in
       let outcomes = o.taken.outcomes in
       let first : HasRead (new_intake newest originators).feed [] [] =
@@ -97,14 +100,14 @@ module _ (newest : ℕ) (output : Output) (originators : List ℕ) (reader reade
           table_of = subst (λ (x : Table). IsTableOf (taken_of outcomes) x) (sym (table_is ∙ o.taken.table_is))
               (table_of_all originators outcomes);
         };
-        written = subst (λ (x : List ℕ). Holds out out' x) makes (put_holds out out' r text put);
-        noted = tells_holds notes notes' last.is_told (notes_of outcomes ending rest) all;
+        written = subst (λ (x : List ℕ). Holds out out' x) makes (put_holds out out' r text out_open put);
+        noted = tells_holds notes notes' last.is_told (notes_of outcomes ending rest) notes_open all;
         status_is = is ∙ same_status (has_stopped ending) (is_ok r) last.is_told (has_failed out out')
             (has_failed notes notes') last.is_out_of_memory (ran_out_of_memory outcomes)
             (is_broken ending intake.feed.rest)
             (is_broken ending rest)
-            (put_failed out out' r text put) (tells_failed notes notes' last.is_told (notes_of outcomes ending rest)
-            all)
+            (put_failed out out' r text out_open put)
+            (tells_failed notes notes' last.is_told (notes_of outcomes ending rest) notes_open all)
             (ap (λ (x : Intake). x.is_out_of_memory) kept ∙ o.taken.counts.out_of_memory)
             (same_broken (shown intake.feed) rest intake.feed.rest i.none_held found.3 ending i.shows);
       }
@@ -147,8 +150,8 @@ finish_failed a b c false t h f = go (f.failed refl) h.failures
 pub finish_unfailed : (a b c : End) (q : Bool) → Finishes a.failures b c q → q ≡ true → has_failed a b ≡ false
 finish_unfailed a b c q f e = let p = (f.passed e).1 in grind (arith, nat_tests)
 
-pub last_status : (e p q s k x y : Bool) (status last : ℕ) → status ≡ status_of (e || (x || y)) s k
-    → last ≡ cond (p && q) status 4 → (p ≡ true → x ≡ false) → (q ≡ true → y ≡ false)
+pub last_status : (e p q s k x y : Bool) (status last : Status) → status ≡ status_of (e || (x || y)) s k
+    → last ≡ cond (p && q) status statuses.Device → (p ≡ true → x ≡ false) → (q ≡ true → y ≡ false)
     → last ≡ status_of (e || (not p || not q)) s k
 last_status false false q s k x y status last h l f g = l
 last_status false true false s k x y status last h l f g = l
@@ -158,7 +161,7 @@ last_status true true true s k x y status last h l f g = l ∙ h
 last_status true false q s k x y status last h l f g = l
 last_status true true false s k x y status last h l f g = l
 
-module _ (before held after : Devices) (status last : ℕ)
+module _ (before held after : Devices) (status last : Status)
     (p : Passes before.out.failures before.notes.failures held after status last) where
   -- the earlier output is still there at the end, or a call has failed
   pub passed_out : (text : List ℕ) → Holds before.out held.out text → Holds before.out after.out text
@@ -211,11 +214,12 @@ module _ (before held after : Devices) (status last : ℕ)
       }
 
 -- output to buffering devices reaches the inner devices in the end
-module _ (does : Devices → Devices → ℕ → Type 0)
-    (lasts : (before held after : Devices) (status last : ℕ)
+module _ (does : Devices → Devices → Status → Type 0)
+    (lasts : (before held after : Devices) (status last : Status)
     → Passes before.out.failures before.notes.failures held after status last → does before held status
     → does before after last) where
-  pub buffered : (before opened held after : Devices) (status last m n : ℕ) → before ≡ opened → m ≡ before.out.failures
+  pub buffered : (before opened held after : Devices) (status last : Status) (m n : ℕ) → before ≡ opened
+      → m ≡ before.out.failures
       → n ≡ before.notes.failures → does opened held status
       → Passes m n held after status last → does before after last
   buffered before opened held after status last m n opens out notes done p =

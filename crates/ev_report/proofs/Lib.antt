@@ -11,3 +11,4 @@ pub mod Owning
 pub mod Gathering
 pub mod Silence
 pub mod Told
+pub mod Uses

@@ -33,6 +33,7 @@ use Rattle.ev_report.specs.Inner.Migrated.{behind}
 use Rattle.ev_report.specs.Migrated.{migrated_along, migrated_all, migrated_of}
 use Rattle.std.proofs.lemmas.Bool.{and_parts as both}
 use Rattle.route_join.proofs.Basics.{first_there as at_first}
+use Rattle.ev_report.specs.declared.status.Status.{Status}
 
 -- ---- old registers
 
@@ -646,7 +647,7 @@ module _ (us : List Fields) (t : Table) (h : IsTableOf us t) where
       each = each_walked (all_updates t) own_are.ordered
 
 -- a migration that octets were held for
-pub passed_migrates : (originators : List ℕ) (before held after : Devices) (status last : ℕ)
+pub passed_migrates : (originators : List ℕ) (before held after : Devices) (status last : Status)
     → Passes before.out.failures before.notes.failures held after status last
     → Migrates originators before held status → Migrates originators before after last
 passed_migrates originators before held after status last p m =

@@ -1,11 +1,13 @@
 -- Nothing was written, at a run's end.
-use Rattle.std.proofs.Common.{◌≡◌, inl, ℕ, Bool, true, false, cond, ◌&&◌, ◌||◌, [], refl, sym, ap, ◌∙◌, arith, le-ltb}
+use Rattle.std.proofs.Common.{◌≡◌, inl, Bool, true, false, cond, ◌&&◌, ◌||◌, [], refl, sym, ap, ◌∙◌, arith, le-ltb}
 use Rattle.ether_wire.specs.Ends.{End}
 use Rattle.ether_wire.proofs.Appending.{with_text_none}
 use Rattle.ev_report.specs.Ends.{Devices, has_failed, Holds, Passes}
 use Rattle.ev_report.specs.Notes.{status_of}
 use Rattle.ev_report.specs.Silence.{IsSilent, IsRefusedMemory}
 use Rattle.ev_report.proofs.Finishing.{passed_out, passed_notes, passed_status, failed_out, failed_notes}
+use Rattle.ev_report.specs.declared.status.Status.{Status}
+use Rattle.ev_report.specs.declared.status.Status.TheVariants as statuses
 
 pub status_as : (a b c d s t k : Bool) → a ≡ c → b ≡ d → s ≡ t → status_of (a || b) s k ≡ status_of (c || d) t k
 status_as a b c d s t k ac bd st = ap (λ x. status_of (x || b) s k) ac ∙ ap (λ x. status_of (c || x) s k) bd
@@ -17,7 +19,8 @@ holds_none e = record { written = λ _. sym (with_text_none e); failures = inl r
 pub is_silent : (out notes : End) → IsSilent out out notes notes
 is_silent out notes = record { out_kept = holds_none out; notes_kept = holds_none notes }
 
-pub refused_memory : (out notes : End) (status : ℕ) → status ≡ 3 → IsRefusedMemory out out notes notes status
+pub refused_memory : (out notes : End) (status : Status) → status ≡ statuses.Memory
+    → IsRefusedMemory out out notes notes status
 refused_memory out notes status is = (
   is_silent out notes,
   is ∙ status_as false false (has_failed out out) (has_failed notes notes) true true false
@@ -27,7 +30,7 @@ refused_memory out notes status is = (
 
 -- ---- writers that are given more at once
 
-module _ (before held after : Devices) (status last : ℕ)
+module _ (before held after : Devices) (status last : Status)
     (p : Passes before.out.failures before.notes.failures held after status last) where
   pub passed_silent : IsSilent before.out held.out before.notes held.notes
       → IsSilent before.out after.out before.notes after.notes
@@ -45,9 +48,9 @@ module _ (before held after : Devices) (status last : ℕ)
         (failed_notes before held after status last p [] h.0.notes_kept) h.1,
   )
 
-  pub passed_four : status ≡ 4 → last ≡ 4
+  pub passed_four : status ≡ statuses.Device → last ≡ statuses.Device
   passed_four is = p.status_is ∙ four (p.is_written && p.is_noted) is
     where
-      four : (b : Bool) → status ≡ 4 → ◌≡◌ {A = ℕ} (cond b status 4) 4
+      four : (b : Bool) → status ≡ statuses.Device → ◌≡◌ {A = Status} (cond b status statuses.Device) statuses.Device
       four true e = e
       four false e = refl

@@ -5,7 +5,7 @@ use Rattle.std.proofs.Common.{append_assoc, arith}
 use Rattle.std.proofs.Math.Seq.{take-length}
 use Rattle.std.proofs.lemmas.List.{append-nil, take-append-drop}
 use Rattle.std.specs.Prelude.{MatchBool}
-use Rattle.ether_wire.specs.Ends.{End, with_text}
+use Rattle.ether_wire.specs.Ends.{End, IsOpen, with_text}
 use Rattle.ether_wire.proofs.Appending.{with_text_twice, with_text_none}
 use Rattle.route_wire.specs.declared.stream.Next.{Next}
 use Rattle.route_wire.specs.declared.stream.Next.TheVariants.{More, Fault as Faulty}
@@ -37,7 +37,7 @@ pub tells_more : (a b c : End) (p q r : Bool) (s t : List ℕ) → Tells a b p q
 tells_more a b c p q r s t h k = record {
   kept = λ e. kept e;
   written = written q h k;
-  failed = λ e f. failed q e f h k;
+  failed = λ e f room. failed q e f room h k;
 }
   where
     kept : p ≡ false → (r ≡ false) × (c ≡ a)
@@ -50,13 +50,16 @@ tells_more a b c p q r s t h k = record {
     written true h k e = k.written e ∙ ap (λ x. with_text x t) (h.written refl) ∙ with_text_twice a s t
     written false h k e = let no = (k.kept refl).0 in cc
 
-    failed : (q : Bool) → p ≡ true → r ≡ false → Tells a b p q s → Tells b c q r t → c.failures ≡ a.failures + 1
-    failed true e f h k = k.failed refl f ∙ ap (λ (x : End). x.failures + 1) (h.written refl)
-    failed false e f h k = ap (λ (x : End). x.failures) (k.kept refl).1 ∙ h.failed e refl
+    failed : (q : Bool) → p ≡ true → r ≡ false → IsOpen a → Tells a b p q s → Tells b c q r t
+        → c.failures ≡ a.failures + 1
+    failed true e f room h k =
+        subst (λ (x : End). IsOpen x → c.failures ≡ x.failures + 1) (h.written refl) (k.failed refl f) room
+    failed false e f room h k = ap (λ (x : End). x.failures) (k.kept refl).1 ∙ h.failed e refl room
 
 -- nothing
 pub tells_none : (a : End) (p : Bool) → Tells a a p p []
-tells_none a p = record { kept = λ e. (e, refl); written = λ _. sym (with_text_none a); failed = λ e f. failed p e f }
+tells_none a p =
+    record { kept = λ e. (e, refl); written = λ _. sym (with_text_none a); failed = λ e f room. failed p e f }
   where
     failed : (p : Bool) → p ≡ true → p ≡ false → a.failures ≡ a.failures + 1
     failed true e f = cc

@@ -12,6 +12,8 @@ use Rattle.route_wire.specs.Record.{AnswersUpTo}
 use Rattle.std.specs.Prelude.{Result}
 use Rattle.ev_report.specs.declared.ending.Ending.{Ending}
 use Rattle.ev_report.specs.declared.ending.Ending.TheVariants.{Ended, Failed, Faulty, Unended}
+use Rattle.ev_report.specs.declared.status.Status.{Status}
+use Rattle.ev_report.specs.declared.status.Status.TheVariants as statuses
 
 -- all three
 pub record Devices : Type 0 where
@@ -96,7 +98,7 @@ pub record Holds (old new : End) (octets : List ℕ) : Type 0 where
 pub record Tells (old new : End) (before after : Bool) (text : List ℕ) : Type 0 where
   pub kept : before ≡ false → (after ≡ false) × (new ≡ old)
   pub written : after ≡ true → new ≡ with_text old text
-  pub failed : before ≡ true → after ≡ false → new.failures ≡ old.failures + 1
+  pub failed : before ≡ true → after ≡ false → IsOpen old → new.failures ≡ old.failures + 1
 
 -- A writer was given all that was held for it, or a call of it has failed since it had this many failures. After a
 -- failed
@@ -109,10 +111,10 @@ pub record Finishes (failures : ℕ) (held end : End) (is_told : Bool) : Type 0 
 -- Devices were given all that was held for them, or a call of a writer has failed since they had these many failures:
 -- then
 -- the status is 4.
-pub record Passes (out_failures notes_failures : ℕ) (held after : Devices) (status last : ℕ) : Type 0 where
+pub record Passes (out_failures notes_failures : ℕ) (held after : Devices) (status last : Status) : Type 0 where
   pub is_written : Bool
   pub is_noted : Bool
   pub input : after.input ≡ held.input
   pub out : Finishes out_failures held.out after.out is_written
   pub notes : Finishes notes_failures held.notes after.notes is_noted
-  pub status_is : last ≡ (if is_written && is_noted then status else 4)
+  pub status_is : last ≡ (if is_written && is_noted then status else statuses.Device)

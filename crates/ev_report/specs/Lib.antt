@@ -1,3 +1,4 @@
+pub mod Status
 pub mod Notes
 pub mod Ends
 pub mod Failures

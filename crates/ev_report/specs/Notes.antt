@@ -6,6 +6,8 @@ use Rattle.route_join.specs.declared.table.TakeError.TheVariants.{NoMemory}
 use Rattle.route_join.specs.Taken.{number_of}
 use Rattle.ev_report.specs.declared.ending.Ending.{Ending}
 use Rattle.ev_report.specs.declared.ending.Ending.TheVariants.{Ended, Failed, Faulty, Unended}
+use Rattle.ev_report.specs.declared.status.Status.{Status}
+use Rattle.ev_report.specs.declared.status.Status.TheVariants as statuses
 
 -- ---- lines
 
@@ -67,6 +69,7 @@ ran_out_of_memory (Ok update ∷ outcomes) = ran_out_of_memory outcomes
 ran_out_of_memory (Err refusal ∷ outcomes) = refusal == number_of NoMemory || ran_out_of_memory outcomes
 
 -- the greatest that applies: 4 where a device failed, 3 where memory was refused, 1 for a broken stream, else 0
-abbrev pub status_of : Bool → Bool → Bool → ℕ
+abbrev pub status_of : Bool → Bool → Bool → Status
 status_of has_failed is_out_of_memory is_broken =
-    if has_failed then 4 else if is_out_of_memory then 3 else if is_broken then 1 else 0
+    if has_failed then statuses.Device else if is_out_of_memory then statuses.Memory else
+    if is_broken then statuses.Broken else statuses.Done

@@ -11,6 +11,7 @@ use Rattle.route_join.specs.Report.{report_of}
 use Rattle.ev_report.specs.declared.ending.Ending.{Ending}
 use Rattle.ev_report.specs.Notes.{notes_of, has_stopped, is_broken, ran_out_of_memory, status_of}
 use Rattle.ev_report.specs.Ends.{Devices, has_failed, fault_in, fault_told, Gave, Holds}
+use Rattle.ev_report.specs.declared.status.Status.{Status}
 
 -- A record's update is taken by the table, or there is no memory, which only a new register needs, or its originator
 -- isn't
@@ -60,7 +61,7 @@ Output = Ending → List (Result Fields ℕ) → Table → List ℕ
 
 -- The input was read and its records, up to a version, were taken; the output follows from them, the notes name every
 -- other record and the end, and the status is the greatest that applies.
-pub record Renders (newest : ℕ) (output : Output) (originators : List ℕ) (before after : Devices) (status : ℕ) :
+pub record Renders (newest : ℕ) (output : Output) (originators : List ℕ) (before after : Devices) (status : Status) :
     Type 0 where
   pub input : List ℕ
   pub ending : Ending
@@ -77,5 +78,5 @@ pub record Renders (newest : ℕ) (output : Output) (originators : List ℕ) (be
       (ran_out_of_memory outcomes) (is_broken ending rest)
 
 -- A report is that of the table, of records of all versions, up to 3.
-abbrev pub Reports : List ℕ → Devices → Devices → ℕ → Type 0
+abbrev pub Reports : List ℕ → Devices → Devices → Status → Type 0
 Reports originators before after status = Renders 3 (λ ending outcomes t. report_of t) originators before after status

@@ -4,8 +4,9 @@
 ghost use Rattle.std.specs.Prelude.{◌≡◌, ◌+◌, ◌<◌, ◌^◌, ◌&&◌, if◌then◌else◌};
 ghost use Rattle.ether_wire.specs.Buffered.{buffered_end};
 ghost use Rattle.ev_report.specs.Ends.{devices, Finishes, Passes};
+ghost use Rattle.ev_report.specs.declared.status.Status.TheVariants as statuses;
 
-use crate::status::DEVICE;
+use crate::status::Status;
 use ether_wire::{Buffered, In, Out};
 use std::marker::Model;
 
@@ -57,13 +58,13 @@ fn finish<W: Out>(out: Buffered<W>, failures: u64) -> (W, bool)
 }
 
 /// The status so far, unless a writer has failed since.
-fn last_status(is_written: bool, is_noted: bool, status: u8) -> u8
-    ensures { result ≡ (if is_written && is_noted then status else 4) }
+fn last_status(is_written: bool, is_noted: bool, status: Status) -> Status
+    ensures { result ≡ (if is_written && is_noted then status else statuses.Device) }
 {
     if is_written && is_noted {
         status
     } else {
-        DEVICE
+        Status::Device
     }
 }
 
@@ -92,7 +93,7 @@ impl<R: In, W: Out, N: Out> Buffers<R, W, N> {
     /// Passes the buffered texts to the devices and returns these, with the status: the one so far,
     /// or 4 if a call of a writer has failed. After a failed call of a writer it makes no further
     /// call of it.
-    pub fn finish(self, status: u8) -> (u8, Devices<R, W, N>)
+    pub fn finish(self, status: Status) -> (Status, Devices<R, W, N>)
         requires out { self.out_failures + 1 < 2 ^ 64 }
         requires notes { self.notes_failures + 1 < 2 ^ 64 }
         ensures { Passes self.out_failures self.notes_failures

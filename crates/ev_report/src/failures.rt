@@ -2,7 +2,7 @@
 #![tactic(auto, using(ether_wire::proofs::Appending::with_text_twice, ether_wire::proofs::Appending::with_text_none))]
 
 ghost use Rattle.std.specs.Prelude.{◌≡◌, ◌+◌, ◌<◌, ◌^◌};
-ghost use Rattle.ether_wire.specs.Ends.{IsOpen, Puts};
+ghost use Rattle.ether_wire.specs.Ends.{Puts};
 ghost use Rattle.ev_report.specs.Failures.{failures_of, is_unread, is_unwritten, is_untold, text_if, failed_text, TellsFailed};
 
 use crate::devices::Devices;
@@ -55,7 +55,6 @@ impl Failures {
 
 /// Writes a text where it is so.
 fn put_if<N: Out>(is_so: bool, text: &[u8], notes: &mut N) -> Result<(), Device>
-    requires { IsOpen (N.end notes.old) }
     ensures { Puts (N.end notes.old) (N.end notes.new) (text_if is_so text.now) result }
 {
     if is_so { notes.put(text) } else { Ok(()) }
@@ -63,7 +62,6 @@ fn put_if<N: Out>(is_so: bool, text: &[u8], notes: &mut N) -> Result<(), Device>
 
 /// Writes a line for each of input and output that failed.
 fn put_failed<N: Out>(is_unread: bool, is_unwritten: bool, notes: &mut N) -> Result<(), Device>
-    requires { IsOpen (N.end notes.old) }
     ensures { Puts (N.end notes.old) (N.end notes.new) (failed_text is_unread is_unwritten) result }
 {
     put_if(is_unread, b"standard input: it can't be read\n", notes)?;

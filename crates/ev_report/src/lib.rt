@@ -19,9 +19,12 @@ pub use devices::{Buffers, Devices};
 pub use ending::Ending;
 pub use failures::{Failures, tell_failed};
 pub use input::{MOST_READS, ReadError, read_whole};
-pub use migrate::{migrate_buffered, migrate_run};
+pub use migrate::migrate_run;
 pub use migration_laws::{same_owners, stays_away};
 pub use originators::{ListFault, WrongPart, put_wrong_part, read_originators};
-pub use report::{has_failed, report_buffered, report_run, status_of};
-pub use status::{BROKEN, DEVICE, DONE, MEMORY, USAGE};
-pub use usage::{migrate_list, report_list, tell, tell_list, tell_words, usage_status};
+pub use report::{has_failed, report_run, status_of};
+pub use status::Status;
+pub use usage::{StreamUse, tell, tell_list, tell_words, usage_status, use_records};
+
+#[cfg(test)]
+mod tests;

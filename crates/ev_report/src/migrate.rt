@@ -8,13 +8,13 @@ ghost use Rattle.route_wire.specs.Order.{ip_version, ip_number, ip_cmp, ip_of, r
 ghost use Rattle.route_join.specs.Table.{AreOriginators};
 ghost use Rattle.ev_report.specs.Migrated.{is_same_subject, is_same_old, old_cmp, newer_old, migrated_at, newest_along, migrated_of, records_of};
 ghost use Rattle.ev_report.specs.Inner.Migrated.{behind};
-ghost use Rattle.ev_report.specs.Ends.{AreOpen, devices};
+ghost use Rattle.ev_report.specs.Ends.{devices};
 ghost use Rattle.ev_report.specs.Notes.{has_stopped};
 ghost use Rattle.ev_report.specs.Migrations.{Migrates};
 
-use crate::devices::{Buffers, Devices};
 use crate::ending::Ending;
 use crate::report::{has_failed, status_of};
+use crate::status::Status;
 use crate::stream::Intake;
 use arrayvec::ArrayVec;
 use ether_wire::{Addr, Device, In, Out, Vni};
@@ -186,7 +186,6 @@ fn migrated_at(newest: &Update, update: &Update) -> Update
 
 /// Writes the records of the migration of a table, in the order of a report. It takes no memory.
 pub(crate) fn put_migrated<W: Out>(table: &Table, out: &mut W) -> Result<(), Device>
-    requires { IsOpen (W.end out.old) }
     ensures { Puts (W.end out.old) (W.end out.new) (records_of (migrated_of table.now)) result }
 {
     let mut ahead = table.updates();
@@ -210,7 +209,6 @@ fn is_withheld(ending: Ending, is_out_of_memory: bool) -> bool
 
 /// Writes the records of the migration of a table, or nothing if they are withheld.
 fn put_unless<W: Out>(is_withheld: bool, table: &Table, out: &mut W) -> Result<(), Device>
-    requires { IsOpen (W.end out.old) }
     ensures { Puts (W.end out.old) (W.end out.new)
         (if is_withheld then [] else records_of (migrated_of table.now)) result }
 {
@@ -236,7 +234,7 @@ pub fn migrate_run<R: In, W: Out, N: Out>(
     reader: &mut R,
     out: &mut W,
     notes: &mut N,
-) -> u8
+) -> Status
     requires originators { AreOriginators originators.items }
     requires reader { Allows (2 ^ 40) (R.end reader.old) }
     requires out { IsOpen (W.end out.old) }
@@ -254,27 +252,4 @@ pub fn migrate_run<R: In, W: Out, N: Out>(
     let is_written = put_unless(is_withheld, intake.table(), out).is_ok();
     let has_failed = has_failed(ending, is_written, intake.is_told());
     status_of(has_failed, is_out_of_memory, is_broken)
-}
-
-/// `migrate_run` with few and large writes: it takes the devices, and gives them back once the
-/// writers have all that was to be written, or a call of theirs has failed. A failure at the end
-/// counts as any other.
-pub fn migrate_buffered<R: In, W: Out, N: Out>(
-    alloc: Global,
-    originators: ArrayVec<Addr, 64>,
-    devices: Devices<R, W, N>,
-) -> (u8, Devices<R, W, N>)
-    requires originators { AreOriginators originators.items }
-    requires devices { AreOpen devices }
-    ensures { Migrates originators.items devices result.1 result.0 }
-{
-    let mut all = Buffers::new(devices);
-    let status = migrate_run(
-        alloc,
-        originators,
-        &mut all.reader,
-        &mut all.out,
-        &mut all.notes,
-    );
-    all.finish(status)
 }

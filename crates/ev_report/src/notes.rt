@@ -1,7 +1,7 @@
 //! The lines that tell what wasn't taken, and how a stream ended.
 #![tactic(auto, using(ether_wire::proofs::Appending::with_text_twice, ether_wire::proofs::Appending::with_text_none))]
 
-ghost use Rattle.ether_wire.specs.Ends.{IsOpen, Puts};
+ghost use Rattle.ether_wire.specs.Ends.{Puts};
 ghost use Rattle.ev_report.specs.Notes.{line, refused_line, fault_line, truncated_line};
 
 use ether_wire::{Device, Out, put_decimal};
@@ -14,7 +14,6 @@ fn put_line<N: Out>(
     second: &[u8],
     other: u64,
 ) -> Result<(), Device>
-    requires { IsOpen (N.end notes.old) }
     ensures { Puts (N.end notes.old) (N.end notes.new)
         (line first.now number second.now other) result }
 {
@@ -27,7 +26,6 @@ fn put_line<N: Out>(
 
 /// Writes `record N refused C`.
 pub(crate) fn put_refused<N: Out>(notes: &mut N, number: u64, refusal: u8) -> Result<(), Device>
-    requires { IsOpen (N.end notes.old) }
     ensures { Puts (N.end notes.old) (N.end notes.new) (refused_line number refusal) result }
 {
     put_line(notes, b"record ", number, b" refused ", u64::from(refusal))
@@ -35,7 +33,6 @@ pub(crate) fn put_refused<N: Out>(notes: &mut N, number: u64, refusal: u8) -> Re
 
 /// Writes `fault C at record N`.
 pub(crate) fn put_fault<N: Out>(notes: &mut N, fault: u8, number: u64) -> Result<(), Device>
-    requires { IsOpen (N.end notes.old) }
     ensures { Puts (N.end notes.old) (N.end notes.new) (fault_line fault number) result }
 {
     put_line(notes, b"fault ", u64::from(fault), b" at record ", number)
@@ -43,7 +40,6 @@ pub(crate) fn put_fault<N: Out>(notes: &mut N, fault: u8, number: u64) -> Result
 
 /// Writes `truncated K at record N`.
 pub(crate) fn put_truncated<N: Out>(notes: &mut N, octets: u64, number: u64) -> Result<(), Device>
-    requires { IsOpen (N.end notes.old) }
     ensures { Puts (N.end notes.old) (N.end notes.new) (truncated_line octets number) result }
 {
     put_line(notes, b"truncated ", octets, b" at record ", number)

@@ -3,7 +3,7 @@
 
 ghost use Rattle.std.specs.Prelude.{◌≡◌, ◌≤◌, ◌<◌, length, IfOk, eqb, [], Result};
 ghost use Rattle.std.specs.List.{IsDistinct};
-ghost use Rattle.ether_wire.specs.Ends.{IsOpen, Puts};
+ghost use Rattle.ether_wire.specs.Ends.{Puts};
 ghost use Rattle.ether_wire.specs.Parse.{addr_of_text};
 ghost use Rattle.route_join.specs.Table.{AreOriginators};
 ghost use Rattle.ev_report.specs.Originators.{is_zero_led, has_leading_zero, spelling_fault, with_originator, with_address, with_part, originators_of_text, listed, reason_of, list_text};
@@ -149,7 +149,6 @@ impl ListFault {
 
 /// Writes the wrong part of a list, why, and what was expected.
 pub fn put_wrong_part<N: Out>(notes: &mut N, wrong: WrongPart<'_>) -> Result<(), Device>
-    requires { IsOpen (N.end notes.old) }
     ensures { Puts (N.end notes.old) (N.end notes.new)
         (list_text (wrong.entry.part.now, wrong.entry.fault)) result }
 {

@@ -5,12 +5,11 @@ ghost use Rattle.std.specs.Prelude.{◌≡◌, ◌^◌, ◌||◌, not};
 ghost use Rattle.ether_wire.specs.Ends.{IsOpen, Allows};
 ghost use Rattle.route_join.specs.Table.{AreOriginators};
 ghost use Rattle.ev_report.specs.Notes.{has_stopped, status_of};
-ghost use Rattle.ev_report.specs.Ends.{AreOpen, devices};
+ghost use Rattle.ev_report.specs.Ends.{devices};
 ghost use Rattle.ev_report.specs.Report.{Reports};
 
-use crate::devices::{Buffers, Devices};
 use crate::ending::Ending;
-use crate::status::{BROKEN, DEVICE, DONE, MEMORY};
+use crate::status::Status;
 use crate::stream::Intake;
 use arrayvec::ArrayVec;
 use ether_wire::{Addr, In, Out};
@@ -25,16 +24,20 @@ pub fn has_failed(ending: Ending, is_reported: bool, is_told: bool) -> bool
 }
 
 /// The greatest status that applies.
-pub fn status_of(has_failed: bool, is_out_of_memory: bool, is_broken: bool) -> u8
+pub fn status_of(has_failed: bool, is_out_of_memory: bool, is_broken: bool) -> Status
     ensures { result ≡ status_of has_failed is_out_of_memory is_broken }
 {
     if has_failed {
-        return DEVICE;
+        return Status::Device;
     }
     if is_out_of_memory {
-        return MEMORY;
+        return Status::Memory;
     }
-    if is_broken { BROKEN } else { DONE }
+    if is_broken {
+        Status::Broken
+    } else {
+        Status::Done
+    }
 }
 
 /// Reads update records up to the reader's end or the first fault, and writes the report of the
@@ -52,7 +55,7 @@ pub fn report_run<R: In, W: Out, N: Out>(
     reader: &mut R,
     out: &mut W,
     notes: &mut N,
-) -> u8
+) -> Status
     requires originators { AreOriginators originators.items }
     requires reader { Allows (2 ^ 40) (R.end reader.old) }
     requires out { IsOpen (W.end out.old) }
@@ -68,27 +71,4 @@ pub fn report_run<R: In, W: Out, N: Out>(
     let is_reported = intake.table().write_report(out).is_ok();
     let has_failed = has_failed(ending, is_reported, intake.is_told());
     status_of(has_failed, intake.is_out_of_memory(), is_broken)
-}
-
-/// `report_run` with few and large writes: it takes the devices, and gives them back once the
-/// writers have all that was to be written, or a call of theirs has failed. A failure at the end
-/// counts as any other.
-pub fn report_buffered<R: In, W: Out, N: Out>(
-    alloc: Global,
-    originators: ArrayVec<Addr, 64>,
-    devices: Devices<R, W, N>,
-) -> (u8, Devices<R, W, N>)
-    requires originators { AreOriginators originators.items }
-    requires devices { AreOpen devices }
-    ensures { Reports originators.items devices result.1 result.0 }
-{
-    let mut all = Buffers::new(devices);
-    let status = report_run(
-        alloc,
-        originators,
-        &mut all.reader,
-        &mut all.out,
-        &mut all.notes,
-    );
-    all.finish(status)
 }

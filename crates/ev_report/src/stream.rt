@@ -2,7 +2,7 @@
 #![tactic(auto, using(ether_wire::proofs::Appending::with_text_twice, ether_wire::proofs::Appending::with_text_none))]
 
 ghost use Rattle.std.specs.Prelude.{◌≡◌, ◌+◌, ◌*◌, ◌<◌, ◌≤◌, ◌^◌, [], ◌∷◌, true, false, length, Ok, IfOk, ℕ};
-ghost use Rattle.ether_wire.specs.Ends.{IsOpen, Allows};
+ghost use Rattle.ether_wire.specs.Ends.{Allows};
 ghost use Rattle.route_wire.specs.declared.stream.Whole.TheVariants.{Rest};
 ghost use Rattle.route_wire.specs.Record.{is_length};
 ghost use Rattle.route_wire.specs.Feed.{shown, added};
@@ -57,8 +57,7 @@ impl Intake {
 
     /// Counts a record that wasn't taken, and notes it.
     fn refuse<N: Out>(&mut self, refusal: u8, notes: &mut N)
-        requires count { self.old.count + 1 < 2 ^ 64 }
-        requires room { self.old.is_told ≡ true → IsOpen (N.end notes.old) }
+        requires { self.old.count + 1 < 2 ^ 64 }
         ensures { Refuses refusal (state self.old (N.end notes.old))
             (state self.new (N.end notes.new)) }
     {
@@ -68,8 +67,7 @@ impl Intake {
 
     /// Takes the update of a record, or notes why not.
     fn take<N: Out>(&mut self, update: &Update, notes: &mut N)
-        requires count { self.old.count + 1 < 2 ^ 64 }
-        requires room { self.old.is_told ≡ true → IsOpen (N.end notes.old) }
+        requires { self.old.count + 1 < 2 ^ 64 }
         ensures taken { TakesAnswers (Ok update.now ∷ []) (state self.old (N.end notes.old))
             (state self.new (N.end notes.new)) }
         ensures feed { self.new.feed ≡ self.old.feed }
@@ -102,7 +100,6 @@ impl Intake {
         requires feed { shown self.old.feed ≡ Rest }
         requires piece { 0 < length piece.now }
         requires count { self.old.count + 1 < 2 ^ 64 }
-        requires room { self.old.is_told ≡ true → IsOpen (N.end notes.old) }
         ensures taken { TakesOctets (taken_by result piece.now) (state self.old (N.end notes.old))
             (state self.new (N.end notes.new)) }
         ensures some { IfOk result (λ n. 0 < n) }
@@ -128,7 +125,6 @@ impl Intake {
     fn take_piece<N: Out>(&mut self, piece: &[u8], notes: &mut N) -> Result<(), u8>
         requires feed { shown self.old.feed ≡ Rest }
         requires count { self.old.count + length piece.now < 2 ^ 64 }
-        requires room { self.old.is_told ≡ true → IsOpen (N.end notes.old) }
         ensures taken { TakesOctets piece.now (state self.old (N.end notes.old))
             (state self.new (N.end notes.new)) }
         ensures shows { shown self.new.feed ≡ shown_by result }
@@ -152,7 +148,6 @@ impl Intake {
     fn piece<N: Out>(&mut self, piece: &[u8], notes: &mut N) -> Result<(), u8>
         requires feed { shown self.old.feed ≡ Rest }
         requires count { self.old.count + length piece.now < 2 ^ 64 }
-        requires room { self.old.is_told ≡ true → IsOpen (N.end notes.old) }
         ensures taken { TakesOctets piece.now (state self.old (N.end notes.old))
             (state self.new (N.end notes.new)) }
         ensures shows { shown self.new.feed ≡ shown_by result }
@@ -169,7 +164,6 @@ impl Intake {
         requires feed { self.old.feed.rest ≡ [] }
         requires count { self.old.count ≡ 0 }
         requires reader { Allows (2 ^ 40) (R.end reader.old) }
-        requires room { self.old.is_told ≡ true → IsOpen (N.end notes.old) }
         ensures taken { TakesInput self.old.feed.newest result (R.end reader.old) (R.end reader.new)
             (state self.old (N.end notes.old)) (state self.new (N.end notes.new)) }
         ensures few { self.new.count + 1 < 2 ^ 64 }
@@ -194,7 +188,6 @@ impl Intake {
         requires none_held { is_length (shown self.old.feed) ≡ false }
         requires shows { fault_told ending ≡ fault_in (shown self.old.feed) }
         requires count { self.old.count + 1 < 2 ^ 64 }
-        requires room { self.old.is_told ≡ true → IsOpen (N.end notes.old) }
         ensures broken { result ≡ is_broken ending self.old.feed.rest }
         ensures kept { self.new ≡ record self.old { is_told = self.new.is_told } }
         ensures told { Tells (N.end notes.old) (N.end notes.new) self.old.is_told self.new.is_told

@@ -1,34 +1,35 @@
 //! The messages about a program's arguments: a usage, a wrong list; and the use of a list.
 #![tactic(auto, using(ether_wire::proofs::Appending::with_text_twice, ether_wire::proofs::Appending::with_text_none))]
 
-ghost use Rattle.std.specs.Prelude.{◌≡◌, is_ok, if◌then◌else◌};
-ghost use Rattle.ether_wire.specs.Ends.{IsOpen};
-ghost use Rattle.ev_report.specs.Ends.{AreOpen};
+ghost use Rattle.std.specs.Prelude.{◌≡◌, ◌^◌, is_ok, if◌then◌else◌};
+ghost use Rattle.ether_wire.specs.Ends.{Allows, IsOpen};
+ghost use Rattle.route_join.specs.Table.{AreOriginators};
+ghost use Rattle.ev_report.specs.Ends.{AreOpen, devices};
 ghost use Rattle.ev_report.specs.Originators.{originators_of_text, list_text};
-ghost use Rattle.ev_report.specs.Report.{Reports};
-ghost use Rattle.ev_report.specs.Migrations.{Migrates};
-ghost use Rattle.ev_report.specs.Usage.{IsTold, TellsUsage, OfList};
+ghost use Rattle.ev_report.specs.Usage.{IsTold, TellsUsage, OfList, uses};
+ghost use Rattle.ev_report.specs.declared.status.Status.TheVariants as statuses;
 
-use crate::devices::Devices;
-use crate::migrate::migrate_buffered;
+use crate::devices::{Buffers, Devices};
+use crate::migrate::migrate_run;
 use crate::originators::{WrongPart, put_wrong_part, read_originators};
-use crate::report::report_buffered;
-use crate::status::{DEVICE, USAGE};
-use ether_wire::{Device, In, Out};
+use crate::report::report_run;
+use crate::status::Status;
+use arrayvec::ArrayVec;
+use ether_wire::{Addr, Device, In, Out};
 use std::alloc::Global;
 
 /// Returns the status of a usage, by whether it could be printed.
-pub fn usage_status(told: Result<(), Device>) -> u8
-    ensures { result ≡ (if is_ok told then 2 else 4) }
+pub fn usage_status(told: Result<(), Device>) -> Status
+    ensures { result ≡ (if is_ok told then statuses.Usage else statuses.Device) }
 {
     match told {
-        Ok(()) => USAGE,
-        Err(Device) => DEVICE,
+        Ok(()) => Status::Usage,
+        Err(Device) => Status::Device,
     }
 }
 
 /// Tells a text on the words.
-pub fn tell<N: Out>(text: &[u8], notes: &mut N) -> u8
+pub fn tell<N: Out>(text: &[u8], notes: &mut N) -> Status
     requires { IsOpen (N.end notes.old) }
     ensures { IsTold text.now (N.end notes.old) (N.end notes.new) result }
 {
@@ -36,7 +37,7 @@ pub fn tell<N: Out>(text: &[u8], notes: &mut N) -> u8
 }
 
 /// Tells which part of a list is wrong.
-pub fn tell_list<N: Out>(wrong: WrongPart<'_>, notes: &mut N) -> u8
+pub fn tell_list<N: Out>(wrong: WrongPart<'_>, notes: &mut N) -> Status
     requires { IsOpen (N.end notes.old) }
     ensures { IsTold (list_text (wrong.entry.part.now, wrong.entry.fault))
         (N.end notes.old) (N.end notes.new) result }
@@ -48,7 +49,7 @@ pub fn tell_list<N: Out>(wrong: WrongPart<'_>, notes: &mut N) -> u8
 pub fn tell_words<R: In, W: Out, N: Out>(
     text: &[u8],
     devices: Devices<R, W, N>,
-) -> (u8, Devices<R, W, N>)
+) -> (Status, Devices<R, W, N>)
     requires { AreOpen devices }
     ensures { TellsUsage text.now devices result.1 result.0 }
 {
@@ -60,7 +61,7 @@ pub fn tell_words<R: In, W: Out, N: Out>(
 fn wrong_list<R: In, W: Out, N: Out>(
     wrong: WrongPart<'_>,
     devices: Devices<R, W, N>,
-) -> (u8, Devices<R, W, N>)
+) -> (Status, Devices<R, W, N>)
     requires { AreOpen devices }
     ensures { TellsUsage (list_text (wrong.entry.part.now, wrong.entry.fault))
         devices result.1 result.0 }
@@ -69,34 +70,62 @@ fn wrong_list<R: In, W: Out, N: Out>(
     (tell_list(wrong, &mut devices.notes), devices)
 }
 
-/// Reports the records of the originators that a list names, or tells which part of the list is wrong
-/// (status 2, or 4 where that failed).
-pub fn report_list<R: In, W: Out, N: Out>(
+/// The use of a stream of records.
+#[derive(Clone, Copy, Debug)]
+pub enum StreamUse {
+    /// The report of its table.
+    Report,
+    /// Its migration to the present version.
+    Migrate,
+}
+
+/// Reads the records of these originators and uses them.
+fn use_stream<R: In, W: Out, N: Out>(
     alloc: Global,
-    list: &str,
-    devices: Devices<R, W, N>,
-) -> (u8, Devices<R, W, N>)
-    requires { AreOpen devices }
-    ensures { OfList Reports list.now devices result.1 result.0 }
+    wanted: StreamUse,
+    originators: ArrayVec<Addr, 64>,
+    reader: &mut R,
+    out: &mut W,
+    notes: &mut N,
+) -> Status
+    requires originators { AreOriginators originators.items }
+    requires reader { Allows (2 ^ 40) (R.end reader.old) }
+    requires out { IsOpen (W.end out.old) }
+    requires notes { IsOpen (N.end notes.old) }
+    ensures { uses wanted originators.items
+        (devices (R.end reader.old) (W.end out.old) (N.end notes.old))
+        (devices (R.end reader.new) (W.end out.new) (N.end notes.new)) result }
 {
-    match read_originators(list.as_bytes()) {
-        Ok(originators) => report_buffered(alloc, originators, devices),
-        Err(wrong) => wrong_list(wrong, devices),
+    match wanted {
+        StreamUse::Report => report_run(alloc, originators, reader, out, notes),
+        StreamUse::Migrate => migrate_run(alloc, originators, reader, out, notes),
     }
 }
 
-/// Migrates the records of the originators that a list names, or tells which part of the list is wrong
-/// (status 2, or 4 where that failed).
-pub fn migrate_list<R: In, W: Out, N: Out>(
+/// Reads the records of the originators that a list names and uses them, or tells which part of the
+/// list is wrong (status 2, or 4 where that failed). The writers get few and large pieces.
+pub fn use_records<R: In, W: Out, N: Out>(
     alloc: Global,
+    wanted: StreamUse,
     list: &str,
     devices: Devices<R, W, N>,
-) -> (u8, Devices<R, W, N>)
+) -> (Status, Devices<R, W, N>)
     requires { AreOpen devices }
-    ensures { OfList Migrates list.now devices result.1 result.0 }
+    ensures { OfList (uses wanted) list.now devices result.1 result.0 }
 {
     match read_originators(list.as_bytes()) {
-        Ok(originators) => migrate_buffered(alloc, originators, devices),
+        Ok(originators) => {
+            let mut all = Buffers::new(devices);
+            let status = use_stream(
+                alloc,
+                wanted,
+                originators,
+                &mut all.reader,
+                &mut all.out,
+                &mut all.notes,
+            );
+            all.finish(status)
+        }
         Err(wrong) => wrong_list(wrong, devices),
     }
 }

@@ -9,7 +9,7 @@ use Rattle.std.specs.List.{sum_by, list_any}
 use Rattle.std.proofs.lemmas.List.Elements.{Contains-append_left, Contains-append_right}
 use Rattle.std.specs.List.{concat, Contains}
 use Rattle.ether_wire.specs.declared.ends.Device as device
-use Rattle.ether_wire.specs.Ends.{End, Source, Gets, Puts, with_text}
+use Rattle.ether_wire.specs.Ends.{End, Source, IsOpen, Gets, Puts, with_text}
 use Rattle.ev_edge.specs.declared.config.EdgeConfig.{EdgeConfig}
 use Rattle.ev_edge.specs.Config.{IsConfig}
 use Rattle.ev_links.specs.WireOut.{destination_of}
@@ -51,6 +51,8 @@ use Rattle.ev_report.proofs.Finishing.{failed_notes}
 use Rattle.ev_report.proofs.Gathering.{gathers_more, whole_ended, whole_failed, whole_unended}
 use Rattle.ev_report.proofs.Reading.{gives_none}
 use Rattle.ev_report.proofs.Silence.{passed_refused, passed_four, holds_none, refused_memory}
+use Rattle.ev_report.specs.declared.status.Status.{Status}
+use Rattle.ev_report.specs.declared.status.Status.TheVariants as statuses
 
 -- ---- the input
 
@@ -186,48 +188,51 @@ puts_rest start notes notes' alerts text (Err device) r put rest =
 
 module _ (ended : List Ended) (system : List ℕ) (is_read : Bool) (out out' notes notes' : End)
     (told r s : Result (Unit {0}) device.Device) where
-  pub tells_ended : (status : ℕ) → Puts out out' (reports_from 1 ended) r
+  pub tells_ended : (status : Status) → IsOpen out → Puts out out' (reports_from 1 ended) r
       → PutsRest told notes notes' (noted_text ended system (all_lost ended)) s
       → status ≡ status_of (((not is_read || list_any link_failed ended) || nat_lt 0 (all_lost ended)) ||
       (not (is_ok r) || not (is_ok s))) (list_any was_out_of_memory ended) false
       → TellsRest told ended system is_read out out' notes notes' status
-  tells_ended status written rest is = λ start alerts lines.
+  tells_ended status out_open written rest is = λ start alerts start_open lines.
       let last = noted_text ended system (all_lost ended) in
       let text = lines_of alerts ++ last in
       let put = puts_rest start notes notes' (lines_of alerts) last told s lines rest in
       let e = (not is_read || list_any link_failed ended) || nat_lt 0 (all_lost ended) in
       let out_of_memory = list_any was_out_of_memory ended in
       record {
-        written = put_holds out out' r (reports_from 1 ended) written;
-        noted = put_holds start notes' s text put;
+        written = put_holds out out' r (reports_from 1 ended) out_open written;
+        noted = put_holds start notes' s text start_open put;
         status_is = is ∙ ap (λ x. status_of (e || (x || not (is_ok s))) out_of_memory false)
-            (sym (put_failed out out' r (reports_from 1 ended) written))
+            (sym (put_failed out out' r (reports_from 1 ended) out_open written))
             ∙ ap (λ x. status_of (e || (has_failed out out' || x)) out_of_memory false)
-            (sym (put_failed start notes' s text put));
+            (sym (put_failed start notes' s text start_open put));
       }
 
 -- the text of the reason why no edge began
-abbrev pub TellsCause : StartError → End → End → ℕ → Type 0
+abbrev pub TellsCause : StartError → End → End → Status → Type 0
 TellsCause cause notes notes' status =
-    MatchOption (start_text cause) ((notes' ≡ notes) × (status ≡ 3)) (λ text. Holds notes notes' text × (status ≡ 4))
+    MatchOption (start_text cause) ((notes' ≡ notes) × (status ≡ statuses.Memory))
+    (λ text. Holds notes notes' text × (status ≡ statuses.Device))
 
 -- the text has an address
 pub tells_address : (notes notes' : End) (r : Result (Unit {0}) device.Device) (at : Endpoint) (why : BindError)
-    → Puts notes notes' (bind_error_text at why) r → TellsCause (Unbindable at why) notes notes' 4
-tells_address notes notes' r at why put = (put_holds notes notes' r (bind_error_text at why) put, refl)
+    → IsOpen notes → Puts notes notes' (bind_error_text at why) r
+    → TellsCause (Unbindable at why) notes notes' statuses.Device
+tells_address notes notes' r at why room put = (put_holds notes notes' r (bind_error_text at why) room put, refl)
 
 -- the text has a device
 pub tells_device : (notes notes' : End) (r : Result (Unit {0}) device.Device) (name : DeviceName) (why : AttachError)
-    → Puts notes notes' (no_device_text name why) r → TellsCause (Unattached name why) notes notes' 4
-tells_device notes notes' r name why put = (put_holds notes notes' r (no_device_text name why) put, refl)
+    → IsOpen notes → Puts notes notes' (no_device_text name why) r
+    → TellsCause (Unattached name why) notes notes' statuses.Device
+tells_device notes notes' r name why room put = (put_holds notes notes' r (no_device_text name why) room put, refl)
 
 -- the text has no address
-pub tells_nothing : (notes : End) → TellsCause Unnamed notes notes 4
+pub tells_nothing : (notes : End) → TellsCause Unnamed notes notes statuses.Device
 tells_nothing notes = (holds_none notes, refl)
 
 -- no edge began
 pub runs_none : (is_asked : Bool) (policy : ThreadPolicy) (config : Config) (cause : StartError) (input : Source)
-    (out notes notes' : End) (status : ℕ)
+    (out notes notes' : End) (status : Status)
     → Hinders (all_ends config) (lacks_address config) cause → TellsCause cause notes notes' status
     → RunsEdges is_asked policy config (devices input out notes) (devices input out notes') status
 runs_none is_asked policy config (Unbindable at why) input out notes notes' status hinders told = inr (inl (
@@ -271,7 +276,7 @@ runs_none is_asked policy config NoMemory input out notes notes' status hinders 
 
 -- the edges ran with sockets that are bound to the right endpoints
 pub begins_bound : (is_asked : Bool) (config : Config) (bound remotes : List (List LinkEnd)) (before after : Devices)
-    (status : ℕ) → Ran is_asked config.edges.items bound remotes before after status → bound ≡ endpoints_of config
+    (status : Status) → Ran is_asked config.edges.items bound remotes before after status → bound ≡ endpoints_of config
     → remotes ≡ all_remotes config.links.items → lacks_address config ≡ false
     → Begins is_asked config before after status
 begins_bound is_asked config bound remotes before after status ran same to whole =
@@ -285,20 +290,20 @@ begins_bound is_asked config bound remotes before after status ran same to whole
 -- the memory with which the edges begin was refused
 pub begins_refused : (is_asked : Bool) (config : Config) (input input' : Source) (out out' notes notes' : End)
     → out' ≡ out → notes' ≡ notes
-    → Begins is_asked config (devices input out notes) (devices input' out' notes') 3
+    → Begins is_asked config (devices input out notes) (devices input' out' notes') statuses.Memory
 begins_refused is_asked config input input' out out' notes notes' a b =
-    rw (a, b) (inr (refused_memory out notes 3 refl))
+    rw (a, b) (inr (refused_memory out notes statuses.Memory refl))
 
 -- the system allows too few threads: no edge began, or the edges began all the same
 pub runs_few : (is_asked : Bool) (policy : ThreadPolicy) (config : Config) (lack : TooFewThreads) (input : Source)
-    (out notes notes' : End) (status : ℕ) → IsTooFew (threads_of is_asked config.edges.items) lack
+    (out notes notes' : End) (status : Status) → IsTooFew (threads_of is_asked config.edges.items) lack
     → StopsBy policy lack notes notes' (Some status)
     → RunsEdges is_asked policy config (devices input out notes) (devices input out notes') status
 runs_few is_asked policy config lack input out notes notes' status few stops =
     inr (inr (inl (lacks_threads config.edges.items is_asked policy lack input out notes notes' status few stops)))
 
 pub runs_short : (is_asked : Bool) (policy : ThreadPolicy) (config : Config) (lack : TooFewThreads) (input : Source)
-    (out notes notes' : End) (after : Devices) (status : ℕ)
+    (out notes notes' : End) (after : Devices) (status : Status)
     → IsTooFew (threads_of is_asked config.edges.items) lack → StopsBy policy lack notes notes' None
     → Begins is_asked config (devices input out notes') after status
     → RunsEdges is_asked policy config (devices input out notes) after status
@@ -312,7 +317,7 @@ runs_short is_asked policy config lack input out notes notes' after status few s
 
 -- ---- buffered writers
 
-module _ (is_asked : Bool) (config : Config) (before held after : Devices) (status last : ℕ)
+module _ (is_asked : Bool) (config : Config) (before held after : Devices) (status last : Status)
     (p : Passes before.out.failures before.notes.failures held after status last) where
   passed_ended : (alerts : List Told) (ended : List Ended) (system : List ℕ) (is_read : Bool)
       → TellsEnded alerts ended system is_read before.out held.out before.notes held.notes status
@@ -366,7 +371,8 @@ module _ (is_asked : Bool) (config : Config) (before held after : Devices) (stat
   )
   passed_begins (inr h) = inr (passed_refused before held after status last p h)
 
-module _ (is_asked : Bool) (policy : ThreadPolicy) (config : Config) (before held after : Devices) (status last : ℕ)
+module _ (is_asked : Bool) (policy : ThreadPolicy) (config : Config) (before held after : Devices)
+    (status last : Status)
     (p : Passes before.out.failures before.notes.failures held after status last) where
   pub passed_runs : RunsEdges is_asked policy config before held status
       → RunsEdges is_asked policy config before after last

@@ -15,6 +15,7 @@ use Rattle.ev_sites.proofs.Sound.{run_sound}
 use Rattle.ev_run.specs.LinkEnds.{LinkEnd}
 use Rattle.ev_run.specs.Links.{begun_of, AreSetupsOf}
 use Rattle.ev_run.specs.RunEdges.{AllRan, Ran}
+use Rattle.ev_report.specs.declared.status.Status.{Status}
 
 or_itself : (n : ℕ) (b : Bool) → (n == 0) ≡ b → cond b 0 n ≡ n
 or_itself n true is = grind (arith, nat_tests)
@@ -43,7 +44,7 @@ sound_end configs edges fit run =
     (run, run_sound configs run.opened edges run.steps run.pool fit run.are_opened run.runs)
 
 pub run_of_file : (configs : List EdgeConfig) (sockets remotes : List (List LinkEnd)) (before after : Devices)
-    (status : ℕ) (ran : Ran false configs sockets remotes before after status) (edges : List Edge)
+    (status : Status) (ran : Ran false configs sockets remotes before after status) (edges : List Edge)
     → AllRan ran.ended edges → IsRunOf configs edges
 run_of_file configs sockets remotes before after status ran edges all =
     subst (λ (cs : List EdgeConfig). IsRunOf cs edges)

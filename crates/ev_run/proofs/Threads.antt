@@ -3,7 +3,7 @@ use Rattle.std.proofs.Common.{◌≡◌, ℕ, Bool, true, false, not, List, [], 
 use Rattle.std.proofs.Common.{Option, Some, MatchOption}
 use Rattle.std.proofs.lemmas.Bool.Decides.{nat_tests}
 use Rattle.ether_wire.specs.declared.ends.Device as device
-use Rattle.ether_wire.specs.Ends.{End, Source, Puts, with_text}
+use Rattle.ether_wire.specs.Ends.{End, Source, IsOpen, Puts, with_text}
 use Rattle.ev_edge.specs.declared.config.EdgeConfig.{EdgeConfig}
 use Rattle.ev_report.specs.Ends.{Devices, devices, has_failed, Holds, Passes}
 use Rattle.ev_report.specs.Notes.{status_of}
@@ -15,29 +15,31 @@ use Rattle.ev_run.specs.ThreadCheck.{IsTooFew, too_few_text, LacksThreads}
 use Rattle.ev_run.specs.declared.thread_check.ThreadPolicy.{ThreadPolicy}
 use Rattle.ev_run.specs.declared.thread_check.ThreadPolicy.TheVariants.{RunWithout}
 use Rattle.ev_run.specs.declared.thread_check.TooFewThreads.{TooFewThreads}
+use Rattle.ev_report.specs.declared.status.Status.{Status}
+use Rattle.ev_report.specs.declared.status.Status.TheVariants as statuses
 
 -- a note about too few threads, and the status if no edge may begin
-abbrev pub StopsBy : ThreadPolicy → TooFewThreads → End → End → Option ℕ → Type 0
+abbrev pub StopsBy : ThreadPolicy → TooFewThreads → End → End → Option Status → Type 0
 StopsBy policy lack notes notes' stopped = MatchOption stopped
     ((notes' ≡ with_text notes (too_few_text lack)) × (policy ≡ RunWithout))
     (λ status. Holds notes notes' (too_few_text lack)
-    × (status ≡ status_of (has_failed notes notes') true false) × (policy ≡ RunWithout → status ≡ 4))
+    × (status ≡ status_of (has_failed notes notes') true false) × (policy ≡ RunWithout → status ≡ statuses.Device))
 
 -- whether the note was written
 pub told_by : (lack : TooFewThreads) (notes notes' : End) (r : Result (Unit {0}) device.Device)
-    → Puts notes notes' (too_few_text lack) r
+    → IsOpen notes → Puts notes notes' (too_few_text lack) r
     → Holds notes notes' (too_few_text lack)
     × (status_of (not (is_ok r)) true false ≡ status_of (has_failed notes notes') true false)
-told_by lack notes notes' r put = (
-  put_holds notes notes' r (too_few_text lack) put,
-  ap (λ b. status_of b true false) (sym (put_failed notes notes' r (too_few_text lack) put)),
+told_by lack notes notes' r room put = (
+  put_holds notes notes' r (too_few_text lack) room put,
+  ap (λ b. status_of b true false) (sym (put_failed notes notes' r (too_few_text lack) room put)),
 )
 
 unfailed : (e : End) → has_failed e e ≡ false
 unfailed e = grind (arith, nat_tests)
 
 pub lacks_threads : (edges : List EdgeConfig) (is_asked : Bool) (policy : ThreadPolicy) (lack : TooFewThreads)
-    (input : Source) (out notes notes' : End) (status : ℕ) → IsTooFew (threads_of is_asked edges) lack
+    (input : Source) (out notes notes' : End) (status : Status) → IsTooFew (threads_of is_asked edges) lack
     → StopsBy policy lack notes notes' (Some status)
     → LacksThreads is_asked policy edges (devices input out notes) (devices input out notes') status
 lacks_threads edges is_asked policy lack input out notes notes' status few told = record {
@@ -52,7 +54,7 @@ lacks_threads edges is_asked policy lack input out notes notes' status few told 
 }
 
 module _ (is_asked : Bool) (policy : ThreadPolicy) (edges : List EdgeConfig) (before held after : Devices)
-    (status last : ℕ) (p : Passes before.out.failures before.notes.failures held after status last) where
+    (status last : Status) (p : Passes before.out.failures before.notes.failures held after status last) where
   pub passed_few : LacksThreads is_asked policy edges before held status
       → LacksThreads is_asked policy edges before after last
   passed_few l = record {

@@ -9,10 +9,11 @@ use Rattle.ev_report.specs.Ends.{Devices}
 use Rattle.ev_sites.specs.RunningEdges.{IsRunOf}
 use Rattle.ev_run.specs.LinkEnds.{LinkEnd}
 use Rattle.ev_run.specs.RunEdges.{AllRan, Ran}
+use Rattle.ev_report.specs.declared.status.Status.{Status}
 
 -- if all edges ran, and no clients may query them
 abbrev pub RanIsSound : Type 0
 RanIsSound =
-    (configs : List EdgeConfig) (sockets remotes : List (List LinkEnd)) (before after : Devices) (status : ℕ)
+    (configs : List EdgeConfig) (sockets remotes : List (List LinkEnd)) (before after : Devices) (status : Status)
     → AreConfigs configs → (ran : Ran false configs sockets remotes before after status) → (edges : List Edge)
     → AllRan ran.ended edges → (run : IsRunOf configs edges) × IsSound (fabric_of edges configs run.pool)

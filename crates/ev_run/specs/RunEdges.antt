@@ -45,6 +45,8 @@ use Rattle.ev_report.specs.Notes.{status_of}
 use Rattle.ev_report.specs.Silence.{IsRefusedMemory}
 use Rattle.ev_report.specs.Originators.{Text}
 use Rattle.ev_view.specs.EdgeViews.{each_from}
+use Rattle.ev_report.specs.declared.status.Status.{Status}
+use Rattle.ev_report.specs.declared.status.Status.TheVariants as statuses
 
 -- ---- sockets
 
@@ -169,7 +171,7 @@ noted_text ended system lost = each_from drops_text 1 ended ++ system ++ lost_te
 -- had no room, the drops that the system reports at the sockets, and `lost N` if sends failed. The status is 4 if a
 -- device failed, 3 if memory or a thread was refused, else 0.
 pub record TellsEnded (alerts : List Told) (ended : List Ended) (system : Text) (is_read : Bool)
-    (out out' notes notes' : End) (status : ℕ) : Type 0 where
+    (out out' notes notes' : End) (status : Status) : Type 0 where
   pub written : Holds out out' (reports_from 1 ended)
   pub noted : Holds notes notes' (lines_of alerts ++ noted_text ended system (all_lost ended))
   pub status_is : status ≡ status_of (((not is_read || list_any link_failed ended) || nat_lt 0 (all_lost ended)) ||
@@ -195,7 +197,7 @@ RunsAsFabric configs ended = (edges : List Edge) → AllRan ended edges → IsRu
 -- configuration names none: 0 unless clients may query them. `table` is the system's table of UDP sockets at that time,
 -- empty if it couldn't be read.
 pub record Ran (is_asked : Bool) (configs : List EdgeConfig) (sockets remotes : List (List LinkEnd))
-    (before after : Devices) (status : ℕ) : Type 0 where
+    (before after : Devices) (status : Status) : Type 0 where
   pub is_read : Bool
   pub read : ReadsOut before.input after.input is_read
   pub incarnation : ℕ
@@ -222,17 +224,17 @@ start_text NoMemory = None
 
 -- The status is 4: an address of this configuration couldn't be bound or a device couldn't be used, and a note reports
 -- it; or a port lacks an end.
-pub record IsStartError (config : Config) (notes notes' : End) (status : ℕ) : Type 0 where
+pub record IsStartError (config : Config) (notes notes' : End) (status : Status) : Type 0 where
   pub why : StartError
   pub hinders : Hinders (all_ends config) (lacks_address config) why
   pub text : Text
   pub is_text : start_text why ≡ Some text
   pub noted : Holds notes notes' text
-  pub status_is : status ≡ 4
+  pub status_is : status ≡ statuses.Device
 
 -- The edges of a configuration were run, and each port has its ends; or the memory with which they begin was
 -- refused. Clients may query the edges meanwhile if `is_asked`.
-abbrev pub Begins : Bool → Config → Devices → Devices → ℕ → Type 0
+abbrev pub Begins : Bool → Config → Devices → Devices → Status → Type 0
 Begins is_asked config before after status =
     ((lacks_address config ≡ false) × Ran is_asked config.edges.items (endpoints_of config)
     (all_remotes config.links.items) before after status)
@@ -240,7 +242,7 @@ Begins is_asked config before after status =
 
 -- The system allows fewer threads than the edges need, and they began all the same, after a note about the threads.
 pub record BeginsShort (is_asked : Bool) (policy : ThreadPolicy) (config : Config) (before after : Devices)
-    (status : ℕ) : Type 0 where
+    (status : Status) : Type 0 where
   pub allowed : policy ≡ RunWithout
   pub lack : TooFewThreads
   pub few : IsTooFew (threads_of is_asked config.edges.items) lack
@@ -249,7 +251,7 @@ pub record BeginsShort (is_asked : Bool) (policy : ThreadPolicy) (config : Confi
 
 -- The edges began, with too few threads only if the policy allows that. Or no edge began, nothing was read, and only
 -- the reason was written: an address, or the lack of threads.
-abbrev pub RunsEdges : Bool → ThreadPolicy → Config → Devices → Devices → ℕ → Type 0
+abbrev pub RunsEdges : Bool → ThreadPolicy → Config → Devices → Devices → Status → Type 0
 RunsEdges is_asked policy config before after status =
     Begins is_asked config before after status
     ⊎ (((after.input ≡ before.input) × Holds before.out after.out []

@@ -8,6 +8,8 @@ use Rattle.ev_run.specs.declared.control_socket.ListenError.{ListenError}
 use Rattle.ev_run.specs.declared.thread_check.ThreadPolicy.{ThreadPolicy}
 use Rattle.ev_run.specs.declared.control_socket.ListenError.TheVariants as listen_error
 use Rattle.ev_run.specs.RunEdges.{RunsEdges}
+use Rattle.ev_report.specs.declared.status.Status.{Status}
+use Rattle.ev_report.specs.declared.status.Status.TheVariants as statuses
 
 -- why nothing can listen at a path
 abbrev pub reason_of : ListenError → Text
@@ -25,14 +27,14 @@ abbrev pub listen_error_text : Text → ListenError → Text
 listen_error_text path why = codes "can't listen at " ++ (path ++ codes ": ") ++ reason_of why
 
 -- Nothing can listen at this path, and a note reports it: the status is 4.
-pub record TellsListenError (path : Text) (notes notes' : End) (status : ℕ) : Type 0 where
+pub record TellsListenError (path : Text) (notes notes' : End) (status : Status) : Type 0 where
   pub why : ListenError
   pub noted : Holds notes notes' (listen_error_text path why)
-  pub status_is : status ≡ 4
+  pub status_is : status ≡ statuses.Device
 
 -- The edges are run, whatever clients do; or nothing can listen at this path, no edge began, nothing was read, and only
 -- a note about the path was written.
-abbrev pub ServesEdges : ThreadPolicy → Text → Config → Devices → Devices → ℕ → Type 0
+abbrev pub ServesEdges : ThreadPolicy → Text → Config → Devices → Devices → Status → Type 0
 ServesEdges policy path config before after status =
     RunsEdges true policy config before after status
     ⊎ ((after.input ≡ before.input) × Holds before.out after.out []

@@ -9,6 +9,8 @@ use Rattle.ev_run.specs.Needs.{threads_of}
 use Rattle.ev_run.specs.declared.thread_check.ThreadPolicy.{ThreadPolicy}
 use Rattle.ev_run.specs.declared.thread_check.ThreadPolicy.TheVariants.{RunWithout}
 use Rattle.ev_run.specs.declared.thread_check.TooFewThreads.{TooFewThreads}
+use Rattle.ev_report.specs.declared.status.Status.{Status}
+use Rattle.ev_report.specs.declared.status.Status.TheVariants as statuses
 
 -- this many threads are needed, and the system allows fewer
 abbrev pub IsTooFew : ℕ → TooFewThreads → Type 0
@@ -25,7 +27,7 @@ too_few_text lack = codes "can't start " ++ decimal lack.needed ++ allowed_text 
 -- The system allows fewer threads than these edges need, with the one that accepts clients if `is_asked`. Nothing was
 -- read, and only a note about the threads was written. The policy `RunWithout` leads to this only if that failed.
 pub record LacksThreads (is_asked : Bool) (policy : ThreadPolicy) (edges : List EdgeConfig) (before after : Devices)
-    (status : ℕ) : Type 0 where
+    (status : Status) : Type 0 where
   pub lack : TooFewThreads
   pub few : IsTooFew (threads_of is_asked edges) lack
   pub unread : after.input ≡ before.input
@@ -33,4 +35,4 @@ pub record LacksThreads (is_asked : Bool) (policy : ThreadPolicy) (edges : List 
   pub noted : Holds before.notes after.notes (too_few_text lack)
   pub status_is : status
       ≡ status_of (has_failed before.out after.out || has_failed before.notes after.notes) true false
-  pub must : policy ≡ RunWithout → status ≡ 4
+  pub must : policy ≡ RunWithout → status ≡ statuses.Device

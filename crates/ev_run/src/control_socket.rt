@@ -1,7 +1,7 @@
 //! The control socket, at which clients query the edges while they run: a Unix stream socket at a
 //! path, only for its user.
 ghost use Rattle.std.specs.Prelude.{◌≡◌};
-ghost use Rattle.ether_wire.specs.Ends.{IsOpen, Puts};
+ghost use Rattle.ether_wire.specs.Ends.{Puts};
 ghost use Rattle.std.specs.Fs.{permissions_mode};
 ghost use Rattle.ev_run.specs.Inner.ControlSocket.{what_to_do, Follows, socket_mode};
 ghost use Rattle.ev_run.specs.Serving.{reason_of, listen_error_text};
@@ -85,7 +85,6 @@ pub(crate) fn put_listen_error<N: Out>(
     path: &[u8],
     why: ListenError,
 ) -> Result<(), Device>
-    requires { IsOpen (N.end notes.old) }
     ensures { Puts (N.end notes.old) (N.end notes.new) (listen_error_text path.now why) result }
 {
     notes.put(b"can't listen at ")?;

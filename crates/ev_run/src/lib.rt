@@ -32,10 +32,13 @@ pub use laws::ran_is_sound;
 pub use needs::{Needs, needs_of};
 pub use obstacles::{Cause, EdgePort, End, Obstacle, ProcessLimits, obstacles_of};
 pub use print_needs::{put_asked_needs, put_obstacles};
-pub use run::{run_buffered, run_edges};
-pub use serve::{serve_buffered, serve_edges};
+pub use run::run_edges;
+pub use serve::serve_edges;
 pub use sockets::BindError;
-pub use system::System;
+pub use system::{Runtime, System};
 pub use system_drops::UdpTable;
 pub use taps::AttachError;
 pub use thread_check::ThreadPolicy;
+
+#[cfg(test)]
+mod tests;

@@ -3,7 +3,7 @@
 
 ghost use Rattle.std.specs.Prelude.{◌≡◌, ◌++◌, codes, map};
 ghost use Rattle.std.specs.Fmt.{decimal};
-ghost use Rattle.ether_wire.specs.Ends.{IsOpen, Puts};
+ghost use Rattle.ether_wire.specs.Ends.{Puts};
 ghost use Rattle.ev_run.specs.declared.print.Dropped.TheVariants.{NoRoom};
 ghost use Rattle.ev_run.specs.Inner.Sockets.{bound_at, local_end};
 ghost use Rattle.ev_run.specs.LinkEnds.{Udp};
@@ -21,7 +21,6 @@ use std::alloc::AllocError;
 
 /// Writes `edge E`, and then the edge's report.
 fn put_report<W: Out>(out: &mut W, number: u64, edge: &Edge) -> Result<(), Device>
-    requires { IsOpen (W.end out.old) }
     ensures { Puts (W.end out.old) (W.end out.new) (edge_text number edge.now) result }
 {
     out.put(b"edge ")?;
@@ -36,7 +35,6 @@ fn put_ended<W: Out>(
     number: u64,
     ended: &Result<EdgeOutcome, AllocError>,
 ) -> Result<(), Device>
-    requires { IsOpen (W.end out.old) }
     ensures { Puts (W.end out.old) (W.end out.new) (ended_text number ended.now) result }
 {
     match ended {
@@ -54,7 +52,6 @@ pub(crate) fn put_reports<W: Out>(
     out: &mut W,
     ended: &[Result<EdgeOutcome, AllocError>],
 ) -> Result<(), Device>
-    requires { IsOpen (W.end out.old) }
     ensures { Puts (W.end out.old) (W.end out.new) (reports_from 1 ended.now) result }
 {
     for (place, one) in ended.iter().enumerate() {
@@ -65,7 +62,6 @@ pub(crate) fn put_reports<W: Out>(
 
 /// Writes which link a line is for: the tunnel's, or that of the port with this number.
 fn put_link<N: Out>(notes: &mut N, place: u64) -> Result<(), Device>
-    requires { IsOpen (N.end notes.old) }
     ensures { Puts (N.end notes.old) (N.end notes.new) (link_text place) result }
 {
     if place == 0 {
@@ -77,7 +73,6 @@ fn put_link<N: Out>(notes: &mut N, place: u64) -> Result<(), Device>
 
 /// Writes `edge E `.
 fn put_edge<N: Out>(notes: &mut N, number: u64) -> Result<(), Device>
-    requires { IsOpen (N.end notes.old) }
     ensures { Puts (N.end notes.old) (N.end notes.new)
         (codes "edge " ++ decimal number ++ codes " ") result }
 {
@@ -109,7 +104,6 @@ impl Dropped {
 
 /// Writes `: N` and the kind of the drop.
 fn put_count<N: Out>(notes: &mut N, dropped: u64, what: Dropped) -> Result<(), Device>
-    requires { IsOpen (N.end notes.old) }
     ensures { Puts (N.end notes.old) (N.end notes.new)
         (codes ": " ++ decimal dropped ++ dropped_words what) result }
 {
@@ -126,7 +120,6 @@ fn put_dropped<N: Out>(
     dropped: u64,
     what: Dropped,
 ) -> Result<(), Device>
-    requires { IsOpen (N.end notes.old) }
     ensures { Puts (N.end notes.old) (N.end notes.new)
         (dropped_text what number place dropped) result }
 {
@@ -140,7 +133,6 @@ fn put_dropped<N: Out>(
 
 /// Writes how many frames each line of an edge had no room for.
 fn put_lines<N: Out>(notes: &mut N, number: u64, dropped: &[u64]) -> Result<(), Device>
-    requires { IsOpen (N.end notes.old) }
     ensures { Puts (N.end notes.old) (N.end notes.new)
         (each_from (dropped_text NoRoom number) 0 dropped.now) result }
 {
@@ -156,7 +148,6 @@ fn put_drops<N: Out>(
     number: u64,
     ended: &Result<EdgeOutcome, AllocError>,
 ) -> Result<(), Device>
-    requires { IsOpen (N.end notes.old) }
     ensures { Puts (N.end notes.old) (N.end notes.new) (drops_text number ended.now) result }
 {
     match ended {
@@ -170,7 +161,6 @@ fn put_all_drops<N: Out>(
     notes: &mut N,
     ended: &[Result<EdgeOutcome, AllocError>],
 ) -> Result<(), Device>
-    requires { IsOpen (N.end notes.old) }
     ensures { Puts (N.end notes.old) (N.end notes.new) (each_from drops_text 1 ended.now) result }
 {
     for (place, one) in ended.iter().enumerate() {
@@ -196,7 +186,6 @@ fn put_socket<N: Out>(
     table: &[u8],
     at: Endpoint,
 ) -> Result<(), Device>
-    requires { IsOpen (N.end notes.old) }
     ensures { Puts (N.end notes.old) (N.end notes.new)
         (socket_text table.now number place (Udp at)) result }
 {
@@ -227,7 +216,6 @@ fn put_cable<N: Out>(
     table: &[u8],
     cable: &Cable,
 ) -> Result<(), Device>
-    requires { IsOpen (N.end notes.old) }
     ensures { Puts (N.end notes.old) (N.end notes.new)
         (socket_text table.now number place (local_end cable.now)) result }
 {
@@ -247,7 +235,6 @@ fn put_ports<N: Out>(
     table: &[u8],
     ports: &[Cable],
 ) -> Result<(), Device>
-    requires { IsOpen (N.end notes.old) }
     ensures { Puts (N.end notes.old) (N.end notes.new)
         (each_from (λ place port. socket_text table.now number place (local_end port)) 1 ports.now)
         result }
@@ -265,7 +252,6 @@ fn put_sockets<N: Out>(
     table: &[u8],
     sockets: &Sockets,
 ) -> Result<(), Device>
-    requires { IsOpen (N.end notes.old) }
     ensures { Puts (N.end notes.old) (N.end notes.new)
         (sockets_text table.now number (bound_at sockets.now)) result }
 {
@@ -275,7 +261,6 @@ fn put_sockets<N: Out>(
 
 /// Writes how many datagrams the system dropped at the sockets of all edges.
 fn put_all_sockets<N: Out>(notes: &mut N, table: &[u8], sockets: &[Sockets]) -> Result<(), Device>
-    requires { IsOpen (N.end notes.old) }
     ensures { Puts (N.end notes.old) (N.end notes.new)
         (each_from (λ number one. sockets_text table.now number (bound_at one)) 1 sockets.now)
         result }
@@ -298,7 +283,6 @@ pub(crate) fn put_notes<N: Out>(
     watched: Watched<'_>,
     lost: u64,
 ) -> Result<(), Device>
-    requires { IsOpen (N.end notes.old) }
     ensures { Puts (N.end notes.old) (N.end notes.new)
         (noted_text ended.now
         (system_text watched.entry.table.now (map bound_at watched.entry.sockets.now)) lost)
@@ -311,7 +295,6 @@ pub(crate) fn put_notes<N: Out>(
 
 /// Writes `lost N` if sends failed.
 fn put_lost<N: Out>(notes: &mut N, lost: u64) -> Result<(), Device>
-    requires { IsOpen (N.end notes.old) }
     ensures { Puts (N.end notes.old) (N.end notes.new) (lost_text lost) result }
 {
     if lost == 0 {

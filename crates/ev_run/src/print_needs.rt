@@ -2,7 +2,7 @@
 //! can't use.
 #![tactic(auto, using(ether_wire::proofs::Appending::with_text_twice, ether_wire::proofs::Appending::with_text_none))]
 
-ghost use Rattle.ether_wire.specs.Ends.{IsOpen, Puts};
+ghost use Rattle.ether_wire.specs.Ends.{Puts};
 ghost use Rattle.std.specs.Prelude.{◌++◌, [], if◌then◌else◌};
 ghost use Rattle.ev_run.specs.Needs.{threads_text, sockets_text, devices_text, memory_text, needs_text, clients_text, asked_text};
 ghost use Rattle.ev_run.specs.Obstacles.{lead_text, cause_text, port_text, seat_text, end_text, most_text, most_threads_text, obstacle_text, told_of, obstacles_text};
@@ -15,7 +15,6 @@ use ev_config::Endpoint;
 
 /// Writes the number of threads.
 fn put_threads<W: Out>(out: &mut W, threads: u64) -> Result<(), Device>
-    requires { IsOpen (W.end out.old) }
     ensures { Puts (W.end out.old) (W.end out.new) (threads_text threads) result }
 {
     put_decimal(out, threads)?;
@@ -24,7 +23,6 @@ fn put_threads<W: Out>(out: &mut W, threads: u64) -> Result<(), Device>
 
 /// Writes the number of sockets.
 fn put_sockets<W: Out>(out: &mut W, sockets: u64) -> Result<(), Device>
-    requires { IsOpen (W.end out.old) }
     ensures { Puts (W.end out.old) (W.end out.new) (sockets_text sockets) result }
 {
     put_decimal(out, sockets)?;
@@ -33,7 +31,6 @@ fn put_sockets<W: Out>(out: &mut W, sockets: u64) -> Result<(), Device>
 
 /// Writes the number of devices, if there are any.
 fn put_devices<W: Out>(out: &mut W, devices: u64) -> Result<(), Device>
-    requires { IsOpen (W.end out.old) }
     ensures { Puts (W.end out.old) (W.end out.new) (devices_text devices) result }
 {
     if devices == 0 {
@@ -49,7 +46,6 @@ fn put_devices<W: Out>(out: &mut W, devices: u64) -> Result<(), Device>
 
 /// Writes the amount of memory in MiB.
 fn put_memory<W: Out>(out: &mut W, memory: u64) -> Result<(), Device>
-    requires { IsOpen (W.end out.old) }
     ensures { Puts (W.end out.old) (W.end out.new) (memory_text memory) result }
 {
     out.put(b"about ")?;
@@ -63,7 +59,6 @@ fn put_memory<W: Out>(out: &mut W, memory: u64) -> Result<(), Device>
 ///
 /// `Device` exactly if a call of the writer failed; then no further call is made.
 fn put_needs<W: Out>(out: &mut W, needs: Needs) -> Result<(), Device>
-    requires { IsOpen (W.end out.old) }
     ensures { Puts (W.end out.old) (W.end out.new) (needs_text needs) result }
 {
     put_threads(out, needs.threads)?;
@@ -74,7 +69,6 @@ fn put_needs<W: Out>(out: &mut W, needs: Needs) -> Result<(), Device>
 
 /// Writes the resources that clients take in addition, if clients may query the run.
 fn put_clients<W: Out>(out: &mut W, is_asked: bool) -> Result<(), Device>
-    requires { IsOpen (W.end out.old) }
     ensures { Puts (W.end out.old) (W.end out.new)
         (if is_asked then clients_text else []) result }
 {
@@ -91,7 +85,6 @@ fn put_clients<W: Out>(out: &mut W, is_asked: bool) -> Result<(), Device>
 ///
 /// As `put_needs`.
 pub fn put_asked_needs<W: Out>(out: &mut W, needs: Needs, is_asked: bool) -> Result<(), Device>
-    requires { IsOpen (W.end out.old) }
     ensures { Puts (W.end out.old) (W.end out.new) (asked_text is_asked needs) result }
 {
     put_needs(out, needs)?;
@@ -100,7 +93,6 @@ pub fn put_asked_needs<W: Out>(out: &mut W, needs: Needs, is_asked: bool) -> Res
 
 /// Writes `, port P: `.
 fn put_port<N: Out>(notes: &mut N, port: u64) -> Result<(), Device>
-    requires { IsOpen (N.end notes.old) }
     ensures { Puts (N.end notes.old) (N.end notes.new) (port_text port) result }
 {
     notes.put(b", port ")?;
@@ -110,7 +102,6 @@ fn put_port<N: Out>(notes: &mut N, port: u64) -> Result<(), Device>
 
 /// Writes `edge E, port P: `.
 fn put_seat<N: Out>(notes: &mut N, seat: EdgePort) -> Result<(), Device>
-    requires { IsOpen (N.end notes.old) }
     ensures { Puts (N.end notes.old) (N.end notes.new) (seat_text seat) result }
 {
     notes.put(b"edge ")?;
@@ -120,7 +111,6 @@ fn put_seat<N: Out>(notes: &mut N, seat: EdgePort) -> Result<(), Device>
 
 /// Writes the kind of an end.
 fn put_lead<N: Out>(notes: &mut N, end: End) -> Result<(), Device>
-    requires { IsOpen (N.end notes.old) }
     ensures { Puts (N.end notes.old) (N.end notes.new) (lead_text end) result }
 {
     match end {
@@ -131,7 +121,6 @@ fn put_lead<N: Out>(notes: &mut N, end: End) -> Result<(), Device>
 
 /// Writes the kind of an end, and its endpoint.
 fn put_end<N: Out>(notes: &mut N, end: End, at: Endpoint) -> Result<(), Device>
-    requires { IsOpen (N.end notes.old) }
     ensures { Puts (N.end notes.old) (N.end notes.new) (end_text end at) result }
 {
     put_lead(notes, end)?;
@@ -140,7 +129,6 @@ fn put_end<N: Out>(notes: &mut N, end: End, at: Endpoint) -> Result<(), Device>
 
 /// Writes why an end is of no use.
 fn put_cause<N: Out>(notes: &mut N, cause: Cause) -> Result<(), Device>
-    requires { IsOpen (N.end notes.old) }
     ensures { Puts (N.end notes.old) (N.end notes.new) (cause_text cause) result }
 {
     match cause {
@@ -153,7 +141,6 @@ fn put_cause<N: Out>(notes: &mut N, cause: Cause) -> Result<(), Device>
 
 /// Writes which edge has the address 0.0.0.0.
 fn put_unheard<N: Out>(notes: &mut N, edge: u64) -> Result<(), Device>
-    requires { IsOpen (N.end notes.old) }
     ensures { Puts (N.end notes.old) (N.end notes.new)
         (obstacle_text (Obstacle.Unheard edge)) result }
 {
@@ -170,7 +157,6 @@ fn put_useless<N: Out>(
     at: Endpoint,
     cause: Cause,
 ) -> Result<(), Device>
-    requires { IsOpen (N.end notes.old) }
     ensures { Puts (N.end notes.old) (N.end notes.new)
         (obstacle_text (Obstacle.Useless seat end at cause)) result }
 {
@@ -181,7 +167,6 @@ fn put_useless<N: Out>(
 
 /// Writes the number of descriptors that are allowed.
 fn put_most<N: Out>(notes: &mut N, most: u64) -> Result<(), Device>
-    requires { IsOpen (N.end notes.old) }
     ensures { Puts (N.end notes.old) (N.end notes.new) (most_text most) result }
 {
     notes.put(b" sockets and 3 standard streams, allowed are ")?;
@@ -191,7 +176,6 @@ fn put_most<N: Out>(notes: &mut N, most: u64) -> Result<(), Device>
 
 /// Writes that there are too many sockets.
 fn put_too_many<N: Out>(notes: &mut N, sockets: u64, most: u64) -> Result<(), Device>
-    requires { IsOpen (N.end notes.old) }
     ensures { Puts (N.end notes.old) (N.end notes.new)
         (obstacle_text (Obstacle.TooMany sockets most)) result }
 {
@@ -201,7 +185,6 @@ fn put_too_many<N: Out>(notes: &mut N, sockets: u64, most: u64) -> Result<(), De
 
 /// Writes the number of threads that are allowed.
 fn put_most_threads<N: Out>(notes: &mut N, most: u64) -> Result<(), Device>
-    requires { IsOpen (N.end notes.old) }
     ensures { Puts (N.end notes.old) (N.end notes.new) (most_threads_text most) result }
 {
     notes.put(b" threads, allowed are ")?;
@@ -211,7 +194,6 @@ fn put_most_threads<N: Out>(notes: &mut N, most: u64) -> Result<(), Device>
 
 /// Writes that there are too many threads.
 fn put_too_many_threads<N: Out>(notes: &mut N, threads: u64, most: u64) -> Result<(), Device>
-    requires { IsOpen (N.end notes.old) }
     ensures { Puts (N.end notes.old) (N.end notes.new)
         (obstacle_text (Obstacle.TooManyThreads threads most)) result }
 {
@@ -221,7 +203,6 @@ fn put_too_many_threads<N: Out>(notes: &mut N, threads: u64, most: u64) -> Resul
 
 /// Writes an obstacle.
 fn put_obstacle<N: Out>(notes: &mut N, obstacle: Obstacle) -> Result<(), Device>
-    requires { IsOpen (N.end notes.old) }
     ensures { Puts (N.end notes.old) (N.end notes.new) (obstacle_text obstacle) result }
 {
     match obstacle {
@@ -238,7 +219,6 @@ fn put_obstacle<N: Out>(notes: &mut N, obstacle: Obstacle) -> Result<(), Device>
 ///
 /// `Device` exactly if a call of the writer failed; then no further call is made.
 pub fn put_obstacles<N: Out>(notes: &mut N, found: &[Obstacle]) -> Result<(), Device>
-    requires { IsOpen (N.end notes.old) }
     ensures { Puts (N.end notes.old) (N.end notes.new) (obstacles_text found.now) result }
 {
     for obstacle in found {

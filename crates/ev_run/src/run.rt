@@ -7,12 +7,13 @@ ghost use Rattle.std.specs.List.{list_any};
 ghost use Rattle.ether_wire.specs.Ends.{IsOpen, Allows};
 ghost use Rattle.ev_fabric.specs.Opening.{AreConfigs};
 ghost use Rattle.ev_edge.specs.Config.{IsConfig};
-ghost use Rattle.ev_report.specs.Ends.{AreOpen, Holds, devices};
+ghost use Rattle.ev_report.specs.Ends.{Holds, devices};
 ghost use Rattle.ev_run.specs.Inner.Sockets.{bound_at, sent_to};
 ghost use Rattle.ev_run.specs.Links.{begun_of, destinations_of, sends_to};
 ghost use Rattle.ev_run.specs.Sockets.{all_remotes, endpoints_of, lacks_address};
 ghost use Rattle.ev_run.specs.RunEdges.{ReadsOut, sends_failed, link_failed, was_out_of_memory, all_lost, system_text, noted_text, Ran, start_text, Begins, RunsEdges};
 ghost use Rattle.ev_run.specs.Inner.RunEdges.{EachConfig, PutsRest, TellsMeanwhile, TellsRest};
+ghost use Rattle.ev_report.specs.declared.status.Status.TheVariants as statuses;
 
 use crate::begun::{begun_in, first_incarnation};
 use crate::bound::Sockets;
@@ -22,7 +23,7 @@ use crate::named::{Ends, Prepared, run_named};
 use crate::print::{Watched, put_notes, put_reports};
 use crate::socket_drops::SocketDrops;
 use crate::sockets::{StartError, bind_all, put_bind_error, put_no_device};
-use crate::system::System;
+use crate::system::{Runtime, System};
 use crate::system_drops::{UdpTable, rows_of_drops};
 use crate::thread_check::{ThreadPolicy, check_threads, stopped_by};
 use ether_wire::{Device, In, Out};
@@ -31,11 +32,9 @@ use ev_edge::EdgeConfig;
 use ev_links::{Wire, WireOut};
 use ev_mailboxes::{Boards, NoticeBox, notice_worker};
 use ev_peers::{EdgeOutcome, Setup, new_history};
-use ev_report::{Buffers, DEVICE, Devices, MEMORY, MOST_READS, status_of};
+use ev_report::{MOST_READS, Status, status_of};
 use std::alloc::{AllocError, Global};
-use std::fs::Files;
 use std::marker::Brand;
-use std::net::Net;
 use std::sync::Wait;
 use std::sync::atomic::AtomicBool;
 use std::thread::Threads;
@@ -184,7 +183,6 @@ fn put_rest<N: Out>(
     watched: Watched<'_>,
     lost: u64,
 ) -> Result<(), Device>
-    requires { OnOk told (IsOpen (N.end notes.old)) }
     ensures { PutsRest told (N.end notes.old) (N.end notes.new) (noted_text ended.now
         (system_text watched.entry.table.now (map bound_at watched.entry.sockets.now)) lost)
         result }
@@ -204,9 +202,8 @@ fn tell_ended<W: Out, N: Out>(
     is_read: bool,
     out: &mut W,
     notes: &mut N,
-) -> u8
-    requires out { IsOpen (W.end out.old) }
-    requires notes { OnOk told (IsOpen (N.end notes.old)) }
+) -> Status
+    requires { IsOpen (W.end out.old) }
     ensures { TellsRest told ended.now
         (system_text watched.entry.table.now (map bound_at watched.entry.sockets.now)) is_read
         (W.end out.old) (W.end out.new) (N.end notes.old) (N.end notes.new) result }
@@ -224,7 +221,6 @@ pub(crate) fn tell_meanwhile<R: Wait, N: Out>(
     boards: &Boards,
     notes: &mut N,
 ) -> Result<(), Device>
-    requires { IsOpen (N.end notes.old) }
     ensures { TellsMeanwhile (N.end notes.old) (N.end notes.new) result }
 {
     let mut notices = NoticeBox { rt, boards };
@@ -264,7 +260,7 @@ fn run_bound<'x, 'h: 'x, R: Threads + Wait + UdpTable + Clock + Sync, E: In, W: 
     reader: &mut E,
     out: &mut W,
     notes: &mut N,
-) -> Result<u8, AllocError>
+) -> Result<Status, AllocError>
     requires configs { AreConfigs configs.items }
     requires sockets { length sockets.now ≡ vec_len configs }
     requires reader { Allows (2 ^ 40) (E.end reader.old) }
@@ -306,23 +302,23 @@ fn run_bound<'x, 'h: 'x, R: Threads + Wait + UdpTable + Clock + Sync, E: In, W: 
 }
 
 /// Writes why no edge begins, and returns the status.
-fn tell_start_error<N: Out>(start_error: StartError, notes: &mut N) -> u8
+fn tell_start_error<N: Out>(start_error: StartError, notes: &mut N) -> Status
     requires { IsOpen (N.end notes.old) }
     ensures { MatchOption (start_text start_error)
-        ((N.end notes.new ≡ N.end notes.old) × (result ≡ 3))
-        (λ text. Holds (N.end notes.old) (N.end notes.new) text × (result ≡ 4)) }
+        ((N.end notes.new ≡ N.end notes.old) × (result ≡ statuses.Memory))
+        (λ text. Holds (N.end notes.old) (N.end notes.new) text × (result ≡ statuses.Device)) }
 {
     match start_error {
         StartError::Unbindable(at, why) => {
             let _ = put_bind_error(notes, at, why);
-            DEVICE
+            Status::Device
         }
         StartError::Unattached(name, why) => {
             let _ = put_no_device(notes, name, why);
-            DEVICE
+            Status::Device
         }
-        StartError::Unnamed => DEVICE,
-        StartError::NoMemory => MEMORY,
+        StartError::Unnamed => Status::Device,
+        StartError::NoMemory => Status::Memory,
     }
 }
 
@@ -335,7 +331,7 @@ fn begin<'h, R: Threads + Wait + UdpTable + Clock + Sync, E: In, W: Out, N: Out 
     reader: &mut E,
     out: &mut W,
     notes: &mut N,
-) -> u8
+) -> Status
     requires config { AreConfigs config.edges.items }
     requires many { length sockets.now ≡ vec_len config.edges }
     requires bound { map bound_at sockets.now ≡ endpoints_of config }
@@ -351,25 +347,20 @@ fn begin<'h, R: Threads + Wait + UdpTable + Clock + Sync, E: In, W: Out, N: Out 
     let Config { edges, links: _ } = config;
     match run_bound(host, edges, sockets, reader, out, notes) {
         Ok(status) => status,
-        Err(_) => MEMORY,
+        Err(_) => Status::Memory,
     }
 }
 
 /// Runs edges as `run_edges` does, with or without a control socket whose clients may query them
 /// meanwhile.
-pub(crate) fn run_asked<
-    R: Threads + Wait + Net + Files + UdpTable + Clock + Sync,
-    E: In,
-    W: Out,
-    N: Out + Send,
->(
+pub(crate) fn run_asked<R: Runtime, E: In, W: Out, N: Out + Send>(
     host: &RunContext<'_, R>,
     policy: ThreadPolicy,
     config: Config,
     reader: &mut E,
     out: &mut W,
     notes: &mut N,
-) -> u8
+) -> Status
     requires config { AreConfigs config.edges.items }
     requires reader { Allows (2 ^ 40) (E.end reader.old) }
     requires out { IsOpen (W.end out.old) }
@@ -405,12 +396,13 @@ pub(crate) fn run_asked<
 /// system doesn't start as many threads as the run needs, a line on `notes` has both numbers, and
 /// no edge begins unless the policy of `system` allows it. If a port lacks an address, no edge
 /// begins either, and nothing is written.
-pub fn run_edges<
-    R: Threads + Wait + Net + Files + UdpTable + Clock + Sync,
-    E: In,
-    W: Out,
-    N: Out + Send,
->(system: &System<'_, R>, config: Config, reader: &mut E, out: &mut W, notes: &mut N) -> u8
+pub fn run_edges<R: Runtime, E: In, W: Out, N: Out + Send>(
+    system: &System<'_, R>,
+    config: Config,
+    reader: &mut E,
+    out: &mut W,
+    notes: &mut N,
+) -> Status
     requires config { AreConfigs config.edges.items }
     requires reader { Allows (2 ^ 40) (E.end reader.old) }
     requires out { IsOpen (W.end out.old) }
@@ -421,26 +413,4 @@ pub fn run_edges<
 {
     let host = RunContext::new(system.rt, system.alloc, None);
     run_asked(&host, system.policy, config, reader, out, notes)
-}
-
-/// Runs edges as `run_edges` does, with few and large writes. Takes the devices and returns them.
-pub fn run_buffered<
-    H: Threads + Wait + Net + Files + UdpTable + Clock + Sync,
-    R: In,
-    W: Out,
-    N: Out + Send,
->(system: &System<'_, H>, config: Config, devices: Devices<R, W, N>) -> (u8, Devices<R, W, N>)
-    requires config { AreConfigs config.edges.items }
-    requires devices { AreOpen devices }
-    ensures { RunsEdges false system.now.policy config devices result.1 result.0 }
-{
-    let mut all = Buffers::new(devices);
-    let status = run_edges(
-        system,
-        config,
-        &mut all.reader,
-        &mut all.out,
-        &mut all.notes,
-    );
-    all.finish(status)
 }

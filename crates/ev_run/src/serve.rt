@@ -4,32 +4,26 @@
 ghost use Rattle.std.specs.Prelude.{◌≡◌, ◌^◌, string_bytes};
 ghost use Rattle.ether_wire.specs.Ends.{IsOpen, Allows};
 ghost use Rattle.ev_fabric.specs.Opening.{AreConfigs};
-ghost use Rattle.ev_report.specs.Ends.{AreOpen, devices};
+ghost use Rattle.ev_report.specs.Ends.{devices};
 ghost use Rattle.ev_run.specs.Serving.{TellsListenError, ServesEdges};
 ghost use Rattle.ev_run.specs.Inner.Serving.{listed_by};
 
 use crate::clients::Service;
 use crate::control_socket::{ControlSocket, ListenError, put_listen_error};
 use crate::run::{RunContext, run_asked};
-use crate::system::System;
-use crate::system_drops::UdpTable;
+use crate::system::{Runtime, System};
 use ether_wire::{In, Out};
 use ev_config::{Config, ServedConfig};
 use ev_exchange::Known;
-use ev_report::{Buffers, DEVICE, Devices};
-use std::fs::Files;
-use std::net::Net;
-use std::sync::Wait;
-use std::thread::Threads;
-use std::time::Clock;
+use ev_report::Status;
 
 /// Writes at which path nothing can listen, and returns the status.
-fn tell_listen_error<N: Out>(path: &[u8], why: ListenError, notes: &mut N) -> u8
+fn tell_listen_error<N: Out>(path: &[u8], why: ListenError, notes: &mut N) -> Status
     requires { IsOpen (N.end notes.old) }
     ensures { TellsListenError path.now (N.end notes.old) (N.end notes.new) result }
 {
     let _ = put_listen_error(notes, path, why);
-    DEVICE
+    Status::Device
 }
 
 /// Returns the originators that each edge of the configuration lists.
@@ -48,12 +42,13 @@ fn listed_by(config: &Config) -> Known
 ///
 /// If nothing can listen at the path, no edge begins, a line on `notes` has the reason, and the
 /// status is 4.
-pub fn serve_edges<
-    R: Threads + Wait + Net + Files + UdpTable + Clock + Sync,
-    E: In,
-    W: Out,
-    N: Out + Send,
->(system: &System<'_, R>, served: ServedConfig, reader: &mut E, out: &mut W, notes: &mut N) -> u8
+pub fn serve_edges<R: Runtime, E: In, W: Out, N: Out + Send>(
+    system: &System<'_, R>,
+    served: ServedConfig,
+    reader: &mut E,
+    out: &mut W,
+    notes: &mut N,
+) -> Status
     requires config { AreConfigs served.config.edges.items }
     requires reader { Allows (2 ^ 40) (E.end reader.old) }
     requires out { IsOpen (W.end out.old) }
@@ -85,27 +80,4 @@ pub fn serve_edges<
     let status = run_asked(&host, system.policy, config, reader, out, notes);
     service.socket.remove(rt, path);
     status
-}
-
-/// Runs edges as `serve_edges` does, with few and large writes. Takes the devices and returns them.
-pub fn serve_buffered<
-    H: Threads + Wait + Net + Files + UdpTable + Clock + Sync,
-    R: In,
-    W: Out,
-    N: Out + Send,
->(system: &System<'_, H>, served: ServedConfig, devices: Devices<R, W, N>) -> (u8, Devices<R, W, N>)
-    requires config { AreConfigs served.config.edges.items }
-    requires devices { AreOpen devices }
-    ensures { ServesEdges system.now.policy (string_bytes served.control) served.config
-        devices result.1 result.0 }
-{
-    let mut all = Buffers::new(devices);
-    let status = serve_edges(
-        system,
-        served,
-        &mut all.reader,
-        &mut all.out,
-        &mut all.notes,
-    );
-    all.finish(status)
 }

@@ -1,7 +1,7 @@
 //! Binds the sockets of a run and finds its devices, and reports which one is of no use.
 ghost use Rattle.std.specs.Prelude.{◌≡◌, ◌≤◌, ◌||◌, ◌∷◌, [], false, is_none, vec_len, map, option_map, Some, IfOk, IfErr};
 ghost use Rattle.std.specs.List.{cons_option};
-ghost use Rattle.ether_wire.specs.Ends.{IsOpen, Puts};
+ghost use Rattle.ether_wire.specs.Ends.{Puts};
 ghost use Rattle.ev_links.specs.DeviceName.{text_of};
 ghost use Rattle.ev_run.specs.LinkEnds.{Udp, local_of, remote_of};
 ghost use Rattle.ev_run.specs.RunEdges.{why_text, endpoint_text, bind_error_text, no_device_text};
@@ -97,7 +97,6 @@ impl BindError {
 
 /// Writes `ADDRESS:PORT`.
 pub(crate) fn put_endpoint<N: Out>(notes: &mut N, at: Endpoint) -> Result<(), Device>
-    requires { IsOpen (N.end notes.old) }
     ensures { Puts (N.end notes.old) (N.end notes.new) (endpoint_text at) result }
 {
     put_addr(notes, at.address)?;
@@ -111,7 +110,6 @@ pub(crate) fn put_bind_error<N: Out>(
     at: Endpoint,
     why: BindError,
 ) -> Result<(), Device>
-    requires { IsOpen (N.end notes.old) }
     ensures { Puts (N.end notes.old) (N.end notes.new) (bind_error_text at why) result }
 {
     notes.put(b"can't bind ")?;
@@ -122,7 +120,6 @@ pub(crate) fn put_bind_error<N: Out>(
 
 /// Writes the name of a device.
 fn put_device<N: Out>(notes: &mut N, name: DeviceName) -> Result<(), Device>
-    requires { IsOpen (N.end notes.old) }
     ensures { Puts (N.end notes.old) (N.end notes.new) (text_of name) result }
 {
     notes.put(name.text())
@@ -135,7 +132,6 @@ pub(crate) fn put_no_device<N: Out>(
     name: DeviceName,
     why: AttachError,
 ) -> Result<(), Device>
-    requires { IsOpen (N.end notes.old) }
     ensures { Puts (N.end notes.old) (N.end notes.new) (no_device_text name why) result }
 {
     notes.put(b"can't use device ")?;

@@ -8,7 +8,7 @@
 //! | 2 | the name of the device | `tap0` |
 ghost use Rattle.std.specs.Prelude.{◌≡◌, ◌≢◌, ◌≤◌, [], length, option_map, None, Some, Ok, Err, pos, IfOk};
 ghost use Rattle.std.specs.Allocator.{alloc_error};
-ghost use Rattle.ether_wire.specs.Ends.{IsOpen, Puts};
+ghost use Rattle.ether_wire.specs.Ends.{Puts};
 ghost use Rattle.ev_run.specs.RunEdges.{attach_text};
 ghost use Rattle.ev_run.specs.Inner.Taps.{device_in, row_device, first_device, device_of, is_named, tap_named};
 
@@ -208,7 +208,6 @@ fn is_named(tap: &Tap, name: DeviceName) -> bool
 
 /// Writes why a device can't be used.
 pub(crate) fn put_attach_error<N: Out>(notes: &mut N, why: AttachError) -> Result<(), Device>
-    requires { IsOpen (N.end notes.old) }
     ensures { Puts (N.end notes.old) (N.end notes.new) (attach_text why) result }
 {
     notes.put(why.reason())

@@ -7,12 +7,13 @@ ghost use Rattle.ev_run.specs.Needs.{threads_of};
 ghost use Rattle.ev_run.specs.ThreadCheck.{allowed_text, too_few_text, IsTooFew};
 ghost use Rattle.ev_report.specs.Ends.{Holds, has_failed};
 ghost use Rattle.ev_report.specs.Notes.{status_of};
+ghost use Rattle.ev_report.specs.declared.status.Status.TheVariants as statuses;
 
 use crate::needs::threads_of;
 use crate::settling::{counted_threads, settle};
 use ether_wire::{Device, Out, put_decimal};
 use ev_config::Config;
-use ev_report::{DEVICE, MEMORY};
+use ev_report::Status;
 use std::fs::Files;
 use std::sync::{Mutex, Wait};
 use std::thread;
@@ -124,7 +125,6 @@ pub(crate) fn check_threads<R: Threads + Wait + Files + Clock + Sync>(
 
 /// Writes how many threads the system allowed, and what to do.
 fn put_allowed<N: Out>(notes: &mut N, allowed: u64) -> Result<(), Device>
-    requires { IsOpen (N.end notes.old) }
     ensures { Puts (N.end notes.old) (N.end notes.new) (allowed_text allowed) result }
 {
     notes.put(b" threads: the system allows ")?;
@@ -134,7 +134,6 @@ fn put_allowed<N: Out>(notes: &mut N, allowed: u64) -> Result<(), Device>
 
 /// Writes that the system allows too few threads.
 fn put_too_few<N: Out>(notes: &mut N, lack: TooFewThreads) -> Result<(), Device>
-    requires { IsOpen (N.end notes.old) }
     ensures { Puts (N.end notes.old) (N.end notes.new) (too_few_text lack) result }
 {
     notes.put(b"can't start ")?;
@@ -148,19 +147,19 @@ pub(crate) fn stopped_by<N: Out>(
     policy: ThreadPolicy,
     lack: TooFewThreads,
     notes: &mut N,
-) -> Option<u8>
+) -> Option<Status>
     requires { IsOpen (N.end notes.old) }
     ensures { MatchOption result
         ((N.end notes.new ≡ with_text (N.end notes.old) (too_few_text lack))
         × (policy ≡ ThreadPolicy.RunWithout))
         (λ status. Holds (N.end notes.old) (N.end notes.new) (too_few_text lack)
         × (status ≡ status_of (has_failed (N.end notes.old) (N.end notes.new)) true false)
-        × (policy ≡ ThreadPolicy.RunWithout → status ≡ 4)) }
+        × (policy ≡ ThreadPolicy.RunWithout → status ≡ statuses.Device)) }
 {
     match put_too_few(notes, lack) {
-        Err(Device) => Some(DEVICE),
+        Err(Device) => Some(Status::Device),
         Ok(()) => match policy {
-            ThreadPolicy::RequireAll => Some(MEMORY),
+            ThreadPolicy::RequireAll => Some(Status::Memory),
             ThreadPolicy::RunWithout => None,
         },
     }

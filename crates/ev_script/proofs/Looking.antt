@@ -56,10 +56,3 @@ looks_more name script rest line after a b c found more h some cut count good to
           (told_text name (1 + length h.lines) line) h.told
           (subst (λ n. Tells b c found.are_told more.are_told (told_text name n line)) many told));
     }
-
--- if no note has failed so far, a call may fail
-pub told_open : (name script rest : List ℕ) (a b : End) (found : CheckedLines) → LooksAt name script rest a b found
-    → IsOpen a
-    → found.are_told ≡ true → IsOpen b
-told_open name script rest a b found h room e =
-    let same = ap (λ (x : End). x.failures) (h.told.written e) in omega arith

@@ -2,7 +2,7 @@
 use Rattle.std.proofs.Common.{◌≡◌, inl, inr, ℕ, ◌+◌, Bool, true, false, not, ◌||◌, List, [], length, Option}
 use Rattle.std.proofs.Common.{Some, None, is_some, Result, Ok, Err, is_ok, refl, sym, ap, subst, ◌∙◌}
 use Rattle.ether_wire.specs.declared.ends.Device as device
-use Rattle.ether_wire.specs.Ends.{End, Source, Puts}
+use Rattle.ether_wire.specs.Ends.{End, Source, IsOpen, Puts}
 use Rattle.ev_edge.specs.declared.config.EdgeConfig.{EdgeConfig}
 use Rattle.ev_fabric.specs.Fabric.{Fabric}
 use Rattle.ev_report.specs.declared.input.ReadError.{ReadError}
@@ -22,31 +22,33 @@ use Rattle.ev_script.specs.Inner.Simulation.{read_error_status}
 use Rattle.ev_script.specs.Inner.Playing.{PlaysTo}
 use Rattle.ev_report.proofs.Finishing.{put_holds, put_failed, passed_out, passed_notes, passed_status, failed_out}
 use Rattle.ev_report.proofs.Finishing.{failed_notes, tells_holds, tells_failed}
+use Rattle.ev_report.specs.declared.status.Status.{Status}
 
 -- ---- a run on a fabric
 
 module _ (mode : Mode) (start : Fabric) (script : List ℕ) (p final : Simulator) (out out' notes notes' : End)
-    (r : Result (Unit {0}) device.Device) (status : ℕ)
+    (r : Result (Unit {0}) device.Device) (status : Status)
     (from : p.fabric ≡ start) (fed : p.is_out_of_memory ≡ false) (first : p.is_told ≡ true) where
   said : (text : List ℕ) → Tells out out' p.is_told final.is_told text → Tells out out' true final.is_told text
   said text told = subst (λ b. Tells out out' b final.is_told text) first told
 
   status_played : (bad : Option BadLine) (out_of_memory : Bool) (text : List ℕ)
-      → Tells out out' p.is_told final.is_told text → Puts notes notes' (note_of_line bad) r
+      → IsOpen out → IsOpen notes → Tells out out' p.is_told final.is_told text
+      → Puts notes notes' (note_of_line bad) r
       → final.is_out_of_memory ≡ (p.is_out_of_memory || out_of_memory)
       → status ≡ status_of (not final.is_told || not (is_ok r)) final.is_out_of_memory (is_some bad)
       → status ≡ status_of (has_failed out out' || has_failed notes notes') out_of_memory (is_some bad)
-  status_played bad out_of_memory text told put s is =
+  status_played bad out_of_memory text out_open notes_open told put s is =
       is ∙ status_as (not final.is_told) (not (is_ok r)) (has_failed out out') (has_failed notes notes')
       final.is_out_of_memory out_of_memory (is_some bad)
-      (sym (tells_failed out out' final.is_told text (said text told)))
-      (sym (put_failed notes notes' r (note_of_line bad) put)) (s ∙ ap (λ b. b || out_of_memory) fed)
+      (sym (tells_failed out out' final.is_told text out_open (said text told)))
+      (sym (put_failed notes notes' r (note_of_line bad) notes_open put)) (s ∙ ap (λ b. b || out_of_memory) fed)
 
-  pub plays_on : (bad : Option BadLine) → PlaysTo mode script p final out out' bad
+  pub plays_on : (bad : Option BadLine) → IsOpen out → IsOpen notes → PlaysTo mode script p final out out' bad
       → Puts notes notes' (note_of_line bad) r
       → status ≡ status_of (not final.is_told || not (is_ok r)) final.is_out_of_memory (is_some bad)
       → PlaysOn mode start script out out' notes notes' status
-  plays_on None h put is =
+  plays_on None out_open notes_open h put is =
       let played = h.1 in
       let text = text_of played.ran in
       record {
@@ -58,12 +60,12 @@ module _ (mode : Mode) (start : Fabric) (script : List ℕ) (p final : Simulator
         ran = played.ran;
         final = final.fabric;
         runs = subst (λ (f : Fabric). RunsLines mode script played.lines f played.ran final.fabric) from played.runs;
-        written = tells_holds out out' final.is_told text (said text played.told);
-        noted = put_holds notes notes' r [] put;
-        status_is = status_played None (ran_out_of_memory (made_by played.ran)) text played.told put
-            played.out_of_memory is;
+        written = tells_holds out out' final.is_told text out_open (said text played.told);
+        noted = put_holds notes notes' r [] notes_open put;
+        status_is = status_played None (ran_out_of_memory (made_by played.ran)) text out_open notes_open
+            played.told put played.out_of_memory is;
       }
-  plays_on (Some bad) h put is =
+  plays_on (Some bad) out_open notes_open h put is =
       let played = h.5 in
       let text = text_of played.ran in
       let number = bad.number in
@@ -77,24 +79,25 @@ module _ (mode : Mode) (start : Fabric) (script : List ℕ) (p final : Simulator
         ran = played.ran;
         final = final.fabric;
         runs = subst (λ (f : Fabric). RunsLines mode script played.lines f played.ran final.fabric) from played.runs;
-        written = tells_holds out out' final.is_told text (said text played.told);
+        written = tells_holds out out' final.is_told text out_open (said text played.told);
         noted = subst (λ l. Holds notes notes' (bad_line (length played.lines + 1) l)) h.3
             (subst (λ n. Holds notes notes' (bad_line n bad.line.now)) at
-            (put_holds notes notes' r (bad_line number bad.line.now) put));
-        status_is = status_played (Some bad) (ran_out_of_memory (made_by played.ran)) text played.told put
-            played.out_of_memory is;
+            (put_holds notes notes' r (bad_line number bad.line.now) notes_open put));
+        status_is = status_played (Some bad) (ran_out_of_memory (made_by played.ran)) text out_open notes_open
+            played.told put played.out_of_memory is;
       }
 
 -- ---- nothing is run
 
-pub plays_read_error : (mode : Mode) (configs : List EdgeConfig) (read_error : ReadError) (out notes : End) (status : ℕ)
+pub plays_read_error : (mode : Mode) (configs : List EdgeConfig) (read_error : ReadError) (out notes : End)
+    (status : Status)
     → status ≡ read_error_status read_error → PlaysRead mode configs (Err read_error) out out notes notes status
 plays_read_error mode configs Device out notes status is = (is_silent out notes, is)
 plays_read_error mode configs NoMemory out notes status is = refused_memory out notes status is
 
 -- ---- writers that get several texts in one call
 
-module _ (mode : Mode) (configs : List EdgeConfig) (before held after : Devices) (status last : ℕ)
+module _ (mode : Mode) (configs : List EdgeConfig) (before held after : Devices) (status last : Status)
     (p : Passes before.out.failures before.notes.failures held after status last) where
   passed_plays : (start : Fabric) (script : List ℕ)
       → PlaysOn mode start script before.out held.out before.notes held.notes status

@@ -2,7 +2,7 @@
 use Rattle.std.proofs.Common.{◌≡◌, ℕ, List, Bool, true, false, Result, Ok, Err, is_ok, refl, ap}
 use Rattle.std.proofs.Common.{arith}
 use Rattle.ether_wire.specs.declared.ends.Device.{Device}
-use Rattle.ether_wire.specs.Ends.{End, IsOpen, Puts}
+use Rattle.ether_wire.specs.Ends.{End, Puts}
 use Rattle.ev_report.specs.Ends.{Tells}
 
 -- a call that is made, since no earlier call has failed
@@ -15,12 +15,3 @@ tells_put a b p text (Err d) e h = record { kept = λ f. absurd (cc); written = 
 pub tells_kept : (a : End) (p : Bool) (text : List ℕ) → p ≡ false → Tells a a p false text
 tells_kept a p text e =
     record { kept = λ f. (refl, refl); written = λ t. absurd (cc); failed = λ t f. absurd (cc) }
-
--- a writer of which no call has failed may be called again
-pub still_open : (a b : End) (p q : Bool) (text : List ℕ) → (p ≡ true → IsOpen a) → Tells a b p q text → q ≡ true
-    → IsOpen b
-still_open a b true q text room h t =
-    let o = room refl in
-    let same = ap (λ (e : End). e.failures) (h.written t) in
-    omega arith
-still_open a b false q text room h t = absurd (let n = (h.kept refl).0 in cc)

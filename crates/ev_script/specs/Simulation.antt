@@ -39,6 +39,8 @@ use Rattle.ev_script.specs.Script.{Ends}
 use Rattle.ev_script.specs.Printing.{shown_text, step_text, second_text, announcement_text, refusal_text, port_text}
 use Rattle.ev_script.specs.Views.{view_text}
 use Rattle.ev_script.specs.Faults.{why_of, fault_text}
+use Rattle.ev_report.specs.declared.status.Status.{Status}
+use Rattle.ev_report.specs.declared.status.Status.TheVariants as statuses
 
 -- ---- steps
 
@@ -207,7 +209,7 @@ note_of is_bad number line = if is_bad then bad_line number line else []
 -- request, in their order, and the writer holds exactly what these lines print, or a call of it has failed. The mode
 -- decides which lines are bad, and which request nothing.
 pub record PlaysOn (mode : Mode) (start : Fabric) (script : List ℕ) (out out' notes notes' : End)
-    (status : ℕ) : Type 0 where
+    (status : Status) : Type 0 where
   pub lines : List Item
   pub rest : List ℕ
   pub is_bad : Bool
@@ -222,20 +224,21 @@ pub record PlaysOn (mode : Mode) (start : Fabric) (script : List ℕ) (out out' 
       is_bad
 
 -- on a fabric of edges that are opened with these configurations
-abbrev pub Plays : Mode → List EdgeConfig → List ℕ → End → End → End → End → ℕ → Type 0
+abbrev pub Plays : Mode → List EdgeConfig → List ℕ → End → End → End → End → Status → Type 0
 Plays mode configs script out out' notes notes' status =
     (start : Fabric) × IsStart configs start × PlaysOn mode start script out out' notes notes' status
 
 -- The result for a script that was read or not. If memory was refused to the script or to the edges, or the script
 -- wasn't read to its end, nothing was run.
-abbrev pub PlaysRead : Mode → List EdgeConfig → Result (List ℕ) ReadError → End → End → End → End → ℕ → Type 0
+abbrev pub PlaysRead : Mode → List EdgeConfig → Result (List ℕ) ReadError → End → End → End → End → Status → Type 0
 PlaysRead mode configs (Ok script) out out' notes notes' status =
     Plays mode configs script out out' notes notes' status ⊎ IsRefusedMemory out out' notes notes' status
-PlaysRead mode configs (Err Device) out out' notes notes' status = IsSilent out out' notes notes' × (status ≡ 4)
+PlaysRead mode configs (Err Device) out out' notes notes' status =
+    IsSilent out out' notes notes' × (status ≡ statuses.Device)
 PlaysRead mode configs (Err NoMemory) out out' notes notes' status = IsRefusedMemory out out' notes notes' status
 
 -- The script was read whole, and then run.
-pub record Simulates (mode : Mode) (configs : List EdgeConfig) (before after : Devices) (status : ℕ) : Type 0 where
+pub record Simulates (mode : Mode) (configs : List EdgeConfig) (before after : Devices) (status : Status) : Type 0 where
   pub script : Result (List ℕ) ReadError
   pub read : ReadsWhole before.input after.input script
   pub plays : PlaysRead mode configs script before.out after.out before.notes after.notes status

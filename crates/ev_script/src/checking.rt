@@ -2,7 +2,7 @@
 #![tactic(auto, using(ether_wire::proofs::Appending::with_text_twice, ether_wire::proofs::Appending::with_text_none))]
 
 ghost use Rattle.std.specs.Prelude.{◌≡◌, ◌+◌, ◌<◌, ◌^◌, ◌&&◌, true};
-ghost use Rattle.ether_wire.specs.Ends.{IsOpen, Puts};
+ghost use Rattle.ether_wire.specs.Ends.{Puts};
 ghost use Rattle.ev_report.specs.Ends.{Tells};
 ghost use Rattle.ev_script.specs.Faults.{is_good, fault_text, told_text, ChecksLines};
 
@@ -27,7 +27,6 @@ pub(crate) fn put_fault<N: Out>(
     number: u64,
     fault: LineFault,
 ) -> Result<(), Device>
-    requires { IsOpen (N.end notes.old) }
     ensures { Puts (N.end notes.old) (N.end notes.new) (fault_text name.now number fault) result }
 {
     notes.put(name)?;
@@ -38,7 +37,6 @@ pub(crate) fn put_fault<N: Out>(
 
 /// Writes why the line of this number is bad, if it is.
 fn put_told<N: Out>(notes: &mut N, name: &[u8], number: u64, line: &[u8]) -> Result<(), Device>
-    requires { IsOpen (N.end notes.old) }
     ensures { Puts (N.end notes.old) (N.end notes.new) (told_text name.now number line.now) result }
 {
     if is_good(line) {
@@ -50,8 +48,7 @@ fn put_told<N: Out>(notes: &mut N, name: &[u8], number: u64, line: &[u8]) -> Res
 impl CheckedLines {
     /// Returns the result with one line more. Reports the line if it is none of the commands.
     fn with<N: Out>(self, name: &[u8], line: &[u8], notes: &mut N) -> CheckedLines
-        requires count { self.count + 1 < 2 ^ 64 }
-        requires room { self.are_told ≡ true → IsOpen (N.end notes.old) }
+        requires { self.count + 1 < 2 ^ 64 }
         ensures count { result.count ≡ self.count + 1 }
         ensures good { result.are_good ≡ (self.are_good && is_good line.now) }
         ensures told { Tells (N.end notes.old) (N.end notes.new) self.are_told result.are_told
@@ -69,7 +66,6 @@ impl CheckedLines {
 /// Checks each line of a script, and writes `NAME:N: WHY` on the notes for each that is none of the
 /// commands. After a note that failed it writes no more.
 pub fn check_lines<N: Out>(name: &[u8], script: &[u8], notes: &mut N) -> CheckedLines
-    requires { IsOpen (N.end notes.old) }
     ensures { ChecksLines name.now script.now (N.end notes.old) (N.end notes.new) result }
 {
     let mut rest = script;

@@ -10,6 +10,5 @@ pub use script::{
     Command, Hex, MOST_OCTETS, Mode, Question, edge_question_of, parse, question_of, why_text,
 };
 pub use simulate::{
-    port_number, put_number, put_port, put_refusal, put_reply, put_report, put_words,
-    simulate_buffered, simulate_run,
+    port_number, put_number, put_port, put_refusal, put_reply, put_report, put_words, simulate_run,
 };

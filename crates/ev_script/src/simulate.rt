@@ -4,7 +4,7 @@
 ghost use Rattle.std.specs.Prelude.{◌≡◌, ◌^◌, Ok};
 ghost use Rattle.ether_wire.specs.Ends.{IsOpen, Allows, Puts};
 ghost use Rattle.ev_fabric.specs.Opening.{AreConfigs};
-ghost use Rattle.ev_report.specs.Ends.{AreOpen, devices};
+ghost use Rattle.ev_report.specs.Ends.{devices};
 ghost use Rattle.ev_script.specs.Simulation.{bad_head, bad_line, PlaysOn, PlaysRead, Simulates};
 ghost use Rattle.ev_script.specs.Inner.Simulation.{note_of_line, read_error_status};
 
@@ -19,16 +19,13 @@ use crate::simulate::simulator::{BadLine, Simulator};
 use ether_wire::{Device, In, Out, put_decimal};
 use ev_edge::EdgeConfig;
 use ev_fabric::Fabric;
-use ev_report::{
-    Buffers, DEVICE, Devices, Ending, MEMORY, ReadError, has_failed, read_whole, status_of,
-};
+use ev_report::{Ending, ReadError, Status, has_failed, read_whole, status_of};
 pub use print::{put_number, put_port, put_refusal, put_reply, put_report, put_words};
 pub use simulator::port_number;
 use std::alloc::Global;
 
 /// Writes `line N bad`.
 fn put_bad<N: Out>(notes: &mut N, number: u64) -> Result<(), Device>
-    requires { IsOpen (N.end notes.old) }
     ensures { Puts (N.end notes.old) (N.end notes.new) (bad_head number) result }
 {
     notes.put(b"line ")?;
@@ -38,7 +35,6 @@ fn put_bad<N: Out>(notes: &mut N, number: u64) -> Result<(), Device>
 
 /// Writes `line N bad`, and on the next line the reason.
 fn put_bad_and_why<N: Out>(notes: &mut N, number: u64, line: &[u8]) -> Result<(), Device>
-    requires { IsOpen (N.end notes.old) }
     ensures { Puts (N.end notes.old) (N.end notes.new) (bad_line number line.now) result }
 {
     put_bad(notes, number)?;
@@ -47,7 +43,6 @@ fn put_bad_and_why<N: Out>(notes: &mut N, number: u64, line: &[u8]) -> Result<()
 
 /// Writes which line is bad and why, if a line is bad.
 fn put_bad_line<N: Out>(bad: Option<BadLine<'_>>, notes: &mut N) -> Result<(), Device>
-    requires { IsOpen (N.end notes.old) }
     ensures { Puts (N.end notes.old) (N.end notes.new) (note_of_line bad.entry) result }
 {
     match bad {
@@ -57,7 +52,13 @@ fn put_bad_line<N: Out>(bad: Option<BadLine<'_>>, notes: &mut N) -> Result<(), D
 }
 
 /// Runs a script on a fabric, and returns the status.
-fn play<W: Out, N: Out>(mode: Mode, fabric: Fabric, script: &[u8], out: &mut W, notes: &mut N) -> u8
+fn play<W: Out, N: Out>(
+    mode: Mode,
+    fabric: Fabric,
+    script: &[u8],
+    out: &mut W,
+    notes: &mut N,
+) -> Status
     requires out { IsOpen (W.end out.old) }
     requires notes { IsOpen (N.end notes.old) }
     ensures { PlaysOn mode fabric script.now (W.end out.old) (W.end out.new)
@@ -78,7 +79,7 @@ fn open_and_play<W: Out, N: Out>(
     script: &[u8],
     out: &mut W,
     notes: &mut N,
-) -> u8
+) -> Status
     requires configs { AreConfigs configs.items }
     requires out { IsOpen (W.end out.old) }
     requires notes { IsOpen (N.end notes.old) }
@@ -87,17 +88,17 @@ fn open_and_play<W: Out, N: Out>(
 {
     match Fabric::new(alloc, configs) {
         Ok(fabric) => play(mode, fabric, script, out, notes),
-        Err(_) => MEMORY,
+        Err(_) => Status::Memory,
     }
 }
 
 /// Returns the status of a script that wasn't read to its end.
-fn read_error_status(read_error: ReadError) -> u8
+fn read_error_status(read_error: ReadError) -> Status
     ensures { result ≡ read_error_status read_error }
 {
     match read_error {
-        ReadError::Device => DEVICE,
-        ReadError::NoMemory => MEMORY,
+        ReadError::Device => Status::Device,
+        ReadError::NoMemory => Status::Memory,
     }
 }
 
@@ -121,7 +122,7 @@ pub fn simulate_run<R: In, W: Out, N: Out>(
     reader: &mut R,
     out: &mut W,
     notes: &mut N,
-) -> u8
+) -> Status
     requires configs { AreConfigs configs.items }
     requires reader { Allows (2 ^ 40) (R.end reader.old) }
     requires out { IsOpen (W.end out.old) }
@@ -134,27 +135,4 @@ pub fn simulate_run<R: In, W: Out, N: Out>(
         Ok(script) => open_and_play(alloc, mode, configs, script.as_slice(), out, notes),
         Err(read_error) => read_error_status(read_error),
     }
-}
-
-/// Runs `simulate_run` with few and large writes: it takes the devices, and returns them.
-pub fn simulate_buffered<R: In, W: Out, N: Out>(
-    alloc: Global,
-    mode: Mode,
-    configs: Vec<EdgeConfig>,
-    devices: Devices<R, W, N>,
-) -> (u8, Devices<R, W, N>)
-    requires configs { AreConfigs configs.items }
-    requires devices { AreOpen devices }
-    ensures { Simulates mode configs.items devices result.1 result.0 }
-{
-    let mut all = Buffers::new(devices);
-    let status = simulate_run(
-        alloc,
-        mode,
-        configs,
-        &mut all.reader,
-        &mut all.out,
-        &mut all.notes,
-    );
-    all.finish(status)
 }

@@ -2,7 +2,7 @@
 #![tactic(auto, using(ether_wire::proofs::Appending::with_text_twice, ether_wire::proofs::Appending::with_text_none))]
 
 ghost use Rattle.std.specs.Prelude.{◌≡◌};
-ghost use Rattle.ether_wire.specs.Ends.{IsOpen, Puts};
+ghost use Rattle.ether_wire.specs.Ends.{Puts};
 ghost use Rattle.ev_view.specs.Counts.{advertises, pinned_there, frozen_there, one_more};
 ghost use Rattle.ev_view.specs.Counts.{counted, counted_all, none_counted};
 ghost use Rattle.ev_view.specs.Counts.{amount_words, stations_words, registers_words, pending_words};
@@ -106,7 +106,6 @@ fn counted_all(edge: &Edge, updates: Updates<'_>) -> Counts
 
 /// Writes a word and its count.
 fn put_amount<W: Out>(out: &mut W, word: &[u8], amount: u64) -> Result<(), Device>
-    requires { IsOpen (W.end out.old) }
     ensures { Puts (W.end out.old) (W.end out.new) (amount_words word.now amount) result }
 {
     out.put(word)?;
@@ -115,7 +114,6 @@ fn put_amount<W: Out>(out: &mut W, word: &[u8], amount: u64) -> Result<(), Devic
 
 /// Writes how many stations an edge has learnt and pinned, and how many are frozen.
 fn put_stations_words<W: Out>(out: &mut W, edge: &Edge, counts: &Counts) -> Result<(), Device>
-    requires { IsOpen (W.end out.old) }
     ensures { Puts (W.end out.old) (W.end out.new) (stations_words edge.now counts.now) result }
 {
     put_amount(out, b" stations ", edge.entries() as u64)?;
@@ -125,7 +123,6 @@ fn put_stations_words<W: Out>(out: &mut W, edge: &Edge, counts: &Counts) -> Resu
 
 /// Writes how many registers an edge has, and how many of them are its adverts, and others'.
 fn put_registers_words<W: Out>(out: &mut W, counts: &Counts) -> Result<(), Device>
-    requires { IsOpen (W.end out.old) }
     ensures { Puts (W.end out.old) (W.end out.new) (registers_words counts.now) result }
 {
     put_amount(out, b" registers ", counts.registers)?;
@@ -135,7 +132,6 @@ fn put_registers_words<W: Out>(out: &mut W, counts: &Counts) -> Result<(), Devic
 
 /// Writes how many own registers an edge has still to announce, and ends the line.
 fn put_pending_words<W: Out>(out: &mut W, edge: &Edge) -> Result<(), Device>
-    requires { IsOpen (W.end out.old) }
     ensures { Puts (W.end out.old) (W.end out.new) (pending_words edge.now) result }
 {
     put_amount(out, b" pending ", edge.routes().pending() as u64)?;
@@ -144,7 +140,6 @@ fn put_pending_words<W: Out>(out: &mut W, edge: &Edge) -> Result<(), Device>
 
 /// Writes the counts of an edge from these counts of its registers.
 fn put_line<W: Out>(out: &mut W, number: u64, edge: &Edge, counts: &Counts) -> Result<(), Device>
-    requires { IsOpen (W.end out.old) }
     ensures { Puts (W.end out.old) (W.end out.new) (counts_line number edge.now counts.now) result }
 {
     put_decimal(out, number)?;
@@ -156,7 +151,6 @@ fn put_line<W: Out>(out: &mut W, number: u64, edge: &Edge, counts: &Counts) -> R
 
 /// Writes the counts of an edge.
 pub(crate) fn put_counts<W: Out>(out: &mut W, number: u64, edge: &Edge) -> Result<(), Device>
-    requires { IsOpen (W.end out.old) }
     ensures { Puts (W.end out.old) (W.end out.new) (counts_text number edge.now) result }
 {
     let counts = counted_all(edge, edge.table().updates());

@@ -2,7 +2,7 @@
 #![tactic(auto, using(ether_wire::proofs::Appending::with_text_twice, ether_wire::proofs::Appending::with_text_none))]
 
 ghost use Rattle.std.specs.Prelude.{◌≡◌};
-ghost use Rattle.ether_wire.specs.Ends.{IsOpen, Puts};
+ghost use Rattle.ether_wire.specs.Ends.{Puts};
 ghost use Rattle.ev_view.specs.EdgeViews.{comma, port_words, network_words, each_from, served_text, edge_words, edge_line};
 
 use ether_wire::{Addr, Device, Out, Vni, put_addr, put_decimal};
@@ -10,7 +10,6 @@ use ev_edge::Edge;
 
 /// Writes a comma in front of each but the first one.
 fn put_comma<W: Out>(out: &mut W, number: u64) -> Result<(), Device>
-    requires { IsOpen (W.end out.old) }
     ensures { Puts (W.end out.old) (W.end out.new) (comma number) result }
 {
     if number == 1 {
@@ -21,7 +20,6 @@ fn put_comma<W: Out>(out: &mut W, number: u64) -> Result<(), Device>
 
 /// Writes the number of a port, and of its network.
 fn put_port<W: Out>(out: &mut W, number: u64, vni: Vni) -> Result<(), Device>
-    requires { IsOpen (W.end out.old) }
     ensures { Puts (W.end out.old) (W.end out.new) (port_words number vni) result }
 {
     put_comma(out, number)?;
@@ -32,7 +30,6 @@ fn put_port<W: Out>(out: &mut W, number: u64, vni: Vni) -> Result<(), Device>
 
 /// Writes the numbers of ports, and of the network of each.
 fn put_ports<W: Out>(out: &mut W, vnis: &[Vni]) -> Result<(), Device>
-    requires { IsOpen (W.end out.old) }
     ensures { Puts (W.end out.old) (W.end out.new) (each_from port_words 1 vnis.now) result }
 {
     for (place, vni) in vnis.iter().enumerate() {
@@ -43,7 +40,6 @@ fn put_ports<W: Out>(out: &mut W, vnis: &[Vni]) -> Result<(), Device>
 
 /// Writes the number of a network.
 fn put_network<W: Out>(out: &mut W, number: u64, vni: Vni) -> Result<(), Device>
-    requires { IsOpen (W.end out.old) }
     ensures { Puts (W.end out.old) (W.end out.new) (network_words number vni) result }
 {
     put_comma(out, number)?;
@@ -52,7 +48,6 @@ fn put_network<W: Out>(out: &mut W, number: u64, vni: Vni) -> Result<(), Device>
 
 /// Writes the numbers of networks.
 fn put_networks<W: Out>(out: &mut W, vnis: &[Vni]) -> Result<(), Device>
-    requires { IsOpen (W.end out.old) }
     ensures { Puts (W.end out.old) (W.end out.new) (each_from network_words 1 vnis.now) result }
 {
     for (place, vni) in vnis.iter().enumerate() {
@@ -63,7 +58,6 @@ fn put_networks<W: Out>(out: &mut W, vnis: &[Vni]) -> Result<(), Device>
 
 /// Writes the end of an edge's line: its ports and networks.
 fn put_served<W: Out>(out: &mut W, ports: &[Vni], vnis: &[Vni]) -> Result<(), Device>
-    requires { IsOpen (W.end out.old) }
     ensures { Puts (W.end out.old) (W.end out.new) (served_text ports.now vnis.now) result }
 {
     out.put(b" ports ")?;
@@ -85,7 +79,6 @@ pub fn put_edge_line<W: Out>(
     ports: &[Vni],
     vnis: &[Vni],
 ) -> Result<(), Device>
-    requires { IsOpen (W.end out.old) }
     ensures { Puts (W.end out.old) (W.end out.new)
         (edge_words number address ports.now vnis.now) result }
 {
@@ -97,7 +90,6 @@ pub fn put_edge_line<W: Out>(
 
 /// Writes the line of the edge of a view.
 pub fn put_edge<W: Out>(out: &mut W, number: u64, edge: &Edge) -> Result<(), Device>
-    requires { IsOpen (W.end out.old) }
     ensures { Puts (W.end out.old) (W.end out.new) (edge_line number edge.now) result }
 {
     let routes = edge.routes();

@@ -18,3 +18,6 @@ pub use laws::owner_leads;
 pub use link_lines::{LinkRow, links_of};
 pub use unlisted::with_unlisted;
 pub use view::{EdgeQuestion, put_edge_view, view_of};
+
+#[cfg(test)]
+mod tests;

@@ -2,7 +2,7 @@
 #![tactic(auto, using(ether_wire::proofs::Appending::with_text_twice, ether_wire::proofs::Appending::with_text_none))]
 
 ghost use Rattle.std.specs.Prelude.{◌≡◌, ◌++◌, IfOk};
-ghost use Rattle.ether_wire.specs.Ends.{IsOpen, Puts};
+ghost use Rattle.ether_wire.specs.Ends.{Puts};
 ghost use Rattle.ev_view.specs.EdgeViews.{each_from};
 ghost use Rattle.ev_view.specs.LinkLines.{place_words, amount_words, in_words, refused_words, system_words, dropped_words, out_words, link_line};
 
@@ -49,7 +49,6 @@ pub struct LinkRow {
 
 /// Writes a word and its number.
 fn put_amount<W: Out>(out: &mut W, word: &[u8], amount: u64) -> Result<(), Device>
-    requires { IsOpen (W.end out.old) }
     ensures { Puts (W.end out.old) (W.end out.new) (amount_words word.now amount) result }
 {
     out.put(word)?;
@@ -58,7 +57,6 @@ fn put_amount<W: Out>(out: &mut W, word: &[u8], amount: u64) -> Result<(), Devic
 
 /// Writes which link a line is about: the tunnel's, or that of the port with this number.
 fn put_place<W: Out>(out: &mut W, place: u64) -> Result<(), Device>
-    requires { IsOpen (W.end out.old) }
     ensures { Puts (W.end out.old) (W.end out.new) (place_words place) result }
 {
     if place == 0 {
@@ -70,7 +68,6 @@ fn put_place<W: Out>(out: &mut W, place: u64) -> Result<(), Device>
 
 /// Writes what came over a link.
 fn put_in<W: Out>(out: &mut W, row: &LinkRow) -> Result<(), Device>
-    requires { IsOpen (W.end out.old) }
     ensures { Puts (W.end out.old) (W.end out.new) (in_words row.now) result }
 {
     put_amount(out, b" in ", row.received)?;
@@ -81,7 +78,6 @@ fn put_in<W: Out>(out: &mut W, row: &LinkRow) -> Result<(), Device>
 
 /// Writes how many datagrams the edge dropped, by cause.
 fn put_refused<W: Out>(out: &mut W, row: &LinkRow) -> Result<(), Device>
-    requires { IsOpen (W.end out.old) }
     ensures { Puts (W.end out.old) (W.end out.new) (refused_words row.now) result }
 {
     put_amount(out, b" long ", row.too_long)?;
@@ -94,7 +90,6 @@ fn put_refused<W: Out>(out: &mut W, row: &LinkRow) -> Result<(), Device>
 
 /// Writes how many datagrams the system dropped, if that is known.
 fn put_system<W: Out>(out: &mut W, drops: Option<u64>) -> Result<(), Device>
-    requires { IsOpen (W.end out.old) }
     ensures { Puts (W.end out.old) (W.end out.new) (system_words drops) result }
 {
     match drops {
@@ -105,7 +100,6 @@ fn put_system<W: Out>(out: &mut W, drops: Option<u64>) -> Result<(), Device>
 
 /// Writes how many datagrams the edge and the system dropped.
 fn put_dropped<W: Out>(out: &mut W, row: &LinkRow) -> Result<(), Device>
-    requires { IsOpen (W.end out.old) }
     ensures { Puts (W.end out.old) (W.end out.new) (dropped_words row.now) result }
 {
     put_refused(out, row)?;
@@ -114,7 +108,6 @@ fn put_dropped<W: Out>(out: &mut W, row: &LinkRow) -> Result<(), Device>
 
 /// Writes what went over a link, and ends the line.
 fn put_out<W: Out>(out: &mut W, row: &LinkRow) -> Result<(), Device>
-    requires { IsOpen (W.end out.old) }
     ensures { Puts (W.end out.old) (W.end out.new) (out_words row.now) result }
 {
     put_amount(out, b" out ", row.sent)?;
@@ -127,7 +120,6 @@ fn put_out<W: Out>(out: &mut W, row: &LinkRow) -> Result<(), Device>
 
 /// Writes the line of a link.
 fn put_line<W: Out>(out: &mut W, number: u64, place: u64, row: &LinkRow) -> Result<(), Device>
-    requires { IsOpen (W.end out.old) }
     ensures { Puts (W.end out.old) (W.end out.new) (link_line number place row.now) result }
 {
     put_decimal(out, number)?;
@@ -139,7 +131,6 @@ fn put_line<W: Out>(out: &mut W, number: u64, place: u64, row: &LinkRow) -> Resu
 
 /// Writes a line for each of these links, the tunnel's first.
 fn put_lines<W: Out>(out: &mut W, number: u64, rows: &[LinkRow]) -> Result<(), Device>
-    requires { IsOpen (W.end out.old) }
     ensures { Puts (W.end out.old) (W.end out.new)
         (each_from (link_line number) 0 rows.now) result }
 {

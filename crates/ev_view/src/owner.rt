@@ -3,7 +3,7 @@
 
 ghost use Rattle.std.specs.Prelude.{◌≡◌, [], None};
 ghost use Rattle.route_join.specs.Updates.{updates_of};
-ghost use Rattle.ether_wire.specs.Ends.{IsOpen, Puts};
+ghost use Rattle.ether_wire.specs.Ends.{Puts};
 ghost use Rattle.route_join.specs.Owner.{better_of};
 ghost use Rattle.ev_view.specs.Owners.{said_by, best_but, ranked, offer_line, offer_lines, owner_line, owner_text};
 
@@ -58,7 +58,6 @@ fn best_but(told: &[Addr], updates: UpdatesOf<'_>) -> Option<Offer>
 
 /// Writes the line of an advert.
 fn put_offer<W: Out>(out: &mut W, number: u64, offer: &Offer) -> Result<(), Device>
-    requires { IsOpen (W.end out.old) }
     ensures { Puts (W.end out.old) (W.end out.new) (offer_line number offer.now) result }
 {
     put_decimal(out, number)?;
@@ -81,7 +80,6 @@ fn put_offers<W: Out>(
     vni: Vni,
     mac: Mac,
 ) -> Result<(), Device>
-    requires { IsOpen (W.end out.old) }
     ensures { Puts (W.end out.old) (W.end out.new)
         (offer_lines number (ranked 64 [] (updates_of table.now vni mac))) result }
 {
@@ -99,7 +97,6 @@ fn put_offers<W: Out>(
 
 /// Writes the owner of an address, or `none`.
 fn put_owner_line<W: Out>(out: &mut W, number: u64, owner: Option<Addr>) -> Result<(), Device>
-    requires { IsOpen (W.end out.old) }
     ensures { Puts (W.end out.old) (W.end out.new) (owner_line number owner) result }
 {
     put_decimal(out, number)?;
@@ -121,7 +118,6 @@ pub(crate) fn put_owner<W: Out>(
     vni: Vni,
     mac: Mac,
 ) -> Result<(), Device>
-    requires { IsOpen (W.end out.old) }
     ensures { Puts (W.end out.old) (W.end out.new) (owner_text number table.now vni mac) result }
 {
     put_owner_line(out, number, table.owner(vni, mac))?;

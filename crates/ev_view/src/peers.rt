@@ -2,7 +2,7 @@
 #![tactic(auto, using(ether_wire::proofs::Appending::with_text_twice, ether_wire::proofs::Appending::with_text_none))]
 
 ghost use Rattle.std.specs.Prelude.{◌≡◌};
-ghost use Rattle.ether_wire.specs.Ends.{IsOpen, Puts};
+ghost use Rattle.ether_wire.specs.Ends.{Puts};
 ghost use Rattle.ev_view.specs.EdgeViews.{each_from};
 ghost use Rattle.ev_view.specs.Peers.{state_words, peer_line, peer_text, peers_text};
 
@@ -11,7 +11,6 @@ use ev_edge::Edge;
 
 /// Writes whether an edge is away or up, and ends the line.
 fn put_state<W: Out>(out: &mut W, is_away: bool) -> Result<(), Device>
-    requires { IsOpen (W.end out.old) }
     ensures { Puts (W.end out.old) (W.end out.new) (state_words is_away) result }
 {
     if is_away {
@@ -23,7 +22,6 @@ fn put_state<W: Out>(out: &mut W, is_away: bool) -> Result<(), Device>
 
 /// Writes the line of another edge.
 fn put_line<W: Out>(out: &mut W, number: u64, originator: Addr, is_away: bool) -> Result<(), Device>
-    requires { IsOpen (W.end out.old) }
     ensures { Puts (W.end out.old) (W.end out.new) (peer_line number originator is_away) result }
 {
     put_decimal(out, number)?;
@@ -34,7 +32,6 @@ fn put_line<W: Out>(out: &mut W, number: u64, originator: Addr, is_away: bool) -
 
 /// Writes the line of an originator that an edge lists, unless it is the edge itself.
 fn put_peer<W: Out>(out: &mut W, number: u64, edge: &Edge, originator: Addr) -> Result<(), Device>
-    requires { IsOpen (W.end out.old) }
     ensures { Puts (W.end out.old) (W.end out.new) (peer_text number edge.now originator) result }
 {
     if originator == edge.routes().address() {
@@ -46,7 +43,6 @@ fn put_peer<W: Out>(out: &mut W, number: u64, edge: &Edge, originator: Addr) -> 
 
 /// Writes the other edges that an edge lists, in the order of its table.
 pub(crate) fn put_peers<W: Out>(out: &mut W, number: u64, edge: &Edge) -> Result<(), Device>
-    requires { IsOpen (W.end out.old) }
     ensures { Puts (W.end out.old) (W.end out.new) (peers_text number edge.now) result }
 {
     for originator in edge.table().originators() {

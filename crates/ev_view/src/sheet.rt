@@ -47,7 +47,7 @@ impl Out for Sheet {
         match self.octets.extend_from_slice(octets) {
             Ok(()) => Ok(()),
             Err(_) => {
-                self.failures += 1;
+                self.failures = self.failures.saturating_add(1);
                 Err(Device)
             }
         }

@@ -2,7 +2,7 @@
 #![tactic(auto, using(ether_wire::proofs::Appending::with_text_twice, ether_wire::proofs::Appending::with_text_none))]
 
 ghost use Rattle.std.specs.Prelude.{◌≡◌};
-ghost use Rattle.ether_wire.specs.Ends.{IsOpen, Puts};
+ghost use Rattle.ether_wire.specs.Ends.{Puts};
 ghost use Rattle.ev_view.specs.Stations.{is_own, bare_station, own_station, is_of, age_words};
 ghost use Rattle.ev_view.specs.Stations.{place_words, frozen_words, subject_words, station_line, known_line};
 ghost use Rattle.ev_view.specs.Stations.{asked_line, stations_text};
@@ -56,7 +56,6 @@ fn is_of(asked: &Option<Vni>, vni: Vni) -> bool
 
 /// Writes the seconds since the station's last frame, or that it is pinned.
 fn put_age<W: Out>(out: &mut W, edge: &Edge, entry: &Entry) -> Result<(), Device>
-    requires { IsOpen (W.end out.old) }
     ensures { Puts (W.end out.old) (W.end out.new) (age_words edge.now entry.now) result }
 {
     if entry.pinned {
@@ -68,7 +67,6 @@ fn put_age<W: Out>(out: &mut W, edge: &Edge, entry: &Entry) -> Result<(), Device
 
 /// Writes the port of a station, if it is learnt.
 fn put_place<W: Out>(out: &mut W, edge: &Edge, entry: &Option<Entry>) -> Result<(), Device>
-    requires { IsOpen (W.end out.old) }
     ensures { Puts (W.end out.old) (W.end out.new) (place_words edge.now entry.now) result }
 {
     let Some(entry) = entry else {
@@ -81,7 +79,6 @@ fn put_place<W: Out>(out: &mut W, edge: &Edge, entry: &Option<Entry>) -> Result<
 
 /// Writes that a station is frozen, if it is.
 fn put_frozen<W: Out>(out: &mut W, frozen: bool) -> Result<(), Device>
-    requires { IsOpen (W.end out.old) }
     ensures { Puts (W.end out.old) (W.end out.new) (frozen_words frozen) result }
 {
     if frozen {
@@ -92,7 +89,6 @@ fn put_frozen<W: Out>(out: &mut W, frozen: bool) -> Result<(), Device>
 
 /// Writes the station of a line.
 fn put_subject<W: Out>(out: &mut W, number: u64, station: &Station) -> Result<(), Device>
-    requires { IsOpen (W.end out.old) }
     ensures { Puts (W.end out.old) (W.end out.new) (subject_words number station.now) result }
 {
     put_decimal(out, number)?;
@@ -111,7 +107,6 @@ fn put_station<W: Out>(
     entry: &Option<Entry>,
     frozen: bool,
 ) -> Result<(), Device>
-    requires { IsOpen (W.end out.old) }
     ensures { Puts (W.end out.old) (W.end out.new)
         (station_line number edge.now station.now entry.now frozen) result }
 {
@@ -123,7 +118,6 @@ fn put_station<W: Out>(
 
 /// Writes the line of a station that is learnt or frozen.
 fn put_known<W: Out>(out: &mut W, number: u64, edge: &Edge, station: &Station) -> Result<(), Device>
-    requires { IsOpen (W.end out.old) }
     ensures { Puts (W.end out.old) (W.end out.new) (known_line number edge.now station.now) result }
 {
     let entry = edge.routes().look(station);
@@ -142,7 +136,6 @@ fn put_asked<W: Out>(
     vni: &Option<Vni>,
     station: &Option<Station>,
 ) -> Result<(), Device>
-    requires { IsOpen (W.end out.old) }
     ensures { Puts (W.end out.old) (W.end out.new)
         (asked_line number edge.now vni.now station.now) result }
 {
@@ -162,7 +155,6 @@ pub(crate) fn put_stations<W: Out>(
     edge: &Edge,
     vni: &Option<Vni>,
 ) -> Result<(), Device>
-    requires { IsOpen (W.end out.old) }
     ensures { Puts (W.end out.old) (W.end out.new) (stations_text number edge.now vni.now) result }
 {
     for update in edge.table().updates() {

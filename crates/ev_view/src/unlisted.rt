@@ -2,7 +2,7 @@
 #![tactic(auto, using(ether_wire::proofs::Appending::with_text_twice, ether_wire::proofs::Appending::with_text_none))]
 
 ghost use Rattle.std.specs.Prelude.{◌≡◌, ◌++◌, IfOk};
-ghost use Rattle.ether_wire.specs.Ends.{IsOpen, Puts};
+ghost use Rattle.ether_wire.specs.Ends.{Puts};
 ghost use Rattle.ev_view.specs.Peers.{unlisted_line, unlisted_lines, more_line, full_text, unlisted_text, text_after};
 
 use crate::sheet::Sheet;
@@ -15,7 +15,6 @@ const MOST: usize = 64;
 
 /// Writes the line of an edge that the configuration doesn't name.
 fn put_line<W: Out>(out: &mut W, number: u64, originator: Addr) -> Result<(), Device>
-    requires { IsOpen (W.end out.old) }
     ensures { Puts (W.end out.old) (W.end out.new) (unlisted_line number originator) result }
 {
     put_decimal(out, number)?;
@@ -26,7 +25,6 @@ fn put_line<W: Out>(out: &mut W, number: u64, originator: Addr) -> Result<(), De
 
 /// Writes a line for each of these edges.
 fn put_lines<W: Out>(out: &mut W, number: u64, unlisted: &[Addr]) -> Result<(), Device>
-    requires { IsOpen (W.end out.old) }
     ensures { Puts (W.end out.old) (W.end out.new) (unlisted_lines number unlisted.now) result }
 {
     for originator in unlisted {
@@ -37,7 +35,6 @@ fn put_lines<W: Out>(out: &mut W, number: u64, unlisted: &[Addr]) -> Result<(), 
 
 /// Writes that there may be more edges than those that have a line.
 fn put_more<W: Out>(out: &mut W, number: u64) -> Result<(), Device>
-    requires { IsOpen (W.end out.old) }
     ensures { Puts (W.end out.old) (W.end out.new) (more_line number) result }
 {
     put_decimal(out, number)?;
@@ -46,7 +43,6 @@ fn put_more<W: Out>(out: &mut W, number: u64) -> Result<(), Device>
 
 /// Writes that there may be more edges than these, if no more are kept by name.
 fn put_full<W: Out>(out: &mut W, number: u64, unlisted: &[Addr]) -> Result<(), Device>
-    requires { IsOpen (W.end out.old) }
     ensures { Puts (W.end out.old) (W.end out.new) (full_text number unlisted.now) result }
 {
     if unlisted.len() < MOST {
@@ -57,7 +53,6 @@ fn put_full<W: Out>(out: &mut W, number: u64, unlisted: &[Addr]) -> Result<(), D
 
 /// Writes a text, and these edges after it.
 fn put_after<W: Out>(out: &mut W, number: u64, text: &[u8], unlisted: &[Addr]) -> Result<(), Device>
-    requires { IsOpen (W.end out.old) }
     ensures { Puts (W.end out.old) (W.end out.new)
         (text.now ++ unlisted_text number unlisted.now) result }
 {

@@ -2,7 +2,7 @@
 #![tactic(auto, using(ether_wire::proofs::Appending::with_text_twice, ether_wire::proofs::Appending::with_text_none))]
 
 ghost use Rattle.std.specs.Prelude.{◌≡◌, IfOk};
-ghost use Rattle.ether_wire.specs.Ends.{IsOpen, Puts};
+ghost use Rattle.ether_wire.specs.Ends.{Puts};
 ghost use Rattle.ev_view.specs.EdgeViews.{edge_view_text};
 
 use crate::counts::put_counts;
@@ -42,7 +42,6 @@ pub fn put_edge_view<W: Out>(
     edge: &Edge,
     question: &EdgeQuestion,
 ) -> Result<(), Device>
-    requires { IsOpen (W.end out.old) }
     ensures { Puts (W.end out.old) (W.end out.new)
         (edge_view_text number edge.now question.now) result }
 {

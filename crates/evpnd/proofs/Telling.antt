@@ -2,7 +2,7 @@
 use Rattle.std.proofs.Common.{◌≡◌, ◌≢◌, inl, inr, ℕ, ◌+◌, cond, List, [], ◌∷◌, ◌++◌, Result, Ok, Err}
 use Rattle.std.proofs.Common.{is_ok, refl, ap, ◌∙◌}
 use Rattle.ether_wire.specs.declared.ends.Device.{Device}
-use Rattle.ether_wire.specs.Ends.{End, Puts, with_text}
+use Rattle.ether_wire.specs.Ends.{End, IsOpen, Puts, with_text}
 use Rattle.ether_wire.proofs.Appending.{with_text_twice}
 use Rattle.clap.specs.Words.{IsAmong, fault_of}
 use Rattle.clap.specs.Kinds.{Kinds}
@@ -19,11 +19,14 @@ use Rattle.ev_report.proofs.Told.{failed_put}
 use Rattle.evpnd.specs.Checks.{desk, Sums}
 use Rattle.evpnd.specs.Program.{world, RunsWords}
 use Rattle.evpnd.specs.Inner.Program.{TellsFault}
+use Rattle.ev_report.specs.declared.status.Status.{Status}
+use Rattle.ev_report.specs.declared.status.Status.TheVariants as statuses
 
 -- a text was put on the output
-pub sums_put : (a b : End) (r : Result (Unit {0}) Device) (text : Text) (status : ℕ) → Puts a b text r
-    → ◌≡◌ {A = ℕ} status (cond (is_ok r) 0 4) → Sums text a b status
-sums_put a b r text status h is = (put_holds a b r text h, is ∙ failed_put a b r text 0 h (is_ok r) refl)
+pub sums_put : (a b : End) (r : Result (Unit {0}) Device) (text : Text) (status : Status) → IsOpen a → Puts a b text r
+    → ◌≡◌ {A = Status} status (cond (is_ok r) statuses.Done statuses.Device) → Sums text a b status
+sums_put a b r text status room h is =
+    (put_holds a b r text room h, is ∙ failed_put a b r text statuses.Done room h (is_ok r) refl)
 
 -- a text was put, followed by the lines for one that is no configuration
 pub put_before : (wanted : Use) (document : Text) (a b c : End) (text : Text) (r : Result (Unit {0}) Device)
@@ -33,7 +36,7 @@ pub put_before : (wanted : Use) (document : Text) (a b c : End) (text : Text) (r
 put_before wanted document a b c text (Ok x) first (t, are, h) =
     (t, are, h ∙ ap (λ (e : End). with_text e t) first ∙ with_text_twice a text t)
 put_before wanted document a b c text (Err d) first (t, are, h) =
-    (t, are, h ∙ ap (λ (e : End). e.failures + 1) first)
+    (t, are, subst (λ (e : End). IsOpen e → c.failures ≡ e.failures + 1) first h)
 
 among_some : (k : ErrorKind) (ks : Kinds) → IsAmong k ks → ks ≢ []
 among_some k [] among none = among
@@ -41,7 +44,7 @@ among_some k (x ∷ xs) among none = cc
 
 -- arguments with a fault
 pub runs_refused : (given : Descriptors) (words : List Text) (k : ErrorKind) (before middle after : ℕ) (shelf : Shelf)
-    (d d' : Devices) (status : ℕ) → IsAmong k (fault_of program words) → middle ≡ before
+    (d d' : Devices) (status : Status) → IsAmong k (fault_of program words) → middle ≡ before
     → d' ≡ record d { notes = d'.notes } → TellsFault middle after d.notes d'.notes status
     → RunsWords given words (world before shelf d) (world after shelf d') status
 runs_refused given words k before middle after shelf d d' status among same kept (inl out_of_memory) =

@@ -21,6 +21,8 @@ use Rattle.ev_run.specs.declared.obstacles.Obstacle.{Obstacle}
 use Rattle.ev_run.specs.Needs.{needs_of, asked_text}
 use Rattle.ev_run.specs.Obstacles.{obstacles_of, obstacles_text}
 use Rattle.evpnd.specs.declared.check.Purpose.{Purpose}
+use Rattle.ev_report.specs.declared.status.Status.{Status}
+use Rattle.ev_report.specs.declared.status.Status.TheVariants as statuses
 
 -- the devices and the files
 pub record Desk : Type 0 where
@@ -33,22 +35,22 @@ desk shelf devices = record { shelf = shelf; devices = devices }
 -- ---- files
 
 -- memory was refused once more, for the text of a file; no device was called
-pub record IsRefusedText (before after : Desk) (status : ℕ) : Type 0 where
+pub record IsRefusedText (before after : Desk) (status : Status) : Type 0 where
   pub refused : after.shelf ≡ record before.shelf { refusals = before.shelf.refusals + 1 }
   pub devices_kept : after.devices ≡ before.devices
-  pub status_is : status ≡ 3
+  pub status_is : status ≡ statuses.Memory
 
 -- once more the file of an option had no text, which is reported; nothing was read, nothing else written
-pub record IsUnread (option : Named) (path : Text) (before after : Desk) (status : ℕ) : Type 0 where
+pub record IsUnread (option : Named) (path : Text) (before after : Desk) (status : Status) : Type 0 where
   pub failed : after.shelf ≡ record before.shelf { failures = before.shelf.failures + 1 }
   pub why : Unread
   pub input : after.devices.input ≡ before.devices.input
   pub out : after.devices.out ≡ before.devices.out
   pub noted : Holds before.devices.notes after.devices.notes (unread_text option path why)
-  pub status_is : status ≡ 4
+  pub status_is : status ≡ statuses.Device
 
 -- there is no text of an option's file: memory was refused for it, or it can't be read, which is reported
-abbrev pub IsTextless : Named → Text → Desk → Desk → ℕ → Type 0
+abbrev pub IsTextless : Named → Text → Desk → Desk → Status → Type 0
 IsTextless option path before after status = IsRefusedText before after status
     ⊎ IsUnread option path before after status
 
@@ -58,11 +60,11 @@ Gives X = Text → Result X ConfigRefusal → Type 0
 
 -- the use of a text's configuration
 abbrev pub Uses : Type 0 → Type 1
-Uses X = Text → Result X ConfigRefusal → Devices → Devices → ℕ → Type 0
+Uses X = Text → Result X ConfigRefusal → Devices → Devices → Status → Type 0
 
 -- the file has this text, and its configuration is used
 pub record IsRead {X : Type 0} (gives : Gives X) (uses : Uses X) (path : Text) (before after : Desk)
-    (status : ℕ) : Type 0 where
+    (status : Status) : Type 0 where
   pub shelf_kept : after.shelf ≡ before.shelf
   pub text : Text
   pub read : IsTextOf before.shelf path text
@@ -71,15 +73,16 @@ pub record IsRead {X : Type 0} (gives : Gives X) (uses : Uses X) (path : Text) (
   pub used : uses text found before.devices after.devices status
 
 -- the use of a file's configuration
-abbrev pub OfFile : {X : Type 0} → Gives X → Uses X → Text → Desk → Desk → ℕ → Type 0
+abbrev pub OfFile : {X : Type 0} → Gives X → Uses X → Text → Desk → Desk → Status → Type 0
 OfFile gives uses path before after status = IsTextless named.Config path before after status
     ⊎ IsRead gives uses path before after status
 
 -- ---- a check
 
 -- a text was written on the output, or a call of it failed
-abbrev pub Sums : Text → End → End → ℕ → Type 0
-Sums text before after status = Holds before after text × (status ≡ (if has_failed before after then 4 else 0))
+abbrev pub Sums : Text → End → End → Status → Type 0
+Sums text before after status =
+    Holds before after text × (status ≡ (if has_failed before after then statuses.Device else statuses.Done))
 
 -- the summary of a configuration's edges, and the resources of their run
 abbrev pub run_text : Bool → Config → Text
@@ -87,26 +90,26 @@ run_text is_asked config =
     summary_text config.edges.items ++ asked_text is_asked (needs_of config.edges.items config.links.items)
 
 -- the lines for a text that is no configuration are written to the notes, or a call of them failed
-abbrev pub TellsFaults : Use → Text → End → End → ℕ → Type 0
+abbrev pub TellsFaults : Use → Text → End → End → Status → Type 0
 TellsFaults wanted text before after status =
     (told : Text) × AreFaultLines wanted text told × IsTold told before after status
 
 -- A run has no obstacles, and this text is written; or its obstacles are reported.
-abbrev pub TellsObstacles : List Obstacle → Text → End → End → End → End → ℕ → Type 0
+abbrev pub TellsObstacles : List Obstacle → Text → End → End → End → End → Status → Type 0
 TellsObstacles [] text out out' notes notes' status = (notes' ≡ notes) × Sums text out out' status
 TellsObstacles (one ∷ more) text out out' notes notes' status =
     (out' ≡ out) × IsTold (obstacles_text (one ∷ more)) notes notes' status
 
 -- The obstacles of a configuration's run, or its summary and resources, served or not, given the limits of the process;
 -- or there was no memory for the obstacles.
-abbrev pub SumsRun : Bool → ProcessLimits → Config → End → End → End → End → ℕ → Type 0
+abbrev pub SumsRun : Bool → ProcessLimits → Config → End → End → End → End → Status → Type 0
 SumsRun is_asked limits config out out' notes notes' status =
     TellsObstacles (obstacles_of config.edges.items config.links.items is_asked limits)
     (run_text is_asked config) out out' notes notes' status
-    ⊎ ((out' ≡ out) × (notes' ≡ notes) × (status ≡ 3))
+    ⊎ ((out' ≡ out) × (notes' ≡ notes) × (status ≡ statuses.Memory))
 
 -- the summary of a configuration for a use; for a run, its obstacles or its resources
-abbrev pub SumsFor : Use → ProcessLimits → Config → End → End → End → End → ℕ → Type 0
+abbrev pub SumsFor : Use → ProcessLimits → Config → End → End → End → End → Status → Type 0
 SumsFor Any limits config out out' notes notes' status =
     (notes' ≡ notes) × Sums (summary_text config.edges.items) out out' status
 SumsFor Run limits config out out' notes notes' status = SumsRun false limits config out out' notes notes' status
@@ -114,11 +117,11 @@ SumsFor Serve limits config out out' notes notes' status = SumsRun true limits c
 
 -- A text's configuration is summed up on the output for its purpose (0); its faults are reported on the notes (2), or
 -- there was no memory (3); nothing was read, nothing else written.
-abbrev pub Checks : Purpose → Text → Result Config ConfigRefusal → Devices → Devices → ℕ → Type 0
+abbrev pub Checks : Purpose → Text → Result Config ConfigRefusal → Devices → Devices → Status → Type 0
 Checks purpose text (Ok config) before after status = (after.input ≡ before.input)
     × SumsFor purpose.wanted purpose.limits config before.out after.out before.notes after.notes status
 Checks purpose text (Err (refusal.Key key)) before after status = (after.input ≡ before.input)
     × (after.out ≡ before.out) × TellsFaults purpose.wanted text before.notes after.notes status
 Checks purpose text (Err refusal.Text) before after status = (after.input ≡ before.input)
     × (after.out ≡ before.out) × TellsFaults purpose.wanted text before.notes after.notes status
-Checks purpose text (Err refusal.NoMemory) before after status = (after ≡ before) × (status ≡ 3)
+Checks purpose text (Err refusal.NoMemory) before after status = (after ≡ before) × (status ≡ statuses.Memory)

@@ -31,6 +31,8 @@ use Rattle.ev_run.specs.declared.thread_check.ThreadPolicy.TheVariants.{RequireA
 use Rattle.evpnd.specs.declared.check.Purpose.{Purpose}
 use Rattle.evpnd.specs.Streams.{Unclosed}
 use Rattle.ev_report.specs.Failures.{failures_of, TellsFailed}
+use Rattle.ev_report.specs.declared.status.Status.{Status}
+use Rattle.ev_report.specs.declared.status.Status.TheVariants as statuses
 
 -- the devices and the files, and how often the parser of the arguments was refused memory
 pub record World : Type 0 where
@@ -49,12 +51,12 @@ not_text = codes "error: a word isn't UTF-8\n"
 -- ---- invocations
 
 -- the edges of a file run; with `true` they answer queries meanwhile
-abbrev pub RunsFile : Bool → ThreadPolicy → Text → Desk → Desk → ℕ → Type 0
+abbrev pub RunsFile : Bool → ThreadPolicy → Text → Desk → Desk → Status → Type 0
 RunsFile false policy = OfFile (ConfigOf true) (RunsFound policy)
 RunsFile true policy = OfFile ServedOf (ServesFound policy)
 
 -- the edges run, if no standard stream was closed
-abbrev pub RunsOpen : Bool → ThreadPolicy → Option Stream → Text → Desk → Desk → ℕ → Type 0
+abbrev pub RunsOpen : Bool → ThreadPolicy → Option Stream → Text → Desk → Desk → Status → Type 0
 RunsOpen is_asked policy closed path before after status =
     Unclosed (RunsFile is_asked policy path) closed before after status
 
@@ -77,7 +79,7 @@ abbrev pub purpose_of : Aim → Descriptors → Purpose
 purpose_of aim descriptors = record { wanted = use_of aim; limits = descriptors.limits }
 
 -- the effect of each subcommand with the values of its options and its flags
-abbrev pub FollowsAs : Descriptors → Subcommand → Text → Option Text → Aim → Desk → Desk → ℕ → Type 0
+abbrev pub FollowsAs : Descriptors → Subcommand → Text → Option Text → Aim → Desk → Desk → Status → Type 0
 FollowsAs given Report list more aim before after status = (after.shelf ≡ before.shelf)
     × Hinted (OfList Reports list) before.devices after.devices status
 FollowsAs given Migrate list more aim before after status = (after.shelf ≡ before.shelf)
@@ -95,12 +97,13 @@ FollowsAs given Serve path more aim before after status = RunsOpen true (policy_
 FollowsAs given Version nothing more aim before after status = (after.shelf ≡ before.shelf)
     × TellsVersion before.devices after.devices status
 
-abbrev pub Follows : Descriptors → Parts → Desk → Desk → ℕ → Type 0
+abbrev pub Follows : Descriptors → Parts → Desk → Desk → Status → Type 0
 Follows given invocation before after status = FollowsAs given invocation.0 invocation.1 invocation.2 invocation.3
     before after status
 
 -- An invocation is executed, and then failed reading or writing is reported.
-pub record FollowsTelling (given : Descriptors) (invocation : Parts) (before after : Desk) (status : ℕ) : Type 0 where
+pub record FollowsTelling (given : Descriptors) (invocation : Parts) (before after : Desk) (status : Status) :
+    Type 0 where
   pub mid : Desk
   pub follows : Follows given invocation before mid status
   pub shelf_kept : after.shelf ≡ mid.shelf
@@ -109,13 +112,13 @@ pub record FollowsTelling (given : Descriptors) (invocation : Parts) (before aft
 -- ---- arguments
 
 -- memory was refused once more, for the parser or for its message; no device was called
-pub record IsOutOfMemory (before after : World) (status : ℕ) : Type 0 where
+pub record IsOutOfMemory (before after : World) (status : Status) : Type 0 where
   pub refused : after.refusals ≡ before.refusals + 1
   pub desk_kept : after.desk ≡ before.desk
-  pub status_is : status ≡ 3
+  pub status_is : status ≡ statuses.Memory
 
 -- the arguments have a fault, which is reported
-pub record IsRefused (words : List Text) (before after : World) (status : ℕ) : Type 0 where
+pub record IsRefused (words : List Text) (before after : World) (status : Status) : Type 0 where
   pub faulty : fault_of program words ≢ []
   pub refusals_kept : after.refusals ≡ before.refusals
   pub shelf_kept : after.desk.shelf ≡ before.desk.shelf
@@ -123,20 +126,20 @@ pub record IsRefused (words : List Text) (before after : World) (status : ℕ) :
   pub told : TellsUsage text before.desk.devices after.desk.devices status
 
 -- the arguments are an invocation, and it is executed
-pub record IsFollowed (given : Descriptors) (words : List Text) (before after : World) (status : ℕ) : Type 0 where
+pub record IsFollowed (given : Descriptors) (words : List Text) (before after : World) (status : Status) : Type 0 where
   pub invocation : Parts
   pub spells : Spells words invocation
   pub refusals_kept : after.refusals ≡ before.refusals
   pub follows : FollowsTelling given invocation before.desk after.desk status
 
-abbrev pub RunsWords : Descriptors → List Text → World → World → ℕ → Type 0
+abbrev pub RunsWords : Descriptors → List Text → World → World → Status → Type 0
 RunsWords given words before after status =
     IsOutOfMemory before after status ⊎ (IsRefused words before after status
     ⊎ IsFollowed given words before after status)
 
 -- A run, given the system's arguments and its limit of descriptors.
-abbrev pub RunsProgram : Descriptors → Argv → World → World → ℕ → Type 0
-RunsProgram given NoMemory before after status = (after ≡ before) × (status ≡ 3)
+abbrev pub RunsProgram : Descriptors → Argv → World → World → Status → Type 0
+RunsProgram given NoMemory before after status = (after ≡ before) × (status ≡ statuses.Memory)
 RunsProgram given NotText before after status =
     (after.refusals ≡ before.refusals) × (after.desk.shelf ≡ before.desk.shelf)
     × TellsUsage not_text before.desk.devices after.desk.devices status

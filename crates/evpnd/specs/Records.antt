@@ -4,6 +4,9 @@ use Rattle.std.specs.Prelude.{MatchBool, if◌then◌else◌}
 use Rattle.ether_wire.specs.Ends.{End}
 use Rattle.ev_report.specs.Ends.{Devices, has_failed, Holds}
 use Rattle.evpnd.specs.Files.{Text}
+use Rattle.ev_report.specs.declared.status.Status.{Status}
+use Rattle.ev_report.specs.declared.status.Status.TheVariants as statuses
+use Rattle.ev_report.specs.Status.{is_broken}
 
 -- The message about text, after the line about the stream's fault.
 abbrev pub not_records : Text
@@ -19,25 +22,26 @@ abbrev pub is_text : Option ℕ → Bool
 is_text (Some octet) = not (octet == 69) && is_printed octet
 is_text None = false
 
--- If the stream has a fault (status 1), the first octet that was read is text, and the notes have had no failure since
--- they had this number, the message is written to them. The status stays, unless that failed: then it is 4.
-abbrev pub Hints : Option ℕ → ℕ → End → End → ℕ → ℕ → Type 0
+-- If the stream has a fault (status `Broken`), the first octet that was read is text, and the notes have had no failure
+-- since they had this number, the message is written to them. The status stays, unless that failed: then it is
+-- `Device`.
+abbrev pub Hints : Option ℕ → ℕ → End → End → Status → Status → Type 0
 Hints first failures before after status last =
-    MatchBool (status == 1 && (is_text first && not (nat_lt failures before.failures)))
-    (Holds before after not_records × (last ≡ (if has_failed before after then 4 else status)))
+    MatchBool (is_broken status && (is_text first && not (nat_lt failures before.failures)))
+    (Holds before after not_records × (last ≡ (if has_failed before after then statuses.Device else status)))
     ((after ≡ before) × (last ≡ status))
 
 -- The same of all devices, after reading whose first octet was this one.
-pub record HintsOn (first : Option ℕ) (failures : ℕ) (before after : Devices) (status last : ℕ) : Type 0 where
+pub record HintsOn (first : Option ℕ) (failures : ℕ) (before after : Devices) (status last : Status) : Type 0 where
   pub input : after.input ≡ before.input
   pub out : after.out ≡ before.out
   pub hints : Hints first failures before.notes after.notes status last
 
 -- Records were read, with this effect; then, after a fault, the notes report that the first octet that was read is
 -- text, if it is.
-pub record Hinted (does : Devices → Devices → ℕ → Type 0) (before after : Devices) (last : ℕ) : Type 0 where
+pub record Hinted (does : Devices → Devices → Status → Type 0) (before after : Devices) (last : Status) : Type 0 where
   pub mid : Devices
-  pub status : ℕ
+  pub status : Status
   pub first : Option ℕ
   pub done : does before mid status
   pub told : HintsOn first before.notes.failures mid after status last

@@ -12,6 +12,8 @@ use Rattle.evpnd.specs.declared.files.Named.TheVariants.{Script}
 use Rattle.evpnd.specs.Files.{Text, IsTextOf}
 use Rattle.evpnd.specs.declared.check.Purpose.{Purpose}
 use Rattle.evpnd.specs.Checks.{Desk, IsTextless, OfFile, Checks}
+use Rattle.ev_report.specs.declared.status.Status.{Status}
+use Rattle.ev_report.specs.Status.{is_done}
 
 abbrev pub lines_word : ℕ → Text
 lines_word count = if count == 1 then codes " line\n" else codes " lines\n"
@@ -22,7 +24,7 @@ lines_text are_good count = if are_good then codes "ok: " ++ decimal count ++ li
 
 -- A script of this name was split into its lines. Each invalid line is reported with its place and the reason (1); or
 -- the number of lines is written (0).
-pub record Looks (name script : Text) (out out' notes notes' : End) (status : ℕ) : Type 0 where
+pub record Looks (name script : Text) (out out' notes notes' : End) (status : Status) : Type 0 where
   pub lines : List Text
   pub follows : Follows (λ line. Some line) script lines []
   pub noted : Holds notes notes' (faults_text name 1 lines)
@@ -31,25 +33,26 @@ pub record Looks (name script : Text) (out out' notes notes' : End) (status : �
       ≡ status_of (has_failed out out' || has_failed notes notes') false (not (list_all is_good lines))
 
 -- the file has this text, which was checked; nothing was read from the input
-pub record IsLooked (path : Text) (before after : Desk) (status : ℕ) : Type 0 where
+pub record IsLooked (path : Text) (before after : Desk) (status : Status) : Type 0 where
   pub shelf_kept : after.shelf ≡ before.shelf
   pub text : Text
   pub read : IsTextOf before.shelf path text
   pub input : after.devices.input ≡ before.devices.input
   pub looks : Looks path text before.devices.out after.devices.out before.devices.notes after.devices.notes status
 
-abbrev pub OfScript : Text → Desk → Desk → ℕ → Type 0
+abbrev pub OfScript : Text → Desk → Desk → Status → Type 0
 OfScript path before after status = IsTextless Script path before after status ⊎ IsLooked path before after status
 
--- the script is checked if the status so far is 0; otherwise nothing is done
-abbrev pub Behind : ℕ → Text → Desk → Desk → ℕ → Type 0
+-- the script is checked if the status so far is `Done`; otherwise nothing is done
+abbrev pub Behind : Status → Text → Desk → Desk → Status → Type 0
 Behind first path before after status =
-    MatchBool (first == 0) (OfScript path before after status) ((after ≡ before) × (status ≡ first))
+    MatchBool (is_done first) (OfScript path before after status) ((after ≡ before) × (status ≡ first))
 
--- A configuration is checked for a purpose. If the status of that is 0, the script is checked too, if one was given.
-abbrev pub ChecksAll : Purpose → Text → Option Text → Desk → Desk → ℕ → Type 0
+-- A configuration is checked for a purpose. If the status of that is `Done`, the script is checked too, if one was
+-- given.
+abbrev pub ChecksAll : Purpose → Text → Option Text → Desk → Desk → Status → Type 0
 ChecksAll purpose path None before after status =
     OfFile (ConfigFor purpose.wanted) (Checks purpose) path before after status
 ChecksAll purpose path (Some script) before after status =
-    (mid : Desk) × (first : ℕ) × OfFile (ConfigFor purpose.wanted) (Checks purpose) path before mid first
+    (mid : Desk) × (first : Status) × OfFile (ConfigFor purpose.wanted) (Checks purpose) path before mid first
     × Behind first script mid after status

@@ -11,16 +11,17 @@ use Rattle.ev_script.specs.Simulation.{Simulates}
 use Rattle.ev_run.specs.RunEdges.{RunsEdges}
 use Rattle.ev_run.specs.Serving.{ServesEdges}
 use Rattle.ev_run.specs.declared.thread_check.ThreadPolicy.{ThreadPolicy}
+use Rattle.ev_report.specs.declared.status.Status.{Status}
 
 -- a script is run on the edges of a configuration
-abbrev pub SimulatesEdges : Mode → Config → Devices → Devices → ℕ → Type 0
+abbrev pub SimulatesEdges : Mode → Config → Devices → Devices → Status → Type 0
 SimulatesEdges mode config before after status = Simulates mode config.edges.items before after status
 
 abbrev pub SimulatesFound : Mode → Uses Config
 SimulatesFound mode = OfFound Any (SimulatesEdges mode)
 
 -- the edges of a configuration run, and answer queries at its socket meanwhile
-abbrev pub ServesConfig : ThreadPolicy → ServedConfig → Devices → Devices → ℕ → Type 0
+abbrev pub ServesConfig : ThreadPolicy → ServedConfig → Devices → Devices → Status → Type 0
 ServesConfig policy served = ServesEdges policy (string_bytes served.control) served.config
 
 abbrev pub RunsFound : ThreadPolicy → Uses Config

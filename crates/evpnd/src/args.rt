@@ -15,9 +15,9 @@ use std::alloc::{AllocError, Global};
 pub struct Invocation<'a> {
     pub subcommand: Subcommand,
     /// The value of the subcommand's required option; empty if it has none.
-    pub value: &'a str,
+    pub required: &'a str,
     /// The value of its optional option, if given.
-    pub more: Option<&'a str>,
+    pub optional: Option<&'a str>,
     /// Its aim, by its flags.
     pub aim: Aim,
 }
@@ -304,13 +304,13 @@ fn invocation_in<'a>(matches: &ArgMatches<'a>) -> Option<Invocation<'a>>
 {
     let (name, inner) = matches.subcommand()?;
     let subcommand = named(name)?;
-    let value = needed_in(subcommand.needs(), inner)?;
-    let more = given_in(subcommand.takes(), inner);
+    let required = needed_in(subcommand.needs(), inner)?;
+    let optional = given_in(subcommand.takes(), inner);
     let aim = aim_in(subcommand, inner);
     Some(Invocation {
         subcommand,
-        value,
-        more,
+        required,
+        optional,
         aim,
     })
 }

@@ -12,12 +12,13 @@ ghost use Rattle.ev_run.specs.Obstacles.{obstacles_of, obstacles_text};
 ghost use Rattle.evpnd.specs.Checks.{desk, OfFile, Sums, run_text, TellsFaults, TellsObstacles, SumsRun, SumsFor, Checks};
 ghost use Rattle.evpnd.specs.Inner.Checks.{ChecksText};
 ghost use Rattle.evpnd.specs.Scripts.{ChecksAll};
+ghost use Rattle.ev_report.specs.declared.status.Status.TheVariants as statuses;
 
 use crate::check_script::check_script;
 use crate::files::{Files, Named, text_at};
 use ether_wire::{Device, Out};
 use ev_config::{Config, ConfigRefusal, Use, config_for, put_refusal, put_summary};
-use ev_report::{DEVICE, DONE, MEMORY, usage_status};
+use ev_report::{Status, usage_status};
 use ev_run::{Obstacle, ProcessLimits, needs_of, obstacles_of, put_asked_needs, put_obstacles};
 use std::alloc::Global;
 
@@ -42,17 +43,17 @@ pub(crate) struct CheckTarget<'a> {
 }
 
 /// Returns the status, by whether the output could be written.
-pub(crate) fn done_status(written: Result<(), Device>) -> u8
-    ensures { result ≡ (if is_ok written then 0 else 4) }
+pub(crate) fn done_status(written: Result<(), Device>) -> Status
+    ensures { result ≡ (if is_ok written then statuses.Done else statuses.Device) }
 {
     match written {
-        Ok(()) => DONE,
-        Err(Device) => DEVICE,
+        Ok(()) => Status::Done,
+        Err(Device) => Status::Device,
     }
 }
 
 /// Writes the summary of a configuration.
-fn sum_up<W: Out>(config: &Config, out: &mut W) -> u8
+fn sum_up<W: Out>(config: &Config, out: &mut W) -> Status
     requires { IsOpen (W.end out.old) }
     ensures { Sums (summary_text config.now.edges.items) (W.end out.old) (W.end out.new) result }
 {
@@ -61,7 +62,6 @@ fn sum_up<W: Out>(config: &Config, out: &mut W) -> u8
 
 /// Writes the summary of a configuration, and the resources of its run.
 fn put_sums<W: Out>(config: &Config, is_asked: bool, out: &mut W) -> Result<(), Device>
-    requires { IsOpen (W.end out.old) }
     ensures { Puts (W.end out.old) (W.end out.new)
         (run_text is_asked config.now) result }
 {
@@ -70,7 +70,7 @@ fn put_sums<W: Out>(config: &Config, is_asked: bool, out: &mut W) -> Result<(), 
 }
 
 /// Writes the summary of a configuration, and the resources of its run, and returns the status.
-fn sum_up_run<W: Out>(config: &Config, is_asked: bool, out: &mut W) -> u8
+fn sum_up_run<W: Out>(config: &Config, is_asked: bool, out: &mut W) -> Status
     requires { IsOpen (W.end out.old) }
     ensures { Sums (run_text is_asked config.now) (W.end out.old) (W.end out.new)
         result }
@@ -79,7 +79,7 @@ fn sum_up_run<W: Out>(config: &Config, is_asked: bool, out: &mut W) -> u8
 }
 
 /// Reports the obstacles to a run.
-fn tell_obstacles<N: Out>(found: &[Obstacle], notes: &mut N) -> u8
+fn tell_obstacles<N: Out>(found: &[Obstacle], notes: &mut N) -> Status
     requires { IsOpen (N.end notes.old) }
     ensures { IsTold (obstacles_text found.now) (N.end notes.old) (N.end notes.new) result }
 {
@@ -93,7 +93,7 @@ fn tell_run<W: Out, N: Out>(
     found: &[Obstacle],
     out: &mut W,
     notes: &mut N,
-) -> u8
+) -> Status
     requires out { IsOpen (W.end out.old) }
     requires notes { IsOpen (N.end notes.old) }
     ensures { TellsObstacles found.now (run_text is_asked config.now)
@@ -121,7 +121,7 @@ fn sum_up_or_tell<W: Out, N: Out>(
     config: &Config,
     out: &mut W,
     notes: &mut N,
-) -> u8
+) -> Status
     requires out { IsOpen (W.end out.old) }
     requires notes { IsOpen (N.end notes.old) }
     ensures { SumsRun run.is_asked run.limits config.now (W.end out.old) (W.end out.new)
@@ -129,7 +129,7 @@ fn sum_up_or_tell<W: Out, N: Out>(
 {
     match obstacles_of(alloc, config, run.is_asked, run.limits) {
         Ok(found) => tell_run(config, run.is_asked, found.as_slice(), out, notes),
-        Err(_) => MEMORY,
+        Err(_) => Status::Memory,
     }
 }
 
@@ -140,7 +140,7 @@ fn sum_up_for<W: Out, N: Out>(
     config: &Config,
     out: &mut W,
     notes: &mut N,
-) -> u8
+) -> Status
     requires out { IsOpen (W.end out.old) }
     requires notes { IsOpen (N.end notes.old) }
     ensures { SumsFor purpose.wanted purpose.limits config.now (W.end out.old) (W.end out.new)
@@ -167,7 +167,7 @@ fn tell_refusal<N: Out>(
     text: &str,
     key: Option<&str>,
     notes: &mut N,
-) -> u8
+) -> Status
     requires { IsOpen (N.end notes.old) }
     ensures { TellsFaults wanted text.now (N.end notes.old) (N.end notes.new) result }
 {
@@ -181,7 +181,7 @@ fn check_text<W: Out, N: Out>(
     text: &str,
     out: &mut W,
     notes: &mut N,
-) -> u8
+) -> Status
     requires out { IsOpen (W.end out.old) }
     requires notes { IsOpen (N.end notes.old) }
     ensures { ChecksText purpose text.now (W.end out.old) (N.end notes.old) (W.end out.new)
@@ -189,7 +189,7 @@ fn check_text<W: Out, N: Out>(
 {
     match config_for(alloc, text, purpose.wanted) {
         Ok(config) => sum_up_for(alloc, purpose, &config, out, notes),
-        Err(ConfigRefusal::NoMemory) => MEMORY,
+        Err(ConfigRefusal::NoMemory) => Status::Memory,
         Err(ConfigRefusal::Text) => tell_refusal(alloc, purpose.wanted, text, None, notes),
         Err(ConfigRefusal::Key(key)) => {
             tell_refusal(alloc, purpose.wanted, text, Some(key.as_str()), notes)
@@ -204,7 +204,7 @@ fn check<F: Files, W: Out, N: Out>(
     wanted: CheckTarget<'_>,
     out: &mut W,
     notes: &mut N,
-) -> u8
+) -> Status
     requires files { HasRoom (F.shelf files.old) }
     requires out { IsOpen (W.end out.old) }
     requires notes { IsOpen (N.end notes.old) }
@@ -227,7 +227,7 @@ pub(crate) fn check_all<F: Files, W: Out, N: Out>(
     wanted: CheckTarget<'_>,
     out: &mut W,
     notes: &mut N,
-) -> u8
+) -> Status
     requires files { HasRoom (F.shelf files.old) }
     requires out { IsOpen (W.end out.old) }
     requires notes { IsOpen (N.end notes.old) }
@@ -239,7 +239,7 @@ pub(crate) fn check_all<F: Files, W: Out, N: Out>(
     let status = check(alloc, files, wanted, out, notes);
     match wanted.script {
         None => status,
-        Some(script) if status == DONE => check_script(files, script, out, notes),
+        Some(script) if status.is_done() => check_script(files, script, out, notes),
         Some(_) => status,
     }
 }

@@ -10,7 +10,7 @@ ghost use Rattle.evpnd.specs.Scripts.{lines_word, lines_text, Looks, OfScript};
 
 use crate::files::{Files, Named, text_at};
 use ether_wire::{Device, Out, put_decimal};
-use ev_report::{Ending, has_failed, status_of};
+use ev_report::{Ending, Status, has_failed, status_of};
 use ev_script::check_lines;
 
 /// Returns the word after the number of lines, with a line feed.
@@ -22,7 +22,6 @@ fn lines_word(count: u64) -> &'static [u8]
 
 /// Writes the number of lines, if each is a command.
 fn put_lines<W: Out>(are_good: bool, count: u64, out: &mut W) -> Result<(), Device>
-    requires { IsOpen (W.end out.old) }
     ensures { Puts (W.end out.old) (W.end out.new) (lines_text are_good count) result }
 {
     if !are_good {
@@ -34,7 +33,7 @@ fn put_lines<W: Out>(are_good: bool, count: u64, out: &mut W) -> Result<(), Devi
 }
 
 /// Checks the lines of a script of this name, and returns the status.
-fn look<W: Out, N: Out>(name: &str, text: &str, out: &mut W, notes: &mut N) -> u8
+fn look<W: Out, N: Out>(name: &str, text: &str, out: &mut W, notes: &mut N) -> Status
     requires out { IsOpen (W.end out.old) }
     requires notes { IsOpen (N.end notes.old) }
     ensures { Looks name.now text.now (W.end out.old) (W.end out.new)
@@ -53,7 +52,7 @@ pub(crate) fn check_script<F: Files, W: Out, N: Out>(
     path: &str,
     out: &mut W,
     notes: &mut N,
-) -> u8
+) -> Status
     requires files { HasRoom (F.shelf files.old) }
     requires out { IsOpen (W.end out.old) }
     requires notes { IsOpen (N.end notes.old) }

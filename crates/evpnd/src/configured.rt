@@ -18,12 +18,11 @@ use ether_wire::{Device, Out};
 use ev_config::{
     Config, ConfigRefusal, ServedConfig, Use, config_of, put_refusal, served_config_of,
 };
-use ev_report::{MEMORY, usage_status};
+use ev_report::{Status, usage_status};
 use std::alloc::Global;
 
 /// Writes `config KEY`.
 fn put_key<N: Out>(notes: &mut N, key: &[u8]) -> Result<(), Device>
-    requires { IsOpen (N.end notes.old) }
     ensures { Puts (N.end notes.old) (N.end notes.new) (config_text key.now) result }
 {
     notes.put(b"config ")?;
@@ -41,7 +40,6 @@ struct RefusedText<'a> {
 
 /// Writes `config KEY`, and then a line for each fault, as `evpnd check` writes them.
 fn put_faults<N: Out>(refused: RefusedText<'_>, key: &str, notes: &mut N) -> Result<(), Device>
-    requires { IsOpen (N.end notes.old) }
     ensures { (more : Text) × AreFaultLines refused.entry.wanted refused.entry.text.now more
         × Puts (N.end notes.old) (N.end notes.new) (config_text key.now ++ more) result }
 {
@@ -56,7 +54,7 @@ fn put_faults<N: Out>(refused: RefusedText<'_>, key: &str, notes: &mut N) -> Res
 }
 
 /// Reports which key of a configuration is faulty, and its faults, and returns the status.
-fn tell_key<N: Out>(refused: RefusedText<'_>, key: &str, notes: &mut N) -> u8
+fn tell_key<N: Out>(refused: RefusedText<'_>, key: &str, notes: &mut N) -> Status
     requires { IsOpen (N.end notes.old) }
     ensures { (more : Text) × AreFaultLines refused.entry.wanted refused.entry.text.now more
         × IsTold (config_text key.now ++ more) (N.end notes.old) (N.end notes.new) result }
@@ -65,14 +63,14 @@ fn tell_key<N: Out>(refused: RefusedText<'_>, key: &str, notes: &mut N) -> u8
 }
 
 /// Reports why a text is no configuration, and returns the status.
-fn tell_refusal<N: Out>(refused: RefusedText<'_>, refusal: &ConfigRefusal, notes: &mut N) -> u8
+fn tell_refusal<N: Out>(refused: RefusedText<'_>, refusal: &ConfigRefusal, notes: &mut N) -> Status
     requires { IsOpen (N.end notes.old) }
     ensures { (input : Source) → (out : End) → Refuses refused.entry.wanted
         refused.entry.text.now refusal.now (devices input out (N.end notes.old))
         (devices input out (N.end notes.new)) result }
 {
     match refusal {
-        ConfigRefusal::NoMemory => MEMORY,
+        ConfigRefusal::NoMemory => Status::Memory,
         ConfigRefusal::Text => tell_key(refused, "text", notes),
         ConfigRefusal::Key(key) => tell_key(refused, key.as_str(), notes),
     }
@@ -84,7 +82,7 @@ fn configured_by<N: Out>(
     text: &str,
     for_run: bool,
     notes: &mut N,
-) -> Result<Config, u8>
+) -> Result<Config, Status>
     requires { IsOpen (N.end notes.old) }
     ensures value { TextGives (use_for for_run) (ConfigOf for_run) text.now (N.end notes.old)
         (N.end notes.new) result }
@@ -106,7 +104,7 @@ fn configured_by<N: Out>(
 
 /// Returns the configuration of a text for edges that answer queries while they run, or the status
 /// if it has none, after a report.
-fn served_by<N: Out>(alloc: Global, text: &str, notes: &mut N) -> Result<ServedConfig, u8>
+fn served_by<N: Out>(alloc: Global, text: &str, notes: &mut N) -> Result<ServedConfig, Status>
     requires { IsOpen (N.end notes.old) }
     ensures value { TextGives Serve ServedOf text.now (N.end notes.old) (N.end notes.new) result }
     ensures opens { IfOk result (λ s. AreConfigs s.config.edges.items) }
@@ -136,7 +134,7 @@ pub(crate) fn configured<F: Files, N: Out>(
     path: &str,
     for_run: bool,
     notes: &mut N,
-) -> Result<Config, u8>
+) -> Result<Config, Status>
     requires files { HasRoom (F.shelf files.old) }
     requires notes { IsOpen (N.end notes.old) }
     ensures value { FileGives (use_for for_run) (ConfigOf for_run) path.now (F.shelf files.old)
@@ -159,7 +157,7 @@ pub(crate) fn served<F: Files, N: Out>(
     files: &mut F,
     path: &str,
     notes: &mut N,
-) -> Result<ServedConfig, u8>
+) -> Result<ServedConfig, Status>
     requires files { HasRoom (F.shelf files.old) }
     requires notes { IsOpen (N.end notes.old) }
     ensures value { FileGives Serve ServedOf path.now (F.shelf files.old) (F.shelf files.new)

@@ -7,9 +7,10 @@ ghost use Rattle.ev_report.specs.Ends.{devices};
 ghost use Rattle.evpnd.specs.Files.{Shelf, HasRoom, IsTextOf, GivesText, reason_of, lead_of, unread_text};
 ghost use Rattle.evpnd.specs.Inner.Files.{shelf_of};
 ghost use Rattle.evpnd.specs.Checks.{desk, IsTextless};
+ghost use Rattle.ev_report.specs.declared.status.Status.TheVariants as statuses;
 
 use ether_wire::{Device, Out};
-use ev_report::{DEVICE, MEMORY};
+use ev_report::Status;
 use std::{fs, io};
 
 /// Why a file can't be read.
@@ -168,7 +169,6 @@ pub(crate) fn put_unread<N: Out>(
     path: &[u8],
     why: Unread,
 ) -> Result<(), Device>
-    requires { IsOpen (N.end notes.old) }
     ensures { Puts (N.end notes.old) (N.end notes.new) (unread_text named path.now why) result }
 {
     notes.put(named.lead())?;
@@ -177,11 +177,11 @@ pub(crate) fn put_unread<N: Out>(
 }
 
 /// Returns the status of a file without a text, after a report.
-fn unread_status(told: Result<(), Device>) -> u8
-    ensures { result ≡ 4 }
+fn unread_status(told: Result<(), Device>) -> Status
+    ensures { result ≡ statuses.Device }
 {
     match told {
-        Ok(()) | Err(Device) => DEVICE,
+        Ok(()) | Err(Device) => Status::Device,
     }
 }
 
@@ -195,7 +195,7 @@ pub(crate) fn text_at<F: Files, N: Out>(
     named: Named,
     path: &str,
     notes: &mut N,
-) -> Result<String, u8>
+) -> Result<String, Status>
     requires files { HasRoom (F.shelf files.old) }
     requires notes { IsOpen (N.end notes.old) }
     ensures has { IfOk result (λ text. (F.shelf files.new ≡ F.shelf files.old)
@@ -208,7 +208,7 @@ pub(crate) fn text_at<F: Files, N: Out>(
 {
     match files.text_of(path) {
         Ok(text) => Ok(text),
-        Err(FileFault::NoMemory) => Err(MEMORY),
+        Err(FileFault::NoMemory) => Err(Status::Memory),
         Err(FileFault::Unread(why)) => {
             let told = put_unread(notes, named, path.as_bytes(), why);
             Err(unread_status(told))

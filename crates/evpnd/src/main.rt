@@ -1,8 +1,6 @@
 //! EVPN edge bridges: the program.
 #![tactic(auto)]
 
-ghost use Rattle.ether_wire.specs.Ends.{IsOpen};
-
 mod args;
 mod check;
 mod check_script;
@@ -25,7 +23,7 @@ use crate::host::{Descriptors, Host};
 use crate::program::{Argv, run};
 use crate::streams::{Stream, first_closed};
 use ether_wire::{Device, Out, Reader, Writer, put_decimal};
-use ev_report::{DEVICE, Devices, MEMORY};
+use ev_report::{Devices, Status};
 use ev_run::ProcessLimits;
 use std::os::fd::AsFd;
 use std::os::unix::fs::MetadataExt;
@@ -57,7 +55,7 @@ fn main(rt: HostRuntime) -> ExitCode {
         descriptors,
     };
     let (status, _) = run(&host, &mut parser, &argv, &mut files, devices);
-    ExitCode::from(status)
+    ExitCode::from(status.code())
 }
 
 /// The system's error for a descriptor that isn't open (EBADF).
@@ -95,9 +93,7 @@ fn small_stack(rt: &HostRuntime) -> Option<u64> {
 }
 
 /// Writes that the stack is limited to this number of octets.
-fn put_small_stack<N: Out>(notes: &mut N, size: u64) -> Result<(), Device>
-    requires { IsOpen (N.end notes.old) }
-{
+fn put_small_stack<N: Out>(notes: &mut N, size: u64) -> Result<(), Device> {
     notes.put(b"error: the stack is limited to ")?;
     put_decimal(notes, size / 1024)?;
     notes.put(b" KiB, and evpnd needs ")?;
@@ -110,8 +106,8 @@ fn tell_small_stack(rt: &HostRuntime, size: u64) -> ExitCode {
     let stderr = rt.stderr();
     let mut notes = Writer::new(io::writer(&stderr));
     match put_small_stack(&mut notes, size) {
-        Ok(()) => ExitCode::from(MEMORY),
-        Err(Device) => ExitCode::from(DEVICE),
+        Ok(()) => ExitCode::from(Status::Memory.code()),
+        Err(Device) => ExitCode::from(Status::Device.code()),
     }
 }
 
@@ -159,3 +155,6 @@ fn argv_of(rt: &HostRuntime) -> Argv {
         Err(_) => Argv::NoMemory,
     }
 }
+
+#[cfg(test)]
+mod tests;

@@ -19,7 +19,7 @@ use crate::args::{ArgsError, Invocation, Parser, invocation_of};
 use crate::check::{CheckTarget, Purpose, check_all};
 use crate::files::Files;
 use crate::host::{Descriptors, Host};
-use crate::records::{migrate, report};
+use crate::records::on_records;
 use crate::run_file::run_file;
 use crate::serve_file::serve_file;
 use crate::simulate::simulate;
@@ -29,15 +29,10 @@ use crate::version::version;
 use clap::Error;
 use ether_wire::{In, Out};
 use ev_config::Use;
-use ev_report::{Devices, Failures, MEMORY, tell, tell_failed, tell_words};
-use ev_run::{ThreadPolicy, UdpTable};
+use ev_report::{Devices, Failures, Status, StreamUse, tell, tell_failed, tell_words};
+use ev_run::{Runtime, System, ThreadPolicy};
 use ev_script::Mode;
 use std::alloc::Global;
-use std::fs::Files as SocketFiles;
-use std::net::Net;
-use std::sync::Wait;
-use std::thread::Threads;
-use std::time::Clock;
 
 /// The system's arguments.
 #[derive(Debug, Drop)]
@@ -51,7 +46,7 @@ pub(crate) enum Argv {
 }
 
 /// Reports the fault of the arguments, with the text of `clap`.
-fn tell_fault<P: Parser, N: Out>(parser: &mut P, error: &Error, notes: &mut N) -> u8
+fn tell_fault<P: Parser, N: Out>(parser: &mut P, error: &Error, notes: &mut N) -> Status
     requires parser { P.refusals parser.old + 1 < 2 ^ 64 }
     requires notes { IsOpen (N.end notes.old) }
     ensures { TellsFault (P.refusals parser.old) (P.refusals parser.new)
@@ -59,7 +54,7 @@ fn tell_fault<P: Parser, N: Out>(parser: &mut P, error: &Error, notes: &mut N) -
 {
     match parser.text_of(error) {
         Ok(text) => tell(text.as_str().as_bytes(), notes),
-        Err(_) => MEMORY,
+        Err(_) => Status::Memory,
     }
 }
 
@@ -69,7 +64,7 @@ fn check_on<F: Files, R: In, W: Out, N: Out>(
     files: &mut F,
     wanted: CheckTarget<'_>,
     devices: Devices<R, W, N>,
-) -> (u8, Devices<R, W, N>)
+) -> (Status, Devices<R, W, N>)
     requires files { HasRoom (F.shelf files.old) }
     requires devices { AreOpen devices }
     ensures { ChecksAll wanted.entry.purpose wanted.entry.path.now
@@ -104,13 +99,13 @@ fn policy_of(aim: Aim) -> ThreadPolicy
 
 /// Returns the subject of an invocation's check.
 fn wanted_of<'a>(descriptors: Descriptors, invocation: &Invocation<'a>) -> CheckTarget<'a>
-    ensures path { result.path ≡ invocation.now.value }
-    ensures script { result.script ≡ invocation.now.more }
+    ensures path { result.path ≡ invocation.now.required }
+    ensures script { result.script ≡ invocation.now.optional }
     ensures purpose { result.purpose ≡ purpose_of invocation.now.aim descriptors }
 {
     CheckTarget {
-        path: invocation.value,
-        script: invocation.more,
+        path: invocation.required,
+        script: invocation.optional,
         purpose: Purpose {
             wanted: use_of(invocation.aim),
             limits: descriptors.limits,
@@ -120,45 +115,38 @@ fn wanted_of<'a>(descriptors: Descriptors, invocation: &Invocation<'a>) -> Check
 
 /// Runs the edges of the configuration in the file at a path, with or without clients, if no
 /// standard stream was closed: a socket would get its number.
-fn run_open<
-    H: Threads + Wait + Net + SocketFiles + UdpTable + Clock + Sync,
-    F: Files,
-    R: In,
-    W: Out,
-    N: Out + Send,
->(
+fn run_open<H: Runtime, F: Files, R: In, W: Out, N: Out + Send>(
     host: &Host<'_, H>,
     is_asked: bool,
     policy: ThreadPolicy,
     files: &mut F,
     path: &str,
     devices: Devices<R, W, N>,
-) -> (u8, Devices<R, W, N>)
+) -> (Status, Devices<R, W, N>)
     requires files { HasRoom (F.shelf files.old) }
     requires devices { AreOpen devices }
     ensures { RunsOpen is_asked policy host.now.descriptors.closed path.now
         (desk (F.shelf files.old) devices) (desk (F.shelf files.new) result.1) result.0 }
 {
+    let system = System {
+        rt: host.rt,
+        alloc: host.alloc,
+        policy,
+    };
     match host.descriptors.closed {
-        None if is_asked => serve_file(host.rt, host.alloc, policy, files, path, devices),
-        None => run_file(host.rt, host.alloc, policy, files, path, devices),
+        None if is_asked => serve_file(&system, files, path, devices),
+        None => run_file(&system, files, path, devices),
         Some(stream) => tell_closed(stream, devices),
     }
 }
 
 /// Executes an invocation.
-fn follow<
-    H: Threads + Wait + Net + SocketFiles + UdpTable + Clock + Sync,
-    F: Files,
-    R: In,
-    W: Out,
-    N: Out + Send,
->(
+fn follow<H: Runtime, F: Files, R: In, W: Out, N: Out + Send>(
     host: &Host<'_, H>,
     invocation: Invocation<'_>,
     files: &mut F,
     devices: Devices<R, W, N>,
-) -> (u8, Devices<R, W, N>)
+) -> (Status, Devices<R, W, N>)
     requires files { HasRoom (F.shelf files.old) }
     requires devices { AreOpen devices }
     ensures { Follows host.now.descriptors (parts_of invocation.entry)
@@ -168,8 +156,10 @@ fn follow<
     let alloc = host.alloc;
     let policy = policy_of(invocation.aim);
     match invocation.subcommand {
-        Subcommand::Report => report(alloc, invocation.value, devices),
-        Subcommand::Migrate => migrate(alloc, invocation.value, devices),
+        Subcommand::Report => { on_records(alloc, StreamUse::Report, invocation.required, devices) }
+        Subcommand::Migrate => {
+            on_records(alloc, StreamUse::Migrate, invocation.required, devices)
+        }
         Subcommand::Check => {
             check_on(
                 alloc,
@@ -178,33 +168,33 @@ fn follow<
                 devices,
             )
         }
-        Subcommand::Simulate => simulate(alloc, Mode::Simulate, files, invocation.value, devices),
-        Subcommand::Play => simulate(alloc, Mode::Play, files, invocation.value, devices),
+        Subcommand::Simulate => simulate(
+            alloc,
+            Mode::Simulate,
+            files,
+            invocation.required,
+            devices,
+        ),
+        Subcommand::Play => simulate(alloc, Mode::Play, files, invocation.required, devices),
         Subcommand::Run => {
             let is_asked = false;
-            run_open(host, is_asked, policy, files, invocation.value, devices)
+            run_open(host, is_asked, policy, files, invocation.required, devices)
         }
         Subcommand::Serve => {
             let is_asked = true;
-            run_open(host, is_asked, policy, files, invocation.value, devices)
+            run_open(host, is_asked, policy, files, invocation.required, devices)
         }
         Subcommand::Version => version(devices),
     }
 }
 
 /// Executes an invocation, and reports whether reading or writing failed.
-fn follow_telling<
-    H: Threads + Wait + Net + SocketFiles + UdpTable + Clock + Sync,
-    F: Files,
-    R: In,
-    W: Out,
-    N: Out + Send,
->(
+fn follow_telling<H: Runtime, F: Files, R: In, W: Out, N: Out + Send>(
     host: &Host<'_, H>,
     invocation: Invocation<'_>,
     files: &mut F,
     devices: Devices<R, W, N>,
-) -> (u8, Devices<R, W, N>)
+) -> (Status, Devices<R, W, N>)
     requires files { HasRoom (F.shelf files.old) }
     requires devices { AreOpen devices }
     ensures { FollowsTelling host.now.descriptors (parts_of invocation.entry)
@@ -216,20 +206,13 @@ fn follow_telling<
 }
 
 /// Runs the program with these arguments.
-fn run_words<
-    H: Threads + Wait + Net + SocketFiles + UdpTable + Clock + Sync,
-    P: Parser,
-    F: Files,
-    R: In,
-    W: Out,
-    N: Out + Send,
->(
+fn run_words<H: Runtime, P: Parser, F: Files, R: In, W: Out, N: Out + Send>(
     host: &Host<'_, H>,
     parser: &mut P,
     words: &[String],
     files: &mut F,
     devices: Devices<R, W, N>,
-) -> (u8, Devices<R, W, N>)
+) -> (Status, Devices<R, W, N>)
     requires parser { P.refusals parser.old + 1 < 2 ^ 64 }
     requires files { HasRoom (F.shelf files.old) }
     requires devices { AreOpen devices }
@@ -243,7 +226,7 @@ fn run_words<
         Err(ArgsError::Usage(error)) => {
             (tell_fault(parser, &error, &mut devices.notes), devices)
         }
-        Err(ArgsError::NoMemory) => (MEMORY, devices),
+        Err(ArgsError::NoMemory) => (Status::Memory, devices),
     }
 }
 
@@ -256,20 +239,13 @@ fn run_words<
 /// else 0. If a standard stream is closed, edges don't start, and the status is 4.
 // (its frame is large: in `main`, which names a small stack, it would not fit that stack)
 #[inline(never)]
-pub(crate) fn run<
-    H: Threads + Wait + Net + SocketFiles + UdpTable + Clock + Sync,
-    P: Parser,
-    F: Files,
-    R: In,
-    W: Out,
-    N: Out + Send,
->(
+pub(crate) fn run<H: Runtime, P: Parser, F: Files, R: In, W: Out, N: Out + Send>(
     host: &Host<'_, H>,
     parser: &mut P,
     argv: &Argv,
     files: &mut F,
     devices: Devices<R, W, N>,
-) -> (u8, Devices<R, W, N>)
+) -> (Status, Devices<R, W, N>)
     requires parser { P.refusals parser.old + 1 < 2 ^ 64 }
     requires files { HasRoom (F.shelf files.old) }
     requires devices { AreOpen devices }
@@ -280,6 +256,6 @@ pub(crate) fn run<
     match argv {
         Argv::Words(words) => run_words(host, parser, words.as_slice(), files, devices),
         Argv::NotText => tell_words(b"error: a word isn't UTF-8\n", devices),
-        Argv::NoMemory => (MEMORY, devices),
+        Argv::NoMemory => (Status::Memory, devices),
     }
 }

@@ -3,15 +3,15 @@
 
 ghost use Rattle.std.specs.Prelude.{◌≡◌, ◌+◌, ◌<◌, ◌^◌, ◌&&◌, ◌==◌, not, nat_lt, is_ok, if◌then◌else◌};
 ghost use Rattle.ev_report.specs.Ends.{AreOpen, devices};
-ghost use Rattle.ev_report.specs.Usage.{OfList};
-ghost use Rattle.ev_report.specs.Report.{Reports};
-ghost use Rattle.ev_report.specs.Migrations.{Migrates};
+ghost use Rattle.ev_report.specs.Usage.{OfList, uses};
 ghost use Rattle.evpnd.specs.Records.{is_printed, is_text, Hints, HintsOn, Hinted};
 ghost use Rattle.evpnd.specs.Inner.Seen.{first_seen, seen_end};
+ghost use Rattle.ev_report.specs.declared.status.Status.TheVariants as statuses;
+ghost use Rattle.ev_report.specs.Status.{is_broken};
 
 use crate::seen::Seen;
 use ether_wire::{Device, In, Out};
-use ev_report::{BROKEN, DEVICE, Devices, migrate_list, report_list};
+use ev_report::{Devices, Status, StreamUse, use_records};
 use std::alloc::Global;
 
 /// Returns `true` if an octet is an ASCII character that can be printed, a tab, a line feed or a
@@ -35,25 +35,25 @@ fn is_text(first: Option<u8>) -> bool
 
 /// Returns `true` if the message is due: the stream had a fault, it is text, and the notes have not
 /// failed since they had this number of failures.
-fn is_due(status: u8, first: Option<u8>, failures: u64, now: u64) -> bool
-    ensures { result ≡ (status == 1 && (is_text first && not (nat_lt failures now))) }
+fn is_due(status: Status, first: Option<u8>, failures: u64, now: u64) -> bool
+    ensures { result ≡ (is_broken status && (is_text first && not (nat_lt failures now))) }
 {
-    status == BROKEN && is_text(first) && now <= failures
+    status.is_broken() && is_text(first) && now <= failures
 }
 
 /// Returns a status, unless a message could not be written.
-fn told_status(status: u8, told: Result<(), Device>) -> u8
-    ensures { result ≡ (if is_ok told then status else 4) }
+fn told_status(status: Status, told: Result<(), Device>) -> Status
+    ensures { result ≡ (if is_ok told then status else statuses.Device) }
 {
     match told {
         Ok(()) => status,
-        Err(Device) => DEVICE,
+        Err(Device) => Status::Device,
     }
 }
 
 /// Reports that a stream with a fault and this first octet is text, if it is, and if the notes have
 /// not failed since they had this number of failures. Returns the status, or 4 if that failed.
-fn tell_text<N: Out>(first: Option<u8>, failures: u64, status: u8, notes: &mut N) -> u8
+fn tell_text<N: Out>(first: Option<u8>, failures: u64, status: Status, notes: &mut N) -> Status
     requires { failures + 1 < 2 ^ 64 }
     ensures { Hints first failures (N.end notes.old) (N.end notes.new) status result }
 {
@@ -80,11 +80,11 @@ fn seeing<R: In, W: Out, N: Out>(devices: Devices<R, W, N>) -> Devices<Seen<R>, 
 /// Reports that the stream of a reader is text, if it is. Returns the status and the devices.
 fn tell_hint<R: In, W: Out, N: Out>(
     failures: u64,
-    status: u8,
+    status: Status,
     reader: Seen<R>,
     out: W,
     notes: N,
-) -> (u8, Devices<R, W, N>)
+) -> (Status, Devices<R, W, N>)
     requires { failures + 1 < 2 ^ 64 }
     ensures { HintsOn (first_seen reader) failures
         (devices (seen_end R.end reader) (W.end out) (N.end notes)) result.1 status result.0 }
@@ -95,33 +95,18 @@ fn tell_hint<R: In, W: Out, N: Out>(
     (status, Devices { reader, out, notes })
 }
 
-/// Reports the records of the originators that a list names, and whether the stream is text.
-pub(crate) fn report<R: In, W: Out, N: Out>(
+/// Uses the records of the originators that a list names, and reports whether the stream is text.
+pub(crate) fn on_records<R: In, W: Out, N: Out>(
     alloc: Global,
+    wanted: StreamUse,
     list: &str,
     devices: Devices<R, W, N>,
-) -> (u8, Devices<R, W, N>)
+) -> (Status, Devices<R, W, N>)
     requires { AreOpen devices }
-    ensures { Hinted (OfList Reports list.now) devices result.1 result.0 }
+    ensures { Hinted (OfList (uses wanted) list.now) devices result.1 result.0 }
 {
     let failures = devices.notes.failures();
-    let (status, devices) = report_list(alloc, list, seeing(devices));
-    let Devices { reader, out, notes } = devices;
-    tell_hint(failures, status, reader, out, notes)
-}
-
-/// Migrates the records of the originators that a list names, and reports whether the stream is
-/// text.
-pub(crate) fn migrate<R: In, W: Out, N: Out>(
-    alloc: Global,
-    list: &str,
-    devices: Devices<R, W, N>,
-) -> (u8, Devices<R, W, N>)
-    requires { AreOpen devices }
-    ensures { Hinted (OfList Migrates list.now) devices result.1 result.0 }
-{
-    let failures = devices.notes.failures();
-    let (status, devices) = migrate_list(alloc, list, seeing(devices));
+    let (status, devices) = use_records(alloc, wanted, list, seeing(devices));
     let Devices { reader, out, notes } = devices;
     tell_hint(failures, status, reader, out, notes)
 }

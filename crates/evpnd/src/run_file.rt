@@ -9,38 +9,34 @@ ghost use Rattle.evpnd.specs.Used.{RunsFound};
 use crate::configured::configured;
 use crate::files::Files;
 use ether_wire::{In, Out};
-use ev_report::Devices;
-use ev_run::{System, ThreadPolicy, UdpTable, run_buffered};
-use std::alloc::Global;
-use std::fs::Files as SocketFiles;
-use std::net::Net;
-use std::sync::Wait;
-use std::thread::Threads;
-use std::time::Clock;
+use ev_report::{Buffers, Devices, Status};
+use ev_run::{Runtime, System, run_edges};
 
 /// Runs the edges that the file at a path configures.
-pub(crate) fn run_file<
-    H: Threads + Wait + Net + SocketFiles + UdpTable + Clock + Sync,
-    F: Files,
-    R: In,
-    W: Out,
-    N: Out + Send,
->(
-    rt: &H,
-    alloc: Global,
-    policy: ThreadPolicy,
+pub(crate) fn run_file<H: Runtime, F: Files, R: In, W: Out, N: Out + Send>(
+    system: &System<'_, H>,
     files: &mut F,
     path: &str,
     devices: Devices<R, W, N>,
-) -> (u8, Devices<R, W, N>)
+) -> (Status, Devices<R, W, N>)
     requires files { HasRoom (F.shelf files.old) }
     requires devices { AreOpen devices }
-    ensures { OfFile (ConfigOf true) (RunsFound policy) path.now
+    ensures { OfFile (ConfigOf true) (RunsFound system.now.policy) path.now
         (desk (F.shelf files.old) devices) (desk (F.shelf files.new) result.1) result.0 }
 {
     let mut devices = devices;
-    match configured(alloc, files, path, true, &mut devices.notes) {
-        Ok(config) => run_buffered(&System { rt, alloc, policy }, config, devices),
+    match configured(system.alloc, files, path, true, &mut devices.notes) {
+        Ok(config) => {
+            let mut all = Buffers::new(devices);
+            let status = run_edges(
+                system,
+                config,
+                &mut all.reader,
+                &mut all.out,
+                &mut all.notes,
+            );
+            all.finish(status)
+        }
         Err(status) => (status, devices),
     }
 }

@@ -8,38 +8,28 @@ ghost use Rattle.evpnd.specs.Used.{ServesFound};
 use crate::configured::served;
 use crate::files::Files;
 use ether_wire::{In, Out};
-use ev_report::Devices;
-use ev_run::{System, ThreadPolicy, UdpTable, serve_buffered};
-use std::alloc::Global;
-use std::fs::Files as SocketFiles;
-use std::net::Net;
-use std::sync::Wait;
-use std::thread::Threads;
-use std::time::Clock;
+use ev_report::{Buffers, Devices, Status};
+use ev_run::{Runtime, System, serve_edges};
 
 /// Runs the edges that the file at a path configures. They answer queries meanwhile.
-pub(crate) fn serve_file<
-    H: Threads + Wait + Net + SocketFiles + UdpTable + Clock + Sync,
-    F: Files,
-    R: In,
-    W: Out,
-    N: Out + Send,
->(
-    rt: &H,
-    alloc: Global,
-    policy: ThreadPolicy,
+pub(crate) fn serve_file<H: Runtime, F: Files, R: In, W: Out, N: Out + Send>(
+    system: &System<'_, H>,
     files: &mut F,
     path: &str,
     devices: Devices<R, W, N>,
-) -> (u8, Devices<R, W, N>)
+) -> (Status, Devices<R, W, N>)
     requires files { HasRoom (F.shelf files.old) }
     requires devices { AreOpen devices }
-    ensures { OfFile ServedOf (ServesFound policy) path.now (desk (F.shelf files.old) devices)
-        (desk (F.shelf files.new) result.1) result.0 }
+    ensures { OfFile ServedOf (ServesFound system.now.policy) path.now
+        (desk (F.shelf files.old) devices) (desk (F.shelf files.new) result.1) result.0 }
 {
     let mut devices = devices;
-    match served(alloc, files, path, &mut devices.notes) {
-        Ok(found) => serve_buffered(&System { rt, alloc, policy }, found, devices),
+    match served(system.alloc, files, path, &mut devices.notes) {
+        Ok(found) => {
+            let mut all = Buffers::new(devices);
+            let status = serve_edges(system, found, &mut all.reader, &mut all.out, &mut all.notes);
+            all.finish(status)
+        }
         Err(status) => (status, devices),
     }
 }

@@ -9,8 +9,8 @@ ghost use Rattle.evpnd.specs.Used.{SimulatesFound};
 use crate::configured::configured;
 use crate::files::Files;
 use ether_wire::{In, Out};
-use ev_report::Devices;
-use ev_script::{Mode, simulate_buffered};
+use ev_report::{Buffers, Devices, Status};
+use ev_script::{Mode, simulate_run};
 use std::alloc::Global;
 
 /// Runs a script on the edges that the file at a path configures.
@@ -20,7 +20,7 @@ pub(crate) fn simulate<F: Files, R: In, W: Out, N: Out>(
     files: &mut F,
     path: &str,
     devices: Devices<R, W, N>,
-) -> (u8, Devices<R, W, N>)
+) -> (Status, Devices<R, W, N>)
     requires files { HasRoom (F.shelf files.old) }
     requires devices { AreOpen devices }
     ensures { OfFile (ConfigOf false) (SimulatesFound mode) path.now
@@ -28,7 +28,18 @@ pub(crate) fn simulate<F: Files, R: In, W: Out, N: Out>(
 {
     let mut devices = devices;
     match configured(alloc, files, path, false, &mut devices.notes) {
-        Ok(config) => simulate_buffered(alloc, mode, config.edges, devices),
+        Ok(config) => {
+            let mut all = Buffers::new(devices);
+            let status = simulate_run(
+                alloc,
+                mode,
+                config.edges,
+                &mut all.reader,
+                &mut all.out,
+                &mut all.notes,
+            );
+            all.finish(status)
+        }
         Err(status) => (status, devices),
     }
 }

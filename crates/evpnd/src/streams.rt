@@ -2,14 +2,14 @@
 #![tactic(auto, using(ether_wire::proofs::Appending::with_text_twice, ether_wire::proofs::Appending::with_text_none))]
 
 ghost use Rattle.std.specs.Prelude.{◌≡◌};
-ghost use Rattle.ether_wire.specs.Ends.{IsOpen, Puts};
+ghost use Rattle.ether_wire.specs.Ends.{Puts};
 ghost use Rattle.ev_report.specs.Ends.{AreOpen};
 ghost use Rattle.evpnd.specs.Checks.{desk};
 ghost use Rattle.evpnd.specs.Files.{Shelf};
 ghost use Rattle.evpnd.specs.Streams.{first_closed, closed_text, IsClosed};
 
 use ether_wire::{Device, In, Out};
-use ev_report::{DEVICE, Devices};
+use ev_report::{Devices, Status};
 
 /// A standard stream.
 #[derive(Clone, Copy, Debug, PartialEq, Eq)]
@@ -44,7 +44,6 @@ pub(crate) fn first_closed(
 
 /// Writes `STREAM: it is closed`.
 fn put_closed<N: Out>(notes: &mut N, stream: Stream) -> Result<(), Device>
-    requires { IsOpen (N.end notes.old) }
     ensures { Puts (N.end notes.old) (N.end notes.new) (closed_text stream) result }
 {
     match stream {
@@ -58,12 +57,12 @@ fn put_closed<N: Out>(notes: &mut N, stream: Stream) -> Result<(), Device>
 pub(crate) fn tell_closed<R: In, W: Out, N: Out>(
     stream: Stream,
     devices: Devices<R, W, N>,
-) -> (u8, Devices<R, W, N>)
+) -> (Status, Devices<R, W, N>)
     requires { AreOpen devices }
     ensures { (shelf : Shelf) → IsClosed stream (desk shelf devices) (desk shelf result.1)
         result.0 }
 {
     let mut devices = devices;
     let _ = put_closed(&mut devices.notes, stream);
-    (DEVICE, devices)
+    (Status::Device, devices)
 }

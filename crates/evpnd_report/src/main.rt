@@ -22,7 +22,7 @@ fn main(rt: HostRuntime) -> ExitCode {
         notes: Writer::new(io::writer(&stderr)),
     };
     let (status, _) = run(rt.alloc(), &line, devices);
-    ExitCode::from(status)
+    ExitCode::from(status.code())
 }
 
 /// The arguments of the system.

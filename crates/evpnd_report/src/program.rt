@@ -4,7 +4,7 @@ ghost use Rattle.ev_report.specs.Ends.{AreOpen};
 ghost use Rattle.evpnd_report.specs.Program.{ReportsTelling, ReportsWords, ReportsLine};
 
 use ether_wire::{In, Out};
-use ev_report::{Devices, Failures, MEMORY, report_list, tell_failed, tell_words};
+use ev_report::{Devices, Failures, Status, StreamUse, tell_failed, tell_words, use_records};
 use std::alloc::Global;
 
 /// The arguments of the system.
@@ -23,12 +23,12 @@ fn report_telling<R: In, W: Out, N: Out>(
     alloc: Global,
     list: &str,
     devices: Devices<R, W, N>,
-) -> (u8, Devices<R, W, N>)
+) -> (Status, Devices<R, W, N>)
     requires { AreOpen devices }
     ensures { ReportsTelling list.now devices result.1 result.0 }
 {
     let before = Failures::of(&devices);
-    let (status, devices) = report_list(alloc, list, devices);
+    let (status, devices) = use_records(alloc, StreamUse::Report, list, devices);
     (status, tell_failed(before, devices))
 }
 
@@ -37,7 +37,7 @@ fn run_words<R: In, W: Out, N: Out>(
     alloc: Global,
     words: &[String],
     devices: Devices<R, W, N>,
-) -> (u8, Devices<R, W, N>)
+) -> (Status, Devices<R, W, N>)
     requires { AreOpen devices }
     ensures { ReportsWords (map string_bytes words.now) devices result.1 result.0 }
 {
@@ -57,13 +57,13 @@ pub(crate) fn run<R: In, W: Out, N: Out>(
     alloc: Global,
     line: &Arguments,
     devices: Devices<R, W, N>,
-) -> (u8, Devices<R, W, N>)
+) -> (Status, Devices<R, W, N>)
     requires { AreOpen devices }
     ensures { ReportsLine line.now devices result.1 result.0 }
 {
     match line {
         Arguments::Words(words) => run_words(alloc, words.as_slice(), devices),
         Arguments::NotText => tell_words(b"error: a word isn't UTF-8\n", devices),
-        Arguments::NoMemory => (MEMORY, devices),
+        Arguments::NoMemory => (Status::Memory, devices),
     }
 }

@@ -6,6 +6,8 @@ use crate::Family;
 use std::alloc::{AllocError, Global};
 use std::test::Fail;
 
+mod large;
+
 const LISTS: usize = 3;
 
 // Two families of three lists, queried only for existing nodes.

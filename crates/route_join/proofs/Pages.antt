@@ -1,5 +1,5 @@
--- Pages one after the other: their updates are in order, and are those of a table.
-use Rattle.std.proofs.Common.{◌≡◌, ℕ, suc, ◌-◌, true, false, cond, Option, Some, None, List, [], ◌∷◌, ◌++◌}
+-- Pages one after the other: their updates are in order.
+use Rattle.std.proofs.Common.{◌≡◌, suc, ◌-◌, true, false, cond, Option, Some, None, List, [], ◌∷◌, ◌++◌}
 use Rattle.std.proofs.Common.{length, refl, sym, ap, ◌∙◌, append-nil, arith}
 use Rattle.std.specs.Prelude.{slice_get}
 use Rattle.std.specs.declared.cmp.Ordering.TheVariants.{Less, Equal, Greater}
@@ -11,13 +11,11 @@ use Rattle.std.proofs.lemmas.List.Elements.{filter-append}
 use Rattle.route_wire.specs.declared.update.Register.{Register}
 use Rattle.route_wire.specs.Fields.{Fields}
 use Rattle.route_wire.specs.Order.{register_cmp}
-use Rattle.route_wire.specs.Inner.Totals.{register_total, value_total}
-use Rattle.route_join.specs.Table.{entries_of, IsOrdered, IsTableOf, table_from}
+use Rattle.route_wire.specs.Inner.Totals.{register_total}
+use Rattle.route_join.specs.Table.{entries_of, IsOrdered}
 use Rattle.route_join.specs.After.{comes_after, updates_after, updates_from, AreAfter, IsPage, is_last}
 use Rattle.route_join.specs.After.{register_or, last_from}
 use Rattle.route_join.proofs.Orders.{less}
-use Rattle.route_join.proofs.Edits.{found}
-use Rattle.route_join.proofs.Abouts.{found_contains, contains_found}
 use Rattle.route_join.proofs.Afters.{below_from, kept_below}
 
 -- ---- the last update
@@ -115,14 +113,3 @@ pub full_end : (r : Option Register) (us : List Fields) → is_last us ≡ false
     → (q : Register) × (last_from r us ≡ Some q)
 full_end r [] h = cc
 full_end r (u ∷ us) h = ((last_of u us).register, last_some r u us)
-
--- ---- updates in order are those of their table
-pub ordered_table : (os : List ℕ) (us : List Fields) → IsOrdered us → IsTableOf us (table_from os us)
-ordered_table os us s = record {
-  from = λ r v at. found_contains us r v (sym (found os us r s) ∙ at);
-  newest = λ u c. (
-    u.value,
-    found os us u.register s ∙ contains_found us u s c,
-    ap is_lt (tied_itself value_total u.value),
-  );
-}

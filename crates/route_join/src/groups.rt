@@ -5,7 +5,7 @@ ghost use Rattle.std.specs.List.{filter};
 ghost use Rattle.std.specs.Option.{option_copied, unwrap_or};
 ghost use Rattle.std.specs.Ordering.{is_lt};
 ghost use Rattle.std.specs.Iterator.{YieldsFirstBy, item_count};
-ghost use Rattle.ether_wire.specs.Ends.{IsOpen, Puts};
+ghost use Rattle.ether_wire.specs.Ends.{Puts};
 ghost use Rattle.route_join.specs.Table.{entries_of};
 ghost use Rattle.route_join.specs.Subject.{subject_cmp, subject_of};
 ghost use Rattle.route_join.specs.After.{updates_after};
@@ -213,7 +213,6 @@ fn put_group<O: Out>(
     subject: &Subject,
     group: &Group,
 ) -> Result<(), Device>
-    requires room { IsOpen (O.end out.old) }
     requires about { AreAbout subject.now (entries_of group.now) }
     requires some { IsSome (entries_of group.now) }
     ensures { Puts (O.end out.old) (O.end out.new) (report_lines (entries_of group.now)) result }
@@ -228,8 +227,7 @@ fn put_group<O: Out>(
 
 /// Writes the report of the groups, one after the other.
 pub(crate) fn put_groups<O: Out>(out: &mut O, groups: &Groups) -> Result<(), Device>
-    requires room { IsOpen (O.end out.old) }
-    requires groups { AreGroups groups.now }
+    requires { AreGroups groups.now }
     ensures { Puts (O.end out.old) (O.end out.new) (group_lines groups.now) result }
 {
     let mut line = [0; LINE];

@@ -1,7 +1,7 @@
 //! The text of a report, line by line. A line is built in one array and written by one call; it
 //! takes no memory.
 ghost use Rattle.std.specs.Prelude.{◌≡◌, ◌+◌, ◌≤◌, ◌++◌, codes, length, take};
-ghost use Rattle.ether_wire.specs.Ends.{IsOpen, Puts};
+ghost use Rattle.ether_wire.specs.Ends.{Puts};
 ghost use Rattle.ether_wire.specs.Addr.{hex_group};
 ghost use Rattle.route_wire.specs.Order.{label2_of};
 ghost use Rattle.route_wire.specs.Text.{groups_text, addr6_text, ip_text, ip_words};
@@ -269,8 +269,7 @@ pub(crate) fn put_update<O: Out>(
     subject: &Piece<SUBJECT>,
     update: &Update,
 ) -> Result<(), Device>
-    requires room { IsOpen (O.end out.old) }
-    requires text { subject_text (subject_of update.now.register.key) ≡ subject.now }
+    requires { subject_text (subject_of update.now.register.key) ≡ subject.now }
     ensures { Puts (O.end out.old) (O.end out.new)
         (register_line update.now.register update.now.value) result }
 {
@@ -304,7 +303,6 @@ pub(crate) fn put_owner<O: Out>(
     subject: &Piece<SUBJECT>,
     owner: Option<Addr>,
 ) -> Result<(), Device>
-    requires { IsOpen (O.end out.old) }
     ensures { Puts (O.end out.old) (O.end out.new)
         (codes "owner " ++ subject.now ++ spaced (owner_name owner) ++ codes "\n") result }
 {
@@ -325,8 +323,7 @@ pub(crate) fn put_updates<O: Out>(
     subject: &Piece<SUBJECT>,
     updates: UpdatesOf<'_>,
 ) -> Result<(), Device>
-    requires room { IsOpen (O.end out.old) }
-    requires text { HaveText subject.now (entries_of updates) }
+    requires { HaveText subject.now (entries_of updates) }
     ensures { Puts (O.end out.old) (O.end out.new)
         (register_lines (entries_of updates.entry)) result }
 {

@@ -2,7 +2,7 @@
 //! the best advert of the subject that has begun, and writes the owner's line when the next one
 //! begins.
 ghost use Rattle.std.specs.Prelude.{◌≡◌, Some, OnOk, if◌then◌else◌, []};
-ghost use Rattle.ether_wire.specs.Ends.{IsOpen, Puts};
+ghost use Rattle.ether_wire.specs.Ends.{Puts};
 ghost use Rattle.route_join.specs.Owner.{advert_in, better_of};
 ghost use Rattle.route_join.specs.Table.{entries_of};
 ghost use Rattle.route_join.specs.Subject.{subject_of};
@@ -67,7 +67,6 @@ fn put_end<O: Out>(
     subject: &Subject,
     best: &Option<(Register, Advert)>,
 ) -> Result<(), Device>
-    requires { IsOpen (O.end out.old) }
     ensures { Puts (O.end out.old) (O.end out.new)
         (owner_text subject.now.vni subject.now.mac (origin_of best.now)) result }
 {
@@ -118,7 +117,6 @@ impl RunningReport {
     ///
     /// `Device` if a call of the writer failed.
     pub fn finish<O: Out>(&mut self, out: &mut O) -> Result<(), Device>
-        requires { IsOpen (O.end out.old) }
         ensures written { Puts (O.end out.old) (O.end out.new) (end_text self.old) result }
         ensures same { self.new ≡ self.old }
     {
@@ -130,7 +128,6 @@ impl RunningReport {
 
     /// Writes the owner's line of the subject before, if this one hasn't begun yet.
     fn begin<O: Out>(&mut self, out: &mut O, subject: Subject) -> Result<(), Device>
-        requires { IsOpen (O.end out.old) }
         ensures written { Puts (O.end out.old) (O.end out.new)
             (if is_begun self.old.subject subject then [] else end_text self.old) result }
         ensures begun { OnOk result (self.new ≡ begun_at self.old subject) }
@@ -152,7 +149,6 @@ impl RunningReport {
     /// `Device` if a call of the writer failed.
     #[tactic(auto, using(ether_wire::proofs::Appending::with_text_twice))]
     pub fn put<O: Out>(&mut self, out: &mut O, update: &Update) -> Result<(), Device>
-        requires { IsOpen (O.end out.old) }
         ensures written { Puts (O.end out.old) (O.end out.new)
             (text_with self.old (entry_of update.now)) result }
         ensures begun { OnOk result (self.new ≡ begun_with self.old (entry_of update.now)) }
@@ -174,7 +170,6 @@ impl RunningReport {
     ///
     /// `Device` if a call of the writer failed; then no further update is written.
     pub fn put_all<O: Out>(&mut self, out: &mut O, updates: &[Update]) -> Result<(), Device>
-        requires { IsOpen (O.end out.old) }
         ensures written { Puts (O.end out.old) (O.end out.new)
             (texts_with self.old (entries_of updates.now)) result }
         ensures begun { OnOk result (self.new ≡ begun_by self.old (entries_of updates.now)) }

@@ -4,7 +4,7 @@ ghost use Rattle.std.specs.Prelude.{◌≡◌, ◌+◌, ◌↔◌, false, Some, 
 ghost use Rattle.std.specs.Prelude.{eqb};
 ghost use Rattle.std.specs.List.{list_any};
 ghost use Rattle.std.specs.FinMap.{empty};
-ghost use Rattle.ether_wire.specs.Ends.{IsOpen, Puts};
+ghost use Rattle.ether_wire.specs.Ends.{Puts};
 ghost use Rattle.route_join.specs.Report.{report_of};
 ghost use Rattle.route_join.specs.Table.{AreOriginators, AreWellFormed, IsListed, register_of, value_at, update_at, is_listed, with_update};
 ghost use Rattle.route_join.specs.Owner.{owner, IsOwner, IsUnowned};
@@ -309,7 +309,6 @@ impl Table {
     ///
     /// `Device` exactly if a call of the writer failed; then no further call is made.
     pub fn write_report<W: Out>(&self, out: &mut W) -> Result<(), Device>
-        requires { IsOpen (W.end out.old) }
         ensures { Puts (W.end out.old) (W.end out.new) (report_of self.now) result }
     {
         put_groups(out, &self.groups)

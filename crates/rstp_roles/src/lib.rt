@@ -25,3 +25,6 @@ pub use state_transitions::{
     to_discarding, to_discarding_guard, to_forwarding, to_forwarding_guard, to_learning,
     to_learning_guard,
 };
+
+#[cfg(test)]
+mod tests;

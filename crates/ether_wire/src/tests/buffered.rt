@@ -1,6 +1,6 @@
 //! A writer that passes its octets to another writer in large pieces.
 ghost use Rattle.std.specs.Prelude.{◌≡◌, ◌++◌, None, false, if◌then◌else◌};
-ghost use Rattle.ether_wire.specs.Ends.{IsOpen, Puts, end_of};
+ghost use Rattle.ether_wire.specs.Ends.{Puts, end_of};
 
 use crate::{Buffered, Device, Out, Page};
 
@@ -46,7 +46,6 @@ impl Out for Calls {
 
 /// Puts the texts one after the other.
 fn put_both<O: Out>(out: &mut O, first: &[u8], second: &[u8]) -> Result<(), Device>
-    requires { IsOpen (O.end out.old) }
     ensures { Puts (O.end out.old) (O.end out.new) (first.now ++ second.now) result }
 {
     out.put(first)?;

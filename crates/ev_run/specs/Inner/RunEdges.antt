@@ -3,12 +3,13 @@ use Rattle.std.specs.Prelude.{◌≡◌, ℕ, Bool}
 use Rattle.std.specs.Prelude.{List, Contains}
 use Rattle.std.specs.Prelude.{Result, Ok, Err}
 use Rattle.ether_wire.specs.declared.ends.Device as device
-use Rattle.ether_wire.specs.Ends.{End, Puts}
+use Rattle.ether_wire.specs.Ends.{End, IsOpen, Puts}
 use Rattle.ev_edge.specs.declared.config.EdgeConfig.{EdgeConfig}
 use Rattle.ev_edge.specs.Config.{IsConfig}
 use Rattle.ev_mailboxes.specs.Notices.{Told, lines_of}
 use Rattle.ev_report.specs.Originators.{Text}
 use Rattle.ev_run.specs.RunEdges.{Ended, TellsEnded}
+use Rattle.ev_report.specs.declared.status.Status.{Status}
 
 -- each of these configurations may be opened
 abbrev pub EachConfig : List EdgeConfig → Type 0
@@ -20,9 +21,10 @@ pub record TellsMeanwhile (notes notes' : End) (told : Result (Unit {0}) device.
   pub lines : Puts notes notes' (lines_of alerts) told
 
 -- `TellsEnded` holds for any alerts that were written before
-abbrev pub TellsRest : Result (Unit {0}) device.Device → List Ended → Text → Bool → End → End → End → End → ℕ → Type 0
+abbrev pub TellsRest : Result (Unit {0}) device.Device → List Ended → Text → Bool → End → End → End → End → Status
+    → Type 0
 TellsRest told ended system is_read out out' notes notes' status =
-    (start : End) (alerts : List Told) → Puts start notes (lines_of alerts) told
+    (start : End) (alerts : List Told) → IsOpen start → Puts start notes (lines_of alerts) told
     → TellsEnded alerts ended system is_read out out' start notes' status
 
 -- the notes after the alerts, unless a call has failed

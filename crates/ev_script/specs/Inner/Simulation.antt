@@ -5,6 +5,8 @@ use Rattle.ev_report.specs.declared.input.ReadError.{ReadError}
 use Rattle.ev_report.specs.declared.input.ReadError.TheVariants.{Device, NoMemory}
 use Rattle.ev_script.specs.declared.simulate.simulator.BadLine.{BadLine}
 use Rattle.ev_script.specs.Simulation.{bad_line}
+use Rattle.ev_report.specs.declared.status.Status.{Status}
+use Rattle.ev_report.specs.declared.status.Status.TheVariants as statuses
 
 -- the note about this line, if there is one
 abbrev pub note_of_line : Option BadLine → List ℕ
@@ -12,6 +14,6 @@ note_of_line None = []
 note_of_line (Some bad) = bad_line bad.number bad.line.now
 
 -- the status of a script that wasn't read to its end
-abbrev pub read_error_status : ReadError → ℕ
-read_error_status Device = 4
-read_error_status NoMemory = 3
+abbrev pub read_error_status : ReadError → Status
+read_error_status Device = statuses.Device
+read_error_status NoMemory = statuses.Memory

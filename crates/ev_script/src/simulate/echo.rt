@@ -1,5 +1,5 @@
 //! Prints the line of a command or a query if a script is played.
-ghost use Rattle.ether_wire.specs.Ends.{IsOpen, Puts};
+ghost use Rattle.ether_wire.specs.Ends.{Puts};
 ghost use Rattle.ev_script.specs.Printing.{shown_text};
 
 use crate::script::Mode;
@@ -7,7 +7,6 @@ use ether_wire::{Device, Out};
 
 /// Writes the line of a command or a query if the script is played: `> LINE`.
 pub(crate) fn put_shown<W: Out>(out: &mut W, mode: Mode, line: &[u8]) -> Result<(), Device>
-    requires { IsOpen (W.end out.old) }
     ensures { Puts (W.end out.old) (W.end out.new) (shown_text mode line.now) result }
 {
     match mode {

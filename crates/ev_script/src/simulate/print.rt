@@ -3,7 +3,7 @@
 ghost use Rattle.std.specs.Prelude.{◌≡◌, ◌++◌, codes, decimal};
 ghost use Rattle.std.specs.List.{flat_map};
 ghost use Rattle.bpdu_wire.specs.Writing.{octets_of};
-ghost use Rattle.ether_wire.specs.Ends.{IsOpen, Puts};
+ghost use Rattle.ether_wire.specs.Ends.{Puts};
 ghost use Rattle.route_join.specs.Report.{report_of};
 ghost use Rattle.ev_script.specs.Printing.{words_text, number_text, hex_digits, hex_text, bpdu_line, bpdu_lines, later_words, addresses_text, decision_line, place_text, taken_text, alert_text, edge_part, part_of, refusal_text, reply_text, role_words, state_words, passing_words, port_text};
 
@@ -26,7 +26,6 @@ const DIGITS: &[u8; 16] = b"0123456789abcdef";
 /// `Device` exactly if a call of the writer failed; then no further call is made. This holds for
 /// the other functions here too.
 pub fn put_report<W: Out>(out: &mut W, table: &Table) -> Result<(), Device>
-    requires { IsOpen (W.end out.old) }
     ensures { Puts (W.end out.old) (W.end out.new) (report_of table.now) result }
 {
     table.write_report(out)
@@ -34,7 +33,6 @@ pub fn put_report<W: Out>(out: &mut W, table: &Table) -> Result<(), Device>
 
 /// Writes the edge's number and a text after it.
 pub fn put_words<W: Out>(out: &mut W, edge: u64, words: &[u8]) -> Result<(), Device>
-    requires { IsOpen (W.end out.old) }
     ensures { Puts (W.end out.old) (W.end out.new) (words_text edge words.now) result }
 {
     put_decimal(out, edge)?;
@@ -43,7 +41,6 @@ pub fn put_words<W: Out>(out: &mut W, edge: u64, words: &[u8]) -> Result<(), Dev
 
 /// Writes a line of the edge's number, a word and a number.
 pub fn put_number<W: Out>(out: &mut W, edge: u64, word: &[u8], number: u64) -> Result<(), Device>
-    requires { IsOpen (W.end out.old) }
     ensures { Puts (W.end out.old) (W.end out.new) (number_text edge word.now number) result }
 {
     put_words(out, edge, word)?;
@@ -63,7 +60,6 @@ fn hex_digits(octet: u8) -> [u8; 2]
 
 /// Writes an octet in two digits.
 fn put_hex_digits<W: Out>(out: &mut W, octet: u8) -> Result<(), Device>
-    requires { IsOpen (W.end out.old) }
     ensures { Puts (W.end out.old) (W.end out.new) (hex_digits octet) result }
 {
     out.put(&hex_digits(octet))
@@ -71,7 +67,6 @@ fn put_hex_digits<W: Out>(out: &mut W, octet: u8) -> Result<(), Device>
 
 /// Writes octets as pairs of digits.
 fn put_hex<W: Out>(out: &mut W, octets: &[u8]) -> Result<(), Device>
-    requires { IsOpen (W.end out.old) }
     ensures { Puts (W.end out.old) (W.end out.new) (hex_text octets.now) result }
 {
     for octet in octets {
@@ -82,7 +77,6 @@ fn put_hex<W: Out>(out: &mut W, octets: &[u8]) -> Result<(), Device>
 
 /// Writes `bpdu P HEX`.
 fn put_bpdu<W: Out>(out: &mut W, edge: u64, sent: &(u8, Bpdu)) -> Result<(), Device>
-    requires { IsOpen (W.end out.old) }
     ensures { Puts (W.end out.old) (W.end out.new) (bpdu_line edge sent.now) result }
 {
     let (port, bpdu) = sent;
@@ -95,7 +89,6 @@ fn put_bpdu<W: Out>(out: &mut W, edge: u64, sent: &(u8, Bpdu)) -> Result<(), Dev
 
 /// Writes a line for each BPDU that is sent.
 pub(crate) fn put_bpdus<W: Out>(out: &mut W, edge: u64, bpdus: &[(u8, Bpdu)]) -> Result<(), Device>
-    requires { IsOpen (W.end out.old) }
     ensures { Puts (W.end out.old) (W.end out.new) (bpdu_lines edge bpdus.now) result }
 {
     for sent in bpdus {
@@ -106,7 +99,6 @@ pub(crate) fn put_bpdus<W: Out>(out: &mut W, edge: u64, bpdus: &[(u8, Bpdu)]) ->
 
 /// Writes a comma and an address.
 fn put_later_one<W: Out>(out: &mut W, address: Addr) -> Result<(), Device>
-    requires { IsOpen (W.end out.old) }
     ensures { Puts (W.end out.old) (W.end out.new) (later_words address) result }
 {
     out.put(b",")?;
@@ -115,7 +107,6 @@ fn put_later_one<W: Out>(out: &mut W, address: Addr) -> Result<(), Device>
 
 /// Writes the second and later addresses, a comma before each.
 fn put_later<W: Out>(out: &mut W, addresses: &[Addr]) -> Result<(), Device>
-    requires { IsOpen (W.end out.old) }
     ensures { Puts (W.end out.old) (W.end out.new) (flat_map later_words addresses.now) result }
 {
     for address in addresses {
@@ -126,7 +117,6 @@ fn put_later<W: Out>(out: &mut W, addresses: &[Addr]) -> Result<(), Device>
 
 /// Writes addresses with commas between, or a dash if there is none.
 fn put_addresses<W: Out>(out: &mut W, addresses: &[Addr]) -> Result<(), Device>
-    requires { IsOpen (W.end out.old) }
     ensures { Puts (W.end out.old) (W.end out.new) (addresses_text addresses.now) result }
 {
     match addresses {
@@ -140,7 +130,6 @@ fn put_addresses<W: Out>(out: &mut W, addresses: &[Addr]) -> Result<(), Device>
 
 /// Writes `local L remote R`.
 fn put_decision<W: Out>(out: &mut W, edge: u64, decision: &Decision) -> Result<(), Device>
-    requires { IsOpen (W.end out.old) }
     ensures { Puts (W.end out.old) (W.end out.new) (decision_line edge decision.now) result }
 {
     put_words(out, edge, b" local ")?;
@@ -152,7 +141,6 @@ fn put_decision<W: Out>(out: &mut W, edge: u64, decision: &Decision) -> Result<(
 
 /// Writes where a frame goes, if the reply has it.
 fn put_place<W: Out>(out: &mut W, edge: u64, decision: &Option<Decision>) -> Result<(), Device>
-    requires { IsOpen (W.end out.old) }
     ensures { Puts (W.end out.old) (W.end out.new) (place_text edge decision.now) result }
 {
     match decision {
@@ -163,7 +151,6 @@ fn put_place<W: Out>(out: &mut W, edge: u64, decision: &Option<Decision>) -> Res
 
 /// Writes `newer` or `known`, if an update was taken.
 fn put_taken<W: Out>(out: &mut W, edge: u64, taken: Option<Taken>) -> Result<(), Device>
-    requires { IsOpen (W.end out.old) }
     ensures { Puts (W.end out.old) (W.end out.new) (taken_text edge taken) result }
 {
     match taken {
@@ -175,7 +162,6 @@ fn put_taken<W: Out>(out: &mut W, edge: u64, taken: Option<Taken>) -> Result<(),
 
 /// Writes `alert N`, if there is one.
 fn put_alert<W: Out>(out: &mut W, edge: u64, alert: Option<Alert>) -> Result<(), Device>
-    requires { IsOpen (W.end out.old) }
     ensures { Puts (W.end out.old) (W.end out.new) (alert_text edge alert) result }
 {
     match alert {
@@ -210,7 +196,6 @@ fn part<'a>(refusal: &FabricRefusal) -> &'a [u8]
 
 /// Writes `refused PART N`.
 pub fn put_refusal<W: Out>(out: &mut W, edge: u64, refusal: &FabricRefusal) -> Result<(), Device>
-    requires { IsOpen (W.end out.old) }
     ensures { Puts (W.end out.old) (W.end out.new) (refusal_text edge refusal.now) result }
 {
     put_number(out, edge, part(refusal), u64::from(refusal.number()))
@@ -219,7 +204,6 @@ pub fn put_refusal<W: Out>(out: &mut W, edge: u64, refusal: &FabricRefusal) -> R
 /// Writes the results of a step: BPDUs, then where a frame goes, then whether an update was newer
 /// or known, then an alert.
 pub fn put_reply<W: Out>(out: &mut W, edge: u64, reply: &Reply) -> Result<(), Device>
-    requires { IsOpen (W.end out.old) }
     ensures { Puts (W.end out.old) (W.end out.new) (reply_text edge reply.now) result }
 {
     put_bpdus(out, edge, reply.bpdus.as_slice())?;
@@ -269,7 +253,6 @@ pub fn put_port<W: Out>(
     port: &PortState,
     passes: bool,
 ) -> Result<(), Device>
-    requires { IsOpen (W.end out.old) }
     ensures { Puts (W.end out.old) (W.end out.new) (port_text edge number port.now passes) result }
 {
     put_words(out, edge, b" port ")?;

@@ -1,6 +1,6 @@
 //! Plays commands on a fabric, one after the other.
 ghost use Rattle.std.specs.Prelude.{◌≡◌, [], ◌∷◌, ◌++◌, length, true, false, ℕ};
-ghost use Rattle.ether_wire.specs.Ends.{IsOpen, Puts};
+ghost use Rattle.ether_wire.specs.Ends.{Puts};
 ghost use Rattle.ev_fabric.specs.Fabric.{nth};
 ghost use Rattle.ev_report.specs.Ends.{Tells};
 ghost use Rattle.ev_script.specs.Inner.Printing.{seen_text};
@@ -68,7 +68,6 @@ fn put_answer<W: Out>(
     edge: u64,
     answer: &Result<Reply, FabricRefusal>,
 ) -> Result<(), Device>
-    requires { IsOpen (W.end out.old) }
     ensures { Puts (W.end out.old) (W.end out.new) (step_text edge answer.now) result }
 {
     match answer {
@@ -85,7 +84,6 @@ fn put_second<W: Out>(
     turn: u64,
     answer: &Result<Reply, FabricRefusal>,
 ) -> Result<(), Device>
-    requires { IsOpen (W.end out.old) }
     ensures { Puts (W.end out.old) (W.end out.new) (second_text edge turn answer.now) result }
 {
     match answer {
@@ -103,7 +101,6 @@ fn put_announced<W: Out>(
     last: usize,
     answer: &Result<Reply, FabricRefusal>,
 ) -> Result<(), Device>
-    requires { IsOpen (W.end out.old) }
     ensures { Puts (W.end out.old) (W.end out.new) (announcement_text edge last answer.now) result }
 {
     match answer {
@@ -145,7 +142,6 @@ fn put_seen<W: Out>(
     port: u8,
     seen: &Result<(PortState, bool), FabricRefusal>,
 ) -> Result<(), Device>
-    requires { IsOpen (W.end out.old) }
     ensures { Puts (W.end out.old) (W.end out.new) (seen_text edge port seen.now) result }
 {
     match seen {
@@ -156,7 +152,6 @@ fn put_seen<W: Out>(
 
 /// Prints the report of an edge's table, or a refusal if there is no edge of this number.
 fn put_report_of<W: Out>(fabric: &Fabric, edge: u64, out: &mut W) -> Result<(), Device>
-    requires { IsOpen (W.end out.old) }
     ensures { Puts (W.end out.old) (W.end out.new)
         (report_text edge (nth fabric.now.edges edge)) result }
 {
@@ -212,7 +207,6 @@ impl Simulator {
 
     /// Makes a step, and prints its result.
     fn single<W: Out>(&mut self, edge: u64, step: &Step<'_>, out: &mut W)
-        requires { self.old.is_told ≡ true → IsOpen (W.end out.old) }
         ensures { MakesOne step.now (step_text edge) self.old self.new
             (W.end out.old) (W.end out.new) }
     {
@@ -222,7 +216,6 @@ impl Simulator {
 
     /// Lets a second pass at an edge, the first one (0) of a command or a later one.
     fn second<W: Out>(&mut self, edge: u64, turn: u64, out: &mut W)
-        requires { self.old.is_told ≡ true → IsOpen (W.end out.old) }
         ensures { MakesOne (Local edge Second) (second_text edge turn) self.old self.new
             (W.end out.old) (W.end out.new) }
     {
@@ -232,7 +225,6 @@ impl Simulator {
 
     /// Lets `seconds` seconds pass at an edge.
     fn seconds<W: Out>(&mut self, edge: u64, seconds: u64, out: &mut W)
-        requires { self.old.is_told ≡ true → IsOpen (W.end out.old) }
         ensures { Performs edge (second seconds) self.old self.new (W.end out.old) (W.end out.new) }
     {
         for turn in 0..seconds {
@@ -242,7 +234,6 @@ impl Simulator {
 
     /// Announces the oldest pending update of an edge, which puts it into the pool.
     fn announce<W: Out>(&mut self, edge: u64, out: &mut W)
-        requires { self.old.is_told ≡ true → IsOpen (W.end out.old) }
         ensures { Performs edge announce self.old self.new (W.end out.old) (W.end out.new) }
     {
         let answer = self.step(&Step::Announce(edge as usize));
@@ -252,7 +243,6 @@ impl Simulator {
 
     /// Receives octets at a port.
     fn frame<W: Out>(&mut self, edge: u64, port: u64, hex: Hex<'_>, out: &mut W)
-        requires { self.old.is_told ≡ true → IsOpen (W.end out.old) }
         ensures { Performs edge (frame port (octets_of hex.entry.digits.now)) self.old self.new
             (W.end out.old) (W.end out.new) }
     {
@@ -263,7 +253,6 @@ impl Simulator {
 
     /// Receives a datagram from another edge.
     fn tunnel<W: Out>(&mut self, edge: u64, from: Addr, hex: Hex<'_>, out: &mut W)
-        requires { self.old.is_told ≡ true → IsOpen (W.end out.old) }
         ensures { Performs edge (tunnel from (octets_of hex.entry.digits.now)) self.old self.new
             (W.end out.old) (W.end out.new) }
     {
@@ -274,7 +263,6 @@ impl Simulator {
 
     /// Prints the role and state of a port in the spanning tree.
     fn port<W: Out>(&mut self, edge: u64, port: u64, out: &mut W)
-        requires { self.old.is_told ≡ true → IsOpen (W.end out.old) }
         ensures { Performs edge (shown_port port) self.old self.new
             (W.end out.old) (W.end out.new) }
     {
@@ -285,7 +273,6 @@ impl Simulator {
 
     /// Prints the report of an edge's table.
     fn report<W: Out>(&mut self, edge: u64, out: &mut W)
-        requires { self.old.is_told ≡ true → IsOpen (W.end out.old) }
         ensures { Performs edge report self.old self.new (W.end out.old) (W.end out.new) }
     {
         self.is_told = self.is_told && put_report_of(&self.fabric, edge, out).is_ok();
@@ -293,7 +280,6 @@ impl Simulator {
 
     /// Does a command at an edge, and prints its results.
     fn perform<W: Out>(&mut self, edge: u64, command: &Command<'_>, out: &mut W)
-        requires { self.old.is_told ≡ true → IsOpen (W.end out.old) }
         ensures { Performs edge (command_of command.now) self.old self.new
             (W.end out.old) (W.end out.new) }
     {
@@ -349,7 +335,6 @@ impl Simulator {
 
     /// Prints the line of a command or a query if the mode prints lines.
     fn show<W: Out>(&mut self, mode: Mode, line: &[u8], out: &mut W)
-        requires { self.old.is_told ≡ true → IsOpen (W.end out.old) }
         ensures made { Makes [] self.old self.new }
         ensures told { Tells (W.end out.old) (W.end out.new) self.old.is_told self.new.is_told
             (shown_text mode line.now) }
@@ -359,7 +344,6 @@ impl Simulator {
 
     /// Prints the answer to a query. No step is made.
     fn view<W: Out>(&mut self, question: &Question, out: &mut W)
-        requires { self.old.is_told ≡ true → IsOpen (W.end out.old) }
         ensures made { Makes [] self.old self.new }
         ensures told { Tells (W.end out.old) (W.end out.new) self.old.is_told self.new.is_told
             (view_text self.old.fabric question.now) }
@@ -369,7 +353,6 @@ impl Simulator {
 
     /// Prints the line of a query, and the answer. No step is made.
     fn answer<W: Out>(&mut self, mode: Mode, line: &[u8], question: &Question, out: &mut W)
-        requires { self.old.is_told ≡ true → IsOpen (W.end out.old) }
         ensures made { Makes [] self.old self.new }
         ensures told { Tells (W.end out.old) (W.end out.new) self.old.is_told self.new.is_told
             (shown_text mode line.now ++ view_text self.old.fabric question.now) }
@@ -380,7 +363,6 @@ impl Simulator {
 
     /// Runs a line. Returns `false` if it is a bad one.
     fn line<W: Out>(&mut self, mode: Mode, line: &[u8], out: &mut W) -> bool
-        requires { self.old.is_told ≡ true → IsOpen (W.end out.old) }
         ensures { PlaysLine mode line.now self.old self.new
             (W.end out.old) (W.end out.new) result }
     {
@@ -408,7 +390,6 @@ impl Simulator {
         script: &'a [u8],
         out: &mut W,
     ) -> Option<BadLine<'a>>
-        requires { self.old.is_told ≡ true → IsOpen (W.end out.old) }
         ensures { PlaysTo mode script.now self.old self.new
             (W.end out.old) (W.end out.new) result }
     {

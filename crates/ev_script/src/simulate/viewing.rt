@@ -1,6 +1,6 @@
 //! Answers queries about the edges of the fabric. It allocates no memory, and makes no step.
 ghost use Rattle.std.specs.Prelude.{◌≡◌, option_map};
-ghost use Rattle.ether_wire.specs.Ends.{IsOpen, Puts};
+ghost use Rattle.ether_wire.specs.Ends.{Puts};
 ghost use Rattle.ev_fabric.specs.Fabric.{nth};
 ghost use Rattle.ev_script.specs.Views.{help_text, edges_text, no_edge_text, edge_answer, view_text};
 
@@ -12,7 +12,6 @@ use ev_view::{EdgeQuestion, put_edge, put_edge_view};
 
 /// Writes each kind of line.
 fn put_help<W: Out>(out: &mut W) -> Result<(), Device>
-    requires { IsOpen (W.end out.old) }
     ensures { Puts (W.end out.old) (W.end out.new) help_text result }
 {
     out.put(
@@ -44,7 +43,6 @@ help\n",
 
 /// Writes a line for each edge.
 fn put_edges<W: Out>(out: &mut W, fabric: &Fabric) -> Result<(), Device>
-    requires { IsOpen (W.end out.old) }
     ensures { Puts (W.end out.old) (W.end out.new) (edges_text fabric.now) result }
 {
     for place in 0..fabric.edges() {
@@ -64,7 +62,6 @@ pub(crate) fn edge_of(fabric: &Fabric, edge: u64) -> Option<&Edge>
 
 /// Writes the refusal for an edge that doesn't exist.
 fn put_no_edge<W: Out>(out: &mut W, number: u64) -> Result<(), Device>
-    requires { IsOpen (W.end out.old) }
     ensures { Puts (W.end out.old) (W.end out.new) (no_edge_text number) result }
 {
     put_decimal(out, number)?;
@@ -78,7 +75,6 @@ fn put_edge_answer<W: Out>(
     number: u64,
     question: &EdgeQuestion,
 ) -> Result<(), Device>
-    requires { IsOpen (W.end out.old) }
     ensures { Puts (W.end out.old) (W.end out.new)
         (edge_answer number (nth fabric.now.edges number) question.now) result }
 {
@@ -94,7 +90,6 @@ pub(crate) fn put_view<W: Out>(
     fabric: &Fabric,
     question: &Question,
 ) -> Result<(), Device>
-    requires { IsOpen (W.end out.old) }
     ensures { Puts (W.end out.old) (W.end out.new) (view_text fabric.now question.now) result }
 {
     match question {

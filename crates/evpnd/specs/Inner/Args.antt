@@ -9,8 +9,8 @@ use Rattle.evpnd.specs.declared.args.ArgsError.TheVariants.{Usage, NoMemory}
 abbrev pub parts_of : Invocation → Parts
 parts_of invocation = (
   invocation.subcommand,
-  invocation.value.now,
-  option_map (λ text. text.now) invocation.more,
+  invocation.required.now,
+  option_map (λ text. text.now) invocation.optional,
   invocation.aim,
 )
 

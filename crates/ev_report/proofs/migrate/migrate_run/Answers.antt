@@ -50,7 +50,8 @@ returns g c =
     let run : Renders 2 migration originators (devices reader out notes) (devices reader' out' notes')
     c.status_of.result =
     renders 2 migration originators reader reader' out out' notes mid notes' intake last ending i
-    c.note_end-is_broken.ensures.kept c.note_end-is_broken.ensures.told r text c.put_unless.ensures makes
+    c.note_end-is_broken.ensures.kept c.note_end-is_broken.ensures.told r text c.requires.out c.requires.notes
+    c.put_unless.ensures makes
     c.status_of.result
     (c.status_of.ensures ∙ ap (λ (b : Bool). status_of b out_of_memory broken) failed
     ∙ ap (λ (b : Bool). status_of all b broken) c.is_out_of_memory-is_out_of_memory.ensures

@@ -34,7 +34,8 @@ returns g c =
     intake last ending
     (subst (λ (x : Intake). TakesInput x.feed.newest ending reader reader' (state x notes) (state intake mid)) fresh_is
     c.take_input-ending.ensures.taken)
-    c.note_end-is_broken.ensures.kept c.note_end-is_broken.ensures.told r (report_of last.table)
+    c.note_end-is_broken.ensures.kept c.note_end-is_broken.ensures.told r (report_of last.table) c.requires.out
+    c.requires.notes
     (subst (λ (t : Table). Puts out out' (report_of t) r) c.table.ensures c.write_report.ensures) refl
     c.status_of.result
     (c.status_of.ensures ∙ ap (λ (b : Bool). status_of b out_of_memory broken) failed

@@ -47,5 +47,6 @@ returns-clause-ran g c =
           c.tell_ended.result) c.as_slice-3.ensures.value
           (subst (λ (t : List ℕ). TellsEnded named.told.alerts c.as_slice-3.result.now
           (system_text t (map bound_at c.args.sockets.now)) is_read out out' notes notes' c.tell_ended.result)
-          c.as_slice-2.ensures.value (c.tell_ended.ensures notes named.told.alerts named.told.lines));
+          c.as_slice-2.ensures.value (c.tell_ended.ensures notes named.told.alerts c.requires.notes
+          named.told.lines));
     }

@@ -28,7 +28,7 @@ returns g c =
     (not (is_ok r) || not b)) c.is_ok-is_noted.ensures.value in
     tells_ended ended system c.args.is_read (g.W.Out.end c.args.out.now) (g.W.Out.end c.put_reports.new.out)
     notes notes' c.args.told r s
-    c.status_of.result c.put_reports.ensures
+    c.status_of.result c.requires c.put_reports.ensures
     (subst (λ (n : ℕ). PutsRest c.args.told notes notes' (noted_text ended system n) s) is.lost c.put_rest.ensures)
     (c.status_of.ensures ∙ ap (λ (b : Bool). status_of b sum.is_out_of_memory false) failed
     ∙ ap (λ (b : Bool). status_of (((not c.args.is_read || list_any link_failed ended) || nat_lt 0 (all_lost ended)) ||

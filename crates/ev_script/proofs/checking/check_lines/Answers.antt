@@ -1,6 +1,6 @@
 use Rattle.std.proofs.Common.{◌<◌, length, refl, arith}
 use Rattle.std.proofs.lemmas.Bool.Decides.{nat_tests}
-use Rattle.ev_script.proofs.Looking.{looks_none, looks_more, told_open}
+use Rattle.ev_script.proofs.Looking.{looks_none, looks_more}
 use Rattle.ev_script.proofs.checking.check_lines.Goals as goal
 
 pub lines-init : goal.lines-init
@@ -8,11 +8,6 @@ lines-init g c = record {
   looks = looks_none c.args.name.now c.args.script.now (g.N.Out.end c.args.notes.now) _ refl refl refl;
   few = omega arith;
 }
-
-pub with-found-requires-clause-room : goal.with-found-requires-clause-room
-with-found-requires-clause-room g c =
-    told_open c.args.name.now c.args.script.now c.lines.rest.now (g.N.Out.end c.args.notes.now)
-    (g.N.Out.end c.lines.notes) c.lines.found c.lines.invariant.looks c.requires
 
 pub lines-preserved : goal.lines-preserved
 lines-preserved g c =

@@ -17,7 +17,8 @@ returns g c =
     c.is_told.ensures
     ∙ ap (λ (b : Bool). not final.is_told || not b) c.is_ok-is_noted.ensures.value in
     plays_on c.args.mode c.args.fabric c.args.script.now p final out out' notes notes' r c.status_of.result
-    c.new-simulator.ensures.fabric c.new-simulator.ensures.fed c.new-simulator.ensures.told bad c.play-bad.ensures
+    c.new-simulator.ensures.fabric c.new-simulator.ensures.fed c.new-simulator.ensures.told bad c.requires.out
+    c.requires.notes c.play-bad.ensures
     c.put_bad_line.ensures
     (c.status_of.ensures ∙ ap (λ (b : Bool). status_of b c.is_out_of_memory.result c.is_some.result) failed
     ∙ ap (λ (b : Bool). status_of (not final.is_told || not (is_ok r)) b c.is_some.result) c.is_out_of_memory.ensures

@@ -19,16 +19,16 @@ found_at n w (Some p) a b =
     let two : w ≡ p.1 = cc in
     rw (one, two)
 
-pub returns-in_err-value : goal.returns-in_err-value
-returns-in_err-value c =
+pub returns-in_err-required : goal.returns-in_err-required
+returns-in_err-required c =
     let all = subcommand_rows_of c.args.matches.now in
     let rows = rows_of (found_of c.in_ok-name.inner.now) in
     let s = c.in_ok-subcommand.subcommand in
     let name : Some c.in_ok-name.name.now ≡ option_map (λ (p : Text × List Row). p.0) all = c.in_ok-name.ensures.name
     ∙ sym (after _ _ _) in
     let is : all ≡ found_as c.in_ok-name.name.now rows = found_at _ _ _ name c.in_ok-name.ensures.rows in
-    let none : c.from_residual-in_err-value.result ≡ None = search rules in
-    let text : None ≡ needed_in (needs_of s) rows = c.in_err-value.ensures
+    let none : c.from_residual-in_err-required.result ≡ None = search rules in
+    let text : None ≡ needed_in (needs_of s) rows = c.in_err-required.ensures
     ∙ ap (λ o. needed_in o rows) c.needs.ensures in
     ap (λ (o : Option Invocation). option_map parts_of o) none
     ∙ invocation_found all c.in_ok-name.name.now rows s None (given_in (takes_of s) rows) (aim_in s rows)
@@ -43,10 +43,11 @@ returns c =
     let name : Some c.in_ok-name.name.now ≡ option_map (λ (p : Text × List Row). p.0) all = c.in_ok-name.ensures.name
     ∙ sym (after _ _ _) in
     let is : all ≡ found_as c.in_ok-name.name.now rows = found_at _ _ _ name c.in_ok-name.ensures.rows in
-    let text : Some c.in_ok-value.value.now ≡ needed_in (needs_of s) rows = c.in_ok-value.ensures
+    let text : Some c.in_ok-required.required.now ≡ needed_in (needs_of s) rows = c.in_ok-required.ensures
     ∙ ap (λ o. needed_in o rows) c.needs.ensures in
-    let more : option_map (λ text. text.now) c.given_in-more.result ≡ given_in (takes_of s) rows =
-    c.given_in-more.ensures ∙ ap (λ o. given_in o rows) c.takes.ensures in
-    invocation_found all c.in_ok-name.name.now rows s (Some c.in_ok-value.value.now) _ _ is c.in_ok-subcommand.ensures
+    let more : option_map (λ text. text.now) c.given_in-optional.result ≡ given_in (takes_of s) rows =
+    c.given_in-optional.ensures ∙ ap (λ o. given_in o rows) c.takes.ensures in
+    invocation_found all c.in_ok-name.name.now rows s (Some c.in_ok-required.required.now) _ _ is
+    c.in_ok-subcommand.ensures
     text
     more c.aim_in-aim.ensures

@@ -2,43 +2,44 @@ use Rattle.std.proofs.Common.{rules, ◌≡◌, ◌==◌, true, false, Some, Non
 use Rattle.ether_wire.specs.Ends.{source_of}
 use Rattle.ev_report.specs.Ends.{devices}
 use Rattle.evpnd.specs.Checks.{desk}
-use Rattle.evpnd.proofs.Scripted.{is_zero, ready, behind_failed, behind_done, with_script}
+use Rattle.evpnd.proofs.Scripted.{was_done, ready, behind_failed, behind_done, with_script}
+use Rattle.ev_report.specs.Status.{is_done}
 use Rattle.evpnd.proofs.check.check_all.Goals as goal
 
 pub check_script-requires-clause-files : goal.check_script-requires-clause-files
 check_script-requires-clause-files g c =
-    let e : (c.check-status.result == 0) ≡ true = search rules in
+    let e : is_done c.check-status.result ≡ true = search rules in
     (ready c.args.wanted.purpose c.args.wanted.path.now (g.F.Files.shelf c.args.files.now)
     (g.F.Files.shelf c.check-status.new.files)
     (source_of None 0 0) (g.W.Out.end c.args.out.now) (g.W.Out.end c.check-status.new.out)
     (g.N.Out.end c.args.notes.now) (g.N.Out.end c.check-status.new.notes) c.check-status.result
     (c.check-status.ensures (source_of None 0 0))
-    c.requires.files c.requires.out c.requires.notes (is_zero c.check-status.result e)).has_room
+    c.requires.files c.requires.out c.requires.notes (was_done c.check-status.result e)).has_room
 
 pub check_script-requires-clause-out : goal.check_script-requires-clause-out
 check_script-requires-clause-out g c =
-    let e : (c.check-status.result == 0) ≡ true = search rules in
+    let e : is_done c.check-status.result ≡ true = search rules in
     (ready c.args.wanted.purpose c.args.wanted.path.now (g.F.Files.shelf c.args.files.now)
     (g.F.Files.shelf c.check-status.new.files)
     (source_of None 0 0) (g.W.Out.end c.args.out.now) (g.W.Out.end c.check-status.new.out)
     (g.N.Out.end c.args.notes.now) (g.N.Out.end c.check-status.new.notes) c.check-status.result
     (c.check-status.ensures (source_of None 0 0))
-    c.requires.files c.requires.out c.requires.notes (is_zero c.check-status.result e)).out_open
+    c.requires.files c.requires.out c.requires.notes (was_done c.check-status.result e)).out_open
 
 pub check_script-requires-clause-notes : goal.check_script-requires-clause-notes
 check_script-requires-clause-notes g c =
-    let e : (c.check-status.result == 0) ≡ true = search rules in
+    let e : is_done c.check-status.result ≡ true = search rules in
     (ready c.args.wanted.purpose c.args.wanted.path.now (g.F.Files.shelf c.args.files.now)
     (g.F.Files.shelf c.check-status.new.files)
     (source_of None 0 0) (g.W.Out.end c.args.out.now) (g.W.Out.end c.check-status.new.out)
     (g.N.Out.end c.args.notes.now) (g.N.Out.end c.check-status.new.notes) c.check-status.result
     (c.check-status.ensures (source_of None 0 0))
-    c.requires.files c.requires.out c.requires.notes (is_zero c.check-status.result e)).notes_open
+    c.requires.files c.requires.out c.requires.notes (was_done c.check-status.result e)).notes_open
 
 pub returns-in-Some : goal.returns-in-Some
 returns-in-Some g c = λ input.
     let is : c.args.wanted.script ≡ Some c.in-Some.script = search rules in
-    let e : (c.check-status.result == 0) ≡ true = search rules in
+    let e : is_done c.check-status.result ≡ true = search rules in
     let before = desk (g.F.Files.shelf c.args.files.now)
     (devices input (g.W.Out.end c.args.out.now) (g.N.Out.end c.args.notes.now)) in
     let mid = desk (g.F.Files.shelf c.check-status.new.files)
@@ -53,7 +54,7 @@ returns-in-Some g c = λ input.
 pub returns-in-Some-2 : goal.returns-in-Some-2
 returns-in-Some-2 g c = λ input.
     let is : c.args.wanted.script ≡ Some c.in-Some-2.field-0 = search rules in
-    let e : (c.check-status.result == 0) ≡ false = search rules in
+    let e : is_done c.check-status.result ≡ false = search rules in
     let before = desk (g.F.Files.shelf c.args.files.now)
     (devices input (g.W.Out.end c.args.out.now) (g.N.Out.end c.args.notes.now)) in
     let mid = desk (g.F.Files.shelf c.check-status.new.files)

@@ -15,6 +15,6 @@ returns g c =
     let lines = subst (λ (t : List ℕ). ChecksLines c.args.name.now t notes notes' found) c.as_bytes-2.ensures.value
     named in
     looks c.args.name.now c.args.text.now (g.W.Out.end c.args.out.now) (g.W.Out.end c.put_lines.new.out) notes notes'
-    found r c.status_of.result lines c.put_lines.ensures
+    found r c.status_of.result c.requires.out c.requires.notes lines c.put_lines.ensures
     (c.status_of.ensures ∙ ap (λ (b : Bool). status_of b false (not found.are_good)) (c.has_failed-has_failed.ensures
     ∙ ap (λ (b : Bool). not b || not found.are_told) c.is_ok-is_written.ensures.value))

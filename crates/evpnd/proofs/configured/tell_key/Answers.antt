@@ -9,5 +9,5 @@ returns g c =
       put.0,
       put.1,
       told_put (g.N.Out.end c.args.notes.now) (g.N.Out.end c.put_faults.new.notes) c.put_faults.result
-          (config_text c.args.key.now ++ put.0) c.usage_status.result put.2 c.usage_status.ensures,
+          (config_text c.args.key.now ++ put.0) c.usage_status.result c.requires put.2 c.usage_status.ensures,
     )

@@ -3,15 +3,29 @@ use Rattle.ev_config.specs.Config.{ConfigOf}
 use Rattle.evpnd.specs.Used.{SimulatesEdges}
 use Rattle.ev_config.specs.declared.whole.Use.TheVariants.{Any}
 use Rattle.evpnd.proofs.Filed.{of_never, of_used}
+use Rattle.ether_wire.specs.Buffered.{buffered_end}
+use Rattle.ev_report.specs.Ends.{devices}
+use Rattle.ev_report.proofs.Finishing.{buffered}
+use Rattle.ev_script.specs.Simulation.{Simulates}
+use Rattle.ev_script.proofs.Simulating.{passed_simulates}
 use Rattle.evpnd.proofs.simulate.simulate.Goals as goal
 
 pub returns-in-Ok : goal.returns-in-Ok
 returns-in-Ok g c =
+    let run = c.simulate_run-status in
+    let input = g.R.In.end c.devices.inside.reader in
+    let out = g.W.Out.end c.devices.inside.out in
+    let notes = g.N.Out.end c.configured.new.notes in
+    let held = devices (g.R.In.end run.new.reader) (buffered_end g.W.Out.end run.new.out)
+    (buffered_end g.N.Out.end run.new.notes) in
     of_used Any (SimulatesEdges c.args.mode) (ConfigOf false) c.args.path.now (g.F.Files.shelf c.args.files.now)
-    (g.F.Files.shelf c.configured.new.files) c.args.devices (g.R.In.end c.devices.inside.reader)
-    (g.W.Out.end c.devices.inside.out) (g.N.Out.end c.devices.inside.notes) (g.N.Out.end c.configured.new.notes)
-    c.devices.view_is c.simulate_buffered.result.0 c.in-Ok.config c.simulate_buffered.result.1 c.in-Ok.ensures.value
-    c.simulate_buffered.ensures
+    (g.F.Files.shelf c.configured.new.files) c.args.devices input out (g.N.Out.end c.devices.inside.notes) notes
+    c.devices.view_is c.finish.result.0 c.in-Ok.config c.finish.result.1 c.in-Ok.ensures.value
+    (buffered (Simulates c.args.mode c.in-Ok.config.edges.items)
+    (passed_simulates c.args.mode c.in-Ok.config.edges.items)
+    (devices input out notes) _ held c.finish.result.1 run.result c.finish.result.0
+    c.new-all.result.out_failures c.new-all.result.notes_failures c.new-all.ensures.devices c.new-all.ensures.out
+    c.new-all.ensures.notes run.ensures c.finish.ensures)
 
 pub returns-in-Err : goal.returns-in-Err
 returns-in-Err g c =

@@ -1,5 +1,5 @@
 use Rattle.std.proofs.Common.{subst}
-use Rattle.ev_report.specs.Ends.{Devices, devices}
+use Rattle.ev_report.specs.Ends.{Devices, devices, AreOpen}
 use Rattle.evpnd.specs.Version.{TellsVersion}
 use Rattle.evpnd.proofs.Versions.{tells_version}
 use Rattle.evpnd.proofs.version.version.Goals as goal
@@ -11,5 +11,6 @@ returns g c =
     let out' = g.W.Out.end c.put-written.new.self in
     let notes = g.N.Out.end c.devices.inside.notes in
     subst (λ (d : Devices). TellsVersion d (devices input out' notes) c.done_status.result) c.devices.view_is
-    (tells_version input out out' notes c.put-written.result c.done_status.result c.put-written.ensures
+    (tells_version input out out' notes c.put-written.result c.done_status.result
+    (subst (λ (d : Devices). AreOpen d) (sym c.devices.view_is) c.requires).out c.put-written.ensures
     c.done_status.ensures)

@@ -13,8 +13,8 @@ returns-in-None g c = rw (
   ← c.updates.ensures.value,
 ) c.in_ok-put_updates.ensures
 
-pub put_updates-requires-clause-text : goal.put_updates-requires-clause-text
-put_updates-requires-clause-text g c = rw (c.subject_text-text.ensures, c.updates.ensures.value)
+pub put_updates-requires : goal.put_updates-requires
+put_updates-requires g c = rw (c.subject_text-text.ensures, c.updates.ensures.value)
     (have_text c.args.subject.now (entries_of c.args.group.now) c.requires.about)
 
 pub returns-in-Some : goal.returns-in-Some

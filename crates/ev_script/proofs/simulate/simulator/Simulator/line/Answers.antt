@@ -1,8 +1,6 @@
 use Rattle.std.proofs.Common.{rules, ◌≡◌, Some, None, true, false, sym}
 use Rattle.ev_script.specs.Script.{skips, asked_in}
-use Rattle.ev_script.specs.Printing.{shown_text}
 use Rattle.ev_script.proofs.Playings.{no_question, line_answered, line_skipped, line_bad, line_done}
-use Rattle.ev_script.proofs.Telling.{still_open}
 use Rattle.ev_script.proofs.simulate.simulator.Simulator.line.Goals as goal
 
 pub returns-in-Some : goal.returns-in-Some
@@ -28,10 +26,6 @@ returns-in-None g c =
     let e : asked_in mode line ≡ None = search rules in
     let f : skips mode line ≡ false = search rules in
     line_bad mode line c.args.self.now (g.W.Out.end c.args.out.now) (no_question mode line e f) (sym c.in-None.ensures)
-
-pub perform-requires : goal.perform-requires
-perform-requires g c = still_open (g.W.Out.end c.args.out.now) (g.W.Out.end c.show.new.out) c.args.self.now.is_told
-    c.show.new.self.is_told (shown_text c.args.mode c.args.line.now) c.requires c.show.ensures.told
 
 pub returns-in-Some-parse : goal.returns-in-Some-parse
 returns-in-Some-parse g c =

@@ -1,9 +1,7 @@
 use Rattle.std.proofs.Common.{rules, ◌≡◌, ◌+◌, ◌<◌, Bool, true, false, length, refl, subst, arith}
 use Rattle.std.proofs.lemmas.Bool.Decides.{nat_tests}
-use Rattle.ev_script.specs.Simulation.{text_of}
 use Rattle.ev_script.specs.Inner.Playing.{PlaysLine}
 use Rattle.ev_script.proofs.Playings.{played_none, played_more, played_bad}
-use Rattle.ev_script.proofs.Telling.{still_open}
 use Rattle.ev_script.proofs.simulate.simulator.Simulator.play.Goals as goal
 
 pub lines-init : goal.lines-init
@@ -11,12 +9,6 @@ lines-init g c = record {
   played = played_none c.args.mode c.args.script.now c.args.self.now (g.W.Out.end c.args.out.now);
   few = omega arith;
 }
-
-pub line-requires : goal.line-requires
-line-requires g c =
-    let played = c.lines.invariant.played in
-    still_open (g.W.Out.end c.args.out.now) (g.W.Out.end c.lines.out) c.args.self.now.is_told c.lines.self.is_told
-    (text_of played.ran) c.requires played.told
 
 pub returns-then-not-line : goal.returns-then-not-line
 returns-then-not-line g c =

@@ -1,15 +1,8 @@
 use Rattle.ev_script.proofs.Playings.{no_seconds, second_more}
-use Rattle.ev_script.proofs.Telling.{still_open}
 use Rattle.ev_script.proofs.simulate.simulator.Simulator.seconds.Goals as goal
 
 pub loop-turn-init : goal.loop-turn-init
 loop-turn-init g c = no_seconds c.args.self.now c.args.edge (g.W.Out.end c.args.out.now)
-
-pub second-requires : goal.second-requires
-second-requires g c =
-    let inv = c.loop-turn.invariant in
-    still_open (g.W.Out.end c.args.out.now) (g.W.Out.end c.loop-turn.out) c.args.self.now.is_told
-    c.loop-turn.self.is_told inv.text c.requires inv.told
 
 pub loop-turn-preserved : goal.loop-turn-preserved
 loop-turn-preserved g c = second_more c.args.self.now c.loop-turn.self c.second.new.self c.args.edge c.loop-turn.turn

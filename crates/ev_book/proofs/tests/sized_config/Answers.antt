@@ -5,7 +5,7 @@ use Rattle.std.specs.List.{IsDistinct}
 use Rattle.route_join.specs.Table.{AreOriginators}
 use Rattle.ev_edge.specs.declared.config.PortConfig.{PortConfig}
 use Rattle.ev_edge.specs.Config.{vnis_of}
-use Rattle.ev_book.proofs.tests.config.Goals as goal
+use Rattle.ev_book.proofs.tests.sized_config.Goals as goal
 
 abbrev listed : List ℕ
 listed = 0x0a00_0001 ∷ 0x0a00_0002 ∷ []
@@ -37,9 +37,9 @@ returns c = record {
   some_port = counted c.one_port.result.items c.one_port.ensures;
   served = λ v h. subst (λ vs. Contains vs v) (sym c.one_network.ensures)
       (subst (λ vs. Contains vs v) c.one_port.ensures h);
-  some_place = lit≤ tt;
-  places = lit≤ tt;
-  some_bucket = lit≤ tt;
-  buckets = lit≤ tt;
+  some_place = c.requires.some;
+  places = c.requires.few;
+  some_bucket = c.requires.some;
+  buckets = c.requires.few;
   hello = subst (λ n. 1 ≤ n) (sym c.tree.ensures) (lit≤ tt);
 }

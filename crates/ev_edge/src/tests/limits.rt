@@ -1,8 +1,9 @@
 //! The limits of ports: a port with as many stations as it may have, or with as many new ones
 //! within 60 seconds, learns no further one and forwards the frame.
+ghost use Rattle.std.specs.Prelude.{◌<◌};
 
 use super::lines::{Line, first_wrong};
-use super::{BROADCAST, HOST, OTHER, advert, config, frame, import, said, station};
+use super::{BROADCAST, HOST, OTHER, advert, frame, import, open_limited, said, station, step};
 use crate::{Edge, Event, Limits};
 use ev_mobility::Alert;
 use route_join::Taken;
@@ -19,21 +20,17 @@ fn limited(
     stations: Option<u64>,
     new_stations: Option<u64>,
 ) -> Result<Edge, AllocError> {
-    let mut config = config(0, 16, 300);
-    config.ports.as_mut_slice()[0].limits = Limits {
+    let limits = Limits {
         stations,
         new_stations,
         storm: None,
     };
-    let mut edge = Edge::open(alloc, config)?;
-    let _ = edge.step(&Event::PortUp(1));
-    let _ = edge.step(&Event::PortUp(2));
-    Ok(edge)
+    open_limited(alloc, limits)
 }
 
 /// The alert of a broadcast frame of this station at the port.
 fn alert(edge: &mut Edge, port: u8, source: u64) -> Option<Alert> {
-    match edge.step(&Event::Frame(port, &frame(BROADCAST, source))) {
+    match step(edge, &Event::Frame(port, &frame(BROADCAST, source))) {
         Ok(reply) => reply.alert,
         Err(_) => None,
     }
@@ -171,19 +168,28 @@ fn station_that_moves_here_needs_a_place(rt: HostRuntime) -> Result<(), Fail> {
     Ok(())
 }
 
+/// How many of a hundred made-up addresses of this second are not learnt.
+fn unlearnt(edge: &mut Edge, second: u64) -> u64
+    requires { second < 600 }
+{
+    let mut refused = 0u64;
+    for n in 0..100u64 {
+        let source = 0x0200_0000_0000 + second * 1000 + n;
+        if import(edge, 1, source) > 6 {
+            refused = refused.wrapping_add(1);
+        }
+    }
+    refused
+}
+
 // Of a hundred addresses a second the edge learns eight in five minutes.
 #[test]
 fn made_up_addresses_make_few_registers(rt: HostRuntime) -> Result<(), Fail> {
     let mut edge = limited(rt.alloc(), Some(8), Some(10))?;
     let mut refused = 0u64;
     for second in 0..600u64 {
-        for n in 0..100u64 {
-            let source = 0x0200_0000_0000 + second * 1000 + n;
-            if import(&mut edge, 1, source) > 6 {
-                refused = refused.wrapping_add(1);
-            }
-        }
-        let _ = edge.step(&Event::Second);
+        refused = refused.wrapping_add(unlearnt(&mut edge, second));
+        let _ = step(&mut edge, &Event::Second);
     }
     assert_eq!(rt; edge.entries(), 0);
     assert_eq!(rt; edge.counter(), 33);

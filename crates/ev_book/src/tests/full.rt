@@ -1,9 +1,10 @@
 //! A learning table of the largest size, with ample memory. No clause contains the room, so a
 //! contract allows a book to answer "refused memory" at any event that takes memory.
+ghost use Rattle.std.specs.Prelude.{◌≡◌};
 
-use super::config;
+use super::sized_config;
 use crate::{Book, Pass};
-use ev_edge::{EdgeConfig, Event};
+use ev_edge::Event;
 use std::alloc::{AllocError, Global};
 use std::marker::Brand;
 use std::sync::ledger::{Blank, Ledger};
@@ -23,17 +24,17 @@ fn frame(number: u32) -> [u8; 14] {
 // How many of these hosts the edge learns, and how many updates it announces then.
 fn counts<L: Ledger>(book: &mut Book<L>, pass: &mut Pass<L>) -> (u32, u32) {
     let _ = book.enter(pass, &Event::PortUp(1));
-    let mut learnt = 0;
+    let mut learnt = 0u32;
     for number in 0..MOST {
         match book.enter(pass, &Event::Frame(1, &frame(number))) {
-            Ok(reply) if reply.alert.is_none() => learnt += 1,
+            Ok(reply) if reply.alert.is_none() => learnt = learnt.wrapping_add(1),
             _ => {}
         }
     }
-    let mut announced = 0;
+    let mut announced = 0u32;
     for _ in 0..MOST + 2 {
         match book.enter(pass, &Event::Announce) {
-            Ok(reply) if reply.announced.is_some() => announced += 1,
+            Ok(reply) if reply.announced.is_some() => announced = announced.wrapping_add(1),
             _ => {}
         }
     }
@@ -43,14 +44,9 @@ fn counts<L: Ledger>(book: &mut Book<L>, pass: &mut Pass<L>) -> (u32, u32) {
 // The same by a new book.
 fn counted<L: Ledger>(alloc: Global, blank: Blank) -> Result<(u32, u32), AllocError>
     requires name { blank.name ≡ L.name }
-    requires parts { blank.parts ≡ L.parts }
-    requires one { blank.parts ≡ 1 }
+    requires parts { (blank.parts ≡ L.parts) × (blank.parts ≡ 1) }
 {
-    let config = EdgeConfig {
-        capacity: MOST as usize,
-        buckets: MOST as usize,
-        ..config(0)
-    };
+    let config = sized_config(0, MOST as usize);
     let (mut book, mut passes) = Book::<L>::open(alloc, blank, config, 1)?;
     let Some(mut pass) = passes.pop() else {
         return Ok((0, 0));

@@ -116,7 +116,7 @@ fn help_of_the_program_has_the_statuses(rt: HostRuntime) -> Result<(), Fail> {
     let Err(ArgsError::Usage(error)) = invocation_of(&mut parser, words.as_slice()) else {
         return Err("no help".into());
     };
-    let text = parser.text_of(&error)?;
+    let text = ClapParser::new(alloc).text_of(&error)?;
     for status in [
         "0 done",
         "1 broken input",

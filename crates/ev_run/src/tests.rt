@@ -11,9 +11,7 @@ use ev_links::{DeviceName, Tap};
 use std::alloc::AllocError;
 use std::fs::File;
 use std::io::Error;
-
-mod apart;
-mod running;
+use std::test::Fail;
 
 /// Four sockets: 127.0.0.1:20001, which has dropped 2,100,345, then 127.0.0.2:20001,
 /// 127.0.0.1:20002 and 0.0.0.0:4789.
@@ -119,20 +117,21 @@ fn system_counts_this_thread(rt: HostRuntime) {
 }
 
 /// Returns the name of a device.
-fn named(text: &[u8]) -> DeviceName {
-    DeviceName::read_text(text).unwrap()
+fn named(text: &[u8]) -> Result<DeviceName, &'static str> {
+    DeviceName::read_text(text).ok_or("no name")
 }
 
 #[test]
-fn device_of_a_descriptor(rt: HostRuntime) {
+fn device_of_a_descriptor(rt: HostRuntime) -> Result<(), Fail> {
     let tap = b"pos:\t0\nflags:\t02104002\nmnt_id:\t24\nino:\t109\niff:\ttap0\n";
-    assert!(rt; device_of(tap) == Some(named(b"tap0")));
+    assert!(rt; device_of(tap) == Some(named(b"tap0")?));
     let file = b"pos:\t5\nflags:\t0100000\nmnt_id:\t31\nino:\t7\n";
     assert!(rt; device_of(file).is_none());
     assert!(rt; device_of(b"").is_none());
     // a descriptor of /dev/net/tun that has no device
     assert!(rt; device_of(b"iff:\t\n").is_none());
     assert!(rt; device_of(b"iff:\ta-name-of-16-oct\n").is_none());
+    Ok(())
 }
 
 /// Returns what an error at a descriptor says of the devices that weren't found.
@@ -142,9 +141,11 @@ fn others_by(error: &Error) -> Result<Option<AttachError>, AllocError> {
 
 // A descriptor that isn't open has no file in `/proc/self/fdinfo`.
 #[test]
-fn closed_descriptor_is_of_no_device(rt: HostRuntime) {
-    let missing = File::open(&rt, "/proc/self/fdinfo/-1").err().unwrap();
+fn closed_descriptor_is_of_no_device(rt: HostRuntime) -> Result<(), Fail> {
+    let opened = File::open(&rt, "/proc/self/fdinfo/-1");
+    let missing = opened.err().ok_or("a descriptor")?;
     assert!(rt; others_by(&missing) == Ok(None));
+    Ok(())
 }
 
 // The numbers are ENOMEM, EMFILE, ENFILE and EACCES of `asm-generic/errno-base.h`.
@@ -161,14 +162,12 @@ fn unread_descriptor_may_be_the_device(rt: HostRuntime) {
 }
 
 #[test]
-fn device_is_found_by_its_name(rt: HostRuntime) {
-    let taps = [
-        Tap::new(7, named(b"tap0")),
-        Tap::new(9, named(b"tap1")),
-        Tap::new(8, named(b"tap1")),
-    ];
-    assert!(rt; tap_named(&taps, named(b"tap0")) == Some(Tap::new(7, named(b"tap0"))));
-    assert!(rt; tap_named(&taps, named(b"tap1")) == Some(Tap::new(9, named(b"tap1"))));
-    assert!(rt; tap_named(&taps, named(b"tap")).is_none());
-    assert!(rt; tap_named(&[], named(b"tap0")).is_none());
+fn device_is_found_by_its_name(rt: HostRuntime) -> Result<(), Fail> {
+    let (first, second) = (named(b"tap0")?, named(b"tap1")?);
+    let taps = [Tap::new(7, first), Tap::new(9, second), Tap::new(8, second)];
+    assert!(rt; tap_named(&taps, first) == Some(Tap::new(7, first)));
+    assert!(rt; tap_named(&taps, second) == Some(Tap::new(9, second)));
+    assert!(rt; tap_named(&taps, named(b"tap")?).is_none());
+    assert!(rt; tap_named(&[], first).is_none());
+    Ok(())
 }

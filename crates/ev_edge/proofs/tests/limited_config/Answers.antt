@@ -5,7 +5,7 @@ use Rattle.std.specs.List.{IsDistinct}
 use Rattle.route_join.specs.Table.{AreOriginators}
 use Rattle.ev_edge.specs.declared.config.PortConfig.{PortConfig}
 use Rattle.ev_edge.specs.Config.{vnis_of}
-use Rattle.ev_edge.proofs.tests.config.Goals as goal
+use Rattle.ev_edge.proofs.tests.limited_config.Goals as goal
 
 abbrev listed : List ℕ
 listed = 0x0a00_0001 ∷ 0x0a00_0002 ∷ 0x0a00_0003 ∷ 0x0a00_0004 ∷ []
