@@ -1,6 +1,6 @@
 -- The messages about the arguments.
 use Rattle.std.proofs.Common.{◌≡◌, ◌≢◌, inl, inr, ℕ, ◌+◌, cond, List, [], ◌∷◌, ◌++◌, Result, Ok, Err}
-use Rattle.std.proofs.Common.{is_ok, refl, ap, ◌∙◌}
+use Rattle.std.proofs.Common.{is_ok, refl, ap, subst, ◌∙◌}
 use Rattle.ether_wire.specs.declared.ends.Device.{Device}
 use Rattle.ether_wire.specs.Ends.{End, IsOpen, Puts, with_text}
 use Rattle.ether_wire.proofs.Appending.{with_text_twice}

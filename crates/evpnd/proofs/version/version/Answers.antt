@@ -1,4 +1,4 @@
-use Rattle.std.proofs.Common.{subst}
+use Rattle.std.proofs.Common.{subst, sym}
 use Rattle.ev_report.specs.Ends.{Devices, devices, AreOpen}
 use Rattle.evpnd.specs.Version.{TellsVersion}
 use Rattle.evpnd.proofs.Versions.{tells_version}
