@@ -16,9 +16,9 @@ from reach import lowest_first, project_at, reading_of
 
 # Lines of definitions in specs/ that no public contract leads to. A count may not rise, and one that falls is to be entered.
 UNREACHED = {
-    "bpdu_wire": 11, "ether_wire": 6, "ev_book": 56, "ev_claims": 40, "ev_config": 72, "ev_console": 106,
-    "ev_edge": 14, "ev_exchange": 11, "ev_fabric": 10, "ev_links": 68, "ev_peers": 150, "ev_mailboxes": 72, "ev_report": 65,
-    "ev_run": 142, "ev_script": 57, "ev_tunnel": 5, "ev_view": 3, "evpnd": 62, "idx_links": 63, "mac_arena": 55, "route_join": 300, "route_wire": 205,
+    "bpdu_wire": 11, "ether_wire": 6, "ev_book": 56, "ev_claims": 40, "ev_config": 67, "ev_console": 105,
+    "ev_edge": 14, "ev_exchange": 11, "ev_fabric": 10, "ev_links": 68, "ev_peers": 150, "ev_mailboxes": 68, "ev_report": 65,
+    "ev_run": 142, "ev_script": 56, "ev_tunnel": 5, "ev_view": 3, "evpnd": 62, "idx_links": 63, "mac_arena": 55, "route_join": 297, "route_wire": 199,
     "ev_sites": 8, "rstp_run": 87, "rstp_state": 4,
 }
 
